@@ -6,6 +6,7 @@
 #include "observation.h"
 #include "output.h"
 #include "peers.h"
+#include "saving.h"
 #include <stdio.h>
 #include <stdlib.h>
 #include <string.h>
@@ -13,19 +14,25 @@
 static struct ptpm_clock clock_held;
 static const struct options *options;
 
-/* A clock that is heard at its Unix socket alone has a port too. */
-static size_t clock_ports(void) { return port_count > 0 ? port_count : 1; }
-
 void start_clock(const struct options *given) {
     struct ptpm_port_settings settings[PORTS];
-    size_t count = clock_ports();
     options = given;
+    if (restore_clock(&clock_held, options)) return;
+    size_t count = ports_of(options);
     for (size_t i = 0; i < count; i++) ptpm_port_defaults(&settings[i]);
     enum ptpm_started answer = ptpm_clock_start(&clock_held, &options->settings, settings, count, options->managers,
                                                 options->manager_count);
     if (answer == PTPM_STARTED) return;
     say("it does not start: %s", answer_name(answer));
     exit(1);
+}
+
+void save_clock(void) { save_at_start(&clock_held); }
+
+static uint8_t domain(void) {
+    uint8_t octets[PTPM_MOST_READ];
+    size_t size;
+    return ptpm_clock_read(&clock_held, PTPM_ID_DOMAIN, 0, octets, sizeof octets, &size) == PTPM_READ ? *octets : 0;
 }
 
 /* The portState that a GET of PORT_DATA_SET shows. */
@@ -42,8 +49,8 @@ static const char *state_of(size_t port) {
 void say_started(void) {
     char identity[IDENTITY_TEXT], text[2048];
     write_identity(identity, options->settings.identity);
-    size_t size = (size_t)snprintf(text, sizeof text, "%s in domain %u:", identity, options->settings.domain);
-    for (size_t i = 0; i < clock_ports(); i++) {
+    size_t size = (size_t)snprintf(text, sizeof text, "%s in domain %u:", identity, domain());
+    for (size_t i = 0; i < ports_of(options); i++) {
         const char *where = port_count > 0 ? ports[i].name : options->meeting.path;
         size += (size_t)snprintf(text + size, sizeof text - size, " port %zu at %.128s %s,", i + 1, where, state_of(i + 1));
     }
@@ -67,20 +74,35 @@ static void tell_turn(uint16_t ingress, const struct heard *heard, uint32_t answ
 
 static void tell_all_changed(const struct ptpm_changed *changed) {
     if (changed->clock != 0) tell_changed("changed:", PTPM_BAD_IDENTITY, changed->clock);
-    for (size_t i = 0; i < clock_ports(); i++) {
+    for (size_t i = 0; i < ports_of(options); i++) {
         char where[32];
         snprintf(where, sizeof where, "changed at port %zu:", i + 1);
         if (changed->ports[i] != 0) tell_changed(where, PTPM_BAD_STATE, changed->ports[i]);
     }
 }
 
-/* A message to who asked at the Unix socket goes back there, and any other goes out with the round; how many were not taken. */
+/* A message to who asked at the Unix socket goes back there, at once if nothing is to be saved, and any other goes out with the
+   round; how many were not taken. */
 static unsigned long send_out(const struct ptpm_sent *message, const struct heard *heard, const struct port *port,
                               uint16_t ingress) {
     if (message->port != ingress) send_later(message, NULL);
-    else if (port == NULL) return !answer_peer(message, heard);
+    else if (port == NULL && !is_unsaved) return !answer_peer(message, heard);
+    else if (port == NULL) answer_later(message, heard);
     else send_later(message, heard->is_unicast ? heard : NULL);
     return 0;
+}
+
+/* What is to go out goes once all that it says is saved, or does not; how many messages were not taken. */
+static unsigned long send_saved(void) { return !is_unsaved || save_changes(&clock_held) ? send_round() : drop_round(); }
+
+/* The same for one turn, with a line of what became of it. */
+static unsigned long send_told(uint16_t ingress, const struct heard *heard, uint32_t answer, unsigned long lost, size_t left,
+                               size_t count, const struct ptpm_changed *changed) {
+    int is_done = save_changes(&clock_held);
+    lost += is_done ? send_round() : drop_round();
+    tell_turn(ingress, heard, answer, left - lost, count);
+    if (is_done) tell_all_changed(changed);
+    return lost;
 }
 
 /* What becomes of a datagram; port is NULL at the Unix socket. */
@@ -92,18 +114,19 @@ static void take_turn(struct heard *heard, const struct port *port) {
     if (port != NULL && !is_heard(heard, port)) return;
     lower_hops(heard);
     struct ptpm_sent *places = places_to_send(&room);
+    if (places == NULL) {
+        count_dropped(send_saved());
+        places = places_to_send(&room);
+    }
     enum ptpm_handled answer = ptpm_clock_handle_changed(&clock_held, ingress, heard->octets, heard->size, places, room, &count,
                                                          &changed);
     count_answer(answer);
+    if (answer == PTPM_ANSWERED_NEW) note_change();
     size_t left = keep_back(heard, port, ingress, answer, places, count, kept);
     unsigned long lost = 0;
     for (size_t i = 0; i < left; i++) lost += send_out(kept[i], heard, port, ingress);
     use_places(count);
-    if (options->is_told) {
-        lost += send_round();
-        tell_turn(ingress, heard, answer, left - lost, count);
-        tell_all_changed(&changed);
-    }
+    if (options->is_told) lost = send_told(ingress, heard, answer, lost, left, count, &changed);
     count_dropped(lost);
 }
 
@@ -111,7 +134,7 @@ void take_round(const struct port *port, int at) {
     static struct heard heard[ROUND];
     size_t count = hear_round(port, at, heard);
     for (size_t i = 0; i < count; i++) take_turn(&heard[i], port);
-    count_dropped(send_round());
+    count_dropped(send_saved());
 }
 
 static void tell_left(uint8_t left) {

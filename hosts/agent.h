@@ -5,8 +5,12 @@
 #include "options.h"
 #include "ports.h"
 
-/* Starts it with a port for each that is open. Ends the program with status 1, and says why, if the library does not start it. */
+/* Starts it with a port for each interface, afresh or as the file of its state has it. Ends the program with status 1, and says
+   why, if the library does not start it. */
 void start_clock(const struct options *given);
+
+/* It is saved, if it has a file of its state. */
+void save_clock(void);
 
 /* A line on standard error: its identity, its interfaces, the states of its ports, and how many managers it has. */
 void say_started(void);

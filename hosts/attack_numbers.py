@@ -10,7 +10,7 @@ import subprocess
 import tempfile
 import time
 
-from attacking import (HOME, MANAGER, ME, OTHER, Clock, Peer, asks, check, manage, path, read, response, run, start, work, write)
+from attacking import (HOME, MANAGER, ME, OTHER, Clock, Peer, asks, check, fill_disk, manage, path, read, response, run, start, work, write)
 
 PROGRAM = os.path.join(HOME, "manage")
 
@@ -401,19 +401,10 @@ def places_without_room():
     two.number = os.path.join(folder, "number")
     check("there is room at first", two.is_honest() and two.last == 0)
     for is_new in [False, True]:
-        with open(os.path.join(folder, "filler"), "wb", 0) as filler:
-            try:
-                while True:
-                    filler.write(bytes(4096))
-            except OSError:
-                pass
+        fill_disk(folder)
         if is_new:
             os.unlink(two.number)
-            with open(os.path.join(folder, "filler2"), "wb", 0) as filler:
-                try:
-                    filler.write(bytes(4096))
-                except OSError:
-                    pass
+            fill_disk(folder, "filler2")
         two.clock.text()
         check("a full disk", two.other_sets() and two.is_honest() and two.last == 2 and "No space left on device" in two.said)
         check("nothing was sent then, and nothing new lies there", os.path.exists(two.number) != is_new

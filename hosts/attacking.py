@@ -187,6 +187,17 @@ def read(name):
         return file.read()
 
 
+def fill_disk(folder, name="filler"):
+    """Leaves no room on the disk of a folder; the file that takes it."""
+    name = os.path.join(folder, name)
+    with open(name, "wb", 0) as filler:
+        try:
+            while True:
+                filler.write(bytes(4096))
+        except OSError:
+            return name
+
+
 def has_own_socket():
     return any(name.startswith("socket.") for name in os.listdir(work))
 

@@ -132,12 +132,13 @@ static void end_in_order(void) {
 
 int main(int argc, char **argv) {
     read_options(&options, argc, argv);
+    start_clock(&options);
     open_all();
     let_go_of_rights(&options.privileges, needs());
     if (options.source != NULL) source = open_source(options.source);
     start_limits(&options.limits);
-    start_clock(&options);
     filter_calls(&options.privileges);
+    save_clock();
     start_output();
     run(options.end);
     end_in_order();

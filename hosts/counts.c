@@ -2,6 +2,7 @@
 #include "counts.h"
 #include "network_limits.h"
 #include "output.h"
+#include "saving.h"
 
 enum { ANSWERS = 128 };
 
@@ -22,6 +23,15 @@ static void print_count(const char *what, unsigned long count) {
     if (count > 0) print_line("%s: %lu", what, count);
 }
 
+static void print_saves(const struct saves *saves) {
+    print_count("saved", saves->made);
+    print_count("not saved", saves->failed);
+    if (saves->made == 0) return;
+    print_count("microseconds of a save, least", saves->least);
+    print_count("microseconds of a save, mean", saves->all / saves->made);
+    print_count("microseconds of a save, most", saves->most);
+}
+
 void print_counts(void) {
     const struct kept_back *kept_back = told_kept_back();
     for (int i = 0; i < ANSWERS; i++) {
@@ -32,6 +42,7 @@ void print_counts(void) {
     print_count("not passed on again", kept_back->again);
     print_count("not passed on over the rate", kept_back->over_rate);
     print_count("not answered over the rate", kept_back->unanswered);
+    print_saves(told_saves());
     print_count("observed", observed);
     print_count("not observed", not_observed);
     print_count("lines not printed", lines_lost());

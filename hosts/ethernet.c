@@ -43,17 +43,24 @@ static int has_station(int at, unsigned index, uint8_t own[STATION]) {
     return 1;
 }
 
+int filter_ethernet(int at, int is_management_alone) {
+    struct sock_fprog filter = { .len = sizeof wanted / sizeof *wanted, .filter = (struct sock_filter *)wanted };
+    int none = 0;
+    return is_management_alone ? setsockopt(at, SOL_SOCKET, SO_ATTACH_FILTER, &filter, sizeof filter) == 0
+                               : setsockopt(at, SOL_SOCKET, SO_DETACH_FILTER, &none, sizeof none) == 0;
+}
+
 /* The socket hears nothing until it is bound, and by then it has its filter. */
 static int is_opened(int at, const char *interface, uint8_t own[STATION], const char **what) {
     int one = 1;
     unsigned index = if_nametoindex(interface);
-    struct sock_fprog filter = { .len = sizeof wanted / sizeof *wanted, .filter = (struct sock_filter *)wanted };
     struct sockaddr_ll place = { .sll_family = AF_PACKET, .sll_protocol = htons(PTP), .sll_ifindex = (int)index };
     struct packet_mreq join = { .mr_ifindex = (int)index, .mr_type = PACKET_MR_MULTICAST, .mr_alen = STATION };
     memcpy(join.mr_address, group_station, STATION);
     *what = interface;
-    if (index == 0 || !has_station(at, index, own)
-        || !is_set(at, SOL_SOCKET, SO_ATTACH_FILTER, &filter, sizeof filter, what, "SO_ATTACH_FILTER")
+    if (index == 0 || !has_station(at, index, own)) return 0;
+    *what = "SO_ATTACH_FILTER";
+    if (!filter_ethernet(at, 1)
         || !is_set(at, SOL_PACKET, PACKET_IGNORE_OUTGOING, &one, sizeof one, what, "PACKET_IGNORE_OUTGOING")
         || !is_set(at, SOL_PACKET, PACKET_ADD_MEMBERSHIP, &join, sizeof join, what, "PACKET_ADD_MEMBERSHIP")) return 0;
     *what = "Ethertype 0x88F7";

@@ -468,6 +468,42 @@ static void images(void) {
     ptpm_session_stop(&saved);
 }
 
+/* A clock of two ports that has heard nothing, as its image has it, and the clock back from the image. */
+static void clock_images(void) {
+    static const uint8_t identity[8] = { 0xaa, 0xbb, 0xcc, 0xff, 0xfe, 0xdd, 0xee, 0x01 }, zeros[8] = { 0 };
+    struct ptpm_manager_settings managers[17] = { { .port = 1 }, { .port = 1 } };
+    struct ptpm_clock_settings s;
+    struct ptpm_port_settings two[2];
+    struct ptpm_clock saved = { 0 };
+    uint8_t image[PTPM_CLOCK_IMAGE_OCTETS];
+    size_t size = 1, gone = 1;
+    ptpm_clock_defaults(&s);
+    memcpy(s.identity, identity, sizeof identity);
+    for (int i = 0; i < 2; i++) ptpm_port_defaults(&two[i]);
+    check(ptpm_clock_image(&saved, image, sizeof image, &size) == PTPM_SAVE_NO_CLOCK && size == 0, "no clock, no image");
+    check(ptpm_clock_start(&saved, &s, two, 2, managers, 1) == PTPM_STARTED
+          && ptpm_clock_image(&saved, image, 118, &size) == PTPM_SAVE_NO_ROOM && size == 0, "a clock's image that lacks room");
+    check(ptpm_clock_image(&saved, image, sizeof image, &size) == PTPM_SAVED
+          && is_text(image, size, "7074706d" "01" "01" "0000" "0000006b" "aabbccfffeddee01" "00" "01" "80" "f8" "fe" "ffff" "80" "0000"
+                     "0000000000000000" "0000000000000000" "aabbccfffeddee010000" "00" "ffff" "7fffffff" "80" "f8" "fe" "ffff" "80"
+                     "aabbccfffeddee01" "0025" "00" "00" "00" "00" "00" "00" "a0" "00" "02" "06" "00" "0000000000000000" "01" "03" "00"
+                     "01" "00" "06" "00" "0000000000000000" "01" "03" "00" "01" "00" "00"),
+          "the image of a clock");
+    check(ptpm_clock_restore(&saved, zeros, 3, managers, 17, image, 11, &gone) == PTPM_TOO_MANY_MANAGERS && gone == 0,
+          "a restore's PTPM_TOO_MANY_MANAGERS");
+    check(ptpm_clock_restore(&saved, zeros, 3, managers, 2, image, 11, &gone) == PTPM_MANAGER_TWICE, "a restore's PTPM_MANAGER_TWICE");
+    check(ptpm_clock_restore(&saved, zeros, 3, managers, 1, image, 11, &gone) == PTPM_IDENTITY_IS_ZERO,
+          "a restore's PTPM_IDENTITY_IS_ZERO");
+    check(ptpm_clock_restore(&saved, identity, 3, managers, 1, image, 11, &gone) == PTPM_NOT_AN_IMAGE, "a clock's PTPM_NOT_AN_IMAGE");
+    check(ptpm_clock_restore(&saved, identity, 3, managers, 1, image, size - 1, &gone) == PTPM_DAMAGED, "a clock's PTPM_DAMAGED");
+    check(ptpm_clock_restore(&saved, identity, 3, managers, 1, image, size, &gone) == PTPM_OTHER_PORTS, "PTPM_OTHER_PORTS");
+    check(ptpm_clock_restore(&saved, (const uint8_t *)"elsewhere", 3, managers, 1, image, size, &gone) == PTPM_OTHER_CLOCK,
+          "PTPM_OTHER_CLOCK");
+    check(ptpm_clock_restore(&saved, identity, 2, managers, 1, image, size, &gone) == PTPM_RESTORED && gone == 0
+          && ptpm_clock_image(&saved, image, size, &gone) == PTPM_SAVED && gone == size, "a clock that is restored");
+    ptpm_clock_stop(&saved);
+}
+
 static void surveys(void) {
     struct ptpm_survey_settings s = { .port = 0x0b22, .number = 0x5566, .id = 0x2006, .domain = 0x2c, .hops = 4 };
     const struct ptpm_survey *held = &survey;
@@ -536,7 +572,8 @@ static const struct answer refused[] = {
     ANSWER(BAD_PTP_TIMESCALE), ANSWER(BAD_TIME_TRACEABLE), ANSWER(BAD_FREQUENCY_TRACEABLE), ANSWER(BAD_TIME_SOURCE),
     ANSWER(BAD_STATE), ANSWER(BAD_LOG_MIN_DELAY_REQ), ANSWER(BAD_PEER_DELAY), ANSWER(BAD_LOG_ANNOUNCE),
     ANSWER(BAD_RECEIPT_TIMEOUT), ANSWER(BAD_LOG_SYNC), ANSWER(BAD_DELAY_MECHANISM), ANSWER(BAD_LOG_MIN_PDELAY),
-    ANSWER(NOT_AN_IMAGE), ANSWER(OTHER_VERSION), ANSWER(OTHER_KIND), ANSWER(DAMAGED), ANSWER(OTHER_SESSION),
+    ANSWER(NOT_AN_IMAGE), ANSWER(OTHER_VERSION), ANSWER(OTHER_KIND), ANSWER(DAMAGED), ANSWER(OTHER_CLOCK),
+    ANSWER(OTHER_PORTS), ANSWER(OTHER_SESSION),
 };
 #undef ANSWER
 
@@ -560,6 +597,7 @@ static void names_in_types(void) {
         OF(kind, BAD_LENGTH) OF(kind, BAD_ACTION) OF(kind, BAD_TLV_TYPE) OF(kind, BAD_TLV_LENGTH) OF(kind, BAD_TEXT)
 #define IGNORED(kind) OF(kind, NOT_A_REPLY) OF(kind, OTHER_TARGET) OF(kind, OTHER_NUMBER) OF(kind, OTHER_CONTENT)
     OF(START, NO_MEMORY) OF(START, OTHER_SIZES) OF(START, GRANDMASTER_DIFFERS) OF(START, BAD_CLOCK_ACCURACY) OF(START, BAD_LEAP59) OF(START, BAD_STATE)
+    OF(START, TOO_MANY_MANAGERS) OF(START, MANAGER_TWICE) OF(START, IDENTITY_IS_ZERO)
     NO_MESSAGE(HANDLE) OF(HANDLE, NO_CLOCK) OF(HANDLE, NO_PORT) OF(HANDLE, NO_ROOM)
     OF(OBSERVE, NO_CLOCK) OF(OBSERVE, NO_PORT) OF(OBSERVE, GRANDMASTER_DIFFERS) OF(OBSERVE, BAD_CLOCK_ACCURACY)
     OF(OBSERVE, BAD_LEAP59) OF(OBSERVE, BAD_STATE)
@@ -570,7 +608,8 @@ static void names_in_types(void) {
     NO_MESSAGE(SESSION) IGNORED(SESSION) OF(SESSION, NO_MEMORY) OF(SESSION, NO_SESSION)
     NO_MESSAGE(SURVEY) IGNORED(SURVEY) OF(SURVEY, NO_MEMORY) OF(SURVEY, NO_SURVEY)
     OF(REPORT, NO_ROOM) OF(REPORT, NO_SESSION) OF(REPORT, NO_SURVEY)
-    OF(SAVE, NO_ROOM) OF(SAVE, NO_SESSION) OF(RESTORE, NO_MEMORY)
+    OF(SAVE, NO_CLOCK) OF(SAVE, NO_ROOM) OF(SAVE, NO_SESSION)
+    OF(RESTORE, NO_MEMORY) OF(RESTORE, TOO_MANY_MANAGERS) OF(RESTORE, MANAGER_TWICE) OF(RESTORE, IDENTITY_IS_ZERO)
 #undef IGNORED
 #undef NO_MESSAGE
 #undef OF
@@ -637,6 +676,7 @@ int main(void) {
     changed_members();
     sessions();
     images();
+    clock_images();
     surveys();
     tables();
     answer_names();

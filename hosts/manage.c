@@ -3,12 +3,14 @@
    decides is the library's; what stands here and in the files beside it reads words, moves octets, measures time and prints,
    and is not proved. */
 #include "asking.h"
+#include "collect.h"
 #include "common.h"
 #include "draw.h"
 #include "earlier.h"
 #include "fresh_number.h"
 #include "notices.h"
 #include "session.h"
+#include "status.h"
 #include "way.h"
 #include <errno.h>
 #include <stdio.h>
@@ -44,6 +46,7 @@ static int ask(struct task *task) {
     if (task->is_kept) return ask_in_session(&session, task);
     task->settings.first = draw_number();
     open_way(task);
+    if (task->site.is_collected) return task->site.is_shown ? show_status(task) : collect(task);
     if (task->is_survey) return ask_every_clock(task);
     start_session(&session, task, task->settings.first);
     return ask_clock(&session, task);

@@ -43,5 +43,6 @@ void show_progress(const char *format, ...) {
 
 void clear_progress(void) {
     if (is_shown) fputs("\r\033[K", stderr);
+    if (is_shown) fflush(stderr);
     is_shown = 0;
 }

@@ -22,8 +22,8 @@ static const struct option names[] = {
     { "rate", required_argument, NULL, RATE }, { "no-forward", no_argument, NULL, NO_FORWARD },
     { "any-source", no_argument, NULL, ANY_SOURCE }, { "user", required_argument, NULL, USER },
     { "unix-group", required_argument, NULL, UNIX_GROUP }, { "unix-mode", required_argument, NULL, UNIX_MODE },
-    { "no-filter", no_argument, NULL, NO_FILTER }, { "help", no_argument, NULL, 'h' }, { "version", no_argument, NULL, VERSION },
-    { NULL, 0, NULL, 0 },
+    { "no-filter", no_argument, NULL, NO_FILTER }, { "state", required_argument, NULL, 's' }, { "help", no_argument, NULL, 'h' },
+    { "version", no_argument, NULL, VERSION }, { NULL, 0, NULL, 0 },
 };
 
 static const char help[] =
@@ -50,6 +50,7 @@ static const char help[] =
     "                      managers (1000)\n"
     "  --any-source        also what comes from addresses that are not on the link is heard\n"
     "\n"
+    "  -s, --state FILE    the clock is saved to FILE before it answers, and goes on from FILE at its next start\n"
     "  -o FILE             what the clock observes, like a servo: a file, which is read at the start and whenever it is\n"
     "                      written, or a pipe. Lines are for example: offset_from_master 98304, or: port 1 state 9\n"
     "  -n SECONDS          it ends by itself then\n"
@@ -138,8 +139,12 @@ static void take_option(struct options *options, int option) {
     case 'f': options->limits.is_passed_on_from_host = 1; break;
     case 'v': options->is_told = 1; break;
     case 'u': options->meeting.path = optarg; break;
+    case 's': options->state = optarg; break;
     case 'o': options->source = optarg; break;
-    case 'd': options->settings.domain = (uint8_t)number("-d", 0, 255); break;
+    case 'd':
+        options->settings.domain = (uint8_t)number("-d", 0, 255);
+        options->has_domain = 1;
+        break;
     case 'n': options->end = milliseconds() + number("-n", 0, 1000000) * SECOND; break;
     case 'm':
         if (options->manager_count <= MANAGERS) options->managers[options->manager_count++] = read_manager(optarg);
@@ -149,6 +154,8 @@ static void take_option(struct options *options, int option) {
     default: take_limit(options, option);
     }
 }
+
+size_t ports_of(const struct options *options) { return options->interface_count > 0 ? options->interface_count : 1; }
 
 /* Two ports at one interface would pass on to its link what comes from there. It may be named by another of its names. */
 static void refuse_twice(char *const *given, size_t count) {
@@ -176,7 +183,7 @@ void read_options(struct options *options, int argc, char **argv) {
     ptpm_clock_defaults(&options->settings);
     options->limits = (struct limits){ .hops = HOPS_AT_FIRST, .rate = RATE_AT_FIRST, .is_passed_on = 1 };
     options->meeting = (struct meeting){ .mode = MODE_AT_FIRST, .group = (gid_t)-1 };
-    for (int option; (option = getopt_long(argc, argv, "26fu:m:d:o:n:vh", names, NULL)) != -1;) {
+    for (int option; (option = getopt_long(argc, argv, "26fu:m:d:s:o:n:vh", names, NULL)) != -1;) {
         has_two |= option == '2';
         has_six |= option == '6';
         take_option(options, option);

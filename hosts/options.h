@@ -20,10 +20,15 @@ struct options {
     struct meeting meeting;             /* without a path: no Unix socket */
     struct limits limits;
     struct privileges privileges;
+    const char *state;                  /* the file that the clock is saved to, or NULL */
+    int has_domain;                     /* -d is given */
     const char *source;                 /* what the clock observes: a file, a pipe, or NULL */
     int is_told;                        /* a line for each datagram */
     long end;                           /* when it ends by itself, in milliseconds; 0 if it doesn't */
 };
+
+/* How many ports the clock has. One that is heard at its Unix socket alone has a port too. */
+size_t ports_of(const struct options *options);
 
 /* Reads it whole, or ends the program: with status 2 if something is wrong, which is said. */
 void read_options(struct options *options, int argc, char **argv);

@@ -71,13 +71,14 @@ void let_go_of_rights(const struct privileges *privileges, enum needs needs) {
 }
 
 /* What the program and its C library call of the system when the filter is on: sockets and what is read and written, what opens a
-   port anew, the source of observations, the Unix socket at its end, threads, memory, time and the end itself. Each machine lacks
-   some of them. */
+   port anew, the file of the state, the source of observations, the Unix socket at its end, threads, memory, time and the end itself.
+   Each machine lacks some of them. */
 static const int allowed[] = {
     SYS_recvmmsg, SYS_sendmmsg, SYS_epoll_pwait, SYS_sendto, SYS_write, SYS_read, SYS_futex, SYS_clock_gettime, SYS_recvmsg,
     SYS_recvfrom, SYS_sendmsg, SYS_writev, SYS_ppoll, SYS_epoll_ctl, SYS_epoll_create1, SYS_socket, SYS_bind, SYS_connect,
     SYS_setsockopt, SYS_getsockopt, SYS_getsockname, SYS_fcntl, SYS_close, SYS_openat, SYS_fstat, SYS_newfstatat, SYS_statx,
-    SYS_readlinkat, SYS_lseek, SYS_unlinkat, SYS_getcwd, SYS_inotify_init1, SYS_inotify_add_watch, SYS_inotify_rm_watch,
+    SYS_readlinkat, SYS_lseek, SYS_unlinkat, SYS_renameat, SYS_fsync, SYS_getcwd, SYS_inotify_init1, SYS_inotify_add_watch,
+    SYS_inotify_rm_watch,
     SYS_clone, SYS_clone3, SYS_set_robust_list, SYS_rseq, SYS_sched_yield, SYS_mmap, SYS_munmap, SYS_mremap, SYS_mprotect,
     SYS_madvise, SYS_brk,
     SYS_getrandom, SYS_gettimeofday, SYS_clock_nanosleep, SYS_nanosleep, SYS_rt_sigaction, SYS_rt_sigprocmask, SYS_rt_sigreturn,

@@ -16,10 +16,10 @@
      to free. There is one live copy of a handle. The host may move it, and reads and writes nothing inside it.
    - malloc, realloc and free come from one allocator. malloc aligns each block to the greatest power of two up to 16 that divides
      its size. No call is made from a signal handler, or in a forked child of a process with threads.
-   - A call has the stack that it needs, as the library is built for x86-64 and aarch64. Most calls take 500 octets. A restore of a
-     session takes 10,000, and its image 8,000. A start of a clock takes 4,400, ptpm_clock_handle_changed 2,100, ptpm_clock_handle
-     and ptpm_clock_observe 1,000 each. The message of a survey takes 1,900. Beyond that a call has what malloc, realloc, free,
-     memcpy, memmove and memset of the host take. No call calls itself.
+   - A call has the stack that it needs, as the library is built for x86-64 and aarch64. Most calls take 500 octets. A restore takes
+     10,000. The image of a session takes 8,000, and of a clock 2,700. A start of a clock takes 5,500, ptpm_clock_handle_changed
+     2,100, ptpm_clock_handle and ptpm_clock_observe 1,000 each. The message of a survey takes 1,900. Beyond that a call has what
+     malloc, realloc, free, memcpy, memmove and memset of the host take. No call calls itself.
 
    A call that only reads takes a const handle, and leaves it as it is. If several refusals hold, a call answers the first. Want of
    memory can come in place of it in ptpm_clock_start alone. Every other call asks for memory only if nothing else refuses. */
@@ -301,8 +301,9 @@ PTPM_HAS_SIZE(ptpm_rate, 24);
 #undef PTPM_HAS_SIZE
 
 /* The most messages that a clock sends for a datagram. The most octets of a dataField of its own. The most octets of a message, its
-   dataField included, and of a session's image. */
+   dataField included. The most octets of a session's image, and of a clock's. */
 enum { PTPM_MOST_SENT = 15, PTPM_MOST_READ = 130, PTPM_MOST_OCTETS = 1472, PTPM_SESSION_IMAGE_OCTETS = 1478 };
+enum { PTPM_CLOCK_IMAGE_OCTETS = 27185 };
 
 /* The most ports whose answers a survey keeps. */
 enum { PTPM_MOST_ANSWERS = 512 };
@@ -345,6 +346,9 @@ enum { PTPM_MOST_ANSWERS = 512 };
 #define PTPM_NO_SURVEY 46               /* the handle holds none */
 #define PTPM_OTHER_SIZES 47             /* a struct of the caller has another size than the library's */
 #define PTPM_GRANDMASTER_DIFFERS 50     /* a clock is its own grandmaster, with another priority or quality */
+#define PTPM_TOO_MANY_MANAGERS 51       /* over sixteen */
+#define PTPM_MANAGER_TWICE 52
+#define PTPM_IDENTITY_IS_ZERO 56        /* the clock's identity is all zeros */
 #define PTPM_BAD_CLOCK_ACCURACY 70
 #define PTPM_BAD_LEAP59 88              /* both leaps */
 #define PTPM_BAD_STATE 94
@@ -368,12 +372,12 @@ __extension__ enum PTPM_FOUR_OCTETS(ptpm_started) {
     PTPM_NO_PORTS = 48,
     PTPM_TOO_MANY_PORTS = 49,           /* over eight */
     PTPM_START_GRANDMASTER_DIFFERS = PTPM_GRANDMASTER_DIFFERS,
-    PTPM_TOO_MANY_MANAGERS = 51,        /* over sixteen */
-    PTPM_MANAGER_TWICE = 52,
+    PTPM_START_TOO_MANY_MANAGERS = PTPM_TOO_MANY_MANAGERS,
+    PTPM_START_MANAGER_TWICE = PTPM_MANAGER_TWICE,
     PTPM_MANAGER_IS_EVERY = 53,         /* its identity is all ones */
     PTPM_TARGET_IS_EVERY = 54,          /* the managed clock's is */
     PTPM_SAME_CLOCK = 55,               /* the managed clock has the manager's identity */
-    PTPM_IDENTITY_IS_ZERO = 56,         /* the clock's identity is all zeros */
+    PTPM_START_IDENTITY_IS_ZERO = PTPM_IDENTITY_IS_ZERO,
     PTPM_TARGET_IS_ZERO = 57,           /* the managed clock's is */
     PTPM_BAD_IDENTITY = 64,             /* a member is out of its range, here and below */
     PTPM_BAD_USER_DESCRIPTION = 66,
@@ -533,21 +537,27 @@ __extension__ enum PTPM_FOUR_OCTETS(ptpm_told) {
     PTPM_REPORT_NO_SURVEY = PTPM_NO_SURVEY
 };
 
-/* ptpm_session_image. */
+/* ptpm_session_image and ptpm_clock_image. */
 __extension__ enum PTPM_FOUR_OCTETS(ptpm_saved) {
     PTPM_SAVED = 0,
+    PTPM_SAVE_NO_CLOCK = PTPM_NO_CLOCK,
     PTPM_SAVE_NO_ROOM = PTPM_NO_ROOM,   /* for fewer octets than the image has */
     PTPM_SAVE_NO_SESSION = PTPM_NO_SESSION
 };
 
-/* ptpm_session_restore. */
+/* ptpm_session_restore and ptpm_clock_restore. */
 __extension__ enum PTPM_FOUR_OCTETS(ptpm_restored) {
     PTPM_RESTORED = 0,
     PTPM_RESTORE_NO_MEMORY = PTPM_NO_MEMORY,
+    PTPM_RESTORE_TOO_MANY_MANAGERS = PTPM_TOO_MANY_MANAGERS,
+    PTPM_RESTORE_MANAGER_TWICE = PTPM_MANAGER_TWICE,
+    PTPM_RESTORE_IDENTITY_IS_ZERO = PTPM_IDENTITY_IS_ZERO,
     PTPM_NOT_AN_IMAGE = 104,            /* under 12 octets, or the first four are not "ptpm" */
     PTPM_OTHER_VERSION = 105,           /* an image of another version */
-    PTPM_OTHER_KIND = 106,              /* an image, but not of a session */
+    PTPM_OTHER_KIND = 106,              /* an image of something else: of a session for a clock's, of a clock for a session's */
     PTPM_DAMAGED = 107,                 /* octets are missing, further ones follow, or one has a value that no image has */
+    PTPM_OTHER_CLOCK = 108,             /* of a clock of another identity */
+    PTPM_OTHER_PORTS = 109,             /* of a clock with another number of ports */
     PTPM_OTHER_SESSION = 110            /* another manager or clock, another number of ports, or another first number */
 };
 
@@ -610,7 +620,7 @@ void ptpm_port_defaults(struct ptpm_port_settings *settings);
 /* Starts a clock in place of what the handle holds, which is freed first.
    Takes:   one to eight ports, and at most sixteen managers. The first port is port 1.
    Answers: PTPM_STARTED; or why not, and then the handle holds nothing.
-   Memory:  the clock, until it is stopped, and a copy of ports and managers until the call returns.
+   Memory:  the clock, until it is stopped, and a copy of the ports until the call returns.
    Owed:    the caller stops the clock. */
 enum ptpm_started ptpm_clock_start(struct ptpm_clock *clock, const struct ptpm_clock_settings *settings,
                                    const struct ptpm_port_settings *ports, size_t port_count,
@@ -657,6 +667,30 @@ enum ptpm_observed ptpm_clock_observe(struct ptpm_clock *clock, const struct ptp
    Writes:  *size, and as many octets from octets on: the dataField. *size is 0 if the call is refused. */
 enum ptpm_read ptpm_clock_read(const struct ptpm_clock *clock, uint16_t id, uint16_t port, uint8_t *octets, size_t room,
                                size_t *size);
+
+/* Makes the clock's image: what a host saves before it sends the messages of an answer PTPM_ANSWERED_NEW. From it the clock goes
+   on after a restart. It has its data sets, the latest request of each manager and the reply to it. The managers and what each
+   of them may change are not in it.
+   Takes:   room octets; PTPM_CLOCK_IMAGE_OCTETS are enough for every clock.
+   Answers: PTPM_SAVED, or why not.
+   Writes:  *size, and that number of octets from octets on: the image. If the call is refused, *size is 0 and no octet is written. */
+enum ptpm_saved ptpm_clock_image(const struct ptpm_clock *clock, uint8_t *octets, size_t room, size_t *size);
+
+/* Puts the clock of an image in the handle, in place of what it holds, which is then freed.
+   Takes:   the identity and the number of ports that the clock of the image must have; at most sixteen managers; and size octets.
+            Managers and what each of them may change are those that are given. All else is that of the image. A manager that is
+            given and has no request in the image begins anew.
+   Answers: PTPM_RESTORED; or why not, and then the handle holds what it held. The first that holds of PTPM_TOO_MANY_MANAGERS,
+            PTPM_MANAGER_TWICE, PTPM_IDENTITY_IS_ZERO, PTPM_NOT_AN_IMAGE, PTPM_OTHER_VERSION, PTPM_OTHER_KIND, PTPM_DAMAGED,
+            PTPM_OTHER_CLOCK, PTPM_OTHER_PORTS and PTPM_NO_MEMORY. A restore that is refused is no reason to start the clock anew.
+            It would then take requests for new ones that it has carried out.
+   Writes:  *gone: the number of requests of the image whose managers are not among those that are given. They are let go. If the
+            call is refused it is 0.
+   Memory:  the clock, until it is stopped.
+   Owed:    the caller stops the clock. */
+enum ptpm_restored ptpm_clock_restore(struct ptpm_clock *clock, const uint8_t identity[8], size_t port_count,
+                                      const struct ptpm_manager_settings *managers, size_t manager_count,
+                                      const uint8_t *image, size_t size, size_t *gone);
 
 /* Ends what the handle holds, if it holds anything. The handle then holds nothing, and may be started again. */
 void ptpm_clock_stop(struct ptpm_clock *clock);

@@ -1,6 +1,7 @@
 #define _GNU_SOURCE
 #include "rounds.h"
 #include "common.h"
+#include "peers.h"
 #include <arpa/inet.h>
 #include <errno.h>
 #include <linux/udp.h>
@@ -11,13 +12,12 @@ enum { PLACES = ROUND + PTPM_MOST_SENT, LEAST_JOINED = 8, MOST_JOINED = 64, MOST
 /* What the kernel reports of, or gets for, a datagram's addresses. */
 struct control { _Alignas(struct cmsghdr) char octets[CMSG_SPACE(sizeof(struct in6_pktinfo))]; };
 
-/* A message that is to go out. */
-struct outgoing { const struct ptpm_sent *message; const struct heard *answered; };
+/* A message that is to go out: at its port, or to a peer. */
+struct outgoing { const struct ptpm_sent *message; const struct heard *answered; int is_to_peer; };
 
 static struct ptpm_sent sent[PLACES];
 static struct outgoing waiting[PLACES];
-static size_t used, waiting_count;
-static unsigned long not_taken;
+static size_t used, waiting_count, peer_count;
 
 static void take_control(struct heard *heard, struct msghdr *head) {
     for (struct cmsghdr *one = CMSG_FIRSTHDR(head); one != NULL; one = CMSG_NXTHDR(head, one)) {
@@ -83,13 +83,17 @@ size_t hear_round(const struct port *port, int at, struct heard heard[ROUND]) {
 }
 
 struct ptpm_sent *places_to_send(size_t *room) {
-    if (PLACES - used < PTPM_MOST_SENT) not_taken += send_round();
     *room = PLACES - used;
-    return sent + used;
+    return *room >= PTPM_MOST_SENT ? sent + used : NULL;
 }
 
 void send_later(const struct ptpm_sent *message, const struct heard *answered) {
-    waiting[waiting_count++] = (struct outgoing){ message, answered };
+    waiting[waiting_count++] = (struct outgoing){ message, answered, 0 };
+}
+
+void answer_later(const struct ptpm_sent *message, const struct heard *answered) {
+    waiting[waiting_count++] = (struct outgoing){ message, answered, 1 };
+    peer_count++;
 }
 
 void use_places(size_t count) { used += count; }
@@ -223,17 +227,30 @@ static unsigned long send_at(size_t place) {
     const struct outgoing *outs[PLACES];
     size_t count = 0;
     for (size_t i = 0; i < waiting_count; i++) {
-        if (waiting[i].message->port == place + 1) outs[count++] = &waiting[i];
+        if (waiting[i].message->port == place + 1 && !waiting[i].is_to_peer) outs[count++] = &waiting[i];
     }
     if (ports[place].socket < 0) return count;
     fill_batch(&batch, &ports[place], outs, count);
     return send_batch(ports[place].socket, &batch);
 }
 
+static unsigned long send_to_peers(void) {
+    unsigned long lost = 0;
+    for (size_t i = 0; i < waiting_count; i++) {
+        if (waiting[i].is_to_peer) lost += !answer_peer(waiting[i].message, waiting[i].answered);
+    }
+    return lost;
+}
+
 unsigned long send_round(void) {
-    unsigned long lost = not_taken;
-    for (size_t place = 0; place < port_count && waiting_count > 0; place++) lost += send_at(place);
-    not_taken = 0;
-    used = waiting_count = 0;
+    unsigned long lost = peer_count > 0 ? send_to_peers() : 0;
+    for (size_t place = 0; place < port_count && waiting_count > peer_count; place++) lost += send_at(place);
+    used = waiting_count = peer_count = 0;
+    return lost;
+}
+
+unsigned long drop_round(void) {
+    unsigned long lost = waiting_count;
+    used = waiting_count = peer_count = 0;
     return lost;
 }

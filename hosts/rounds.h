@@ -37,17 +37,24 @@ struct heard {
    round. */
 size_t hear_round(const struct port *port, int at, struct heard heard[ROUND]);
 
-/* The place of the next messages that are to go out, and how many there are. */
+/* The place of the next messages that are to go out, and how many there are; NULL if there are too few for a turn, so that what is
+   to go out has to go first. */
 struct ptpm_sent *places_to_send(size_t *room);
 
 /* A message that is in the next place, or after others, is to go out at its port: to who sent what is answered, where that
    came by unicast, or to the group. */
 void send_later(const struct ptpm_sent *message, const struct heard *answered);
 
+/* The same of a message for the peer at the Unix socket that sent what is answered. */
+void answer_later(const struct ptpm_sent *message, const struct heard *answered);
+
 /* The first `count` places are used. */
 void use_places(size_t count);
 
 /* Sends what is to go out; how many messages were not taken. What a socket doesn't take at once is dropped. */
 unsigned long send_round(void);
+
+/* Nothing of it goes out; how many messages that are. */
+unsigned long drop_round(void);
 
 #endif

@@ -17,6 +17,9 @@ enum { WORD = 1, UDP = 256, TEXT, VERSION, GIVE_UP };
 
 enum { MOST_WORDS = 3, MOST_FIELD = 1418, NOT_NAMED = -1 };
 
+/* What holds where no option says otherwise. Each request to one clock alone is repeated for two seconds. */
+enum { HOPS = 1, ATTEMPTS = 30, SITE_HOPS = 7, SITE_ATTEMPTS = 10, LISTENED = 4000 };
+
 static const struct option options[] = {
     { "interface", required_argument, NULL, 'i' }, { "udp", required_argument, NULL, UDP }, { "ipv6", no_argument, NULL, '6' },
     { "ethernet", no_argument, NULL, '2' },
@@ -25,7 +28,10 @@ static const struct option options[] = {
     { "manager", required_argument, NULL, 'm' }, { "numbers", required_argument, NULL, 'k' },
     { "wait", required_argument, NULL, 'w' }, { "attempts", required_argument, NULL, 'a' },
     { "timeout", required_argument, NULL, 't' }, { "times", required_argument, NULL, 'n' },
-    { "give-up", no_argument, NULL, GIVE_UP },
+    { "give-up", no_argument, NULL, GIVE_UP }, { "listen", required_argument, NULL, LISTEN }, { "json", no_argument, NULL, JSON },
+    { "draw", no_argument, NULL, DRAW }, { "max-offset", required_argument, NULL, MAX_OFFSET },
+    { "max-delay", required_argument, NULL, MAX_DELAY }, { "once", no_argument, NULL, ONCE },
+    { "watch", required_argument, NULL, WATCH },
     { "hexadecimal", no_argument, NULL, 'x' }, { "text", no_argument, NULL, TEXT }, { "quiet", no_argument, NULL, 'q' },
     { "help", no_argument, NULL, 'h' }, { "version", no_argument, NULL, VERSION },
     { NULL, 0, NULL, 0 },
@@ -33,9 +39,9 @@ static const struct option options[] = {
 
 /* The words of the command line, and what options say of them that a later one may change. */
 struct words {
-    const char *at[MOST_WORDS + 1];
+    const char *at[MOST_WORDS + 1], *domain;
     int count, is_text, has_target;
-    long port, target_port;
+    long port, target_port, hops, attempts;
 };
 
 static long number(const char *option, const char *text, long least, long most) {
@@ -61,21 +67,26 @@ static void read_manager(struct task *task, const char *text) {
     task->has_manager = 1;
 }
 
+static void take_interface(struct task *task, const char *name) {
+    if (task->interface_count == MOST_INTERFACES) refuse("--interface %s: there are more than %d", name, MOST_INTERFACES);
+    task->interfaces[task->interface_count++] = name;
+}
+
 static void take_option(struct task *task, struct words *words, int option, const char *value) {
     switch (option) {
-    case 'i': task->interface = value; break;
+    case 'i': take_interface(task, value); break;
     case UDP: task->address = value; break;
     case '6': task->is_six = 1; break;
     case '2': task->is_ethernet = 1; break;
     case 'u': task->path = value; break;
     case 'T': read_target(task, words, value); break;
     case 'p': words->port = number("port", value, 0, 65535); break;
-    case 'd': task->settings.domain = (uint8_t)number("domain", value, 0, 255); break;
-    case 'b': task->settings.hops = (uint8_t)number("hops", value, 0, 255); break;
+    case 'd': words->domain = value; break;
+    case 'b': words->hops = number("hops", value, 0, 255); break;
     case 'm': read_manager(task, value); break;
     case 'k': task->numbers = value; break;
     case 'w': task->wait = number("wait", value, 0, 100000); break;
-    case 'a': task->settings.attempts = (uint8_t)number("attempts", value, 1, 255); break;
+    case 'a': words->attempts = number("attempts", value, 1, 255); break;
     case 't': task->milliseconds = number("timeout", value, 1, 100000); break;
     case 'n': task->times = number("times", value, 1, 1000000); break;
     case GIVE_UP: task->is_letting_go = 1; break;
@@ -84,7 +95,7 @@ static void take_option(struct task *task, struct words *words, int option, cons
     case 'q': be_quiet(); break;
     case 'h': help(); break;
     case VERSION: version(); break;
-    default: refuse("see ptpm-manage --help");
+    default: if (!take_site_option(&task->site, option, value)) refuse("see ptpm-manage --help");
     }
 }
 
@@ -119,13 +130,15 @@ static const struct { const char *name; uint8_t action; } actions[ACTIONS] = {
 };
 
 static void read_verb(struct task *task, const char *verb) {
-    task->is_survey = strcasecmp(verb, "survey") == 0;
+    task->site.is_shown = strcasecmp(verb, "status") == 0;
+    task->site.is_collected = task->site.is_shown || strcasecmp(verb, "collect") == 0;
+    task->is_survey = task->site.is_collected || strcasecmp(verb, "survey") == 0;
     for (int i = 0; i < ACTIONS; i++) {
         if (strcasecmp(verb, actions[i].name) != 0) continue;
         task->action = actions[i].action;
         return;
     }
-    if (!task->is_survey) refuse("%s: it is none of get, set, command and survey", verb);
+    if (!task->is_survey) refuse("%s: it is none of get, set, command, survey, collect and status", verb);
 }
 
 static void read_id(struct task *task, const char *text) {
@@ -163,14 +176,15 @@ static void read_value(struct task *task, const struct words *words) {
 
 /* Whether what is said of the clock and the way to it is whole, and said once. */
 static void judge(const struct task *task, const struct words *words) {
-    if (task->path == NULL && task->interface == NULL && task->address == NULL) {
+    if (task->path == NULL && task->interface_count == 0 && task->address == NULL) {
         refuse("the way to the clock is missing: --interface NAME, --udp ADDRESS or --unix PATH");
     }
-    if (task->path != NULL && (task->interface != NULL || task->address != NULL || task->is_six || task->is_ethernet)) {
+    if (task->path != NULL && (task->interface_count > 0 || task->address != NULL || task->is_six || task->is_ethernet)) {
         refuse("--unix stands without --interface, --udp, --ipv6 and --ethernet");
     }
+    if (task->address != NULL && task->interface_count > 1) refuse("--udp stands with one --interface");
     if (task->is_ethernet && (task->address != NULL || task->is_six)) refuse("--ethernet stands without --udp and --ipv6");
-    if (task->is_survey && words->has_target) refuse("survey asks every clock: it takes no --target");
+    if (task->is_survey && words->has_target) refuse("%s asks every clock: it takes no --target", words->at[0]);
     if (!task->is_survey && !words->has_target) refuse("--target is missing: the clock that is asked; survey asks every clock");
     if (words->port >= 0 && words->target_port >= 0 && words->port != words->target_port) {
         refuse("--port %ld and --target name two ports", words->port);
@@ -184,17 +198,49 @@ static int is_by_one_manager(const struct task *task) {
     return task->numbers != NULL || task->has_manager || (task->path == NULL && task->action != PTPM_GET);
 }
 
+/* The id that is asked, and its value; where every clock is asked for all six ids of a site there is none. */
+static void read_asked(struct task *task, const struct words *words) {
+    const char *verb = words->at[0];
+    if (task->site.is_collected) {
+        if (words->count > 1) refuse("%s %s: %s takes no managementId", verb, words->at[1], verb);
+        if (task->has_manager) refuse("--manager: %s asks by no manager", verb);
+        if (words->port >= 0 || words->is_text || task->is_in_octets || task->numbers != NULL) {
+            refuse("%s stands without --port, --text, --hexadecimal and --numbers", verb);
+        }
+        return;
+    }
+    if (words->count < 2) refuse("%s: it takes a managementId; see ptpm-manage --help", verb);
+    read_id(task, words->at[1]);
+    read_value(task, words);
+}
+
+/* The domains, hops and attempts that the options name, or else those of what is asked. Of several interfaces the last counts, but a
+   whole site is asked at all of them. */
+static void read_reach(struct task *task, const struct words *words) {
+    int is_site = task->site.is_collected;
+    struct ptpm_session_settings *settings = &task->settings;
+    if (words->domain != NULL && is_site) read_domains(&task->site, words->domain);
+    else if (words->domain != NULL) settings->domain = (uint8_t)number("domain", words->domain, 0, 255);
+    settings->hops = (uint8_t)(words->hops >= 0 ? words->hops : is_site ? SITE_HOPS : HOPS);
+    settings->attempts = (uint8_t)(words->attempts >= 0 ? words->attempts : is_site ? SITE_ATTEMPTS : ATTEMPTS);
+    if (is_site || task->interface_count < 2) return;
+    task->interfaces[0] = task->interfaces[task->interface_count - 1];
+    task->interface_count = 1;
+}
+
 void read_task(struct task *task, int argc, char **argv) {
-    struct words words = { .port = NOT_NAMED, .target_port = NOT_NAMED };
+    struct words words = { .port = NOT_NAMED, .target_port = NOT_NAMED, .hops = NOT_NAMED, .attempts = NOT_NAMED };
     *task = (struct task){
-        .settings = { .port = 1, .target_ports = 8, .hops = 1, .attempts = 30 }, .wait = 3000, .milliseconds = 200, .times = 1,
+        .settings = { .port = 1, .target_ports = 8 }, .site = { .listen = NOT_NAMED }, .wait = 3000, .milliseconds = 200, .times = 1,
     };
     read_words(task, &words, argc, argv);
-    if (words.count < 2) refuse("it takes get, set, command or survey, and a managementId; see ptpm-manage --help");
+    if (words.count == 0) refuse("it takes get, set, command or survey and a managementId, or collect or status; see ptpm-manage --help");
     read_verb(task, words.at[0]);
-    read_id(task, words.at[1]);
-    read_value(task, &words);
+    read_asked(task, &words);
+    read_reach(task, &words);
     judge(task, &words);
+    judge_site_options(&task->site);
+    if (task->site.listen < 0) task->site.listen = LISTENED;
     long port = words.port >= 0 ? words.port : words.target_port;
     task->port = port < 0 ? 0 : (uint16_t)port;
     task->is_kept = is_by_one_manager(task);

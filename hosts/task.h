@@ -3,10 +3,14 @@
 #define TASK_H
 
 #include "ptpm.h"
+#include "site_options.h"
 #include <stdint.h>
 
+enum { MOST_INTERFACES = 8 };
+
 struct task {
-    int is_survey;
+    int is_survey;                              /* every clock is asked */
+    struct site_options site;                   /* of a survey that collects, and what is shown of it */
     uint8_t action;                             /* PTPM_GET, PTPM_SET or PTPM_COMMAND, if it is no survey */
     uint16_t id;
     uint16_t port;                              /* the clock's, of an id of a port; 0 if none is named */
@@ -16,7 +20,9 @@ struct task {
     int has_manager;                            /* whether settings name the manager */
     int is_kept;                                /* by a manager who is the same in each run: a file keeps his session */
     int is_letting_go;                          /* what an earlier run asked without an answer is not finished */
-    const char *interface, *address, *path;     /* the way: an interface, an address or both, or a Unix socket */
+    const char *interfaces[MOST_INTERFACES];    /* the way: interfaces, of which `collect` and `status` alone may have several, */
+    int interface_count;
+    const char *address, *path;                 /* an address, with one of these or none, or a Unix socket */
     int is_six, is_ethernet;                    /* at an interface IPv6, or IEEE 802.3, in place of IPv4 */
     const char *numbers;                        /* the file that keeps the session, or NULL */
     long wait;                                  /* how long a session waits that has no such file yet, in milliseconds */

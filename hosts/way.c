@@ -15,14 +15,17 @@
 #include <sys/un.h>
 #include <unistd.h>
 
+/* A socket, and over UDP or Ethernet its interface, with that one's address on Ethernet. */
+struct end { int at; const char *interface; uint8_t station[STATION]; };
+
 static struct sockaddr_storage clock_address;
 static socklen_t clock_size;
-static int at;
-static const char *name, *interface;    /* of the way in a notice; of a way over UDP or Ethernet */
+static struct end ends[MOST_INTERFACES];
+static size_t end_count;
+static char name[MOST_INTERFACES * (IFNAMSIZ + 2) + sizeof ((struct sockaddr_un *)0)->sun_path];     /* of the way in a notice */
 static int is_six, is_ethernet;
-static uint8_t station[STATION];        /* the interface's address on Ethernet */
 
-enum { MOST_DATAGRAM = 65536 };
+enum { MOST_DATAGRAM = 65536, ROOM_FOR_MANY = 4 << 20 };
 
 const char *way_name(void) { return name; }
 
@@ -70,7 +73,7 @@ static const char *interface_to(const char *address) {
 }
 
 /* The identity of the interface: its hardware address with ff and fe in the middle, as an EUI-64. */
-static void write_own_identity(uint8_t identity[8]) {
+static void write_own_identity(uint8_t identity[8], const char *interface) {
     struct ifreq request = { 0 };
     snprintf(request.ifr_name, sizeof request.ifr_name, "%s", interface);
     int probe = socket(AF_INET, SOCK_DGRAM | SOCK_CLOEXEC, 0);
@@ -86,13 +89,25 @@ static void find_udp(const struct task *task) {
     else clock_size = group(&clock_address, is_six);
 }
 
-static void find_at_interface(struct task *task) {
+static void add_end(const char *interface) {
+    if (if_nametoindex(interface) == 0) refuse("nothing was sent: %s: %s", interface, strerror(errno));
+    for (size_t i = 0; i < end_count; i++) {
+        if (if_nametoindex(ends[i].interface) == if_nametoindex(interface)) refuse("--interface %s: it is named twice", interface);
+    }
+    ends[end_count++].interface = interface;
+}
+
+static void find_at_interfaces(struct task *task) {
     is_ethernet = task->is_ethernet;
     if (!is_ethernet) find_udp(task);
-    interface = task->interface != NULL ? task->interface : interface_to(task->address);
-    name = task->address != NULL ? task->address : interface;
-    if (if_nametoindex(interface) == 0) refuse("nothing was sent: %s: %s", interface, strerror(errno));
-    if (!task->has_manager) write_own_identity(task->settings.clock);
+    if (task->interface_count == 0) add_end(interface_to(task->address));
+    for (int i = 0; i < task->interface_count; i++) add_end(task->interfaces[i]);
+    snprintf(name, sizeof name, "%s", task->address != NULL ? task->address : ends[0].interface);
+    for (size_t i = 1, size; i < end_count; i++) {
+        size = strlen(name);
+        snprintf(name + size, sizeof name - size, ", %s", ends[i].interface);
+    }
+    if (!task->has_manager) write_own_identity(task->settings.clock, ends[0].interface);
 }
 
 static void find_unix(const struct task *task) {
@@ -101,60 +116,89 @@ static void find_unix(const struct task *task) {
     strcpy(path.sun_path, task->path);
     memcpy(&clock_address, &path, sizeof path);
     clock_size = sizeof path;
-    name = task->path;
+    end_count = 1;
+    snprintf(name, sizeof name, "%s", task->path);
 }
 
 void find_way(struct task *task) {
     if (task->path != NULL) find_unix(task);
-    else find_at_interface(task);
-    int is_nobodys = !task->is_kept && (task->path != NULL || !task->is_survey);
+    else find_at_interfaces(task);
+    int is_nobodys = !task->is_kept && (task->path != NULL || !task->is_survey || task->site.is_collected);
     if (!task->has_manager && is_nobodys) task->settings.port = port_of_nobody(task->settings.port);
 }
 
-static void open_at_interface(void) {
+static void open_at_interface(struct end *end) {
     const char *what;
-    at = is_ethernet ? open_ethernet(interface, station, &what) : open_udp(interface, is_six, &what);
-    if (at < 0) refuse("nothing was sent: %s: %s%s", what, strerror(errno), right_needed(is_ethernet));
+    end->at = is_ethernet ? open_ethernet(end->interface, end->station, &what) : open_udp(end->interface, is_six, &what);
+    if (end->at < 0) refuse("nothing was sent: %s: %s%s", what, strerror(errno), right_needed(is_ethernet));
 }
 
 static void open_beside(const char *path) {
     char own_path[sizeof ((struct sockaddr_un *)0)->sun_path + 32];
     int size = snprintf(own_path, sizeof own_path, "%s.%ld", path, (long)getpid());
     if ((size_t)size >= sizeof ((struct sockaddr_un *)0)->sun_path) refuse("--unix %s: the path is too long", path);
-    at = open_unix(own_path);
+    ends[0].at = open_unix(own_path);
 }
 
 void open_way(const struct task *task) {
     if (task->path != NULL) open_beside(task->path);
-    else open_at_interface();
+    for (size_t i = 0; i < end_count && task->path == NULL; i++) open_at_interface(&ends[i]);
 }
 
-static ssize_t send_frame(const uint8_t *octets, size_t size) {
+void widen_way(void) {
+    const int wanted = ROOM_FOR_MANY;
+    for (size_t i = 0; i < end_count; i++) {
+        if (setsockopt(ends[i].at, SOL_SOCKET, SO_RCVBUFFORCE, &wanted, sizeof wanted) == 0) continue;
+        setsockopt(ends[i].at, SOL_SOCKET, SO_RCVBUF, &wanted, sizeof wanted);
+    }
+}
+
+void hear_every_kind(int is_every) {
+    for (size_t i = 0; i < end_count && is_ethernet; i++) {
+        if (!filter_ethernet(ends[i].at, !is_every)) complain("%s: the filter of frames: %s", ends[i].interface, strerror(errno));
+    }
+}
+
+static ssize_t send_frame(const struct end *end, const uint8_t *octets, size_t size) {
     uint8_t head[ETHERNET_HEAD];
     struct iovec parts[FRAME_PARTS];
     const struct msghdr frame = { .msg_iov = parts, .msg_iovlen = FRAME_PARTS };
-    write_head(head, NULL, station);
+    write_head(head, NULL, end->station);
     join_frame(parts, head, octets, size);
-    return sendmsg(at, &frame, MSG_DONTWAIT);
+    return sendmsg(end->at, &frame, MSG_DONTWAIT);
 }
 
-static ssize_t send_datagram(const uint8_t *octets, size_t size) {
-    return sendto(at, octets, size, MSG_DONTWAIT, (struct sockaddr *)&clock_address, clock_size);
+static ssize_t send_datagram(const struct end *end, const uint8_t *octets, size_t size) {
+    return sendto(end->at, octets, size, MSG_DONTWAIT, (struct sockaddr *)&clock_address, clock_size);
 }
 
 enum sending send_out(const uint8_t *octets, size_t size) {
-    if ((is_ethernet ? send_frame(octets, size) : send_datagram(octets, size)) >= 0) return OUT;
-    return errno == EAGAIN || errno == EWOULDBLOCK || errno == ENOBUFS ? NO_ROOM : NO_WAY;
+    enum sending sending = NO_WAY;
+    for (size_t i = 0; i < end_count; i++) {
+        if ((is_ethernet ? send_frame(&ends[i], octets, size) : send_datagram(&ends[i], octets, size)) >= 0) sending = OUT;
+        else if (sending == NO_WAY && (errno == EAGAIN || errno == EWOULDBLOCK || errno == ENOBUFS)) sending = NO_ROOM;
+    }
+    return sending;
+}
+
+/* The end at which something has come in, after the one before it in turn; NULL if nothing has in time. */
+static const struct end *next_end(long wait) {
+    static size_t latest;
+    struct pollfd waits[MOST_INTERFACES];
+    for (size_t i = 0; i < end_count; i++) waits[i] = (struct pollfd){ ends[i].at, POLLIN, 0 };
+    if (wait_for(waits, end_count, wait) <= 0) return NULL;
+    do latest = (latest + 1) % end_count;
+    while (waits[latest].revents == 0);
+    return &ends[latest];
 }
 
 const uint8_t *hear(size_t *size, long end) {
     static uint8_t datagram[MOST_DATAGRAM];
     for (long left; (left = end - milliseconds()) > 0 && !stopped;) {
-        struct pollfd waits = { at, POLLIN, 0 };
-        if (wait_for(&waits, 1, left) <= 0) continue;
-        ssize_t found = recv(at, datagram, sizeof datagram, MSG_DONTWAIT);
+        const struct end *from = next_end(left);
+        ssize_t found = from == NULL ? -1 : recv(from->at, datagram, sizeof datagram, MSG_DONTWAIT);
         if (found < 0) continue;
-        size_t place = is_ethernet ? message_in(datagram, (size_t)found, station) : 0;
+        size_t place = is_ethernet ? message_in(datagram, (size_t)found, from->station) : 0;
         if (is_ethernet && place == 0) continue;
         *size = (size_t)found - place;
         return datagram + place;

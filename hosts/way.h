@@ -14,6 +14,12 @@ void find_way(struct task *task);
 /* Opens it. Ends the program with status 2 if it can't be opened. */
 void open_way(const struct task *task);
 
+/* Gives its socket room for the answers of many clocks, 4 MiB as far as the system allows. */
+void widen_way(void);
+
+/* Over Ethernet, has messages of every kind come in, or, as at first, management messages alone. Elsewhere all come in. */
+void hear_every_kind(int is_every);
+
 /* What the way is called in a notice. */
 const char *way_name(void);
 

@@ -39,7 +39,7 @@ _ptpm_last() {
 
 _ptpm() {
     local before=${COMP_WORDS[COMP_CWORD - 1]} command
-    local -a commands=(answer show ids make run check schedule draw)
+    local -a commands=(answer show ids make run check schedule draw site)
     command=$(_ptpm_last "${commands[*]}")
     case $command,$before,${COMP_WORDS[COMP_CWORD]} in
     ,*) _ptpm_offer "${commands[@]}" --help --version ;;
@@ -51,7 +51,7 @@ _ptpm() {
 
 _ptpm_manage() {
     local before=${COMP_WORDS[COMP_CWORD - 1]}
-    local -a actions=(get set command survey)
+    local -a actions=(get set command survey collect status)
     case $before,${COMP_WORDS[COMP_CWORD]} in
     *,-*) _ptpm_offer_lines < <(_ptpm_options ptpm-manage) ;;
     get,* | set,* | command,* | survey,*) _ptpm_offer_lines < <(_ptpm_ids) ;;

@@ -117,6 +117,7 @@ PTPM_MOST_SENT = 15
 PTPM_MOST_READ = 130
 PTPM_MOST_OCTETS = 1472
 PTPM_SESSION_IMAGE_OCTETS = 1478
+PTPM_CLOCK_IMAGE_OCTETS = 27185
 PTPM_MOST_ANSWERS = 512
 
 # Answers that several kinds of calls give.
@@ -142,6 +143,9 @@ PTPM_IDLE = 43
 PTPM_NO_SURVEY = 46
 PTPM_OTHER_SIZES = 47
 PTPM_GRANDMASTER_DIFFERS = 50
+PTPM_TOO_MANY_MANAGERS = 51
+PTPM_MANAGER_TWICE = 52
+PTPM_IDENTITY_IS_ZERO = 56
 PTPM_BAD_CLOCK_ACCURACY = 70
 PTPM_BAD_LEAP59 = 88
 PTPM_BAD_STATE = 94
@@ -153,12 +157,12 @@ PTPM_START_OTHER_SIZES = 47
 PTPM_NO_PORTS = 48
 PTPM_TOO_MANY_PORTS = 49
 PTPM_START_GRANDMASTER_DIFFERS = 50
-PTPM_TOO_MANY_MANAGERS = 51
-PTPM_MANAGER_TWICE = 52
+PTPM_START_TOO_MANY_MANAGERS = 51
+PTPM_START_MANAGER_TWICE = 52
 PTPM_MANAGER_IS_EVERY = 53
 PTPM_TARGET_IS_EVERY = 54
 PTPM_SAME_CLOCK = 55
-PTPM_IDENTITY_IS_ZERO = 56
+PTPM_START_IDENTITY_IS_ZERO = 56
 PTPM_TARGET_IS_ZERO = 57
 PTPM_BAD_IDENTITY = 64
 PTPM_BAD_USER_DESCRIPTION = 66
@@ -317,16 +321,22 @@ PTPM_REPORT_NO_SURVEY = 46
 
 # enum ptpm_saved.
 PTPM_SAVED = 0
+PTPM_SAVE_NO_CLOCK = 32
 PTPM_SAVE_NO_ROOM = 34
 PTPM_SAVE_NO_SESSION = 37
 
 # enum ptpm_restored.
 PTPM_RESTORED = 0
 PTPM_RESTORE_NO_MEMORY = 35
+PTPM_RESTORE_TOO_MANY_MANAGERS = 51
+PTPM_RESTORE_MANAGER_TWICE = 52
+PTPM_RESTORE_IDENTITY_IS_ZERO = 56
 PTPM_NOT_AN_IMAGE = 104
 PTPM_OTHER_VERSION = 105
 PTPM_OTHER_KIND = 106
 PTPM_DAMAGED = 107
+PTPM_OTHER_CLOCK = 108
+PTPM_OTHER_PORTS = 109
 PTPM_OTHER_SESSION = 110
 
 # What ptpm_id_named answers if no id has the name.
@@ -571,6 +581,20 @@ CALLS: Dict[str, Tuple[Any, List[Any]]] = {
         [POINTER(ptpm_clock), POINTER(ptpm_observed_clock), POINTER(ptpm_observed_port), c_size_t, POINTER(c_uint8)],
     ),
     "ptpm_clock_read": (c_uint32, [POINTER(ptpm_clock), c_uint16, c_uint16, POINTER(c_uint8), c_size_t, POINTER(c_size_t)]),
+    "ptpm_clock_image": (c_uint32, [POINTER(ptpm_clock), POINTER(c_uint8), c_size_t, POINTER(c_size_t)]),
+    "ptpm_clock_restore": (
+        c_uint32,
+        [
+            POINTER(ptpm_clock),
+            c_char_p,
+            c_size_t,
+            POINTER(ptpm_manager_settings),
+            c_size_t,
+            c_char_p,
+            c_size_t,
+            POINTER(c_size_t),
+        ],
+    ),
     "ptpm_clock_stop": (None, [POINTER(ptpm_clock)]),
     "ptpm_session_start": (c_uint32, [POINTER(ptpm_session), POINTER(ptpm_session_settings)]),
     "ptpm_session_begin": (c_uint32, [POINTER(ptpm_session), c_uint8, c_uint16, c_uint16, c_char_p, c_size_t]),

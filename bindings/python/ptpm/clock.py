@@ -10,6 +10,7 @@ from . import _header as header
 from ._library import Handle, library
 from .answers import HandleAnswer, done, judged
 from .changed import Changed
+from .identity import Identity, IdentityLike
 from .ids import IdLike, id_of
 from .observation import ObservedClock, ObservedPort
 from .settings import ClockSettings, Manager, PortSettings
@@ -45,12 +46,39 @@ class Clock(Handle):
     """
 
     def __init__(self, settings: ClockSettings, ports: Sequence[PortSettings], managers: Sequence[Manager] = ()) -> None:
-        super().__init__(header.ptpm_clock, library.ptpm_clock_stop)
+        self._begin()
         places = _array(header.ptpm_port_settings, [port.as_in_c() for port in ports])
         trusted = _array(header.ptpm_manager_settings, [manager.as_in_c() for manager in managers])
         struct = settings.as_in_c()
         done(self._call(library.ptpm_clock_start, ctypes.byref(struct), places, len(ports), trusted, len(managers)))
+
+    def _begin(self) -> None:
+        """A handle that holds nothing, and room for what a turn sends."""
+        super().__init__(header.ptpm_clock, library.ptpm_clock_stop)
         self._sent = (header.ptpm_sent * header.PTPM_MOST_SENT)()
+
+    @classmethod
+    def restore(cls, identity: IdentityLike, ports: int, managers: Sequence[Manager], image: bytes) -> Tuple[Clock, int]:
+        """The clock of an image, which has this identity and so many ports, and how many of its managers' latest requests were let
+        go, since these managers are not among those that are given. Managers and their rights are those that are given; all else is
+        that of the image. What is refused is no reason to start the clock anew: it would then take requests for new ones that it
+        has carried out."""
+        clock = cls.__new__(cls)
+        clock._begin()
+        gone = ctypes.c_size_t()
+        trusted = _array(header.ptpm_manager_settings, [manager.as_in_c() for manager in managers])
+        octets, own = bytes(image), Identity.of(identity).octets
+        words = (own, ports, trusted, len(managers), octets, len(octets), ctypes.byref(gone))
+        done(clock._call(library.ptpm_clock_restore, *words))
+        return clock, gone.value
+
+    def image(self) -> bytes:
+        """The clock's image: what a host saves before it sends the messages of a turn that is ANSWERED_NEW. Managers and their rights
+        are not in it."""
+        size = ctypes.c_size_t()
+        room = (ctypes.c_uint8 * header.PTPM_CLOCK_IMAGE_OCTETS)()
+        done(self._call(library.ptpm_clock_image, room, len(room), ctypes.byref(size)))
+        return bytes(room[: size.value])
 
     def __enter__(self) -> Clock:
         return self

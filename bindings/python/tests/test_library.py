@@ -90,6 +90,24 @@ class Clocks(unittest.TestCase):
             self.assertEqual(handled.changed.ports[:2], (PortMembers(0), PortMembers.STATE))
             self.assertEqual(asked.observe(ptpm.ObservedClock(), [ptpm.ObservedPort(ptpm.PortState.SLAVE)] * 2), {2})
 
+    def test_a_clock_goes_on_from_its_image(self) -> None:
+        with clock() as saved:
+            set_priority1 = request(7, CLOCK + "ffff", 0, 1, "20056400")
+            handled = saved.handle(1, set_priority1)
+            image = saved.image()
+        managers = [ptpm.Manager(MANAGER)]
+        back, gone = ptpm.Clock.restore(CLOCK, 2, managers, image)
+        with back:
+            self.assertEqual((gone, back.image()), (0, image))
+            again = back.handle(1, set_priority1)
+            self.assertEqual((again.answer, again.messages), (HandleAnswer.ANSWERED_REPEAT, handled.messages))
+        back, gone = ptpm.Clock.restore(CLOCK, 2, [], image)
+        back.close()
+        self.assertEqual(gone, 1)
+        self.refused("OTHER_PORTS", lambda: ptpm.Clock.restore(CLOCK, 3, managers, image))
+        self.refused("OTHER_CLOCK", lambda: ptpm.Clock.restore("aabbccfffeddee02", 2, managers, image))
+        self.refused("MANAGER_TWICE", lambda: ptpm.Clock.restore(CLOCK, 3, managers * 2, image))
+
     def test_refusals_have_names(self) -> None:
         def start(ports: int, managers: int = 0, text: str = "") -> None:
             settings = ptpm.ClockSettings(CLOCK, user_description=text)

@@ -16,6 +16,9 @@ use core::ptr::null_mut;
 /// The most octets of a dataField that a clock reads.
 pub const MOST_READ: usize = sys::PTPM_MOST_READ;
 
+/// The most octets of a clock's image.
+pub const CLOCK_IMAGE_OCTETS: usize = sys::PTPM_CLOCK_IMAGE_OCTETS;
+
 /// More ports than a clock has.
 const MORE_PORTS: usize = 9;
 
@@ -71,7 +74,7 @@ impl Clock {
     /// [`Error::ManagerIsEvery`], or a member that is out of its range, or [`Error::NoMemory`].
     pub fn start(settings: &ClockSettings, ports: &[PortSettings], managers: &[Manager]) -> Result<Self, Error> {
         done(sys::ptpm_header_agrees())?;
-        let mut clock = Self { handle: sys::ptpm_clock { at: null_mut(), live: false } };
+        let mut clock = Self::none();
         let settings = settings.as_in_c();
         // SAFETY: the handle is all zeros before this first call. Settings, ports and managers may be read, and are laid out as the
         // library takes them (`settings` asserts it); their sizes are those of the slices.
@@ -86,6 +89,51 @@ impl Clock {
             )
         })?;
         Ok(clock)
+    }
+
+    /// Starts the clock of an image, which has this identity and so many ports, and says how many of its managers' latest requests
+    /// were let go, since these managers are not among those that are given. Managers and their rights are those that are given; all
+    /// else is that of the image.
+    ///
+    /// # Errors
+    ///
+    /// The first of [`Error::TooManyManagers`], [`Error::ManagerTwice`], [`Error::IdentityIsZero`], [`Error::NotAnImage`],
+    /// [`Error::OtherVersion`], [`Error::OtherKind`], [`Error::Damaged`], [`Error::OtherClock`], [`Error::OtherPorts`] and
+    /// [`Error::NoMemory`] that holds. That is no reason to start the clock anew: it would then take requests for new ones that it has
+    /// carried out.
+    pub fn restore(identity: Identity, ports: usize, managers: &[Manager], image: &[u8]) -> Result<(Self, usize), Error> {
+        done(sys::ptpm_header_agrees())?;
+        let mut clock = Self::none();
+        let mut gone = 0;
+        // SAFETY: the handle is all zeros before this first call. Identity, managers and image may be read, and the managers are laid
+        // out as the library takes them (`settings` asserts it); the sizes are those of the slices. `gone` may be written.
+        done(unsafe {
+            sys::ptpm_clock_restore(
+                &mut clock.handle,
+                identity.0.as_ptr(),
+                ports,
+                managers.as_ptr().cast(),
+                managers.len(),
+                image.as_ptr(),
+                image.len(),
+                &mut gone,
+            )
+        })?;
+        Ok((clock, gone))
+    }
+
+    /// A handle that holds nothing.
+    const fn none() -> Self {
+        Self { handle: sys::ptpm_clock { at: null_mut(), live: false } }
+    }
+
+    /// Makes the clock's image in the room that it is given. A host saves it before it sends the messages of a turn that is
+    /// [`Handled::AnsweredNew`]. Managers and their rights are not in it.
+    pub fn image<'a>(&self, room: &'a mut [u8; CLOCK_IMAGE_OCTETS]) -> Result<&'a [u8], Error> {
+        let mut size = 0;
+        // SAFETY: the octets and the size may be written; the octets are borrowed mutably, so they lie apart from the rest.
+        done(unsafe { sys::ptpm_clock_image(&self.handle, room.as_mut_ptr(), room.len(), &mut size) })?;
+        Ok(&room[..size])
     }
 
     /// Judges a datagram that came in at a port, counted from 1, carries its request out, and makes what is to be sent.

@@ -84,8 +84,10 @@ errors! {
     BadLogMinPdelay = PTPM_BAD_LOG_MIN_PDELAY, "a logMinPdelayReqInterval is -8 to 5";
     NotAnImage = PTPM_NOT_AN_IMAGE, "the octets are no image";
     OtherVersion = PTPM_OTHER_VERSION, "the image is of another version";
-    OtherKind = PTPM_OTHER_KIND, "the image is not of a session";
+    OtherKind = PTPM_OTHER_KIND, "the image is of something else";
     Damaged = PTPM_DAMAGED, "the image is damaged";
+    OtherClock = PTPM_OTHER_CLOCK, "the image is of a clock of another identity";
+    OtherPorts = PTPM_OTHER_PORTS, "the image is of a clock with another number of ports";
     OtherSession = PTPM_OTHER_SESSION, "the image is of another manager, clock, number of ports or first number";
 }
 

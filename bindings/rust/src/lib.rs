@@ -28,8 +28,9 @@
 //!
 //! - No call is made from a signal handler, or in a forked child of a process with threads. Rust lets neither be made without
 //!   `unsafe` of its own.
-//! - The stack has room for what the header says: [`Clock::start`] 4,400 octets and its settings, every other call 2,100. An
-//!   [`Outbox`] has 22,140 octets: [`Outbox::boxed`] puts them on the heap.
+//! - The stack has room for what the header says: a restore 10,000 octets, [`Session::image`] 8,000, [`Clock::start`] 5,500 and its
+//!   settings, [`Clock::image`] 2,700, every other call 2,100. An [`Outbox`] has 22,140 octets: [`Outbox::boxed`] puts them on the
+//!   heap.
 //! - `malloc`, `realloc` and `free` of the program are those of one allocator.
 //!
 //! A handle is used by one thread at a time: a clock may be moved to another thread, and is shared by none.
@@ -65,7 +66,7 @@ pub mod sys;
 
 pub use answers::{Handled, Received, Surveyed};
 pub use changed::{Changed, ClockMembers, PortMembers};
-pub use clock::{Clock, Ports, Turn, MOST_READ};
+pub use clock::{Clock, Ports, Turn, CLOCK_IMAGE_OCTETS, MOST_READ};
 pub use error::Error;
 pub use id::{ManagementErrorId, ManagementId, UnknownId};
 pub use identity::{Identity, NoIdentity, PortIdentity};

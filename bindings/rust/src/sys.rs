@@ -274,6 +274,17 @@ extern "C" {
         room: usize,
         size: *mut usize,
     ) -> ptpm_read;
+    pub fn ptpm_clock_image(clock: *const ptpm_clock, octets: *mut u8, room: usize, size: *mut usize) -> ptpm_saved;
+    pub fn ptpm_clock_restore(
+        clock: *mut ptpm_clock,
+        identity: *const u8,
+        port_count: usize,
+        managers: *const ptpm_manager_settings,
+        manager_count: usize,
+        image: *const u8,
+        size: usize,
+        gone: *mut usize,
+    ) -> ptpm_restored;
     pub fn ptpm_clock_stop(clock: *mut ptpm_clock);
     pub fn ptpm_session_start(session: *mut ptpm_session, settings: *const ptpm_session_settings) -> ptpm_started;
     pub fn ptpm_session_begin(

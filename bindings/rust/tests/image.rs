@@ -1,10 +1,10 @@
-//! A session that goes on from its image.
+//! A session and a clock that go on from their images.
 
 use ptpm::{
     Action, Error, Identity, ManagementId, PortIdentity, Report, Session, SessionSettings, MOST_DATA, MOST_OCTETS,
     SESSION_IMAGE_OCTETS,
 };
-use ptpm::{Clock, ClockSettings, Manager, Outbox, PortSettings, Received, Rights};
+use ptpm::{Clock, ClockSettings, Handled, Manager, Outbox, PortSettings, Received, Rights, CLOCK_IMAGE_OCTETS};
 
 #[test]
 fn a_request_goes_on_from_an_image() {
@@ -32,4 +32,29 @@ fn a_request_goes_on_from_an_image() {
     assert_eq!(restored(&settings, &image[..image.len() - 1]), Err(Error::Damaged));
     assert_eq!(restored(&settings, b"no image"), Err(Error::NotAnImage));
     assert_eq!(restored(&SessionSettings { first: 8, ..settings }, &image), Err(Error::OtherSession));
+}
+
+#[test]
+fn a_clock_goes_on_from_its_image() {
+    let manager = PortIdentity { clock: Identity([1; 8]), port: 1 };
+    let managers = [Manager::new(manager, Rights::ALL)];
+    let target = Identity([2; 8]);
+    let mut clock = Clock::start(&ClockSettings::new(target), &[PortSettings::new()], &managers).expect("it starts");
+    let mut session = Session::start(&SessionSettings::new(manager, target, 7)).expect("it starts");
+    session.begin(Action::Set, ManagementId::PRIORITY1, 0, &[100, 0]).expect("it begins");
+    let mut room = [0; MOST_OCTETS];
+    let request = session.send(&mut room).expect("it is sent");
+    let mut outbox = Outbox::boxed();
+    assert_eq!(clock.handle(1, request, &mut outbox).expect("it is judged").handled(), Handled::AnsweredNew);
+    let mut image = vec![0; CLOCK_IMAGE_OCTETS];
+    let image = clock.image(image.as_mut_slice().try_into().expect("there is room")).expect("it is made");
+
+    let (mut clock, gone) = Clock::restore(target, 1, &managers, image).expect("it goes on");
+    assert_eq!(gone, 0);
+    assert_eq!(clock.handle(1, request, &mut outbox).expect("it is judged").handled(), Handled::AnsweredRepeat);
+    assert_eq!(Clock::restore(target, 1, &[], image).map(|(_, gone)| gone).ok(), Some(1));
+    let refused = |identity, ports, image| Clock::restore(identity, ports, &managers, image).map(|_| ()).err();
+    assert_eq!(refused(target, 1, &image[1..]), Some(Error::NotAnImage));
+    assert_eq!(refused(Identity([3; 8]), 2, image), Some(Error::OtherClock));
+    assert_eq!(refused(target, 2, image), Some(Error::OtherPorts));
 }

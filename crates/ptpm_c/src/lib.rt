@@ -30,6 +30,7 @@ mod kept;
 mod names;
 mod network;
 mod saving;
+mod saving_clock;
 mod session;
 mod survey;
 

@@ -4,6 +4,7 @@ use crate::agreement::*;
 use crate::handle::Handle;
 use crate::names::*;
 use crate::saving::*;
+use crate::saving_clock::*;
 use crate::session::*;
 use crate::survey::*;
 use crate::*;
@@ -254,6 +255,55 @@ fn a_session_from_its_image(rt: HostRuntime) {
     assert!(rt; size == 54 && octets.starts_with(REQUEST.as_slice()));
     assert!(rt; ptpm_session_receive(alloc, &mut handle, REPLY) == 0);
     ptpm_session_stop(alloc, &mut handle);
+}
+
+#[test]
+fn a_clock_goes_on_from_its_image(rt: HostRuntime) {
+    let alloc = rt.alloc();
+    let identity = [0xaa, 0xbb, 0xcc, 0xff, 0xfe, 0xdd, 0xee, 0x01];
+    let settings = ClockSettings {
+        identity,
+        ..ClockSettings::new()
+    };
+    let manager = ManagerSettings {
+        clock: [0x00, 0x11, 0x22, 0x33, 0x44, 0x55, 0x66, 0x77],
+        port: 1,
+        rights: 7,
+    };
+    let ports = [PortSettings::new(); 2];
+    let mut handle = Handle::empty();
+    let mut sent = [Sent::empty(); 15];
+    let mut image = [0; 143];
+    let mut size = 1;
+    let mut gone = 1;
+    assert!(rt; ptpm_clock_image(&mut handle, &mut image, &mut size) == 32 && size == 0);
+    assert!(rt; ptpm_clock_start(alloc, &mut handle, &settings, &ports, &[manager]) == 0);
+    let answer = ptpm_clock_handle(alloc, &mut handle, 1, REQUEST, &mut sent, &mut size);
+    assert!(rt; answer == 5);
+    let answer = ptpm_clock_image(&mut handle, &mut image[..142], &mut size);
+    assert!(rt; answer == 34 && size == 0 && image[0] == 0);
+    assert!(rt; ptpm_clock_image(&mut handle, &mut image, &mut size) == 0 && size == 143);
+    ptpm_clock_stop(alloc, &mut handle);
+    for (ports, managers, number, lost) in [
+        (3, [manager].as_slice(), 109, 0),
+        (2, [].as_slice(), 0, 1),
+        (2, [manager].as_slice(), 0, 0),
+        (3, [].as_slice(), 109, 0),
+    ] {
+        let answer = ptpm_clock_restore(
+            alloc,
+            &mut handle,
+            &identity,
+            ports,
+            managers,
+            &image,
+            &mut gone,
+        );
+        assert!(rt; answer == number && gone == lost);
+    }
+    let answer = ptpm_clock_handle(alloc, &mut handle, 1, REQUEST, &mut sent, &mut size);
+    assert!(rt; answer == 6);
+    ptpm_clock_stop(alloc, &mut handle);
 }
 
 /// GET PRIORITY1, number 7, of the manager to every clock, at every port.

@@ -10,6 +10,8 @@ use ptpm_commands::{Fault, tell};
 use ptpm_draw::{Chosen, draw};
 use ptpm_findings::check_script;
 use ptpm_schedule::{Chances, schedule};
+use ptpm_site::limits::Limits;
+use ptpm_site_report::{Form, Options, report};
 use ptpm_world::{ScriptError, run_script};
 use std::alloc::{AllocError, Global};
 use std::fmt;
@@ -20,7 +22,8 @@ const VERSION: &str = "0.1.0";
 
 /// Does what the words say, and answers the exit status. The first word is the program's name. 0: it was done.
 /// 1: a fault, with the line `ptpm: FAULT` on `err`, or `check` wrote faults on `out`. 2: the words were refused,
-/// with the reason on `err`. What `err` does changes nothing. `run`, `check`, `schedule`, `draw` and the option `--lines` alone read.
+/// with the reason on `err`. `site` answers 1 if it found something, and 3 if no clock answered. What `err` does changes nothing.
+/// `run`, `check`, `schedule`, `draw`, `site` and the option `--lines` alone read.
 /// Whatever was written on `out` is flushed, at a fault too.
 pub fn command<R: Read, O: Write, E: Write>(
     alloc: Global,
@@ -85,6 +88,9 @@ fn run<R: Read, O: Write, E: Write>(
             schedule(alloc, chances, reader, out, err).map_err(Failure::Script)?;
         }
         Ok(Task::Draw(chosen)) => draw(alloc, chosen, reader, out).map_err(Failure::Script)?,
+        Ok(Task::Site(options)) => {
+            status = report(alloc, options, reader, out)?.status();
+        }
         Ok(Task::Check) => {
             let findings = check_script(alloc, reader, out).map_err(Failure::Script)?;
             if findings.first.is_some() {
@@ -117,6 +123,8 @@ enum Task<'a> {
     Check,
     /// `draw`, with a script on standard input.
     Draw(Chosen),
+    /// `site`, with answers on standard input.
+    Site(Options),
 }
 
 /// What `answer` or `show` takes.
@@ -151,6 +159,7 @@ fn task_of<'a>(name: &str, values: &ArgMatches<'a>) -> Option<Task<'a>> {
         "schedule" => Some(Task::Schedule(chances(values)?)),
         "check" => Some(Task::Check),
         "draw" => Some(Task::Draw(chosen(values)?)),
+        "site" => Some(Task::Site(site_options(values))),
         _ => None,
     }
 }
@@ -191,6 +200,23 @@ fn chosen(values: &ArgMatches<'_>) -> Option<Chosen> {
     })
 }
 
+/// What `site` prints, and what it allows.
+fn site_options(values: &ArgMatches<'_>) -> Options {
+    Options {
+        form: if values.get_flag("json") {
+            Form::Json
+        } else if values.get_flag("draw") {
+            Form::Drawing
+        } else {
+            Form::Text
+        },
+        limits: Limits {
+            offset: values.get_one("max-offset"),
+            delay: values.get_one("max-delay"),
+        },
+    }
+}
+
 fn command_line<'a>(alloc: Global) -> Result<Command<'a>, AllocError> {
     let answer = Command::new(alloc, "answer").about(
         "Prints what a fresh clock sends for a datagram at its port 1",
@@ -215,7 +241,8 @@ fn command_line<'a>(alloc: Global) -> Result<Command<'a>, AllocError> {
         .subcommand(run)?
         .subcommand(check)?
         .subcommand(schedule_command(alloc)?)?
-        .subcommand(draw_command(alloc)?)
+        .subcommand(draw_command(alloc)?)?
+        .subcommand(site_command(alloc)?)
 }
 
 /// The command, with a datagram or `--lines`.
@@ -319,6 +346,34 @@ fn draw_command<'a>(alloc: Global) -> Result<Command<'a>, AllocError> {
         .about("Draws what happens in the script on standard input, as a picture in SVG")
         .arg(from)?
         .arg(to)
+}
+
+fn site_command<'a>(alloc: Global) -> Result<Command<'a>, AllocError> {
+    let json = flag(alloc, "json", "Prints one JSON object");
+    let draw = flag(alloc, "draw", "Draws the tree, as a picture in SVG").conflicts_with("json")?;
+    let offset = nanoseconds(
+        alloc,
+        "max-offset",
+        "An offset from the master of more than NS nanoseconds is a finding",
+    );
+    let delay = nanoseconds(
+        alloc,
+        "max-delay",
+        "A mean delay of more than NS nanoseconds is a finding",
+    );
+    Command::new(alloc, "site")
+        .about(
+            "Shows a site at a glance, by the answers of its clocks on standard input, a datagram a line",
+        )
+        .arg(json)?
+        .arg(draw)?
+        .arg(offset)?
+        .arg(delay)
+}
+
+/// An option `--NAME NS`, no limit if it is absent.
+fn nanoseconds<'a>(alloc: Global, name: &'a str, help: &'a str) -> Arg<'a> {
+    option(alloc, name, "NS", help).value_parser(value_parser!(u64))
 }
 
 /// An option `--NAME N` of N in a hundred, none if it is absent.

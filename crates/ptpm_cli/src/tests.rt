@@ -329,7 +329,7 @@ fn refused_command_lines(rt: HostRuntime) {
         (
             &["ptpm"],
             b"error: 'ptpm' requires a subcommand but one was not provided\n  \
-            [subcommands: answer, show, ids, make, run, check, schedule, draw]\n\n\
+            [subcommands: answer, show, ids, make, run, check, schedule, draw, site]\n\n\
             Usage: ptpm <COMMAND>\n\n\
             For more information, try '--help'.\n",
         ),

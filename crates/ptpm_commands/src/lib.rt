@@ -7,7 +7,7 @@ mod datagram_line;
 mod faults;
 mod identity_text;
 pub mod ids;
-mod lines;
+pub mod lines;
 pub mod make;
 pub mod show;
 

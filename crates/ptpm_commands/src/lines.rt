@@ -15,7 +15,7 @@ const LINE_OCTETS: usize = 4_096;
 
 /// The lines of a reader. At most one is kept, and it is written over by the next.
 #[derive(Drop)]
-pub(crate) struct Lines<R> {
+pub struct Lines<R> {
     reader: BufReader<R>,
     /// The line that was read last, without its end.
     line: Vec<u8>,
@@ -23,7 +23,7 @@ pub(crate) struct Lines<R> {
 
 impl<R: Read + Drop> Lines<R> {
     /// The lines of a reader. Takes the memory for the reader's buffer.
-    pub(crate) fn new(alloc: Global, reader: R) -> Result<Lines<R>, Fault>
+    pub fn new(alloc: Global, reader: R) -> Result<Lines<R>, Fault>
         ensures { IfErr result (λ e. is_outside e ≡ true) }
     {
         let reader = BufReader::new(alloc, reader).map_err(read_fault)?;
@@ -37,7 +37,7 @@ impl<R: Read + Drop> Lines<R> {
     ///
     /// A line ends with a line feed, or with a carriage return and a line feed. The last may lack its end. After LineTooLong
     /// the line after the long one is next.
-    pub(crate) fn read(&mut self, number: u64) -> Result<bool, Fault>
+    pub fn read(&mut self, number: u64) -> Result<bool, Fault>
         ensures { IfErr result (λ e. IsAtLine number e) }
     {
         self.leave_long_line()?;
@@ -88,7 +88,7 @@ impl<R: Read + Drop> Lines<R> {
     }
 
     /// The datagram of the line that was read last, which has this number; `None` if the line is `nothing`.
-    pub(crate) fn datagram(&self, alloc: Global, number: u64) -> Result<Option<Vec<u8>>, Fault>
+    pub fn datagram(&self, alloc: Global, number: u64) -> Result<Option<Vec<u8>>, Fault>
         ensures { IfErr result (λ e. IsAtLine number e) }
     {
         let datagram = match std::str::from_utf8(self.line.as_slice()) {

@@ -20,10 +20,13 @@ use Rattle.ptpm_manager.specs.declared.error.SendError.TheVariants as sends
 use Rattle.ptpm_manager.specs.declared.receiving.Reason.{Reason}
 use Rattle.ptpm_manager.specs.declared.receiving.Reason.TheVariants as reasons
 use Rattle.ptpm_manager.specs.ErrorText.{begin_error_text, restore_error_text, send_error_text}
+use Rattle.ptpm_saved.specs.declared.error.RestoreError.{RestoreError as ClockImageError}
+use Rattle.ptpm_saved.specs.declared.error.RestoreError.TheVariants as images
+use Rattle.ptpm_saved.specs.ErrorText.{restore_error_text as clock_image_error_text}
 use Rattle.ptpm_host.specs.AnswerNames.{answer_name, name_in, cause_word, reason_word, verdict_word, words_in_capitals}
 use Rattle.ptpm_host.specs.ErrorNames.{error_name}
 use Rattle.ptpm_host.specs.Names.{capitals}
-use Rattle.ptpm_host.specs.Numbers.{begin_number, cause_number, reason_number, restore_number, resume_number, values_number, verdict_number}
+use Rattle.ptpm_host.specs.Numbers.{begin_number, cause_number, image_number, reason_number, restore_number, resume_number, values_number, verdict_number}
 
 cause_named : (c : DecodeError) → answer_name (cause_number c) ≡ cause_word c
 unfolding name_in
@@ -85,6 +88,15 @@ restore_named restores.OtherKind other = refl
 restore_named restores.Damaged other = refl
 restore_named restores.OtherSession other = refl
 restore_named restores.OutOfMemory other = absurd (other refl)
+
+pub image_named : (e : ClockImageError) → answer_name (image_number e) ≡ Some (words_in_capitals (clock_image_error_text e))
+unfolding name_in
+image_named images.NotAnImage = refl
+image_named images.OtherVersion = refl
+image_named images.OtherKind = refl
+image_named images.Damaged = refl
+image_named images.OtherClock = refl
+image_named images.OtherPorts = refl
 
 pub member_named : (m : Member) → answer_name (values_number (BadValue m)) ≡ Some (codes "BAD_" ++ capitals (member_name m))
 unfolding name_in

@@ -17,3 +17,4 @@ pub mod PassedOn
 pub mod PassedOnLaw
 pub mod Rate
 pub mod RateLaw
+pub mod Restoring

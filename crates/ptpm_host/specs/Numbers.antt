@@ -23,6 +23,10 @@ use Rattle.ptpm_manager.specs.declared.receiving.Reason.{Reason}
 use Rattle.ptpm_manager.specs.declared.receiving.Reason.TheVariants as reasons
 use Rattle.ptpm_manager.specs.declared.receiving.Surveyed.{Surveyed}
 use Rattle.ptpm_manager.specs.declared.receiving.Surveyed.TheVariants as surveyed
+use Rattle.ptpm_saved.specs.declared.error.RestoreError.{RestoreError as ClockImageError}
+use Rattle.ptpm_saved.specs.declared.error.RestoreError.TheVariants as images
+use Rattle.ptpm_host.specs.declared.refusal.ClockRestoreRefusal.{ClockRestoreRefusal}
+use Rattle.ptpm_host.specs.declared.refusal.ClockRestoreRefusal.TheVariants as clock_restores
 use Rattle.ptpm_host.specs.declared.refusal.HandleRefusal.{HandleRefusal}
 use Rattle.ptpm_host.specs.declared.refusal.HandleRefusal.TheVariants as handles
 use Rattle.ptpm_host.specs.declared.refusal.ReadRefusal.{ReadRefusal}
@@ -231,3 +235,19 @@ restore_number restores.OtherVersion = 105
 restore_number restores.OtherKind = 106
 restore_number restores.Damaged = 107
 restore_number restores.OtherSession = 110
+
+-- why octets are no image of a clock
+abbrev pub image_number : ClockImageError → ℕ
+image_number images.NotAnImage = 104
+image_number images.OtherVersion = 105
+image_number images.OtherKind = 106
+image_number images.Damaged = 107
+image_number images.OtherClock = 108
+image_number images.OtherPorts = 109
+
+-- why a clock is not restored
+abbrev pub clock_restore_number : ClockRestoreRefusal → ℕ
+clock_restore_number (clock_restores.Managers fault) = managers_number fault
+clock_restore_number clock_restores.IdentityIsZero = 56
+clock_restore_number (clock_restores.Image fault) = image_number fault
+clock_restore_number clock_restores.OutOfMemory = no_memory

@@ -87,6 +87,8 @@ fn refusal_name(number: u32) -> Option<&'static str>
         105 => Some("OTHER_VERSION"),
         106 => Some("OTHER_KIND"),
         107 => Some("DAMAGED"),
+        108 => Some("OTHER_CLOCK"),
+        109 => Some("OTHER_PORTS"),
         110 => Some("OTHER_SESSION"),
         _ => None,
     }

@@ -12,6 +12,7 @@ ghost use Rattle.ptpm_host.specs.Settings.{configured};
 ghost use Rattle.ptpm_data.specs.Start.{unless};
 
 use crate::judged::JudgedStart;
+use crate::managers::ConfiguredManagers;
 use crate::observing::{ObservedClock, ObservedPort, port_observations};
 use crate::places::Places;
 use crate::refusal::{HandleRefusal, StartRefusal};
@@ -28,7 +29,7 @@ pub const MOST_SENT: usize = 15;
 /// A clock. What it sends is written right into places of its host.
 #[derive(Drop)]
 pub struct HostedClock {
-    agent: Agent<BoundTable>,
+    pub(crate) agent: Agent<BoundTable>,
 }
 
 const _: () = prove!(size_of::<HostedClock>() == 34_632);
@@ -60,8 +61,8 @@ impl HostedClock {
             start_refusal settings.now ports.now managers.now ≡ Some e) }
     {
         let judged = JudgedStart::new(alloc, settings, ports, managers)?;
-        let mut clock = HostedClock::without_managers(&judged);
-        clock.admit(&judged);
+        let mut clock = HostedClock::without_managers(&judged.sets);
+        clock.admit(&judged.managers);
         Ok(clock)
     }
 
@@ -81,36 +82,36 @@ impl HostedClock {
             start_refusal settings.now ports.now managers.now ≡ Some e) }
     {
         let judged = JudgedStart::new(alloc, settings, ports, managers)?;
-        let Ok(mut clock) = Box::new(alloc, HostedClock::without_managers(&judged)) else {
+        let Ok(mut clock) = Box::new(alloc, HostedClock::without_managers(&judged.sets)) else {
             return Err(StartRefusal::OutOfMemory);
         };
-        clock.admit(&judged);
+        clock.admit(&judged.managers);
         Ok(clock)
     }
 
-    /// A clock of this start that has heard nothing yet and has no managers. It is inlined, and zeros except its data sets and
-    /// its identity: so LLVM makes it in the block that it is moved to.
+    /// A clock of these data sets that has heard nothing yet and has no managers. It is inlined, and zeros except its data sets
+    /// and its identity: so LLVM makes it in the block that it is moved to.
     #[inline(always)]
-    fn without_managers(judged: &JudgedStart) -> HostedClock
-        ensures sets { result.agent.sets ≡ judged.now.sets }
-        ensures fresh { IsFresh judged.now.sets.default.identity [] (clock_in result)
+    pub(crate) fn without_managers(sets: &DataSets) -> HostedClock
+        ensures sets { result.agent.sets ≡ sets.now }
+        ensures fresh { IsFresh sets.now.default.identity [] (clock_in result)
             (state_in result).entries }
     {
-        let sets = judged.sets.copy();
+        let sets = sets.copy();
         let table = SlotTable::without_managers(sets.identity());
         HostedClock {
             agent: Agent::new(sets, table),
         }
     }
 
-    /// Gives a clock without managers those of this start, in place.
-    fn admit(&mut self, judged: &JudgedStart)
+    /// Gives a clock without managers these, in place.
+    pub(crate) fn admit(&mut self, managers: &ConfiguredManagers)
         requires { (clock_in self.old).managers ≡ [] }
         ensures sets { self.new.agent.sets ≡ self.old.agent.sets }
-        ensures fresh { IsFresh (clock_in self.old).identity judged.now.managers.items
+        ensures fresh { IsFresh (clock_in self.old).identity (take managers.now.count managers.now.places)
             (clock_in self.new) (state_in self.new).entries }
     {
-        self.agent.admit(judged.managers.as_slice());
+        self.agent.admit(managers.as_slice());
     }
 
     /// The data sets as they are.

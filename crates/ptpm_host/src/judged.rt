@@ -1,31 +1,28 @@
-//! What a clock starts with, before it is made.
+//! What a clock begins with, before it is made.
 
-ghost use Rattle.std.specs.Prelude.{◌≡◌, ◌≢◌, ◌≤◌, false, length, IfErr, IfOk, None, Ok, OnOk, Some};
-ghost use Rattle.ptpm_table.specs.Managers.{has_twice, identities, table_refusal};
+ghost use Rattle.std.specs.Prelude.{◌≡◌, ◌≢◌, IfErr, IfOk, IsOkAnd, None, Ok, OnOk, Some, take};
+ghost use Rattle.ptpm_saved.specs.Image.{SavedClock};
 ghost use Rattle.ptpm_host.specs.Clock.{start_by, start_refusal};
+ghost use Rattle.ptpm_host.specs.Restoring.{CanRestore, IsRestoreRefused};
 ghost use Rattle.ptpm_host.specs.Settings.{configured};
 
-use crate::refusal::StartRefusal;
-use crate::settings::{
-    ClockSettings, ManagerSettings, NO_IDENTITY, PortSettings, configured, port_starts,
-};
-use ptpm_codec::{ClockIdentity, PortIdentity};
-use ptpm_data::{DataSets, Rights};
-use ptpm_table::managers_refusal;
+use crate::managers::ConfiguredManagers;
+use crate::refusal::{ClockRestoreRefusal, StartRefusal};
+use crate::settings::{ClockSettings, ManagerSettings, NO_IDENTITY, PortSettings, port_starts};
+use ptpm_codec::ClockIdentity;
+use ptpm_data::DataSets;
+use ptpm_saved::judged;
 use std::alloc::Global;
 
-/// The data sets and the managers of a clock that may start: at most sixteen managers, each identity once.
+/// The data sets and the managers of a clock that may start, or that goes on from an image.
 #[derive(Drop)]
 pub(crate) struct JudgedStart {
     pub sets: DataSets,
-    pub managers: Vec<(PortIdentity, Rights)>,
-    ghost few: { length managers.items ≤ 16 },
-    ghost distinct: { has_twice (identities managers.items) ≡ false },
+    pub managers: ConfiguredManagers,
 }
 
 impl JudgedStart {
     /// What these settings describe, or the first reason why no clock starts so.
-    #[tactic(auto, using(crate::proofs::StartLemmas::few_permitted, crate::proofs::StartLemmas::none_twice))]
     pub fn new(
         alloc: Global,
         settings: &ClockSettings,
@@ -35,7 +32,7 @@ impl JudgedStart {
         ensures sets { IfOk result (λ j. start_by settings.now ports.now ≡ Ok j.sets) }
         ensures identity { IfOk result
             (λ j. j.sets.default.identity ≡ record { 0 = settings.now.identity }) }
-        ensures managers { IfOk result (λ j. j.managers.items ≡ configured managers.now) }
+        ensures managers { IfOk result (λ j. take j.managers.count j.managers.places ≡ configured managers.now) }
         ensures permitted { OnOk result (start_refusal settings.now ports.now managers.now ≡ None) }
         ensures refused { IfErr result (λ e. e ≢ StartRefusal.OutOfMemory →
             start_refusal settings.now ports.now managers.now ≡ Some e) }
@@ -43,19 +40,49 @@ impl JudgedStart {
         let Ok(starts) = port_starts(alloc, ports) else {
             return Err(StartRefusal::OutOfMemory);
         };
-        let Ok(managers) = configured(alloc, managers) else {
-            return Err(StartRefusal::OutOfMemory);
-        };
         let sets = match DataSets::new(&settings.start(), starts.as_slice()) {
             Ok(sets) => sets,
             Err(fault) => return Err(StartRefusal::Values(fault)),
         };
-        if let Some(fault) = managers_refusal(managers.as_slice()) {
-            return Err(StartRefusal::Managers(fault));
-        }
+        let managers = match ConfiguredManagers::new(managers) {
+            Ok(managers) => managers,
+            Err(fault) => return Err(StartRefusal::Managers(fault)),
+        };
         if ClockIdentity(settings.identity) == NO_IDENTITY {
             return Err(StartRefusal::IdentityIsZero);
         }
         Ok(JudgedStart { sets, managers })
+    }
+
+    /// The data sets of an image and these managers, or the first reason why no clock of this identity and so many ports goes
+    /// on so. Takes no memory.
+    pub fn of_image(
+        identity: &[u8; 8],
+        ports: usize,
+        managers: &[ManagerSettings],
+        image: &[u8],
+    ) -> Result<JudgedStart, ClockRestoreRefusal>
+        ensures restored { IfOk result (λ j. (c : SavedClock)
+            × CanRestore (record { 0 = identity.now }) ports managers.now image.now c
+            × (j.sets ≡ c.sets)) }
+        ensures managers { IfOk result (λ j. take j.managers.count j.managers.places ≡ configured managers.now) }
+        ensures refused { IfErr result
+            (λ e. IsRestoreRefused (record { 0 = identity.now }) ports managers.now image.now e) }
+        ensures found { (c : SavedClock)
+            → CanRestore (record { 0 = identity.now }) ports managers.now image.now c
+            → IsOkAnd result (λ j. j.sets ≡ c.sets) }
+    {
+        let managers = match ConfiguredManagers::new(managers) {
+            Ok(managers) => managers,
+            Err(fault) => return Err(ClockRestoreRefusal::Managers(fault)),
+        };
+        let identity = ClockIdentity(*identity);
+        if identity == NO_IDENTITY {
+            return Err(ClockRestoreRefusal::IdentityIsZero);
+        }
+        match judged(image, &identity, ports) {
+            Ok(sets) => Ok(JudgedStart { sets, managers }),
+            Err(fault) => Err(ClockRestoreRefusal::Image(fault)),
+        }
     }
 }

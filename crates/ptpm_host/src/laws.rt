@@ -14,10 +14,12 @@ ghost use Rattle.ptpm_manager.specs.declared.error.RestoreError.{RestoreError};
 ghost use Rattle.ptpm_manager.specs.declared.error.SendError.{SendError};
 ghost use Rattle.ptpm_manager.specs.declared.receiving.Reason.{Reason};
 ghost use Rattle.ptpm_manager.specs.ErrorText.{begin_error_text, restore_error_text, send_error_text};
+ghost use Rattle.ptpm_saved.specs.declared.error.RestoreError.{RestoreError as ClockImageError};
+ghost use Rattle.ptpm_saved.specs.ErrorText.{restore_error_text as clock_image_error_text};
 ghost use Rattle.ptpm_host.specs.AnswerNames.{answer_name, reason_word, verdict_word, words_in_capitals};
 ghost use Rattle.ptpm_host.specs.ErrorNames.{error_name};
 ghost use Rattle.ptpm_host.specs.Names.{capitals, id_name};
-ghost use Rattle.ptpm_host.specs.Numbers.{begin_number, reason_number, restore_number, resume_number, values_number, verdict_number};
+ghost use Rattle.ptpm_host.specs.Numbers.{begin_number, image_number, reason_number, restore_number, resume_number, values_number, verdict_number};
 ghost use Rattle.ptpm_host.specs.PassedOnLaw.{NotTwice};
 ghost use Rattle.ptpm_host.specs.RateLaw.{WithinRate};
 
@@ -35,6 +37,8 @@ pub fn names_law()
     ensures restore { (e : RestoreError)
         → e ≢ RestoreError.OutOfMemory
         → answer_name (restore_number e) ≡ Some (words_in_capitals (restore_error_text e)) }
+    ensures image { (e : ClockImageError)
+        → answer_name (image_number e) ≡ Some (words_in_capitals (clock_image_error_text e)) }
     ensures member { (m : Member)
         → answer_name (values_number (BadValue m))
         ≡ Some (codes "BAD_" ++ capitals (member_name m)) }

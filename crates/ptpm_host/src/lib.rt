@@ -8,6 +8,7 @@ mod error_names;
 mod id_names;
 mod judged;
 mod laws;
+mod managers;
 mod names;
 mod numbers;
 mod observing;
@@ -16,6 +17,7 @@ mod places;
 mod rate;
 mod reading;
 mod refusal;
+mod restoring;
 mod sent;
 mod session;
 mod session_settings;
@@ -32,15 +34,17 @@ pub use id_names::{NO_ID, id_name, id_named};
 pub use laws::{names_law, passed_on_law, rate_law};
 pub use names::hand_out_name;
 pub use numbers::{
-    NO_CLOCK, NO_MEMORY, NO_ROOM, NO_SESSION, NO_SURVEY, OTHER_SIZES, begin_number, handle_number,
-    heard_number, observe_number, read_number, report_number, restore_number, resume_number,
-    send_number, session_number, start_number, surveyed_number, told_number, verdict_number,
+    NO_CLOCK, NO_MEMORY, NO_ROOM, NO_SESSION, NO_SURVEY, OTHER_SIZES, begin_number,
+    clock_restore_number, handle_number, heard_number, observe_number, read_number, report_number,
+    restore_number, resume_number, send_number, session_number, start_number, surveyed_number,
+    told_number, verdict_number,
 };
 pub use observing::{ObservedClock, ObservedPort, left_number};
 pub use passed_on::{MessageKey, PassedOn, PassedOnPlace};
 pub use rate::Rate;
 pub use refusal::{
-    HandleRefusal, ReadRefusal, ReportRefusal, SendRefusal, SessionRefusal, StartRefusal,
+    ClockRestoreRefusal, HandleRefusal, ReadRefusal, ReportRefusal, SendRefusal, SessionRefusal,
+    StartRefusal,
 };
 pub use sent::Sent;
 pub use session::{Heard, HostedSession};

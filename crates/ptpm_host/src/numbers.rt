@@ -6,10 +6,11 @@
 //! of a start, 64 to 101 the members that may be out of range, in their order, and from 104 on refusals of a restore.
 
 ghost use Rattle.std.specs.Prelude.{◌≡◌, ◌≤◌};
-ghost use Rattle.ptpm_host.specs.Numbers.{begin_number, cause_number, handle_number, heard_number, managers_number, member_number, observe_number, read_number, reason_number, report_number, restore_number, resume_number, send_number, session_number, start_number, surveyed_number, told_number, values_number, verdict_number};
+ghost use Rattle.ptpm_host.specs.Numbers.{begin_number, cause_number, clock_restore_number, handle_number, heard_number, image_number, managers_number, member_number, observe_number, read_number, reason_number, report_number, restore_number, resume_number, send_number, session_number, start_number, surveyed_number, told_number, values_number, verdict_number};
 
 use crate::refusal::{
-    HandleRefusal, ReadRefusal, ReportRefusal, SendRefusal, SessionRefusal, StartRefusal,
+    ClockRestoreRefusal, HandleRefusal, ReadRefusal, ReportRefusal, SendRefusal, SessionRefusal,
+    StartRefusal,
 };
 use crate::session::Heard;
 use crate::told::Told;
@@ -274,5 +275,32 @@ pub fn restore_number(refusal: RestoreError) -> u32
         RestoreError::OtherKind => 106,
         RestoreError::Damaged => 107,
         RestoreError::OtherSession => 110,
+    }
+}
+
+/// Why a clock is not restored, 35, 51, 52, 56 or 104 to 109.
+pub fn clock_restore_number(refusal: ClockRestoreRefusal) -> u32
+    ensures number { result ≡ clock_restore_number refusal }
+    ensures some { 1 ≤ result }
+{
+    match refusal {
+        ClockRestoreRefusal::Managers(fault) => managers_number(fault),
+        ClockRestoreRefusal::IdentityIsZero => 56,
+        ClockRestoreRefusal::Image(fault) => image_number(fault),
+        ClockRestoreRefusal::OutOfMemory => NO_MEMORY,
+    }
+}
+
+fn image_number(fault: ptpm_saved::RestoreError) -> u32
+    ensures number { result ≡ image_number fault }
+    ensures some { 1 ≤ result }
+{
+    match fault {
+        ptpm_saved::RestoreError::NotAnImage => 104,
+        ptpm_saved::RestoreError::OtherVersion => 105,
+        ptpm_saved::RestoreError::OtherKind => 106,
+        ptpm_saved::RestoreError::Damaged => 107,
+        ptpm_saved::RestoreError::OtherClock => 108,
+        ptpm_saved::RestoreError::OtherPorts => 109,
     }
 }

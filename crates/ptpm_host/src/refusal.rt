@@ -2,6 +2,7 @@
 
 use ptpm_data::StartError;
 use ptpm_manager::SendError;
+use ptpm_saved::RestoreError;
 use ptpm_table::TableError;
 
 /// Why a clock does not start, in the order in which the reasons are judged. Want of memory can come in place of any other.
@@ -13,6 +14,18 @@ pub enum StartRefusal {
     Managers(TableError),
     /// Its clockIdentity is all zeros.
     IdentityIsZero,
+    OutOfMemory,
+}
+
+/// Why a clock does not go on from an image, in the order in which the reasons are judged.
+#[derive(Clone, Copy, Debug, PartialEq, Eq)]
+pub enum ClockRestoreRefusal {
+    /// These can't be its managers.
+    Managers(TableError),
+    /// Its clockIdentity is all zeros.
+    IdentityIsZero,
+    /// It is no image of this clock.
+    Image(RestoreError),
     OutOfMemory,
 }
 

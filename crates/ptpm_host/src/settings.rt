@@ -3,7 +3,7 @@
 ghost use Rattle.std.specs.Prelude.{◌≡◌, ◌==◌, IfOk, map, min};
 ghost use Rattle.ptpm_codec.specs.declared.identity.ClockIdentity.{ClockIdentity};
 ghost use Rattle.ptpm_data.specs.Start.{default_clock, default_port};
-ghost use Rattle.ptpm_host.specs.Settings.{clock_start, configured, default_identity, given, parent_port, port_start, text};
+ghost use Rattle.ptpm_host.specs.Settings.{clock_start, default_identity, given, manager_of, parent_port, port_start, text};
 
 use arrayvec::ArrayVec;
 use ptpm_codec::{ClockIdentity, OutOfMemory, PortIdentity};
@@ -110,6 +110,19 @@ pub struct ManagerSettings {
 }
 
 const _: () = prove!(size_of::<ManagerSettings>() == 12);
+
+impl ManagerSettings {
+    /// The manager with its rights.
+    pub(crate) fn manager(&self) -> (PortIdentity, Rights)
+        ensures { result ≡ manager_of self.now }
+    {
+        let who = PortIdentity {
+            clock: ClockIdentity(self.clock),
+            port: self.port,
+        };
+        (who, Rights(self.rights))
+    }
+}
 
 impl ClockSettings {
     /// A clock of identity 0 in domain 0 that is its own grandmaster, with no text and this profile's defaults.
@@ -280,23 +293,4 @@ pub(crate) fn port_starts(
         starts.push(port.start()).map_err(|_| OutOfMemory)?;
     }
     Ok(starts)
-}
-
-/// The managers with their rights.
-pub(crate) fn configured(
-    alloc: Global,
-    managers: &[ManagerSettings],
-) -> Result<Vec<(PortIdentity, Rights)>, OutOfMemory>
-    ensures { IfOk result (λ v. v.items ≡ configured managers.now) }
-{
-    let mut list = Vec::new(alloc);
-    for manager in managers {
-        let who = PortIdentity {
-            clock: ClockIdentity(manager.clock),
-            port: manager.port,
-        };
-        list.push((who, Rights(manager.rights)))
-            .map_err(|_| OutOfMemory)?;
-    }
-    Ok(list)
 }

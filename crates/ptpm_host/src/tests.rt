@@ -1,7 +1,9 @@
 //! Worked exchanges through the structs of a host, with octets from outside, and each kind of refusal by its number.
 
 mod observing;
+mod passing;
 mod places;
+mod restoring;
 mod surveys;
 
 use crate::*;

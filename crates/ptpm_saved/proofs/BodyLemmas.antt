@@ -39,6 +39,12 @@ pub image_taken : (k : SavedClock) (image : List ℕ) → IsImageOf k image → 
 unfolding saved_image
 image_taken k image is = ap head_refusal is.octets_are ∙ head_taken (length (body_image k)) (body_image k)
 
+pub image_long : (k : SavedClock) (image : List ℕ) → IsImageOf k image → 12 ≤ length image
+unfolding saved_image
+image_long k image is =
+    let n = length (body_image k) in
+    omega (arith, ap length is.octets_are, length-append (image_head 1 n) (body_image k), head_length 1 n)
+
 pub not_refused : (image : List ℕ) (e : RestoreError) → IsRefusedByHead image e → head_refusal image ≡ None → ⊥
 not_refused image restores.NotAnImage is none = let both = sym is ∙ none in cc
 not_refused image restores.OtherVersion is none = let both = sym is ∙ none in cc

@@ -5,16 +5,30 @@ use Rattle.ptpm_codec.specs.declared.identity.ClockIdentity.{ClockIdentity}
 use Rattle.ptpm_codec.specs.declared.identity.PortIdentity.{PortIdentity}
 use Rattle.ptpm_codec.specs.Layout.{octet}
 use Rattle.ptpm_codec.specs.Ordered.{first_of}
+use Rattle.ptpm_data.specs.Members.{DataSetsValue}
 use Rattle.ptpm_table.specs.Entries.{Entries, Entry, is_known}
 use Rattle.ptpm_manager.specs.Image.{image_version, mark}
 use Rattle.ptpm_saved.specs.declared.error.RestoreError.{RestoreError}
 use Rattle.ptpm_saved.specs.declared.error.RestoreError.TheVariants as restores
-use Rattle.ptpm_saved.specs.Image.{IsSaved, SavedClock, clock_kind, saved_image}
+use Rattle.ptpm_saved.specs.Image.{AreEntries, IsSaved, SavedClock, clock_kind, entries_image, saved_image}
 
 -- the octets are the image of this clock
 pub record IsImageOf (c : SavedClock) (octets : List ℕ) : Type 0 where
   pub saved : IsSaved c
   pub octets_are : octets ≡ saved_image c
+
+-- ---- an image, read as far as its data sets
+
+-- with so many entries behind them it is the image of the clock of these data sets and these entries
+pub record IsOpened (image : List ℕ) (sets : DataSetsValue) (count : ℕ) (octets : List ℕ) : Type 0 where
+  pub whole : (es : List (PortIdentity × Entry)) → AreEntries es → length es ≡ count → octets ≡ entries_image es
+      → IsImageOf (record { sets = sets; entries = es }) image
+
+-- what the image of this clock is opened as
+pub record OpensAs (c : SavedClock) (sets : DataSetsValue) (count : ℕ) (octets : List ℕ) : Type 0 where
+  pub sets_are : sets ≡ c.sets
+  pub count_is : count ≡ length c.entries
+  pub octets_are : octets ≡ entries_image c.entries
 
 -- ---- the entries that stay
 

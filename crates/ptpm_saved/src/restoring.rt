@@ -1,6 +1,6 @@
 //! A clock back from its image (this project's profile).
 
-ghost use Rattle.std.specs.Prelude.{◌≡◌, ◌≤◌, ◌%◌, ◌↔◌, IfErr, IfOk, IfSome, IsOkAnd, IsSomeAnd, IsTrue, List, MatchResult, None, true, if◌then◌else◌, length};
+ghost use Rattle.std.specs.Prelude.{◌≡◌, ◌≤◌, ◌%◌, ◌↔◌, IfErr, IfOk, IfSome, IsOkAnd, IsSome, IsSomeAnd, IsTrue, List, MatchResult, None, true, if◌then◌else◌, length};
 ghost use Rattle.std.specs.FinMap as fin;
 ghost use Rattle.std.specs.List.{All};
 ghost use Rattle.std.specs.Ordering.{is_lt};
@@ -12,20 +12,29 @@ ghost use Rattle.ptpm_table.specs.Entries.{Entry, is_known};
 ghost use Rattle.ptpm_table.specs.Lending.{IsAfter, IsKeepable};
 ghost use Rattle.ptpm_manager.specs.Image.{image_head};
 ghost use Rattle.ptpm_saved.specs.Image.{AreEntries, IsSaved, SavedClock, clock_image, entries_image, saved_of};
-ghost use Rattle.ptpm_saved.specs.Restoring.{IsImageOf, IsRefused, IsRefusedByHead, IsRestored, head_refusal, kept_by};
+ghost use Rattle.ptpm_saved.specs.Restoring.{IsImageOf, IsOpened, IsRefused, IsRefusedByHead, IsRestored, OpensAs, head_refusal, kept_by};
 ghost use Rattle.ptpm_saved.specs.Reading.{entry_read};
 
 use crate::error::RestoreError;
 use crate::image::{HEAD_OCTETS, head};
 use crate::reading::{SavedRequest, read_entry};
 use ptpm_agent::Agent;
-use ptpm_codec::PortIdentity;
+use ptpm_codec::{ClockIdentity, PortIdentity};
 use ptpm_data::{DataSets, Reply, data_sets_law, fits_law};
-use ptpm_table::SureTable;
+use ptpm_table::{SlotTable, SureTable};
 use std::cmp::Ordering;
 
 /// How many entries a clock has at most, one for each manager.
 const ENTRIES: u8 = 16;
+
+/// An image, read as far as its data sets.
+#[derive(Drop)]
+struct Opened<'a> {
+    sets: DataSets,
+    /// How many entries it says that it has, and the octets behind.
+    count: u8,
+    entries: &'a [u8],
+}
 
 /// The clock whose image this is, over a table without entries, of a clock of so many ports; and how many entries were let go,
 /// since their managers are not among those of the table. The first reason that holds is why it is refused. Takes no memory.
@@ -51,18 +60,59 @@ pub fn restored<T: SureTable + Drop>(
         → All (λ e. is_known e.0 (T.owner table).managers ≡ true) (fin.entries s.entries)
         → IsOkAnd result (λ r. (state_of T.entries r.0 ≡ s) × (r.1 ≡ 0)) }
 {
+    let sets = judged(image, &table.clock(), ports as usize)?;
+    let mut agent = Agent::new(sets, table);
+    let Some(gone) = put_back(image, &mut agent) else {
+        unreachable!()
+    };
+    Ok((agent, gone))
+}
+
+/// The data sets of an image from which a clock of this identity and so many ports goes on. The whole image is judged, its entries
+/// too, and none is kept: `put_back` does that. The first reason that holds is why it is refused. Takes no memory.
+pub fn judged(
+    image: &[u8],
+    identity: &ClockIdentity,
+    ports: usize,
+) -> Result<DataSets, RestoreError>
+    ensures judged { IfOk result (λ sets. (c : SavedClock) × IsImageOf c image.now
+        × (sets ≡ c.sets) × (sets.default.identity ≡ identity.now)
+        × (length sets.ports ≡ ports)) }
+    ensures refused { IfErr result (λ e. IsRefused identity.now ports image.now e) }
+    ensures found { (c : SavedClock) → IsImageOf c image.now
+        → c.sets.default.identity ≡ identity.now → length c.sets.ports ≡ ports
+        → IsOkAnd result (λ sets. sets ≡ c.sets) }
+{
     judge_head(image)?;
-    let mut table = table;
-    let Some((sets, gone)) = read_body(image, &mut table) else {
+    let Some(sets) = read_body(image) else {
         return Err(RestoreError::Damaged);
     };
-    if sets.identity() != table.clock() {
+    if sets.identity() != *identity {
         return Err(RestoreError::OtherClock);
     }
-    if sets.port_count() != ports {
+    if sets.port_count() as usize != ports {
         return Err(RestoreError::OtherPorts);
     }
-    Ok((Agent::new(sets, table), gone))
+    Ok(sets)
+}
+
+/// Keeps the entries of an image in an agent whose table knows their managers, and answers how many were let go, since it does
+/// not. Data sets and managers stay. `None` of octets that are no image, whatever was kept then. Takes no memory. Never inlined.
+#[inline(never)]
+pub fn put_back<T: SureTable + Drop>(image: &[u8], agent: &mut Agent<T>) -> Option<u8>
+    ensures kept { IfSome result
+        (λ gone. (c : SavedClock) × IsImageOf c image.now
+        × IsRestored (T.owner agent.old.table).managers c.entries (T.entries agent.old.table)
+        (T.entries agent.new.table) gone) }
+    ensures found { (c : SavedClock) → IsImageOf c image.now
+        → IsSomeAnd result (λ gone. IsRestored (T.owner agent.old.table).managers c.entries
+        (T.entries agent.old.table) (T.entries agent.new.table) gone) }
+    ensures sets { agent.new.sets ≡ agent.old.sets }
+    ensures owner { T.owner agent.new.table ≡ T.owner agent.old.table }
+{
+    let opened = open(image)?;
+    let gone = read_entries(opened.count, opened.entries, agent)?;
+    Some(gone)
 }
 
 /// Judges what the head says.
@@ -84,20 +134,47 @@ fn judge_head(image: &[u8]) -> Result<(), RestoreError>
     Ok(())
 }
 
-/// The data sets of an image, and how many of its entries were let go; the others are kept. `None` of other octets, whatever
-/// was kept then.
-fn read_body<T: SureTable>(image: &[u8], table: &mut T) -> Option<(DataSets, u8)>
-    requires long { 12 ≤ length image.now }
+/// The data sets of an image whose entries are entries too. `None` of other octets. It is never inlined, as those below that say so:
+/// so the stack has one of their frames at a time.
+#[inline(never)]
+fn read_body(image: &[u8]) -> Option<DataSets>
     ensures sound { IfSome result
-        (λ r. (c : SavedClock) × IsImageOf c image.now × (r.0 ≡ c.sets)
-        × IsRestored (T.owner table.old).managers c.entries (T.entries table.old)
-        (T.entries table.new) r.1) }
+        (λ sets. (c : SavedClock) × IsImageOf c image.now × (sets ≡ c.sets)) }
     ensures found { (c : SavedClock) → IsImageOf c image.now
-        → IsSomeAnd result (λ r. (r.0 ≡ c.sets)
-        × IsRestored (T.owner table.old).managers c.entries (T.entries table.old)
-        (T.entries table.new) r.1) }
-    ensures owner { T.owner table.new ≡ T.owner table.old }
+        → IsSomeAnd result (λ sets. sets ≡ c.sets) }
 {
+    let opened = open(image)?;
+    judge_entries(&opened)?;
+    Some(opened.sets)
+}
+
+/// How many entries an image has that stand where its data sets end, and nothing else; they are read, and none is kept. `None` of other
+/// octets. Never inlined.
+#[inline(never)]
+fn judge_entries(opened: &Opened<'_>) -> Option<u8>
+    ensures sound { IfSome result
+        (λ _. (es : List (PortIdentity × Entry)) × AreEntries es
+        × (length es ≡ opened.now.count) × (opened.now.entries.now ≡ entries_image es)) }
+    ensures found { (es : List (PortIdentity × Entry)) → AreEntries es
+        → length es ≡ opened.now.count → opened.now.entries.now ≡ entries_image es
+        → IsSome result }
+{
+    let mut nobody: Agent<SlotTable<0>> = Agent::without_managers(opened.sets.copy());
+    let gone = read_entries(opened.count, opened.entries, &mut nobody)?;
+    Some(gone)
+}
+
+/// Reads an image as far as its data sets. `None` where its head or its data sets are none. Never inlined.
+#[inline(never)]
+fn open(image: &[u8]) -> Option<Opened<'_>>
+    ensures opened { IfSome result
+        (λ o. IsOpened image.now o.sets o.count o.entries.now) }
+    ensures found { (c : SavedClock) → IsImageOf c image.now
+        → IsSomeAnd result (λ o. OpensAs c o.sets o.count o.entries.now) }
+{
+    if image.len() < HEAD_OCTETS {
+        return None;
+    }
     let (front, body) = image.split_at(HEAD_OCTETS);
     if !is_head(front, body.len()) {
         return None;
@@ -106,9 +183,12 @@ fn read_body<T: SureTable>(image: &[u8], table: &mut T) -> Option<(DataSets, u8)
     data_sets_law(&sets);
     fits_law(&sets);
     let (_, octets) = body.split_at(sets.image_size());
-    let (count, octets) = octets.split_first()?;
-    let gone = read_entries(*count, octets, table)?;
-    Some((sets, gone))
+    let (count, entries) = octets.split_first()?;
+    Some(Opened {
+        sets,
+        count: *count,
+        entries,
+    })
 }
 
 /// Whether this is the head of an image with so many octets behind it.
@@ -118,19 +198,20 @@ fn is_head(front: &[u8], size: usize) -> bool
     front == head(size % 4_294_967_296).as_slice()
 }
 
-/// Keeps the entries of which the table knows the managers, of so many whose images stand there and nothing else, and answers how many
-/// the others are. `None` of other octets.
-fn read_entries<T: SureTable>(count: u8, octets: &[u8], table: &mut T) -> Option<u8>
+/// Keeps the entries of which the agent's table knows the managers, of so many whose images stand there and nothing else, and
+/// answers how many the others are. `None` of other octets.
+fn read_entries<T: SureTable + Drop>(count: u8, octets: &[u8], agent: &mut Agent<T>) -> Option<u8>
     ensures sound { IfSome result
         (λ gone. (es : List (PortIdentity × Entry)) × AreEntries es × (length es ≡ count)
         × (octets.now ≡ entries_image es)
-        × IsRestored (T.owner table.old).managers es (T.entries table.old) (T.entries table.new)
-        gone) }
+        × IsRestored (T.owner agent.old.table).managers es (T.entries agent.old.table)
+        (T.entries agent.new.table) gone) }
     ensures found { (es : List (PortIdentity × Entry)) → AreEntries es → length es ≡ count
         → octets.now ≡ entries_image es
-        → IsSomeAnd result (λ gone. IsRestored (T.owner table.old).managers es
-        (T.entries table.old) (T.entries table.new) gone) }
-    ensures owner { T.owner table.new ≡ T.owner table.old }
+        → IsSomeAnd result (λ gone. IsRestored (T.owner agent.old.table).managers es
+        (T.entries agent.old.table) (T.entries agent.new.table) gone) }
+    ensures sets { agent.new.sets ≡ agent.old.sets }
+    ensures owner { T.owner agent.new.table ≡ T.owner agent.old.table }
 {
     if ENTRIES < count {
         return None;
@@ -144,7 +225,7 @@ fn read_entries<T: SureTable>(count: u8, octets: &[u8], table: &mut T) -> Option
         if !comes_after(&entry.manager, after) {
             return None;
         }
-        let lost = keep(table, &entry, &reply);
+        let lost = keep(agent, &entry, &reply);
         gone += lost;
         after = Some(entry.manager);
         octets = rest;
@@ -152,18 +233,19 @@ fn read_entries<T: SureTable>(count: u8, octets: &[u8], table: &mut T) -> Option
     if octets.is_empty() { Some(gone) } else { None }
 }
 
-/// Keeps an entry where the table knows its manager, and answers how many are let go: none or one.
-fn keep<T: SureTable>(table: &mut T, entry: &SavedRequest<'_>, reply: &Reply) -> u8
+/// Keeps an entry where the agent's table knows its manager, and answers how many are let go: none or one.
+fn keep<T: SureTable + Drop>(agent: &mut Agent<T>, entry: &SavedRequest<'_>, reply: &Reply) -> u8
     requires { IsKeepable (entry_read entry.now reply.now).1 }
-    ensures entries { T.entries table.new
-        ≡ kept_by (is_known entry.now.manager (T.owner table.old).managers) (T.entries table.old)
-        (entry_read entry.now reply.now) }
+    ensures entries { T.entries agent.new.table
+        ≡ kept_by (is_known entry.now.manager (T.owner agent.old.table).managers)
+        (T.entries agent.old.table) (entry_read entry.now reply.now) }
     ensures gone { result
-        ≡ (if is_known entry.now.manager (T.owner table.old).managers then 0 else 1) }
-    ensures owner { T.owner table.new ≡ T.owner table.old }
+        ≡ (if is_known entry.now.manager (T.owner agent.old.table).managers then 0 else 1) }
+    ensures sets { agent.new.sets ≡ agent.old.sets }
+    ensures owner { T.owner agent.new.table ≡ T.owner agent.old.table }
 {
-    if table.knows(&entry.manager) {
-        table.replace(&entry.manager, entry.number, &entry.request, reply);
+    if agent.table().knows(&entry.manager) {
+        agent.keep_again(&entry.manager, entry.number, &entry.request, reply);
         0
     } else {
         1

@@ -92,6 +92,7 @@ pub const PTPM_MOST_SENT: usize = 15;
 pub const PTPM_MOST_READ: usize = 130;
 pub const PTPM_MOST_OCTETS: usize = 1472;
 pub const PTPM_SESSION_IMAGE_OCTETS: usize = 1478;
+pub const PTPM_CLOCK_IMAGE_OCTETS: usize = 27185;
 pub const PTPM_MOST_ANSWERS: usize = 512;
 
 // Answers that several kinds of calls give.
@@ -117,6 +118,9 @@ pub const PTPM_IDLE: u32 = 43;
 pub const PTPM_NO_SURVEY: u32 = 46;
 pub const PTPM_OTHER_SIZES: u32 = 47;
 pub const PTPM_GRANDMASTER_DIFFERS: u32 = 50;
+pub const PTPM_TOO_MANY_MANAGERS: u32 = 51;
+pub const PTPM_MANAGER_TWICE: u32 = 52;
+pub const PTPM_IDENTITY_IS_ZERO: u32 = 56;
 pub const PTPM_BAD_CLOCK_ACCURACY: u32 = 70;
 pub const PTPM_BAD_LEAP59: u32 = 88;
 pub const PTPM_BAD_STATE: u32 = 94;
@@ -128,12 +132,12 @@ pub const PTPM_START_OTHER_SIZES: u32 = 47;
 pub const PTPM_NO_PORTS: u32 = 48;
 pub const PTPM_TOO_MANY_PORTS: u32 = 49;
 pub const PTPM_START_GRANDMASTER_DIFFERS: u32 = 50;
-pub const PTPM_TOO_MANY_MANAGERS: u32 = 51;
-pub const PTPM_MANAGER_TWICE: u32 = 52;
+pub const PTPM_START_TOO_MANY_MANAGERS: u32 = 51;
+pub const PTPM_START_MANAGER_TWICE: u32 = 52;
 pub const PTPM_MANAGER_IS_EVERY: u32 = 53;
 pub const PTPM_TARGET_IS_EVERY: u32 = 54;
 pub const PTPM_SAME_CLOCK: u32 = 55;
-pub const PTPM_IDENTITY_IS_ZERO: u32 = 56;
+pub const PTPM_START_IDENTITY_IS_ZERO: u32 = 56;
 pub const PTPM_TARGET_IS_ZERO: u32 = 57;
 pub const PTPM_BAD_IDENTITY: u32 = 64;
 pub const PTPM_BAD_USER_DESCRIPTION: u32 = 66;
@@ -292,16 +296,22 @@ pub const PTPM_REPORT_NO_SURVEY: u32 = 46;
 
 // `enum ptpm_saved`.
 pub const PTPM_SAVED: u32 = 0;
+pub const PTPM_SAVE_NO_CLOCK: u32 = 32;
 pub const PTPM_SAVE_NO_ROOM: u32 = 34;
 pub const PTPM_SAVE_NO_SESSION: u32 = 37;
 
 // `enum ptpm_restored`.
 pub const PTPM_RESTORED: u32 = 0;
 pub const PTPM_RESTORE_NO_MEMORY: u32 = 35;
+pub const PTPM_RESTORE_TOO_MANY_MANAGERS: u32 = 51;
+pub const PTPM_RESTORE_MANAGER_TWICE: u32 = 52;
+pub const PTPM_RESTORE_IDENTITY_IS_ZERO: u32 = 56;
 pub const PTPM_NOT_AN_IMAGE: u32 = 104;
 pub const PTPM_OTHER_VERSION: u32 = 105;
 pub const PTPM_OTHER_KIND: u32 = 106;
 pub const PTPM_DAMAGED: u32 = 107;
+pub const PTPM_OTHER_CLOCK: u32 = 108;
+pub const PTPM_OTHER_PORTS: u32 = 109;
 pub const PTPM_OTHER_SESSION: u32 = 110;
 
 // What `ptpm_id_named` answers if no id has the name.

@@ -90,6 +90,36 @@ fn printed_lines_are_read(rt: HostRuntime) -> Result<(), Fail> {
     Ok(())
 }
 
+/// What a clock answers to CURRENT_DATA_SET, an offset of 20 nanoseconds and a delay of 10, and to PARENT_DATA_SET.
+const FOLLOWER: &str = "0d02004800000000000000000000000000000000020000fffe00000200010001047f\
+    020000fffe0000ee000101010200000100142001000100000000001400000000000000\
+    0a0000\n\
+    0d02005600000000000000000000000000000000020000fffe00000200010001047f\
+    020000fffe0000ee000101010200000100222002020000fffe00000100010000ffff7f\
+    ffffff80f8feffff80020000fffe000001\n";
+
+const FOLLOWER_FINDINGS: &[u8] = b"domain 0: 1 clock, no grandmaster\n  \
+    not seen: 020000fffe000001/1\n    \
+    020000fffe000002  -  1  -  10 ns  -\n\n\
+    findings: 5\n\
+    0 020000fffe000001 grandmaster_not_seen 1 clock names it\n\
+    0 020000fffe000002 parent_not_seen 020000fffe000001/1\n\
+    0 020000fffe000002 offset offsetFromMaster 20 ns\n\
+    0 020000fffe000002 delay meanDelay 10 ns\n\
+    0 020000fffe000002 incomplete DEFAULT_DATA_SET TIME_PROPERTIES_DATA_SET PORT_DATA_SET USER_DESCRIPTION\n";
+
+/// Each option is heeded; without a clock the status is 3.
+#[test]
+fn site(rt: HostRuntime) {
+    let words = ["ptpm", "site", "--max-delay", "9", "--max-offset", "19"];
+    let lines = FOLLOWER.as_bytes();
+    ends(&rt, rt.alloc(), &words, lines, 1, FOLLOWER_FINDINGS, "");
+    let words = ["ptpm", "site", "--json"];
+    let nobody = b"{\"domains\":[],\n\"findings\":[],\n\"leftOut\":{\"clocks\":0,\"ports\":0}}\n";
+    let lines = b"nothing\n".as_slice();
+    ends(&rt, rt.alloc(), &words, lines, 3, nobody, "");
+}
+
 /// A bad line ends the run with its number and what is wrong with it; what was printed before stays.
 #[test]
 fn bad_lines(rt: HostRuntime) -> Result<(), Fail> {

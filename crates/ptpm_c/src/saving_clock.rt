@@ -1,0 +1,91 @@
+//! The image of a clock for hosts in C: the octets in which it outlasts the host.
+
+ghost use Rattle.std.specs.Prelude.{◌≡◌, ◌≢◌, ◌≤◌, ◌<◌, ◌++◌, IsSomeAnd, None, Some, drop, length};
+ghost use Rattle.ptpm_saved.specs.Image.{SavedClock, clock_image};
+ghost use Rattle.ptpm_host.specs.declared.clock.HostedClock.{HostedClock};
+ghost use Rattle.ptpm_host.specs.declared.refusal.ClockRestoreRefusal.{ClockRestoreRefusal};
+ghost use Rattle.ptpm_host.specs.Clock.{state_in};
+ghost use Rattle.ptpm_host.specs.Numbers.{clock_restore_number, no_clock, no_memory, no_room};
+ghost use Rattle.ptpm_host.specs.Restoring.{CanRestore, IsBack, IsRestoreRefused};
+ghost use Rattle.ptpm_c.specs.Held.{clock_held, held};
+
+use crate::handle::Handle;
+use crate::kept::{Hosted, Kept};
+use ptpm_host::{HostedClock, ManagerSettings, NO_CLOCK, NO_MEMORY, NO_ROOM, clock_restore_number};
+use std::alloc::Global;
+
+/// Leaves the clock's image at the head of `octets`, `size` octets, 104 to 27,185: 0, or the number of the refusal, and then
+/// nothing is written. What comes after the image stays. Takes no memory.
+#[unsafe(no_mangle)]
+pub extern "C" fn ptpm_clock_image(handle: &mut Handle, octets: &mut [u8], size: &mut usize) -> u32
+    ensures kept { held handle.new.keeping ≡ held handle.old.keeping }
+    ensures image { (c : HostedClock)
+        → clock_held handle.old.keeping ≡ Some c
+        → length (clock_image (state_in c)) ≤ length octets.old
+        → (result ≡ 0)
+        × ((size.new ≡ length (clock_image (state_in c)))
+        × (octets.new ≡ clock_image (state_in c) ++ drop size.new octets.old)) }
+    ensures room { (c : HostedClock)
+        → clock_held handle.old.keeping ≡ Some c
+        → length octets.old < length (clock_image (state_in c))
+        → (result ≡ no_room) × ((size.new ≡ 0) × (octets.new ≡ octets.old)) }
+    ensures empty { clock_held handle.old.keeping ≡ None
+        → (result ≡ no_clock) × ((size.new ≡ 0) × (octets.new ≡ octets.old)) }
+{
+    *size = 0;
+    let Some(kept) = handle.kept() else {
+        return NO_CLOCK;
+    };
+    let Some(clock) = kept.clock() else {
+        return NO_CLOCK;
+    };
+    match clock.image(octets) {
+        Some(count) => {
+            *size = count;
+            0
+        }
+        None => NO_ROOM,
+    }
+}
+
+/// Puts the clock whose image this is in a handle, in place of what it holds: 0. It has this identity and so many ports, and
+/// these managers with these rights; all else is as it was saved. `gone` gets how many entries were let go, since their managers
+/// are not among these. If it is refused, by the number of the refusal, the handle holds what it held, and `gone` is 0.
+#[unsafe(no_mangle)]
+pub extern "C" fn ptpm_clock_restore(
+    alloc: Global,
+    handle: &mut Handle,
+    identity: &[u8; 8],
+    ports: usize,
+    managers: &[ManagerSettings],
+    image: &[u8],
+    gone: &mut usize,
+) -> u32
+    ensures restored { result ≡ 0 → IsSomeAnd (clock_held handle.new.keeping)
+        (λ d. (c : SavedClock)
+        × CanRestore (record { 0 = identity.now }) ports managers.now image.now c
+        × IsBack c managers.now d gone.new) }
+    ensures found { (c : SavedClock)
+        → CanRestore (record { 0 = identity.now }) ports managers.now image.now c
+        → result ≢ no_memory
+        → (result ≡ 0)
+        × IsSomeAnd (clock_held handle.new.keeping) (λ d. IsBack c managers.now d gone.new) }
+    ensures refused { result ≢ 0 → (e : ClockRestoreRefusal)
+        × IsRestoreRefused (record { 0 = identity.now }) ports managers.now image.now e
+        × (result ≡ clock_restore_number e) }
+    ensures unchanged { result ≢ 0
+        → (gone.new ≡ 0) × (held handle.new.keeping ≡ held handle.old.keeping) }
+{
+    *gone = 0;
+    let (clock, lost) = match HostedClock::restored_boxed(alloc, identity, ports, managers, image) {
+        Ok(restored) => restored,
+        Err(refusal) => return clock_restore_number(refusal),
+    };
+    let Ok(kept) = Box::new(alloc, Kept::of(Hosted::Nothing)) else {
+        return NO_MEMORY;
+    };
+    handle.end(alloc);
+    *handle = Handle::of(kept, Hosted::Clock(clock));
+    *gone = lost as usize;
+    0
+}

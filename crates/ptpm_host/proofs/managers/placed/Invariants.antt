@@ -1,0 +1,9 @@
+use Rattle.std.proofs.Common.{◌≡◌, take, length}
+use Rattle.ptpm_host.specs.Settings.{configured}
+use Rattle.ptpm_host.proofs.managers.placed.Given as goal
+
+abbrev pub invariant-loop-place : goal.invariant-loop-place
+invariant-loop-place l = record {
+  placed : take l.place l.places ≡ configured (take l.place l.managers);
+  size : length l.places ≡ 16;
+}

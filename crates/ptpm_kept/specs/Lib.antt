@@ -1,0 +1,2 @@
+pub mod ErrorText
+pub mod Kept

@@ -1,0 +1,18 @@
+-- What counts is the last of what was heard.
+use Rattle.std.proofs.Common.{◌≡◌, List}
+use Rattle.ptpm_site.specs.declared.answer.Answer.{Answer}
+use Rattle.ptpm_site.specs.Answers.{counting}
+use Rattle.ptpm_site.specs.Telling.{IsToldAlike, told_by}
+
+pub told_alike : (xs ys : List Answer) → IsToldAlike xs ys → told_by xs ≡ told_by ys
+told_alike xs ys k = λ i. record {
+  clocks = k.clocks i;
+  seen = λ s. k.seen s i;
+  default = λ s. counting (k.defaults s i);
+  current = λ s. counting (k.currents s i);
+  parent = λ s. counting (k.parents s i);
+  time = λ s. counting (k.times s i);
+  ports = λ s. k.numbers s i;
+  heard = λ s n. k.ports s n i;
+  port = λ s n. counting (k.ports s n i);
+}

@@ -1,0 +1,9 @@
+pub mod Alike
+pub mod Clocks
+pub mod Defined
+pub mod Keeping
+pub mod Places
+pub mod Ports
+pub mod Rows
+pub mod Sources
+pub mod Swapping

@@ -1,0 +1,19 @@
+-- What is told stands behind what was.
+use Rattle.std.proofs.Common.{sym}
+use Rattle.ptpm_site.proofs.Clocks.{told}
+use Rattle.ptpm_site.proofs.site.Site.tell.Goals as goal
+
+pub returns-in_ok-take : goal.returns-in_ok-take
+returns-in_ok-take c =
+    let written = c.get_mut.follows.holds c.take.new.self in
+    let grown = c.in_ok-take.ensures in
+    told c.args.self.now.clocks (c.get_mut.follows.lender c.take.new.self) c.args.source c.args.request c.args.told c.in-Some.clock.now c.take.new.self
+    (sym c.in-Some.ensures.value) (written.3 c.requires).0 written.1
+    (record {
+      defaults = grown.defaults;
+      currents = grown.currents;
+      parents = grown.parents;
+      times = grown.times;
+      numbers = grown.numbers;
+      ports = grown.ports;
+    })

@@ -1,0 +1,26 @@
+-- Offsets and delays beyond what is allowed: `offset` and `delay`. A TimeInterval is nanoseconds times 2^16 (IEEE 1588-2019, 5.3.2).
+use Rattle.std.specs.Prelude.{ℕ, ℤ, ◌*◌, ◌&&◌, Bool, nat_lt, unsigned_abs, Option, Some, None, if◌then◌else◌, option_and_then}
+use Rattle.ptpm_site.specs.declared.data_sets.PortDataSet.{PortDataSet}
+use Rattle.ptpm_site.specs.declared.source.Source.{Source}
+use Rattle.ptpm_site.specs.Following.{followed}
+use Rattle.ptpm_site.specs.PortStates.{is_following, measures_link}
+use Rattle.ptpm_site.specs.Telling.{Telling}
+
+-- the amount of a TimeInterval is above so many nanoseconds; a limit itself is allowed
+abbrev pub is_above : ℤ → ℕ → Bool
+is_above interval nanoseconds = nat_lt (nanoseconds * 65536) (unsigned_abs interval)
+
+-- a TimeInterval beyond a limit; without a limit none is
+abbrev pub beyond : ℤ → Option ℕ → Option ℤ
+beyond interval limit = option_and_then (λ n. if is_above interval n then Some interval else None) limit
+
+-- offsetFromMaster and meanDelay of a clock that is not its own grandmaster
+abbrev pub large_offset : Telling → Source → Option ℕ → Option ℤ
+large_offset t s limit = option_and_then (λ _. option_and_then (λ c. beyond c.offset_from_master limit) (t.current s)) (followed t s)
+
+abbrev pub large_delay : Telling → Source → Option ℕ → Option ℤ
+large_delay t s limit = option_and_then (λ _. option_and_then (λ c. beyond c.mean_delay limit) (t.current s)) (followed t s)
+
+-- meanLinkDelay of a port in SLAVE or UNCALIBRATED with P2P or COMMON_P2P
+abbrev pub large_link_delay : PortDataSet → Option ℕ → Option ℤ
+large_link_delay set limit = if is_following set.state && measures_link set.delay_mechanism then beyond set.mean_link_delay limit else None

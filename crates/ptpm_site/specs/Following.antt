@@ -1,0 +1,24 @@
+-- Who follows whom (IEEE 1588-2019, 8.2.3).
+use Rattle.std.specs.Prelude.{Bool, false, Option, Some, None, if◌then◌else◌, option_and_then}
+use Rattle.std.specs.Option.{option_map_or}
+use Rattle.ptpm_codec.specs.Identity.{same_clock}
+use Rattle.ptpm_codec.specs.declared.identity.ClockIdentity.{ClockIdentity}
+use Rattle.ptpm_codec.specs.declared.identity.PortIdentity.{PortIdentity}
+use Rattle.ptpm_site.specs.declared.source.Source.{Source}
+use Rattle.ptpm_site.specs.Telling.{Telling}
+
+-- another clock of the same domain
+abbrev pub beside : Source → ClockIdentity → Source
+beside s clock = record { domain = s.domain; clock = clock }
+
+-- a clock is its own grandmaster where grandmasterIdentity is its own
+abbrev pub is_own_grandmaster : Telling → Source → Bool
+is_own_grandmaster t s = option_map_or (λ p. same_clock p.grandmaster s.clock) (t.parent s) false
+
+-- the port that a clock follows, its parentPortIdentity; a clock that is its own grandmaster follows none
+abbrev pub followed : Telling → Source → Option PortIdentity
+followed t s = option_and_then (λ p. if same_clock p.grandmaster s.clock then None else Some p.parent) (t.parent s)
+
+-- a clock's parent: the clock that it follows, where that is seen
+abbrev pub parent_clock : Telling → Source → Option Source
+parent_clock t s = option_and_then (λ p. if t.seen (beside s p.clock) then Some (beside s p.clock) else None) (followed t s)

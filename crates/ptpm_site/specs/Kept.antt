@@ -1,0 +1,39 @@
+-- What the program keeps of a site, as what counts of it.
+use Rattle.std.specs.Prelude.{ℕ, List, [], Option, Vec, is_some, option_and_then}
+use Rattle.std.specs.declared.alloc.Global.{Global}
+use Rattle.std.specs.BTreeMap.{BTreeMap, get, keys}
+use Rattle.std.specs.Option.{option_map_or}
+use Rattle.std.specs.Ordering.{nat_cmp}
+use Rattle.ptpm_site.specs.declared.clock.Clock.{Clock}
+use Rattle.ptpm_site.specs.declared.clock.Heard.{Heard}
+use Rattle.ptpm_site.specs.declared.data_sets.PortDataSet.{PortDataSet}
+use Rattle.ptpm_site.specs.declared.site.Site.{Site}
+use Rattle.ptpm_site.specs.declared.source.Source.{Source}
+use Rattle.ptpm_site.specs.Answers.{counting, source_cmp}
+use Rattle.ptpm_site.specs.Telling.{Telling}
+
+abbrev pub clock_at : Site → Source → Option Clock
+clock_at site s = get source_cmp site.clocks s
+
+abbrev pub port_kept : Clock → ℕ → Option PortDataSet
+port_kept c n = option_and_then (λ heard. counting heard.items) (get nat_cmp c.ports n)
+
+-- what is kept of the answers that tell of a port, in the order of their lines
+abbrev pub heard_of : BTreeMap ℕ (Vec (Heard PortDataSet) Global) → ℕ → List (Heard PortDataSet)
+heard_of ports n = option_map_or (λ heard. heard.items) (get nat_cmp ports n) []
+
+abbrev pub port_heard : Clock → ℕ → List (Heard PortDataSet)
+port_heard c n = heard_of c.ports n
+
+unfoldable pub kept : Site → Telling
+kept site = record {
+  clocks = keys site.clocks;
+  seen = λ s. is_some (clock_at site s);
+  default = λ s. option_and_then (λ c. counting c.defaults.items) (clock_at site s);
+  current = λ s. option_and_then (λ c. counting c.currents.items) (clock_at site s);
+  parent = λ s. option_and_then (λ c. counting c.parents.items) (clock_at site s);
+  time = λ s. option_and_then (λ c. counting c.times.items) (clock_at site s);
+  ports = λ s. option_map_or (λ c. keys c.ports) (clock_at site s) [];
+  heard = λ s n. option_map_or (λ c. port_heard c n) (clock_at site s) [];
+  port = λ s n. option_and_then (λ c. port_kept c n) (clock_at site s);
+}

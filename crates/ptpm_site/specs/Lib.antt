@@ -1,0 +1,14 @@
+pub mod Amounts
+pub mod Answers
+pub mod Differences
+pub mod Findings
+pub mod Following
+pub mod Grandmasters
+pub mod Keeping
+pub mod Kept
+pub mod Parents
+pub mod PortStates
+pub mod Showing
+pub mod Swapping
+pub mod Telling
+pub mod Tree

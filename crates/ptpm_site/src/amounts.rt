@@ -1,0 +1,56 @@
+//! Offsets and delays beyond what is allowed.
+
+ghost use Rattle.std.specs.Prelude.{◌≡◌};
+ghost use Rattle.ptpm_site.specs.Amounts.{beyond, is_above, large_delay, large_link_delay, large_offset};
+ghost use Rattle.ptpm_site.specs.Kept.{kept};
+
+use crate::data_sets::PortDataSet;
+use crate::site::Site;
+use crate::source::Source;
+
+/// Whether the amount of a TimeInterval is above so many nanoseconds; a limit itself is allowed.
+fn is_above(interval: i64, nanoseconds: u64) -> bool
+    ensures { result ≡ is_above interval nanoseconds }
+{
+    nanoseconds.saturating_mul(65_536) < interval.unsigned_abs()
+}
+
+/// A TimeInterval, where it is beyond the limit; without a limit none is.
+fn beyond(interval: i64, limit: Option<u64>) -> Option<i64>
+    ensures { result ≡ beyond interval limit }
+{
+    if is_above(interval, limit?) {
+        Some(interval)
+    } else {
+        None
+    }
+}
+
+/// offsetFromMaster of a clock that is not its own grandmaster, where it is beyond the limit.
+pub fn large_offset(site: &Site, source: Source, limit: Option<u64>) -> Option<i64>
+    ensures { result ≡ large_offset (kept site.now) source limit }
+{
+    let _ = site.followed(source)?;
+    let current = site.current(source)?;
+    beyond(current.offset_from_master, limit)
+}
+
+/// meanDelay of a clock that is not its own grandmaster, where it is beyond the limit.
+pub fn large_delay(site: &Site, source: Source, limit: Option<u64>) -> Option<i64>
+    ensures { result ≡ large_delay (kept site.now) source limit }
+{
+    let _ = site.followed(source)?;
+    let current = site.current(source)?;
+    beyond(current.mean_delay, limit)
+}
+
+/// meanLinkDelay of a port in SLAVE or UNCALIBRATED that measures the delay of its link, where it is beyond the limit.
+pub fn large_link_delay(port: &PortDataSet, limit: Option<u64>) -> Option<i64>
+    ensures { result ≡ large_link_delay port.now limit }
+{
+    if port.is_following() && port.measures_link() {
+        beyond(port.mean_link_delay, limit)
+    } else {
+        None
+    }
+}

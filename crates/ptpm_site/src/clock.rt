@@ -1,0 +1,231 @@
+//! What the answers tell of one clock.
+
+ghost use Rattle.std.specs.Prelude.{◌≡◌, ℕ, ◌==◌, ◌++◌, [], ◌∷◌, OnOk, IsSome, if◌then◌else◌};
+ghost use Rattle.std.specs.BTreeMap.{get, keys};
+ghost use Rattle.std.specs.List.{list_any};
+ghost use Rattle.std.specs.Ordering.{nat_cmp};
+ghost use Rattle.ptpm_site.specs.Answers.{counting, current_told, default_told, heard_now, parent_told, place, place_number, port_number, port_told, time_told};
+ghost use Rattle.ptpm_site.specs.Keeping.{IsSilent};
+ghost use Rattle.ptpm_site.specs.Kept.{heard_of, port_heard, port_kept};
+ghost use Rattle.ptpm_site.specs.PortStates.{is_port_of};
+
+use crate::answer::Request;
+use crate::asked::Asked;
+use crate::data_sets::{
+    CurrentDataSet, DefaultDataSet, ParentDataSet, PortDataSet, TimePropertiesDataSet,
+};
+use crate::description::Description;
+use crate::port_groups::PortGroup;
+use crate::told::Told;
+use std::alloc::{AllocError, Global};
+use std::collections::BTreeMap;
+
+/// A data set that an answer told, and the request that the answer came to.
+#[derive(Drop)]
+pub struct Heard<T> {
+    pub request: Request,
+    pub set: T,
+}
+
+/// What the answers of a clock tell, of each data set in the order of their lines. The last counts.
+#[derive(Drop)]
+pub struct Clock {
+    pub defaults: Vec<Heard<DefaultDataSet>>,
+    pub currents: Vec<Heard<CurrentDataSet>>,
+    pub parents: Vec<Heard<ParentDataSet>>,
+    pub times: Vec<Heard<TimePropertiesDataSet>>,
+    pub descriptions: Vec<Heard<Description>>,
+    /// By portNumber.
+    pub ports: BTreeMap<u16, Vec<Heard<PortDataSet>>>,
+    pub refused: Vec<Asked>,
+}
+
+impl Clock {
+    /// A clock that told nothing yet.
+    pub fn new(alloc: Global) -> Clock
+        ensures { IsSilent result }
+    {
+        Clock {
+            defaults: Vec::new(alloc),
+            currents: Vec::new(alloc),
+            parents: Vec::new(alloc),
+            times: Vec::new(alloc),
+            descriptions: Vec::new(alloc),
+            ports: BTreeMap::new(alloc),
+            refused: Vec::new(alloc),
+        }
+    }
+
+    /// Takes what an answer of the clock tells, behind all earlier ones.
+    pub fn take(&mut self, alloc: Global, request: Request, told: Told) -> Result<(), AllocError>
+        ensures defaults { OnOk result (self.new.defaults.items
+            ≡ self.old.defaults.items ++ heard_now default_told request told) }
+        ensures currents { OnOk result (self.new.currents.items
+            ≡ self.old.currents.items ++ heard_now current_told request told) }
+        ensures parents { OnOk result (self.new.parents.items
+            ≡ self.old.parents.items ++ heard_now parent_told request told) }
+        ensures times { OnOk result (self.new.times.items
+            ≡ self.old.times.items ++ heard_now time_told request told) }
+        ensures numbers { OnOk result (keys self.new.ports ≡ place_number (keys self.old.ports) (port_number told)) }
+        ensures ports { OnOk result ((n : ℕ) → port_heard self.new n
+            ≡ port_heard self.old n ++ heard_now (port_told n) request told) }
+    {
+        match told {
+            Told::Default(set) => self.defaults.push(Heard { request, set })?,
+            Told::Current(set) => self.currents.push(Heard { request, set })?,
+            Told::Parent(set) => self.parents.push(Heard { request, set })?,
+            Told::Time(set) => self.times.push(Heard { request, set })?,
+            Told::Description(set) => self.descriptions.push(Heard { request, set })?,
+            Told::Port(number, set) => {
+                put_port(alloc, &mut self.ports, number, Heard { request, set })?;
+            }
+            Told::Refused(asked) => put_refused(&mut self.refused, asked)?,
+        }
+        Ok(())
+    }
+
+    /// DEFAULT_DATA_SET, where it was answered.
+    pub fn default(&self) -> Option<DefaultDataSet>
+        ensures { result ≡ counting self.now.defaults.items }
+    {
+        last_of(self.defaults.as_slice())
+    }
+
+    /// CURRENT_DATA_SET, where it was answered.
+    pub fn current(&self) -> Option<CurrentDataSet>
+        ensures { result ≡ counting self.now.currents.items }
+    {
+        last_of(self.currents.as_slice())
+    }
+
+    /// PARENT_DATA_SET, where it was answered.
+    pub fn parent(&self) -> Option<ParentDataSet>
+        ensures { result ≡ counting self.now.parents.items }
+    {
+        last_of(self.parents.as_slice())
+    }
+
+    /// TIME_PROPERTIES_DATA_SET, where it was answered.
+    pub fn time(&self) -> Option<TimePropertiesDataSet>
+        ensures { result ≡ counting self.now.times.items }
+    {
+        last_of(self.times.as_slice())
+    }
+
+    /// userDescription, where it was answered.
+    pub fn description(&self) -> Option<&str> {
+        let heard = self.descriptions.last()?;
+        Some(heard.set.text.as_str())
+    }
+
+    /// PORT_DATA_SET of a port, where it was answered.
+    pub fn port(&self, number: u16) -> Option<PortDataSet>
+        ensures { result ≡ port_kept self.now number }
+    {
+        last_of(self.ports.get(&number)?.as_slice())
+    }
+
+    /// What was heard of a port, in the order of the lines.
+    pub fn heard(&self, number: u16) -> &[Heard<PortDataSet>]
+        ensures { result.now ≡ port_heard self.now number }
+    {
+        match self.ports.get(&number) {
+            Some(heard) => heard.as_slice(),
+            None => &[],
+        }
+    }
+
+    /// Whether a port that answered is in a state of a group.
+    pub fn has_port_of(&self, group: PortGroup) -> bool
+        ensures { result ≡ list_any (λ n. is_port_of group (port_kept self.now n)) (keys self.now.ports) }
+    {
+        self.ports.keys().any(|number| {
+            match self.port(*number) {
+                Some(set) => group.has(set.state),
+                None => false,
+            }
+        })
+    }
+
+    /// Keeps at most so many ports, the first; how many were left out.
+    pub fn keep_first_ports(&mut self, room: usize) -> usize {
+        let over = self.ports.len().saturating_sub(room);
+        for _ in 0..over {
+            let _ = self.ports.pop_last();
+        }
+        over
+    }
+
+    /// Whether an error came for an id.
+    pub fn refuses(&self, asked: Asked) -> bool {
+        self.refused.contains(&asked)
+    }
+}
+
+/// An id that is refused stands among those that are, once.
+fn put_refused(refused: &mut Vec<Asked>, asked: Asked) -> Result<(), AllocError> {
+    if !refused.contains(&asked) {
+        refused.push(asked)?;
+    }
+    Ok(())
+}
+
+/// What was heard of a port stands behind all that was heard of it.
+fn put_port(
+    alloc: Global,
+    ports: &mut BTreeMap<u16, Vec<Heard<PortDataSet>>>,
+    number: u16,
+    heard: Heard<PortDataSet>,
+) -> Result<(), AllocError>
+    ensures numbers { OnOk result (keys ports.new ≡ place nat_cmp (keys ports.old) number) }
+    ensures heard { OnOk result ((n : ℕ) → heard_of ports.new n
+        ≡ heard_of ports.old n ++ (if number == n then heard ∷ [] else [])) }
+{
+    place_port(alloc, ports, number)?;
+    push_heard(ports, number, heard)?;
+    Ok(())
+}
+
+/// A port of which nothing was heard gets its place.
+fn place_port(
+    alloc: Global,
+    ports: &mut BTreeMap<u16, Vec<Heard<PortDataSet>>>,
+    number: u16,
+) -> Result<(), AllocError>
+    ensures numbers { OnOk result (keys ports.new ≡ place nat_cmp (keys ports.old) number) }
+    ensures heard { OnOk result ((n : ℕ) → heard_of ports.new n ≡ heard_of ports.old n) }
+    ensures there { OnOk result (IsSome (get nat_cmp ports.new number)) }
+{
+    if ports.contains_key(&number) {
+        return Ok(());
+    }
+    ports.insert(number, Vec::new(alloc))?;
+    Ok(())
+}
+
+/// What was heard of a port that has its place stands behind all that was heard of it.
+fn push_heard(
+    ports: &mut BTreeMap<u16, Vec<Heard<PortDataSet>>>,
+    number: u16,
+    heard: Heard<PortDataSet>,
+) -> Result<(), AllocError>
+    requires { IsSome (get nat_cmp ports.old number) }
+    ensures numbers { OnOk result (keys ports.new ≡ keys ports.old) }
+    ensures heard { OnOk result ((n : ℕ) → heard_of ports.new n
+        ≡ heard_of ports.old n ++ (if number == n then heard ∷ [] else [])) }
+{
+    if let Some(all) = ports.get_mut(&number) {
+        all.push(heard)?;
+    }
+    Ok(())
+}
+
+/// The data set of the answer that counts: the last.
+pub fn last_of<T: Copy>(heard: &[Heard<T>]) -> Option<T>
+    ensures { result ≡ counting heard.now }
+{
+    match heard.last() {
+        Some(last) => Some(last.set),
+        None => None,
+    }
+}

@@ -1,0 +1,64 @@
+//! What is told of members that two clocks say otherwise.
+
+ghost use Rattle.std.specs.Prelude.{◌≡◌, ◌++◌, OnOk};
+ghost use Rattle.ptpm_site.specs.Differences.{what_differs};
+ghost use Rattle.ptpm_site.specs.Findings.{found, found_each};
+
+use crate::differences::Differs;
+use crate::finding::{Finding, What};
+use crate::finds::find;
+use crate::source::Source;
+use std::alloc::AllocError;
+
+/// What a clock is compared with.
+#[derive(Clone, Copy)]
+pub enum Compared {
+    /// Its grandmaster, or the clock that it follows: what they say of the grandmaster.
+    Grandmaster,
+    /// Its grandmaster: what they say of UTC.
+    Time,
+    /// Its port of this number, with the port that it follows.
+    Port(u16),
+}
+
+impl Compared {
+    /// What is wrong where a member is said otherwise.
+    fn what(self, differs: Differs) -> What<'static>
+        ensures { result ≡ what_differs self differs }
+    {
+        match self {
+            Compared::Grandmaster => What::GrandmasterDiffers(differs),
+            Compared::Time => What::Utc(differs),
+            Compared::Port(number) => What::Intervals(number, differs),
+        }
+    }
+}
+
+/// A finding for each member that is said otherwise, behind all earlier ones.
+pub fn find_each(
+    findings: &mut Vec<Finding<'_>>,
+    source: Source,
+    compared: Compared,
+    members: &[Option<Differs>],
+) -> Result<(), AllocError>
+    ensures { OnOk result (findings.new.items ≡ findings.old.items ++ found_each compared source members.now) }
+{
+    for differs in members {
+        find_differs(findings, source, compared, *differs)?;
+    }
+    Ok(())
+}
+
+fn find_differs(
+    findings: &mut Vec<Finding<'_>>,
+    source: Source,
+    compared: Compared,
+    differs: Option<Differs>,
+) -> Result<(), AllocError>
+    ensures { OnOk result (findings.new.items ≡ findings.old.items ++ found (what_differs compared) source differs) }
+{
+    match differs {
+        Some(differs) => find(findings, source, compared.what(differs)),
+        None => Ok(()),
+    }
+}

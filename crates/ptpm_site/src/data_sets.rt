@@ -1,0 +1,248 @@
+//! The data sets of a clock as its answers tell them (clauses 8.2 and 15.5.3): every member, whatever its value.
+
+ghost use Rattle.std.specs.Prelude.{◌≡◌, ◌+◌, ◌≤◌, length};
+ghost use Rattle.ptpm_site.specs.PortStates.{is_following, is_leading, measures_end_to_end, measures_link};
+
+use crate::numbers::{clock_at, flag_at, i8_at, i16_at, i32_at, interval_at, port_at, u16_at};
+use ptpm_codec::{ClockIdentity, PortIdentity};
+use ptpm_data::PortState;
+
+/// A ClockQuality (5.3.7).
+#[derive(Clone, Copy, PartialEq, Eq)]
+pub struct ClockQuality {
+    pub class: u8,
+    pub accuracy: u8,
+    /// offsetScaledLogVariance.
+    pub variance: u16,
+}
+
+/// DEFAULT_DATA_SET.
+#[derive(Clone, Copy)]
+pub struct DefaultDataSet {
+    pub two_step: bool,
+    pub slave_only: bool,
+    pub number_of_ports: u16,
+    pub priority1: u8,
+    pub quality: ClockQuality,
+    pub priority2: u8,
+    pub identity: ClockIdentity,
+    pub domain: u8,
+}
+
+/// CURRENT_DATA_SET.
+#[derive(Clone, Copy)]
+pub struct CurrentDataSet {
+    pub steps_removed: u16,
+    /// A TimeInterval, in nanoseconds times 2^16.
+    pub offset_from_master: i64,
+    /// A TimeInterval, in nanoseconds times 2^16.
+    pub mean_delay: i64,
+}
+
+/// PARENT_DATA_SET.
+#[derive(Clone, Copy)]
+pub struct ParentDataSet {
+    /// parentPortIdentity.
+    pub parent: PortIdentity,
+    pub stats: bool,
+    /// observedParentOffsetScaledLogVariance.
+    pub variance: u16,
+    /// observedParentClockPhaseChangeRate.
+    pub rate: i32,
+    pub priority1: u8,
+    pub quality: ClockQuality,
+    pub priority2: u8,
+    /// grandmasterIdentity.
+    pub grandmaster: ClockIdentity,
+}
+
+/// TIME_PROPERTIES_DATA_SET.
+#[derive(Clone, Copy)]
+pub struct TimePropertiesDataSet {
+    /// currentUtcOffset, in seconds.
+    pub utc_offset: i16,
+    pub leap61: bool,
+    pub leap59: bool,
+    pub utc_valid: bool,
+    pub ptp_timescale: bool,
+    pub time_traceable: bool,
+    pub frequency_traceable: bool,
+    pub time_source: u8,
+}
+
+/// How a port measures delay (8.2.15.4.4).
+#[derive(Clone, Copy, PartialEq, Eq)]
+pub enum DelayMechanism {
+    EndToEnd,
+    PeerToPeer,
+    CommonPeerToPeer,
+    Special,
+    NoMechanism,
+}
+
+/// PORT_DATA_SET, but for its portIdentity.
+#[derive(Clone, Copy)]
+pub struct PortDataSet {
+    /// portState; none where its number is reserved.
+    pub state: Option<PortState>,
+    pub log_min_delay_req: i8,
+    /// A TimeInterval, in nanoseconds times 2^16.
+    pub mean_link_delay: i64,
+    pub log_announce: i8,
+    pub receipt_timeout: u8,
+    pub log_sync: i8,
+    /// delayMechanism; none where its number is reserved.
+    pub delay_mechanism: Option<DelayMechanism>,
+    pub log_min_pdelay: i8,
+    /// versionNumber, of four bits.
+    pub version: u8,
+}
+
+impl ClockQuality {
+    /// That in the four octets from a place.
+    fn at(octets: &[u8], place: usize) -> ClockQuality
+        requires { place + 4 ≤ length octets.now }
+    {
+        ClockQuality {
+            class: octets[place],
+            accuracy: octets[place + 1],
+            variance: u16_at(octets, place + 2),
+        }
+    }
+}
+
+impl DefaultDataSet {
+    /// What a dataField tells; none where its length is another.
+    pub fn read(octets: &[u8]) -> Option<DefaultDataSet> {
+        if octets.len() != 20 {
+            return None;
+        }
+        Some(DefaultDataSet {
+            two_step: flag_at(octets, 0, 0),
+            slave_only: flag_at(octets, 0, 1),
+            number_of_ports: u16_at(octets, 2),
+            priority1: octets[4],
+            quality: ClockQuality::at(octets, 5),
+            priority2: octets[9],
+            identity: clock_at(octets, 10),
+            domain: octets[18],
+        })
+    }
+}
+
+impl CurrentDataSet {
+    /// What a dataField tells; none where its length is another.
+    pub fn read(octets: &[u8]) -> Option<CurrentDataSet> {
+        if octets.len() != 18 {
+            return None;
+        }
+        Some(CurrentDataSet {
+            steps_removed: u16_at(octets, 0),
+            offset_from_master: interval_at(octets, 2),
+            mean_delay: interval_at(octets, 10),
+        })
+    }
+}
+
+impl ParentDataSet {
+    /// What a dataField tells; none where its length is another.
+    pub fn read(octets: &[u8]) -> Option<ParentDataSet> {
+        if octets.len() != 32 {
+            return None;
+        }
+        Some(ParentDataSet {
+            parent: port_at(octets, 0),
+            stats: flag_at(octets, 10, 0),
+            variance: u16_at(octets, 12),
+            rate: i32_at(octets, 14),
+            priority1: octets[18],
+            quality: ClockQuality::at(octets, 19),
+            priority2: octets[23],
+            grandmaster: clock_at(octets, 24),
+        })
+    }
+}
+
+impl TimePropertiesDataSet {
+    /// What a dataField tells; none where its length is another.
+    pub fn read(octets: &[u8]) -> Option<TimePropertiesDataSet> {
+        if octets.len() != 4 {
+            return None;
+        }
+        Some(TimePropertiesDataSet {
+            utc_offset: i16_at(octets, 0),
+            leap61: flag_at(octets, 2, 0),
+            leap59: flag_at(octets, 2, 1),
+            utc_valid: flag_at(octets, 2, 2),
+            ptp_timescale: flag_at(octets, 2, 3),
+            time_traceable: flag_at(octets, 2, 4),
+            frequency_traceable: flag_at(octets, 2, 5),
+            time_source: octets[3],
+        })
+    }
+}
+
+impl PortDataSet {
+    /// What a dataField tells, and of which port; none where its length is another.
+    pub fn read(octets: &[u8]) -> Option<(PortIdentity, PortDataSet)> {
+        if octets.len() != 26 {
+            return None;
+        }
+        let set = PortDataSet {
+            state: PortState::from_number(octets[10]),
+            log_min_delay_req: i8_at(octets, 11),
+            mean_link_delay: interval_at(octets, 12),
+            log_announce: i8_at(octets, 20),
+            receipt_timeout: octets[21],
+            log_sync: i8_at(octets, 22),
+            delay_mechanism: DelayMechanism::from_number(octets[23]),
+            log_min_pdelay: i8_at(octets, 24),
+            version: octets[25] % 16,
+        };
+        Some((port_at(octets, 0), set))
+    }
+
+    /// Whether the port takes time from a master, or is about to.
+    pub fn is_following(&self) -> bool
+        ensures { result ≡ is_following self.now.state }
+    {
+        matches!(self.state, Some(PortState::Slave | PortState::Uncalibrated))
+    }
+
+    /// Whether the port gives time, or is about to.
+    pub fn is_leading(&self) -> bool
+        ensures { result ≡ is_leading self.now.state }
+    {
+        matches!(self.state, Some(PortState::Master | PortState::PreMaster))
+    }
+
+    /// Whether it measures the delay of the link to the neighbour (clause 11.4).
+    pub fn measures_link(&self) -> bool
+        ensures { result ≡ measures_link self.now.delay_mechanism }
+    {
+        matches!(
+            self.delay_mechanism,
+            Some(DelayMechanism::PeerToPeer | DelayMechanism::CommonPeerToPeer)
+        )
+    }
+
+    /// Whether it measures the delay of the whole way to the master (clause 11.3).
+    pub fn measures_end_to_end(&self) -> bool
+        ensures { result ≡ measures_end_to_end self.now.delay_mechanism }
+    {
+        matches!(self.delay_mechanism, Some(DelayMechanism::EndToEnd))
+    }
+}
+
+impl DelayMechanism {
+    fn from_number(number: u8) -> Option<DelayMechanism> {
+        match number {
+            1 => Some(DelayMechanism::EndToEnd),
+            2 => Some(DelayMechanism::PeerToPeer),
+            3 => Some(DelayMechanism::CommonPeerToPeer),
+            4 => Some(DelayMechanism::Special),
+            0xfe => Some(DelayMechanism::NoMechanism),
+            _ => None,
+        }
+    }
+}

@@ -1,0 +1,162 @@
+//! Where a clock says otherwise than its grandmaster or the port that it follows.
+
+ghost use Rattle.std.specs.Prelude.{◌≡◌};
+ghost use Rattle.ptpm_site.specs.Differences.{flag_differs, grandmaster_differs, intervals_differ, mechanism_differs, number_differs, other_grandmaster, quality_differs, utc_differs};
+
+use crate::data_sets::{
+    ClockQuality, DefaultDataSet, ParentDataSet, PortDataSet, TimePropertiesDataSet,
+};
+use crate::member::{Member, Value};
+
+/// A member that two clocks say otherwise.
+#[derive(Clone, Copy)]
+pub struct Differs {
+    pub member: Member,
+    pub own: Value<'static>,
+    pub other: Value<'static>,
+}
+
+/// The member, where the numbers differ.
+fn number_differs(member: Member, own: i64, other: i64) -> Option<Differs>
+    ensures { result ≡ number_differs member own other }
+{
+    if own == other {
+        return None;
+    }
+    Some(Differs {
+        member,
+        own: Value::Number(own),
+        other: Value::Number(other),
+    })
+}
+
+/// The member, where the flags differ.
+fn flag_differs(member: Member, own: bool, other: bool) -> Option<Differs>
+    ensures { result ≡ flag_differs member own other }
+{
+    if own == other {
+        return None;
+    }
+    Some(Differs {
+        member,
+        own: Value::Flag(own),
+        other: Value::Flag(other),
+    })
+}
+
+/// The member, where the ClockQualities differ.
+fn quality_differs(member: Member, own: ClockQuality, other: ClockQuality) -> Option<Differs>
+    ensures { result ≡ quality_differs member own other }
+{
+    if own == other {
+        return None;
+    }
+    Some(Differs {
+        member,
+        own: Value::Quality(own),
+        other: Value::Quality(other),
+    })
+}
+
+/// What a clock says of its grandmaster and the grandmaster's DEFAULT_DATA_SET does not.
+pub fn grandmaster_differs(
+    own: &ParentDataSet,
+    grandmaster: &DefaultDataSet,
+) -> [Option<Differs>; 3]
+    ensures { result ≡ grandmaster_differs own.now grandmaster.now }
+{
+    [
+        number_differs(
+            Member::GrandmasterPriority1,
+            own.priority1 as i64,
+            grandmaster.priority1 as i64,
+        ),
+        quality_differs(
+            Member::GrandmasterClockQuality,
+            own.quality,
+            grandmaster.quality,
+        ),
+        number_differs(
+            Member::GrandmasterPriority2,
+            own.priority2 as i64,
+            grandmaster.priority2 as i64,
+        ),
+    ]
+}
+
+/// grandmasterIdentity, where a clock names another than the clock that it follows.
+pub fn other_grandmaster(own: &ParentDataSet, parent: &ParentDataSet) -> Option<Differs>
+    ensures { result ≡ other_grandmaster own.now parent.now }
+{
+    if own.grandmaster == parent.grandmaster {
+        return None;
+    }
+    Some(Differs {
+        member: Member::GrandmasterIdentity,
+        own: Value::Clock(own.grandmaster),
+        other: Value::Clock(parent.grandmaster),
+    })
+}
+
+/// What a clock says of UTC and its grandmaster does not.
+pub fn utc_differs(
+    own: &TimePropertiesDataSet,
+    grandmaster: &TimePropertiesDataSet,
+) -> [Option<Differs>; 5]
+    ensures { result ≡ utc_differs own.now grandmaster.now }
+{
+    [
+        number_differs(
+            Member::CurrentUtcOffset,
+            own.utc_offset as i64,
+            grandmaster.utc_offset as i64,
+        ),
+        flag_differs(
+            Member::CurrentUtcOffsetValid,
+            own.utc_valid,
+            grandmaster.utc_valid,
+        ),
+        flag_differs(
+            Member::PtpTimescale,
+            own.ptp_timescale,
+            grandmaster.ptp_timescale,
+        ),
+        flag_differs(Member::Leap59, own.leap59, grandmaster.leap59),
+        flag_differs(Member::Leap61, own.leap61, grandmaster.leap61),
+    ]
+}
+
+/// What a port in SLAVE or UNCALIBRATED says otherwise than the port that it follows: logAnnounceInterval, and a
+/// delayMechanism that measures another delay.
+pub fn intervals_differ(own: &PortDataSet, parent: &PortDataSet) -> [Option<Differs>; 2]
+    ensures { result ≡ intervals_differ own.now parent.now }
+{
+    if !own.is_following() {
+        return [None, None];
+    }
+    [
+        number_differs(
+            Member::LogAnnounceInterval,
+            own.log_announce as i64,
+            parent.log_announce as i64,
+        ),
+        mechanism_differs(own, parent),
+    ]
+}
+
+/// delayMechanism, where one port measures the delay from end to end and the other that of the link; others say nothing
+/// against a link.
+fn mechanism_differs(own: &PortDataSet, parent: &PortDataSet) -> Option<Differs>
+    ensures { result ≡ mechanism_differs own.now parent.now }
+{
+    if own.measures_link() && parent.measures_end_to_end()
+        || own.measures_end_to_end() && parent.measures_link()
+    {
+        return Some(Differs {
+            member: Member::DelayMechanism,
+            own: Value::Mechanism(own.delay_mechanism),
+            other: Value::Mechanism(parent.delay_mechanism),
+        });
+    }
+    None
+}

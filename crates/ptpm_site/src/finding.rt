@@ -1,0 +1,81 @@
+//! Findings.
+
+use crate::changes::Change;
+use crate::completeness::Missing;
+use crate::differences::Differs;
+use crate::grandmasters::Masterless;
+use crate::parents::{NoMaster, Steps};
+use crate::source::Source;
+use ptpm_codec::{ClockIdentity, PortIdentity};
+use ptpm_data::PortState;
+
+/// Something that is wrong with a clock.
+#[derive(Drop)]
+pub struct Finding<'a> {
+    pub source: Source,
+    pub what: What<'a>,
+}
+
+/// What is wrong, in the order in which it is told of a clock.
+#[derive(Drop)]
+pub enum What<'a> {
+    /// It is one of two or more clocks of the domain that are their own grandmasters and have a port in MASTER.
+    TwoGrandmasters,
+    /// It takes time from no clock.
+    NoMaster(Masterless),
+    /// The grandmaster that it names is not seen.
+    GrandmasterNotSeen(ClockIdentity),
+    /// The clock that it follows is not seen.
+    ParentNotSeen(PortIdentity),
+    /// The port that it follows gives no time.
+    ParentNotMaster(PortIdentity, NoMaster),
+    /// stepsRemoved is not 0 at a grandmaster, or not one more than that of the clock that it follows.
+    Steps(Steps),
+    /// It says otherwise of the grandmaster than that does, or than the clock that it follows.
+    GrandmasterDiffers(Differs),
+    /// It is the least of clocks that follow each other, which are these, each followed by the one that it follows.
+    Loop(Vec<ClockIdentity>),
+    /// A port is FAULTY, or stays on its way to another state.
+    PortState(u16, PortState),
+    /// offsetFromMaster is beyond the limit.
+    Offset(i64),
+    /// meanDelay is beyond the limit.
+    Delay(i64),
+    /// meanLinkDelay of a port is beyond the limit.
+    LinkDelay(u16, i64),
+    /// It says otherwise of UTC than its grandmaster.
+    Utc(Differs),
+    /// A port says otherwise than the port that it follows.
+    Intervals(u16, Differs),
+    /// Not all that was asked was answered.
+    Incomplete(Missing),
+    /// Answers to two requests differ.
+    Changed(Option<u16>, Change<'a>),
+    /// Answers to one request differ.
+    IdentityTwice(Option<u16>, Change<'a>),
+}
+
+impl What<'_> {
+    /// Its name, which scripts read.
+    pub fn name(&self) -> &'static str {
+        match self {
+            What::TwoGrandmasters => "two_grandmasters",
+            What::NoMaster(_) => "no_master",
+            What::GrandmasterNotSeen(_) => "grandmaster_not_seen",
+            What::ParentNotSeen(_) => "parent_not_seen",
+            What::ParentNotMaster(..) => "parent_not_master",
+            What::Steps(_) => "steps",
+            What::GrandmasterDiffers(_) => "grandmaster_differs",
+            What::Loop(_) => "loop",
+            What::PortState(..) => "port_state",
+            What::Offset(_) => "offset",
+            What::Delay(_) => "delay",
+            What::LinkDelay(..) => "delay",
+            What::Utc(_) => "utc",
+            What::Intervals(..) => "intervals",
+            What::Incomplete(_) => "incomplete",
+            What::Changed(..) => "changed",
+            What::IdentityTwice(..) => "identity_twice",
+        }
+    }
+}

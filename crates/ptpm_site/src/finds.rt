@@ -1,0 +1,35 @@
+//! How a finding is put behind those before it.
+
+ghost use Rattle.std.specs.Prelude.{◌≡◌, ◌++◌, [], ◌∷◌, OnOk};
+ghost use Rattle.std.specs.Option.{option_to_list, option_map};
+ghost use Rattle.ptpm_site.specs.Findings.{finding};
+
+use crate::finding::{Finding, What};
+use crate::source::Source;
+use std::alloc::AllocError;
+
+/// A finding, behind all earlier ones.
+pub fn find<'a>(
+    findings: &mut Vec<Finding<'a>>,
+    source: Source,
+    what: What<'a>,
+) -> Result<(), AllocError>
+    ensures { OnOk result (findings.new.items ≡ findings.old.items ++ finding source what.entry ∷ []) }
+{
+    findings.push(Finding { source, what })?;
+    Ok(())
+}
+
+/// A finding, where there is one, behind all earlier ones.
+pub fn find_some<'a>(
+    findings: &mut Vec<Finding<'a>>,
+    source: Source,
+    what: Option<What<'a>>,
+) -> Result<(), AllocError>
+    ensures { OnOk result (findings.new.items ≡ findings.old.items ++ option_to_list (option_map (finding source) what.entry)) }
+{
+    match what {
+        Some(what) => find(findings, source, what),
+        None => Ok(()),
+    }
+}

@@ -1,0 +1,33 @@
+//! Who follows whom.
+
+ghost use Rattle.std.specs.Prelude.{◌≡◌};
+ghost use Rattle.ptpm_site.specs.Following.{followed, is_own_grandmaster};
+ghost use Rattle.ptpm_site.specs.Kept.{kept};
+
+use crate::site::Site;
+use crate::source::Source;
+use ptpm_codec::PortIdentity;
+
+impl Site {
+    /// Whether a clock names itself as its grandmaster.
+    pub fn is_own_grandmaster(&self, source: Source) -> bool
+        ensures { result ≡ is_own_grandmaster (kept self.now) source }
+    {
+        match self.parent(source) {
+            Some(set) => set.grandmaster == source.clock,
+            None => false,
+        }
+    }
+
+    /// The port that a clock follows; none where it is its own grandmaster, or did not say.
+    pub fn followed(&self, source: Source) -> Option<PortIdentity>
+        ensures { result ≡ followed (kept self.now) source }
+    {
+        let set = self.parent(source)?;
+        if set.grandmaster == source.clock {
+            None
+        } else {
+            Some(set.parent)
+        }
+    }
+}

@@ -1,0 +1,119 @@
+//! Grandmasters: whether there are two, none, or one that was not seen.
+
+ghost use Rattle.std.specs.Prelude.{◌≡◌, ◌==◌, IfOk, filter};
+ghost use Rattle.std.specs.List.{count_by};
+ghost use Rattle.ptpm_site.specs.Grandmasters.{in_domain, leads, masterless_follower, masterless_grandmaster, masterless_reason, unseen_grandmaster};
+ghost use Rattle.ptpm_site.specs.Kept.{kept};
+
+use crate::data_sets::DefaultDataSet;
+use crate::port_groups::PortGroup;
+use crate::site::Site;
+use crate::source::Source;
+use ptpm_codec::ClockIdentity;
+use std::alloc::{AllocError, Global};
+
+impl Site {
+    /// Whether a clock is its own grandmaster and has a port in MASTER.
+    pub fn leads(&self, source: Source) -> bool
+        ensures { result ≡ leads (kept self.now) source }
+    {
+        self.is_own_grandmaster(source) && self.has_port_of(source, PortGroup::Master)
+    }
+}
+
+/// The clocks that are their own grandmasters and have a port in MASTER, of all clocks.
+pub fn leading(alloc: Global, site: &Site, sources: &[Source]) -> Result<Vec<Source>, AllocError>
+    ensures { IfOk result (λ found. found.items ≡ filter (leads (kept site.now)) sources.now) }
+{
+    let mut found = Vec::new(alloc);
+    for source in sources {
+        if site.leads(*source) {
+            found.push(*source)?;
+        }
+    }
+    Ok(found)
+}
+
+/// How many of these clocks a domain has.
+pub fn count_in(sources: &[Source], domain: u8) -> usize
+    ensures { result ≡ count_by (in_domain domain) sources.now }
+{
+    sources
+        .iter()
+        .filter(|source| source.domain == domain)
+        .count()
+}
+
+/// Why a clock has no master.
+#[derive(Clone, Copy)]
+pub enum Masterless {
+    /// It is its own grandmaster, and slaveOnly.
+    SlaveOnly,
+    /// It is its own grandmaster, with no port in MASTER, PRE_MASTER or PASSIVE.
+    Silent,
+    /// It names another, with no port in SLAVE or UNCALIBRATED.
+    Lost(ClockIdentity),
+}
+
+/// Why a clock has no master, where all its ports answered.
+pub fn masterless_reason(site: &Site, source: Source) -> Option<Masterless>
+    ensures { result ≡ masterless_reason (kept site.now) source }
+{
+    let parent = site.parent(source)?;
+    let default = site.default(source)?;
+    if !site.has_ports_to(source, default.number_of_ports) {
+        return None;
+    }
+    if parent.grandmaster == source.clock {
+        masterless_grandmaster(site, source, &default)
+    } else {
+        masterless_follower(site, source, &default, parent.grandmaster)
+    }
+}
+
+/// Why a clock that is its own grandmaster gives no time.
+fn masterless_grandmaster(
+    site: &Site,
+    source: Source,
+    default: &DefaultDataSet,
+) -> Option<Masterless>
+    ensures { result ≡ masterless_grandmaster (kept site.now) source default.now }
+{
+    if default.slave_only {
+        Some(Masterless::SlaveOnly)
+    } else if site.has_port_of(source, PortGroup::Giving) {
+        None
+    } else {
+        Some(Masterless::Silent)
+    }
+}
+
+/// Why a clock that names another as its grandmaster takes no time. A clock of a class below 128 may stand by.
+fn masterless_follower(
+    site: &Site,
+    source: Source,
+    default: &DefaultDataSet,
+    grandmaster: ClockIdentity,
+) -> Option<Masterless>
+    ensures { result ≡ masterless_follower (kept site.now) source default.now grandmaster }
+{
+    if site.has_port_of(source, PortGroup::Taking) {
+        return None;
+    }
+    if default.quality.class < 128 && site.has_port_of(source, PortGroup::Passive) {
+        return None;
+    }
+    Some(Masterless::Lost(grandmaster))
+}
+
+/// The grandmaster that a clock names, where it is not seen.
+pub fn unseen_grandmaster(site: &Site, source: Source) -> Option<ClockIdentity>
+    ensures { result ≡ unseen_grandmaster (kept site.now) source }
+{
+    let parent = site.parent(source)?;
+    if site.sees(source.beside(parent.grandmaster)) {
+        None
+    } else {
+        Some(parent.grandmaster)
+    }
+}

@@ -1,0 +1,125 @@
+//! What is wrong, finding by finding, in their order: by domain, by clock, by the table of findings, by port.
+
+ghost use Rattle.std.specs.Prelude.{◌≡◌, ◌++◌, OnOk, IfOk};
+ghost use Rattle.std.specs.List.{flat_map};
+ghost use Rattle.ptpm_site.specs.Findings.{defined, findings_of, found_above, found_here, found_of};
+ghost use Rattle.ptpm_site.specs.Grandmasters.{leading_clocks};
+ghost use Rattle.ptpm_site.specs.Kept.{kept};
+
+use crate::finding::Finding;
+use crate::grandmasters::leading;
+use crate::judging_amounts::{judge_amounts, judge_utc};
+use crate::judging_answers::judge_answers;
+use crate::judging_grandmasters::{judge_grandmaster, judge_parent};
+use crate::judging_loops::judge_loop;
+use crate::judging_ports::{judge_intervals, judge_ports};
+use crate::limits::Limits;
+use crate::site::Site;
+use crate::source::Source;
+use std::alloc::{AllocError, Global};
+
+/// All findings. Each loop is told at its least clock; the loops are in the order of these.
+#[tactic(auto, unfolding(crate::specs::Findings::defined))]
+pub fn findings_of<'a>(
+    alloc: Global,
+    site: &'a Site,
+    loops: &[Vec<usize>],
+    limits: Limits,
+) -> Result<Vec<Finding<'a>>, AllocError>
+    ensures { IfOk result (λ found. defined found.items ≡ findings_of (kept site.now) limits) }
+{
+    let sources = site.sources(alloc)?;
+    let leading = leading(alloc, site, sources.as_slice())?;
+    let given = Given {
+        alloc,
+        leading: leading.as_slice(),
+        sources: sources.as_slice(),
+        loops,
+        limits,
+    };
+    let mut findings = Vec::new(alloc);
+    judge_all(site, sources.as_slice(), &given, &mut findings)?;
+    Ok(findings)
+}
+
+/// What is known of all clocks of a site, and what is allowed.
+#[derive(Clone, Copy)]
+struct Given<'a> {
+    alloc: Global,
+    /// The clocks that lead.
+    leading: &'a [Source],
+    /// All clocks.
+    sources: &'a [Source],
+    /// The loops, by places among all clocks.
+    loops: &'a [Vec<usize>],
+    limits: Limits,
+}
+
+/// What is wrong with these clocks, one after another.
+fn judge_all<'a>(
+    site: &'a Site,
+    sources: &[Source],
+    given: &Given<'_>,
+    findings: &mut Vec<Finding<'a>>,
+) -> Result<(), AllocError>
+    requires { given.now.leading.now ≡ leading_clocks (kept site.now) }
+    ensures { OnOk result (defined findings.new.items
+        ≡ defined findings.old.items ++ flat_map (found_of (kept site.now) given.now.limits) sources.now) }
+{
+    for source in sources {
+        judge(site, *source, given, findings)?;
+    }
+    Ok(())
+}
+
+/// What is wrong with a clock.
+fn judge<'a>(
+    site: &'a Site,
+    source: Source,
+    given: &Given<'_>,
+    findings: &mut Vec<Finding<'a>>,
+) -> Result<(), AllocError>
+    requires { given.now.leading.now ≡ leading_clocks (kept site.now) }
+    ensures { OnOk result (defined findings.new.items
+        ≡ defined findings.old.items ++ found_of (kept site.now) given.now.limits source) }
+{
+    let ports = site.ports(given.alloc, source)?;
+    judge_above(site, source, given.leading, findings)?;
+    judge_loop(given.alloc, source, given.sources, given.loops, findings)?;
+    judge_here(site, source, ports.as_slice(), given.limits, findings)?;
+    judge_answers(given.alloc, site, source, findings)?;
+    Ok(())
+}
+
+/// What is wrong with a clock's grandmaster, and with the clock that it follows. Given are all clocks that lead.
+#[tactic(auto, unfolding(crate::specs::Findings::found_above))]
+fn judge_above(
+    site: &Site,
+    source: Source,
+    leading: &[Source],
+    findings: &mut Vec<Finding<'_>>,
+) -> Result<(), AllocError>
+    requires { leading.now ≡ leading_clocks (kept site.now) }
+    ensures { OnOk result (findings.new.items ≡ findings.old.items ++ found_above (kept site.now) source) }
+{
+    judge_grandmaster(site, source, leading, findings)?;
+    judge_parent(site, source, findings)
+}
+
+/// What is wrong with a clock that has these ports otherwise.
+#[tactic(auto, unfolding(crate::specs::Findings::found_here))]
+fn judge_here(
+    site: &Site,
+    source: Source,
+    ports: &[u16],
+    limits: Limits,
+    findings: &mut Vec<Finding<'_>>,
+) -> Result<(), AllocError>
+    requires { ports.now ≡ (kept site.now).ports source }
+    ensures { OnOk result (findings.new.items ≡ findings.old.items ++ found_here (kept site.now) limits source) }
+{
+    judge_ports(site, source, ports, findings)?;
+    judge_amounts(site, source, ports, limits, findings)?;
+    judge_utc(site, source, findings)?;
+    judge_intervals(site, source, ports, findings)
+}

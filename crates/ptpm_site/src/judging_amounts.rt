@@ -1,0 +1,112 @@
+//! Amounts of a clock beyond what is allowed, and what it says of UTC.
+
+ghost use Rattle.std.specs.Prelude.{◌≡◌, ◌++◌, OnOk};
+ghost use Rattle.std.specs.List.{flat_map};
+ghost use Rattle.ptpm_site.specs.Amounts.{large_delay, large_offset};
+ghost use Rattle.ptpm_site.specs.Findings.{amounts_found, found, found_each, link_delays_found, utc_said};
+ghost use Rattle.ptpm_site.specs.Kept.{kept};
+
+use crate::amounts::{large_delay, large_offset};
+use crate::comparing::{Compared, find_each};
+use crate::differences::utc_differs;
+use crate::finding::{Finding, What};
+use crate::finds::find;
+use crate::judging_ports::judge_link_delays;
+use crate::limits::Limits;
+use crate::site::Site;
+use crate::source::Source;
+use std::alloc::AllocError;
+
+/// `offset` and `delay`, of a clock that has these ports.
+#[tactic(auto, unfolding(crate::specs::Findings::amounts_found))]
+pub fn judge_amounts(
+    site: &Site,
+    source: Source,
+    ports: &[u16],
+    limits: Limits,
+    findings: &mut Vec<Finding<'_>>,
+) -> Result<(), AllocError>
+    requires { ports.now ≡ (kept site.now).ports source }
+    ensures { OnOk result (findings.new.items ≡ findings.old.items ++ amounts_found (kept site.now) limits source) }
+{
+    judge_offset(site, source, limits, findings)?;
+    judge_delay(site, source, limits, findings)?;
+    judge_links(site, source, ports, limits, findings)
+}
+
+/// `offset`.
+fn judge_offset(
+    site: &Site,
+    source: Source,
+    limits: Limits,
+    findings: &mut Vec<Finding<'_>>,
+) -> Result<(), AllocError>
+    ensures { OnOk result (findings.new.items ≡ findings.old.items ++ found What.Offset source (large_offset (kept site.now) source limits.offset)) }
+{
+    match large_offset(site, source, limits.offset) {
+        Some(offset) => find(findings, source, What::Offset(offset)),
+        None => Ok(()),
+    }
+}
+
+/// `delay`, by meanDelay.
+fn judge_delay(
+    site: &Site,
+    source: Source,
+    limits: Limits,
+    findings: &mut Vec<Finding<'_>>,
+) -> Result<(), AllocError>
+    ensures { OnOk result (findings.new.items ≡ findings.old.items ++ found What.Delay source (large_delay (kept site.now) source limits.delay)) }
+{
+    match large_delay(site, source, limits.delay) {
+        Some(delay) => find(findings, source, What::Delay(delay)),
+        None => Ok(()),
+    }
+}
+
+/// `delay`, by the links of the ports of a clock that follows another.
+#[tactic(auto, unfolding(crate::specs::Findings::link_delays_found))]
+fn judge_links(
+    site: &Site,
+    source: Source,
+    ports: &[u16],
+    limits: Limits,
+    findings: &mut Vec<Finding<'_>>,
+) -> Result<(), AllocError>
+    requires { ports.now ≡ (kept site.now).ports source }
+    ensures { OnOk result (findings.new.items ≡ findings.old.items ++ link_delays_found (kept site.now) limits source) }
+{
+    match site.followed(source) {
+        Some(_) => judge_link_delays(site, source, ports, limits, findings),
+        None => Ok(()),
+    }
+}
+
+/// `utc`.
+#[tactic(auto, unfolding(crate::specs::Findings::utc_said))]
+pub fn judge_utc(
+    site: &Site,
+    source: Source,
+    findings: &mut Vec<Finding<'_>>,
+) -> Result<(), AllocError>
+    ensures { OnOk result (findings.new.items ≡ findings.old.items ++ found_each Compared.Time source (utc_said (kept site.now) source)) }
+{
+    let Some(parent) = site.parent(source) else {
+        return Ok(());
+    };
+    if parent.grandmaster == source.clock {
+        return Ok(());
+    }
+    let Some(own) = site.time(source) else {
+        return Ok(());
+    };
+    match site.time(source.beside(parent.grandmaster)) {
+        Some(grandmaster) => find_each(
+            findings,
+            source,
+            Compared::Time,
+            &utc_differs(&own, &grandmaster),
+        ),
+        None => Ok(()),
+    }
+}

@@ -1,0 +1,163 @@
+//! What a clock did not answer, and what its answers say otherwise.
+
+ghost use Rattle.std.specs.Prelude.{◌≡◌, OnOk};
+ghost use Rattle.ptpm_site.specs.Findings.{defined};
+
+use crate::changes::{Change, first_change, first_contradiction, is_said_otherwise};
+use crate::clock::{Clock, Heard};
+use crate::completeness::missing_answers;
+use crate::finding::{Finding, What};
+use crate::finds::find;
+use crate::member::{DataSet, Member};
+use crate::site::Site;
+use crate::source::Source;
+use std::alloc::{AllocError, Global};
+
+/// `incomplete`, `changed` and `identity_twice`.
+pub fn judge_answers<'a>(
+    alloc: Global,
+    site: &'a Site,
+    source: Source,
+    findings: &mut Vec<Finding<'a>>,
+) -> Result<(), AllocError>
+    ensures { OnOk result (defined findings.new.items ≡ defined findings.old.items) }
+{
+    match site.clocks.get(&source) {
+        Some(clock) => judge_clock(alloc, source, clock, findings),
+        None => Ok(()),
+    }
+}
+
+fn judge_clock<'a>(
+    alloc: Global,
+    source: Source,
+    clock: &'a Clock,
+    findings: &mut Vec<Finding<'a>>,
+) -> Result<(), AllocError>
+    ensures { OnOk result (defined findings.new.items ≡ defined findings.old.items) }
+{
+    judge_missing(alloc, source, clock, findings)?;
+    judge_changes(alloc, source, clock, Sort::Changed, findings)?;
+    judge_changes(alloc, source, clock, Sort::Twice, findings)
+}
+
+/// `incomplete`.
+#[tactic(auto, unfolding(crate::specs::Findings::defined))]
+fn judge_missing(
+    alloc: Global,
+    source: Source,
+    clock: &Clock,
+    findings: &mut Vec<Finding<'_>>,
+) -> Result<(), AllocError>
+    ensures { OnOk result (defined findings.new.items ≡ defined findings.old.items) }
+{
+    match missing_answers(alloc, clock)? {
+        Some(missing) => find(findings, source, What::Incomplete(missing)),
+        None => Ok(()),
+    }
+}
+
+/// Whether answers to different requests or to one are held against each other.
+#[derive(Clone, Copy)]
+enum Sort {
+    Changed,
+    Twice,
+}
+
+/// `changed` or `identity_twice`, of all data sets.
+fn judge_changes<'a>(
+    alloc: Global,
+    source: Source,
+    clock: &'a Clock,
+    sort: Sort,
+    findings: &mut Vec<Finding<'a>>,
+) -> Result<(), AllocError>
+    ensures { OnOk result (defined findings.new.items ≡ defined findings.old.items) }
+{
+    judge_set(
+        alloc,
+        source,
+        None,
+        clock.defaults.as_slice(),
+        sort,
+        findings,
+    )?;
+    judge_set(
+        alloc,
+        source,
+        None,
+        clock.currents.as_slice(),
+        sort,
+        findings,
+    )?;
+    judge_set(
+        alloc,
+        source,
+        None,
+        clock.parents.as_slice(),
+        sort,
+        findings,
+    )?;
+    judge_set(alloc, source, None, clock.times.as_slice(), sort, findings)?;
+    for (port, heard) in clock.ports.iter() {
+        judge_set(alloc, source, Some(*port), heard.as_slice(), sort, findings)?;
+    }
+    judge_set(
+        alloc,
+        source,
+        None,
+        clock.descriptions.as_slice(),
+        sort,
+        findings,
+    )
+}
+
+/// The changes, or the contradictions, among the answers of one data set.
+fn judge_set<'a, T: DataSet>(
+    alloc: Global,
+    source: Source,
+    port: Option<u16>,
+    heard: &'a [Heard<T>],
+    sort: Sort,
+    findings: &mut Vec<Finding<'a>>,
+) -> Result<(), AllocError>
+    ensures { OnOk result (defined findings.new.items ≡ defined findings.old.items) }
+{
+    for member in T::members() {
+        if member.is_moving() || !is_said_otherwise(heard, *member) {
+            continue;
+        }
+        if let Some(change) = change_of(alloc, heard, *member, sort)? {
+            find_change(findings, source, port, change, sort)?;
+        }
+    }
+    Ok(())
+}
+
+fn change_of<'a, T: DataSet>(
+    alloc: Global,
+    heard: &'a [Heard<T>],
+    member: Member,
+    sort: Sort,
+) -> Result<Option<Change<'a>>, AllocError> {
+    match sort {
+        Sort::Changed => Ok(first_change(heard, member)),
+        Sort::Twice => first_contradiction(alloc, heard, member),
+    }
+}
+
+#[tactic(auto, unfolding(crate::specs::Findings::defined))]
+fn find_change<'a>(
+    findings: &mut Vec<Finding<'a>>,
+    source: Source,
+    port: Option<u16>,
+    change: Change<'a>,
+    sort: Sort,
+) -> Result<(), AllocError>
+    ensures { OnOk result (defined findings.new.items ≡ defined findings.old.items) }
+{
+    match sort {
+        Sort::Changed => find(findings, source, What::Changed(port, change)),
+        Sort::Twice => find(findings, source, What::IdentityTwice(port, change)),
+    }
+}

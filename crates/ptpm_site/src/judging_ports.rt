@@ -1,0 +1,120 @@
+//! What is wrong with the ports of a clock.
+
+ghost use Rattle.std.specs.Prelude.{◌≡◌, ◌++◌, OnOk};
+ghost use Rattle.std.specs.List.{flat_map};
+ghost use Rattle.ptpm_site.specs.Findings.{interval_found, link_delay_found, state_found};
+ghost use Rattle.ptpm_site.specs.Kept.{kept};
+
+use crate::amounts::large_link_delay;
+use crate::comparing::{Compared, find_each};
+use crate::differences::intervals_differ;
+use crate::finding::{Finding, What};
+use crate::finds::find;
+use crate::limits::Limits;
+use crate::port_states::bad_state;
+use crate::site::Site;
+use crate::source::Source;
+use std::alloc::AllocError;
+
+/// `port_state`, of these ports.
+pub fn judge_ports(
+    site: &Site,
+    source: Source,
+    ports: &[u16],
+    findings: &mut Vec<Finding<'_>>,
+) -> Result<(), AllocError>
+    ensures { OnOk result (findings.new.items ≡ findings.old.items ++ flat_map (state_found (kept site.now) source) ports.now) }
+{
+    for port in ports {
+        judge_state(site, source, *port, findings)?;
+    }
+    Ok(())
+}
+
+#[tactic(auto, unfolding(crate::specs::Findings::state_found))]
+fn judge_state(
+    site: &Site,
+    source: Source,
+    port: u16,
+    findings: &mut Vec<Finding<'_>>,
+) -> Result<(), AllocError>
+    ensures { OnOk result (findings.new.items ≡ findings.old.items ++ state_found (kept site.now) source port) }
+{
+    match bad_state(site.heard(source, port)) {
+        Some(state) => find(findings, source, What::PortState(port, state)),
+        None => Ok(()),
+    }
+}
+
+/// `delay`, of the links of these ports of a clock.
+pub fn judge_link_delays(
+    site: &Site,
+    source: Source,
+    ports: &[u16],
+    limits: Limits,
+    findings: &mut Vec<Finding<'_>>,
+) -> Result<(), AllocError>
+    ensures { OnOk result (findings.new.items ≡ findings.old.items ++ flat_map (link_delay_found (kept site.now) limits source) ports.now) }
+{
+    for port in ports {
+        judge_link_delay(site, source, *port, limits, findings)?;
+    }
+    Ok(())
+}
+
+#[tactic(auto, unfolding(crate::specs::Findings::link_delay_found))]
+fn judge_link_delay(
+    site: &Site,
+    source: Source,
+    port: u16,
+    limits: Limits,
+    findings: &mut Vec<Finding<'_>>,
+) -> Result<(), AllocError>
+    ensures { OnOk result (findings.new.items ≡ findings.old.items ++ link_delay_found (kept site.now) limits source port) }
+{
+    let Some(set) = site.port(source, port) else {
+        return Ok(());
+    };
+    match large_link_delay(&set, limits.delay) {
+        Some(delay) => find(findings, source, What::LinkDelay(port, delay)),
+        None => Ok(()),
+    }
+}
+
+/// `intervals`, of these ports.
+pub fn judge_intervals(
+    site: &Site,
+    source: Source,
+    ports: &[u16],
+    findings: &mut Vec<Finding<'_>>,
+) -> Result<(), AllocError>
+    ensures { OnOk result (findings.new.items ≡ findings.old.items ++ flat_map (interval_found (kept site.now) source) ports.now) }
+{
+    for port in ports {
+        judge_interval(site, source, *port, findings)?;
+    }
+    Ok(())
+}
+
+#[tactic(auto, unfolding(crate::specs::Findings::interval_found))]
+fn judge_interval(
+    site: &Site,
+    source: Source,
+    port: u16,
+    findings: &mut Vec<Finding<'_>>,
+) -> Result<(), AllocError>
+    ensures { OnOk result (findings.new.items ≡ findings.old.items ++ interval_found (kept site.now) source port) }
+{
+    let (Some(own), Some(set)) = (site.parent(source), site.port(source, port)) else {
+        return Ok(());
+    };
+    match site.port(source.beside(own.parent.clock), own.parent.port) {
+        Some(parent) => find_each(
+            findings,
+            source,
+            Compared::Port(port),
+            &intervals_differ(&set, &parent),
+        ),
+        None => Ok(()),
+    }
+}

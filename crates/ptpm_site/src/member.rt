@@ -1,0 +1,339 @@
+//! The members of the data sets, by the standard's names, and their values.
+
+use crate::data_sets::{
+    ClockQuality, CurrentDataSet, DefaultDataSet, DelayMechanism, ParentDataSet, PortDataSet,
+    TimePropertiesDataSet,
+};
+use crate::description::Description;
+use ptpm_codec::{ClockIdentity, PortIdentity};
+use ptpm_data::PortState;
+use std::fmt;
+
+/// A member of one of the six data sets (clauses 8.2 and 15.5.3).
+#[derive(Clone, Copy)]
+pub enum Member {
+    TwoStepFlag,
+    SlaveOnly,
+    NumberPorts,
+    Priority1,
+    ClockQuality,
+    Priority2,
+    ClockIdentity,
+    DomainNumber,
+    StepsRemoved,
+    OffsetFromMaster,
+    MeanDelay,
+    ParentPortIdentity,
+    ParentStats,
+    ObservedParentOffsetScaledLogVariance,
+    ObservedParentClockPhaseChangeRate,
+    GrandmasterPriority1,
+    GrandmasterClockQuality,
+    GrandmasterPriority2,
+    GrandmasterIdentity,
+    CurrentUtcOffset,
+    CurrentUtcOffsetValid,
+    Leap59,
+    Leap61,
+    TimeTraceable,
+    FrequencyTraceable,
+    PtpTimescale,
+    TimeSource,
+    PortState,
+    LogMinDelayReqInterval,
+    MeanLinkDelay,
+    LogAnnounceInterval,
+    AnnounceReceiptTimeout,
+    LogSyncInterval,
+    DelayMechanism,
+    LogMinPdelayReqInterval,
+    VersionNumber,
+    UserDescription,
+}
+
+impl Member {
+    /// The standard's name.
+    pub fn name(self) -> &'static str {
+        match self {
+            Member::TwoStepFlag => "twoStepFlag",
+            Member::SlaveOnly => "slaveOnly",
+            Member::NumberPorts => "numberPorts",
+            Member::Priority1 => "priority1",
+            Member::ClockQuality => "clockQuality",
+            Member::Priority2 => "priority2",
+            Member::ClockIdentity => "clockIdentity",
+            Member::DomainNumber => "domainNumber",
+            Member::StepsRemoved => "stepsRemoved",
+            Member::OffsetFromMaster => "offsetFromMaster",
+            Member::MeanDelay => "meanDelay",
+            Member::ParentPortIdentity => "parentPortIdentity",
+            Member::ParentStats => "parentStats",
+            Member::ObservedParentOffsetScaledLogVariance => {
+                "observedParentOffsetScaledLogVariance"
+            }
+            Member::ObservedParentClockPhaseChangeRate => "observedParentClockPhaseChangeRate",
+            Member::GrandmasterPriority1 => "grandmasterPriority1",
+            Member::GrandmasterClockQuality => "grandmasterClockQuality",
+            Member::GrandmasterPriority2 => "grandmasterPriority2",
+            Member::GrandmasterIdentity => "grandmasterIdentity",
+            Member::CurrentUtcOffset => "currentUtcOffset",
+            Member::CurrentUtcOffsetValid => "currentUtcOffsetValid",
+            Member::Leap59 => "leap59",
+            Member::Leap61 => "leap61",
+            Member::TimeTraceable => "timeTraceable",
+            Member::FrequencyTraceable => "frequencyTraceable",
+            Member::PtpTimescale => "ptpTimescale",
+            Member::TimeSource => "timeSource",
+            Member::PortState => "portState",
+            Member::LogMinDelayReqInterval => "logMinDelayReqInterval",
+            Member::MeanLinkDelay => "meanLinkDelay",
+            Member::LogAnnounceInterval => "logAnnounceInterval",
+            Member::AnnounceReceiptTimeout => "announceReceiptTimeout",
+            Member::LogSyncInterval => "logSyncInterval",
+            Member::DelayMechanism => "delayMechanism",
+            Member::LogMinPdelayReqInterval => "logMinPdelayReqInterval",
+            Member::VersionNumber => "versionNumber",
+            Member::UserDescription => "userDescription",
+        }
+    }
+
+    /// Whether its value moves from one answer to the next with nothing changed.
+    pub fn is_moving(self) -> bool {
+        matches!(
+            self,
+            Member::OffsetFromMaster
+                | Member::MeanDelay
+                | Member::MeanLinkDelay
+                | Member::ObservedParentOffsetScaledLogVariance
+                | Member::ObservedParentClockPhaseChangeRate
+        )
+    }
+}
+
+/// The value of a member.
+#[derive(Clone, Copy, PartialEq)]
+pub enum Value<'a> {
+    Flag(bool),
+    Number(i64),
+    Quality(ClockQuality),
+    Clock(ClockIdentity),
+    Port(PortIdentity),
+    /// None where the number is reserved.
+    State(Option<PortState>),
+    /// None where the number is reserved.
+    Mechanism(Option<DelayMechanism>),
+    Text(&'a str),
+}
+
+/// A data set as a list of members.
+pub trait DataSet {
+    /// Its members, in the standard's order.
+    fn members() -> &'static [Member];
+
+    /// The value of a member; none where the data set lacks it.
+    fn value(&self, member: Member) -> Option<Value<'_>>;
+}
+
+impl DataSet for DefaultDataSet {
+    fn members() -> &'static [Member] {
+        &[
+            Member::TwoStepFlag,
+            Member::SlaveOnly,
+            Member::NumberPorts,
+            Member::Priority1,
+            Member::ClockQuality,
+            Member::Priority2,
+            Member::ClockIdentity,
+            Member::DomainNumber,
+        ]
+    }
+
+    fn value(&self, member: Member) -> Option<Value<'_>> {
+        Some(match member {
+            Member::TwoStepFlag => Value::Flag(self.two_step),
+            Member::SlaveOnly => Value::Flag(self.slave_only),
+            Member::NumberPorts => Value::Number(self.number_of_ports as i64),
+            Member::Priority1 => Value::Number(self.priority1 as i64),
+            Member::ClockQuality => Value::Quality(self.quality),
+            Member::Priority2 => Value::Number(self.priority2 as i64),
+            Member::ClockIdentity => Value::Clock(self.identity),
+            Member::DomainNumber => Value::Number(self.domain as i64),
+            _ => return None,
+        })
+    }
+}
+
+impl DataSet for CurrentDataSet {
+    fn members() -> &'static [Member] {
+        &[
+            Member::StepsRemoved,
+            Member::OffsetFromMaster,
+            Member::MeanDelay,
+        ]
+    }
+
+    fn value(&self, member: Member) -> Option<Value<'_>> {
+        Some(match member {
+            Member::StepsRemoved => Value::Number(self.steps_removed as i64),
+            Member::OffsetFromMaster => Value::Number(self.offset_from_master),
+            Member::MeanDelay => Value::Number(self.mean_delay),
+            _ => return None,
+        })
+    }
+}
+
+impl DataSet for ParentDataSet {
+    fn members() -> &'static [Member] {
+        &[
+            Member::ParentPortIdentity,
+            Member::ParentStats,
+            Member::ObservedParentOffsetScaledLogVariance,
+            Member::ObservedParentClockPhaseChangeRate,
+            Member::GrandmasterPriority1,
+            Member::GrandmasterClockQuality,
+            Member::GrandmasterPriority2,
+            Member::GrandmasterIdentity,
+        ]
+    }
+
+    fn value(&self, member: Member) -> Option<Value<'_>> {
+        Some(match member {
+            Member::ParentPortIdentity => Value::Port(self.parent),
+            Member::ParentStats => Value::Flag(self.stats),
+            Member::ObservedParentOffsetScaledLogVariance => Value::Number(self.variance as i64),
+            Member::ObservedParentClockPhaseChangeRate => Value::Number(self.rate as i64),
+            Member::GrandmasterPriority1 => Value::Number(self.priority1 as i64),
+            Member::GrandmasterClockQuality => Value::Quality(self.quality),
+            Member::GrandmasterPriority2 => Value::Number(self.priority2 as i64),
+            Member::GrandmasterIdentity => Value::Clock(self.grandmaster),
+            _ => return None,
+        })
+    }
+}
+
+impl DataSet for TimePropertiesDataSet {
+    fn members() -> &'static [Member] {
+        &[
+            Member::CurrentUtcOffset,
+            Member::CurrentUtcOffsetValid,
+            Member::Leap59,
+            Member::Leap61,
+            Member::TimeTraceable,
+            Member::FrequencyTraceable,
+            Member::PtpTimescale,
+            Member::TimeSource,
+        ]
+    }
+
+    fn value(&self, member: Member) -> Option<Value<'_>> {
+        Some(match member {
+            Member::CurrentUtcOffset => Value::Number(self.utc_offset as i64),
+            Member::CurrentUtcOffsetValid => Value::Flag(self.utc_valid),
+            Member::Leap59 => Value::Flag(self.leap59),
+            Member::Leap61 => Value::Flag(self.leap61),
+            Member::TimeTraceable => Value::Flag(self.time_traceable),
+            Member::FrequencyTraceable => Value::Flag(self.frequency_traceable),
+            Member::PtpTimescale => Value::Flag(self.ptp_timescale),
+            Member::TimeSource => Value::Number(self.time_source as i64),
+            _ => return None,
+        })
+    }
+}
+
+impl DataSet for PortDataSet {
+    fn members() -> &'static [Member] {
+        &[
+            Member::PortState,
+            Member::LogMinDelayReqInterval,
+            Member::MeanLinkDelay,
+            Member::LogAnnounceInterval,
+            Member::AnnounceReceiptTimeout,
+            Member::LogSyncInterval,
+            Member::DelayMechanism,
+            Member::LogMinPdelayReqInterval,
+            Member::VersionNumber,
+        ]
+    }
+
+    fn value(&self, member: Member) -> Option<Value<'_>> {
+        Some(match member {
+            Member::PortState => Value::State(self.state),
+            Member::LogMinDelayReqInterval => Value::Number(self.log_min_delay_req as i64),
+            Member::MeanLinkDelay => Value::Number(self.mean_link_delay),
+            Member::LogAnnounceInterval => Value::Number(self.log_announce as i64),
+            Member::AnnounceReceiptTimeout => Value::Number(self.receipt_timeout as i64),
+            Member::LogSyncInterval => Value::Number(self.log_sync as i64),
+            Member::DelayMechanism => Value::Mechanism(self.delay_mechanism),
+            Member::LogMinPdelayReqInterval => Value::Number(self.log_min_pdelay as i64),
+            Member::VersionNumber => Value::Number(self.version as i64),
+            _ => return None,
+        })
+    }
+}
+
+impl DataSet for Description {
+    fn members() -> &'static [Member] {
+        &[Member::UserDescription]
+    }
+
+    fn value(&self, member: Member) -> Option<Value<'_>> {
+        match member {
+            Member::UserDescription => Some(Value::Text(self.text.as_str())),
+            _ => None,
+        }
+    }
+}
+
+/// The standard's name of a port's state; `reserved` where its number is.
+pub fn state_name(state: Option<PortState>) -> &'static str {
+    match state {
+        Some(PortState::Initializing) => "INITIALIZING",
+        Some(PortState::Faulty) => "FAULTY",
+        Some(PortState::Disabled) => "DISABLED",
+        Some(PortState::Listening) => "LISTENING",
+        Some(PortState::PreMaster) => "PRE_MASTER",
+        Some(PortState::Master) => "MASTER",
+        Some(PortState::Passive) => "PASSIVE",
+        Some(PortState::Uncalibrated) => "UNCALIBRATED",
+        Some(PortState::Slave) => "SLAVE",
+        None => "reserved",
+    }
+}
+
+/// The standard's name of a delay mechanism; `reserved` where its number is.
+pub fn mechanism_name(mechanism: Option<DelayMechanism>) -> &'static str {
+    match mechanism {
+        Some(DelayMechanism::EndToEnd) => "E2E",
+        Some(DelayMechanism::PeerToPeer) => "P2P",
+        Some(DelayMechanism::CommonPeerToPeer) => "COMMON_P2P",
+        Some(DelayMechanism::Special) => "SPECIAL",
+        Some(DelayMechanism::NoMechanism) => "NO_MECHANISM",
+        None => "reserved",
+    }
+}
+
+impl fmt::Display for ClockQuality {
+    /// clockClass, clockAccuracy and offsetScaledLogVariance.
+    fn fmt<W: fmt::Write>(&self, f: &mut fmt::Formatter<W>) -> fmt::Result {
+        write!(
+            f,
+            "class {} accuracy 0x{:02x} variance 0x{:04x}",
+            self.class, self.accuracy, self.variance
+        )
+    }
+}
+
+impl fmt::Display for Value<'_> {
+    fn fmt<W: fmt::Write>(&self, f: &mut fmt::Formatter<W>) -> fmt::Result {
+        match self {
+            Value::Flag(flag) => write!(f, "{flag}"),
+            Value::Number(number) => write!(f, "{number}"),
+            Value::Quality(quality) => write!(f, "{quality}"),
+            Value::Clock(clock) => write!(f, "{clock}"),
+            Value::Port(port) => write!(f, "{port}"),
+            Value::State(state) => f.write_str(state_name(*state)),
+            Value::Mechanism(mechanism) => f.write_str(mechanism_name(*mechanism)),
+            Value::Text(text) => write!(f, "{text:?}"),
+        }
+    }
+}

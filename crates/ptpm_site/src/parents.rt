@@ -1,0 +1,119 @@
+//! Whether the clock that a clock follows fits it.
+
+ghost use Rattle.std.specs.Prelude.{◌≡◌};
+ghost use Rattle.ptpm_site.specs.Kept.{kept};
+ghost use Rattle.ptpm_site.specs.Parents.{lacks_port, no_master_port, steps_at_grandmaster, steps_below, unseen_parent, why_no_master, wrong_steps};
+
+use crate::site::Site;
+use crate::source::Source;
+use ptpm_codec::PortIdentity;
+use ptpm_data::PortState;
+
+/// The port that a clock follows, where its clock is not seen.
+pub fn unseen_parent(site: &Site, source: Source) -> Option<PortIdentity>
+    ensures { result ≡ unseen_parent (kept site.now) source }
+{
+    let parent = site.followed(source)?;
+    if site.sees(source.beside(parent.clock)) {
+        None
+    } else {
+        Some(parent)
+    }
+}
+
+/// Why a port that a clock follows gives no time.
+#[derive(Clone, Copy)]
+pub enum NoMaster {
+    /// The clock has no such port: it is 0, or above numberPorts.
+    NoPort,
+    /// It answered, and is neither in MASTER nor in PRE_MASTER.
+    InState(Option<PortState>),
+}
+
+/// The port that a clock follows, where that is no master though its clock is seen.
+pub fn no_master_port(site: &Site, source: Source) -> Option<(PortIdentity, NoMaster)>
+    ensures { result ≡ no_master_port (kept site.now) source }
+{
+    let parent = site.followed(source)?;
+    let clock = source.beside(parent.clock);
+    if !site.sees(clock) {
+        return None;
+    }
+    let why = why_no_master(site, clock, parent.port)?;
+    Some((parent, why))
+}
+
+/// Why a port of a clock that is seen gives no time.
+fn why_no_master(site: &Site, clock: Source, port: u16) -> Option<NoMaster>
+    ensures { result ≡ why_no_master (kept site.now) clock port }
+{
+    if lacks_port(site, clock, port) {
+        return Some(NoMaster::NoPort);
+    }
+    let set = site.port(clock, port)?;
+    if set.is_leading() {
+        None
+    } else {
+        Some(NoMaster::InState(set.state))
+    }
+}
+
+/// Whether a clock has no port of this number, as far as it told.
+fn lacks_port(site: &Site, clock: Source, port: u16) -> bool
+    ensures { result ≡ lacks_port (kept site.now) clock port }
+{
+    if port == 0 {
+        return true;
+    }
+    match site.default(clock) {
+        Some(default) => default.number_of_ports < port,
+        None => false,
+    }
+}
+
+/// A stepsRemoved that does not fit.
+#[derive(Clone, Copy)]
+pub struct Steps {
+    pub steps: u16,
+    /// Of the clock that it follows; none where it is its own grandmaster.
+    pub parent: Option<u16>,
+}
+
+/// The stepsRemoved of a clock where it is not 0 at a grandmaster, or not one more than that of the clock that it follows.
+pub fn wrong_steps(site: &Site, source: Source) -> Option<Steps>
+    ensures { result ≡ wrong_steps (kept site.now) source }
+{
+    let current = site.current(source)?;
+    if site.is_own_grandmaster(source) {
+        return steps_at_grandmaster(current.steps_removed);
+    }
+    let parent = site.followed(source)?;
+    let above = site.current(source.beside(parent.clock))?;
+    steps_below(current.steps_removed, above.steps_removed)
+}
+
+fn steps_at_grandmaster(steps: u16) -> Option<Steps>
+    ensures { result ≡ steps_at_grandmaster steps }
+{
+    if steps == 0 {
+        None
+    } else {
+        Some(Steps {
+            steps,
+            parent: None,
+        })
+    }
+}
+
+fn steps_below(steps: u16, above: u16) -> Option<Steps>
+    ensures { result ≡ steps_below steps above }
+{
+    if steps as u32 == above as u32 + 1 {
+        None
+    } else {
+        Some(Steps {
+            steps,
+            parent: Some(above),
+        })
+    }
+}

@@ -1,0 +1,50 @@
+//! A site, judged.
+
+ghost use Rattle.std.specs.Prelude.{◌≡◌, IfOk, length};
+ghost use Rattle.ptpm_site.specs.Findings.{defined, findings_of};
+ghost use Rattle.ptpm_site.specs.Kept.{kept};
+ghost use Rattle.ptpm_site.specs.Tree.{StandsOnce};
+
+use crate::finding::Finding;
+use crate::forest::Forest;
+use crate::judging::findings_of;
+use crate::limits::Limits;
+use crate::loops::loops;
+use crate::site::{LeftOut, Site};
+use crate::tree::{Row, rows};
+use std::alloc::{AllocError, Global};
+
+/// A site with its tree and its findings.
+#[derive(Drop)]
+pub struct Picture<'a> {
+    pub site: &'a Site,
+    pub forest: Forest,
+    pub rows: Vec<Row>,
+    pub findings: Vec<Finding<'a>>,
+    pub left_out: LeftOut,
+}
+
+impl<'a> Picture<'a> {
+    pub fn of(
+        alloc: Global,
+        site: &'a Site,
+        left_out: LeftOut,
+        limits: Limits,
+    ) -> Result<Picture<'a>, AllocError>
+        ensures clocks { IfOk result (λ picture. picture.forest.sources.items ≡ (kept site.now).clocks) }
+        ensures rows { IfOk result (λ picture. StandsOnce (length (kept site.now).clocks) picture.rows.items) }
+        ensures findings { IfOk result (λ picture. defined picture.findings.items ≡ findings_of (kept site.now) limits) }
+    {
+        let forest = Forest::of(alloc, site)?;
+        let loops = loops(alloc, forest.followed.as_slice())?;
+        let rows = rows(alloc, site, &forest, loops.as_slice())?;
+        let findings = findings_of(alloc, site, loops.as_slice(), limits)?;
+        Ok(Picture {
+            site,
+            forest,
+            rows,
+            findings,
+            left_out,
+        })
+    }
+}

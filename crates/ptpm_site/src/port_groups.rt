@@ -1,0 +1,39 @@
+//! Groups of the states that a port may be in (9.2.5).
+
+ghost use Rattle.std.specs.Prelude.{◌≡◌};
+ghost use Rattle.ptpm_site.specs.PortStates.{is_of};
+
+use ptpm_data::PortState;
+
+/// A group of states.
+#[derive(Clone, Copy)]
+pub enum PortGroup {
+    /// MASTER.
+    Master,
+    /// MASTER, PRE_MASTER and PASSIVE: the port gives time, is about to, or stands by.
+    Giving,
+    /// SLAVE and UNCALIBRATED: the port takes time, or is about to.
+    Taking,
+    /// PASSIVE.
+    Passive,
+    /// SLAVE.
+    Slave,
+}
+
+impl PortGroup {
+    /// Whether a state is of the group; a reserved one is of none.
+    pub fn has(self, state: Option<PortState>) -> bool
+        ensures { result ≡ is_of self state }
+    {
+        match self {
+            PortGroup::Master => matches!(state, Some(PortState::Master)),
+            PortGroup::Giving => matches!(
+                state,
+                Some(PortState::Master | PortState::PreMaster | PortState::Passive)
+            ),
+            PortGroup::Taking => matches!(state, Some(PortState::Slave | PortState::Uncalibrated)),
+            PortGroup::Passive => matches!(state, Some(PortState::Passive)),
+            PortGroup::Slave => matches!(state, Some(PortState::Slave)),
+        }
+    }
+}

@@ -1,0 +1,78 @@
+//! Ports that are faulty, or stay on their way to another state.
+
+ghost use Rattle.std.specs.Prelude.{◌≡◌, find, reverse};
+ghost use Rattle.std.specs.Option.{option_copied};
+ghost use Rattle.ptpm_site.specs.PortStates.{bad_state, is_another, is_bad, is_on_the_way, was_on_the_way};
+
+use crate::answer::Request;
+use crate::clock::Heard;
+use crate::data_sets::PortDataSet;
+use ptpm_data::PortState;
+
+/// Whether a state is on the way to another.
+fn is_on_the_way(state: PortState) -> bool
+    ensures { result ≡ is_on_the_way state }
+{
+    matches!(
+        state,
+        PortState::Initializing | PortState::PreMaster | PortState::Uncalibrated
+    )
+}
+
+/// Whether two requests are of one requester, and two.
+fn is_another(a: &Request, b: &Request) -> bool
+    ensures { result ≡ is_another a.now b.now }
+{
+    a.target == b.target && a.number != b.number
+}
+
+/// The latest of these answers that came to another request of the same requester.
+fn latest_of_another<'a>(
+    earlier: &'a [Heard<PortDataSet>],
+    request: &Request,
+) -> Option<&'a Heard<PortDataSet>>
+    ensures { option_copied result ≡ find (λ h. is_another h.request request.now) (reverse earlier.now) }
+{
+    earlier
+        .iter()
+        .rev()
+        .find(|heard| is_another(&heard.request, request))
+}
+
+/// Whether the latest of these answers that came to another request of the same requester was on the way.
+fn was_on_the_way(earlier: &[Heard<PortDataSet>], request: &Request) -> bool
+    ensures { result ≡ was_on_the_way request.now earlier.now }
+{
+    match latest_of_another(earlier, request) {
+        Some(heard) => match heard.set.state {
+            Some(state) => is_on_the_way(state),
+            None => false,
+        },
+        None => false,
+    }
+}
+
+/// The state of a port that is FAULTY in the answer that counts, or on its way in it and in the latest earlier answer to
+/// another request of the same requester.
+pub fn bad_state(heard: &[Heard<PortDataSet>]) -> Option<PortState>
+    ensures { result ≡ bad_state heard.now }
+{
+    let (last, earlier) = heard.split_last()?;
+    let state = last.set.state?;
+    if is_bad(last, earlier, state) {
+        Some(state)
+    } else {
+        None
+    }
+}
+
+/// Whether a state is FAULTY, or on the way in this answer and in the latest of the earlier ones to another request of the
+/// same requester.
+fn is_bad(last: &Heard<PortDataSet>, earlier: &[Heard<PortDataSet>], state: PortState) -> bool
+    ensures { result ≡ is_bad last.now earlier.now state }
+{
+    match state {
+        PortState::Faulty => true,
+        _ => is_on_the_way(state) && was_on_the_way(earlier, &last.request),
+    }
+}

@@ -1,0 +1,70 @@
+//! How much of a site is shown.
+
+ghost use Rattle.std.specs.Prelude.{◌≡◌, true, length};
+ghost use Rattle.ptpm_site.specs.Kept.{kept};
+ghost use Rattle.ptpm_site.specs.Showing.{is_shown_whole};
+
+use crate::site::{CLOCKS, LeftOut, PORTS, Site};
+use crate::source::Source;
+
+impl Site {
+    /// Keeps the first clocks, by domain and identity, and the first of their ports; the others are as if they had not
+    /// answered. Where all can be shown nothing changes.
+    pub fn keep_first(&mut self) -> LeftOut
+        ensures unchanged { is_shown_whole (kept self.old) ≡ true → self.new ≡ self.old }
+        ensures none { is_shown_whole (kept self.old) ≡ true → result ≡ record { clocks = 0; ports = 0 } }
+    {
+        if self.is_shown_whole() {
+            return LeftOut {
+                clocks: 0,
+                ports: 0,
+            };
+        }
+        self.drop_last()
+    }
+
+    /// Drops the last clocks, and then the last ports, that are too many.
+    fn drop_last(&mut self) -> LeftOut {
+        let clocks = self.clocks.len().saturating_sub(CLOCKS);
+        for _ in 0..clocks {
+            let _ = self.clocks.pop_last();
+        }
+        let mut room = PORTS;
+        let mut ports = 0usize;
+        for clock in self.clocks.values_mut() {
+            ports = ports.saturating_add(clock.keep_first_ports(room));
+            room = room.saturating_sub(clock.ports.len());
+        }
+        LeftOut { clocks, ports }
+    }
+
+    /// Whether there are no more clocks, and no more of their ports, than are shown.
+    #[tactic(auto, unfolding(crate::specs::Kept::kept))]
+    fn is_shown_whole(&self) -> bool
+        ensures { result ≡ is_shown_whole (kept self.now) }
+    {
+        if CLOCKS < self.clocks.len() {
+            return false;
+        }
+        let mut room = PORTS;
+        for source in self.clocks.keys() {
+            let ports = self.count_ports(*source);
+            if room < ports {
+                return false;
+            }
+            room -= ports;
+        }
+        true
+    }
+
+    /// How many ports of a clock answered.
+    #[tactic(auto, unfolding(crate::specs::Kept::kept))]
+    fn count_ports(&self, source: Source) -> usize
+        ensures { result ≡ length ((kept self.now).ports source) }
+    {
+        match self.clocks.get(&source) {
+            Some(clock) => clock.ports.len(),
+            None => 0,
+        }
+    }
+}

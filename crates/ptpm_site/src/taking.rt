@@ -1,0 +1,19 @@
+//! The answers among datagrams.
+
+use crate::answer::Answer;
+use crate::site::Site;
+use ptpm_codec::view;
+use std::alloc::{AllocError, Global};
+
+impl Site {
+    /// Takes the answer that a datagram is. One that is no answer to one of the six ids is passed over.
+    pub fn take_datagram(&mut self, alloc: Global, datagram: &[u8]) -> Result<(), AllocError> {
+        let Ok(message) = view(datagram) else {
+            return Ok(());
+        };
+        match Answer::of(alloc, &message)? {
+            Some(answer) => self.take(alloc, answer),
+            None => Ok(()),
+        }
+    }
+}

@@ -1,0 +1,21 @@
+//! What an answer tells.
+
+use crate::asked::Asked;
+use crate::data_sets::{
+    CurrentDataSet, DefaultDataSet, ParentDataSet, PortDataSet, TimePropertiesDataSet,
+};
+use crate::description::Description;
+
+/// What an answer tells: a data set, or that the clock refuses to.
+#[derive(Drop)]
+pub enum Told {
+    Default(DefaultDataSet),
+    Current(CurrentDataSet),
+    Parent(ParentDataSet),
+    Time(TimePropertiesDataSet),
+    /// Of the port of this number.
+    Port(u16, PortDataSet),
+    Description(Description),
+    /// A MANAGEMENT_ERROR_STATUS for this id.
+    Refused(Asked),
+}

@@ -1,0 +1,103 @@
+//! The tree of a site: each clock below the one that it follows.
+
+ghost use Rattle.std.specs.Prelude.{IfOk, vec_len};
+ghost use Rattle.ptpm_site.specs.Tree.{StandsOnce};
+
+use crate::forest::Forest;
+use crate::planting::Planting;
+use crate::site::Site;
+use ptpm_codec::PortIdentity;
+use std::alloc::{AllocError, Global};
+
+/// A line of the tree.
+#[derive(Clone, Copy)]
+pub enum Row {
+    /// The clock at this place of the site, and how many rows stand above it up to its root.
+    Clock { place: usize, depth: u32 },
+    /// A port that the clocks below this row follow, and whose clock is not seen.
+    NotSeen { domain: u8, parent: PortIdentity },
+}
+
+/// The rows of the tree, by domain: the grandmasters, the clocks whose parent is not seen, those of loops from their least
+/// on, and those that did not say whom they follow; below each clock those that follow it, by its port, and then by
+/// identity.
+pub fn rows(
+    alloc: Global,
+    site: &Site,
+    forest: &Forest,
+    loops: &[Vec<usize>],
+) -> Result<Vec<Row>, AllocError>
+    ensures { IfOk result (λ rows. StandsOnce (vec_len forest.now.sources) rows.items) }
+{
+    let mut planting = Planting::new(alloc);
+    for domain in 0..=u8::MAX {
+        plant_grandmasters(site, forest, domain, &mut planting)?;
+        plant_lost(forest, domain, &mut planting)?;
+        plant_loops(forest, domain, loops, &mut planting)?;
+        plant_silent(site, forest, domain, &mut planting)?;
+    }
+    planting.finish(forest)
+}
+
+fn plant_grandmasters(
+    site: &Site,
+    forest: &Forest,
+    domain: u8,
+    planting: &mut Planting,
+) -> Result<(), AllocError> {
+    for place in forest.places_of(domain) {
+        if let Some(source) = forest.sources.get(place) {
+            if site.is_own_grandmaster(*source) {
+                planting.plant(forest, place, 0)?;
+            }
+        }
+    }
+    Ok(())
+}
+
+/// The clocks of a domain whose parent is not seen, below its port.
+fn plant_lost(forest: &Forest, domain: u8, planting: &mut Planting) -> Result<(), AllocError> {
+    let mut above = None;
+    for lost in forest.lost_of(domain) {
+        if above != Some(lost.parent) {
+            above = Some(lost.parent);
+            planting.name(domain, lost.parent)?;
+        }
+        planting.plant(forest, lost.place, 1)?;
+    }
+    Ok(())
+}
+
+/// The least clock of each loop of a domain.
+fn plant_loops(
+    forest: &Forest,
+    domain: u8,
+    loops: &[Vec<usize>],
+    planting: &mut Planting,
+) -> Result<(), AllocError> {
+    for places in loops {
+        if let Some(place) = places.first() {
+            if forest.domain_of(*place) == Some(domain) {
+                planting.plant(forest, *place, 0)?;
+            }
+        }
+    }
+    Ok(())
+}
+
+/// The clocks of a domain that did not answer PARENT_DATA_SET.
+fn plant_silent(
+    site: &Site,
+    forest: &Forest,
+    domain: u8,
+    planting: &mut Planting,
+) -> Result<(), AllocError> {
+    for place in forest.places_of(domain) {
+        if let Some(source) = forest.sources.get(place) {
+            if site.parent(*source).is_none() {
+                planting.plant(forest, place, 0)?;
+            }
+        }
+    }
+    Ok(())
+}

@@ -1,0 +1,181 @@
+//! A finding as a JSON object.
+
+use crate::json::{identity_value, member_value, port_value, text_value};
+use ptpm_site::changes::Change;
+use ptpm_site::completeness::Missing;
+use ptpm_site::differences::Differs;
+use ptpm_site::finding::{Finding, What};
+use ptpm_site::grandmasters::Masterless;
+use ptpm_site::member::state_name;
+use ptpm_site::parents::{NoMaster, Steps};
+use serde_json::{Map, Value, json, put};
+use std::alloc::{AllocError, Global};
+
+/// A finding: its clock, its name, and its values.
+pub(crate) fn finding_value(alloc: Global, finding: &Finding<'_>) -> Result<Value, AllocError> {
+    let mut map = Map::new(alloc);
+    let source = finding.source;
+    put(&mut map, alloc, "domainNumber", Value::from(source.domain))?;
+    put(
+        &mut map,
+        alloc,
+        "clockIdentity",
+        identity_value(alloc, source.clock)?,
+    )?;
+    put(
+        &mut map,
+        alloc,
+        "finding",
+        text_value(alloc, finding.what.name())?,
+    )?;
+    put_values(alloc, &mut map, &finding.what)?;
+    Ok(Value::Object(map))
+}
+
+fn put_values(
+    alloc: Global,
+    map: &mut Map<String, Value>,
+    what: &What<'_>,
+) -> Result<(), AllocError> {
+    match what {
+        What::TwoGrandmasters => Ok(()),
+        What::NoMaster(why) => put_masterless(alloc, map, why),
+        What::GrandmasterNotSeen(clock) => put(
+            map,
+            alloc,
+            "grandmasterIdentity",
+            identity_value(alloc, *clock)?,
+        ),
+        What::ParentNotSeen(parent) => put(
+            map,
+            alloc,
+            "parentPortIdentity",
+            port_value(alloc, *parent)?,
+        ),
+        What::ParentNotMaster(parent, why) => {
+            put(
+                map,
+                alloc,
+                "parentPortIdentity",
+                port_value(alloc, *parent)?,
+            )?;
+            let state = match why {
+                NoMaster::NoPort => Value::Null,
+                NoMaster::InState(state) => text_value(alloc, state_name(*state))?,
+            };
+            put(map, alloc, "portState", state)
+        }
+        What::Steps(steps) => put_steps(alloc, map, steps),
+        What::GrandmasterDiffers(differs) | What::Utc(differs) => put_differs(alloc, map, differs),
+        What::Loop(clocks) => {
+            let mut values = Vec::new(alloc);
+            for clock in clocks.as_slice() {
+                values.push(identity_value(alloc, *clock)?)?;
+            }
+            put(map, alloc, "clocks", Value::Array(values))
+        }
+        What::PortState(port, state) => {
+            put(map, alloc, "portNumber", Value::from(*port))?;
+            put(
+                map,
+                alloc,
+                "portState",
+                text_value(alloc, state_name(Some(*state)))?,
+            )
+        }
+        What::Offset(offset) => put(map, alloc, "offsetFromMaster", Value::from(*offset)),
+        What::Delay(delay) => put(map, alloc, "meanDelay", Value::from(*delay)),
+        What::LinkDelay(port, delay) => {
+            put(map, alloc, "portNumber", Value::from(*port))?;
+            put(map, alloc, "meanLinkDelay", Value::from(*delay))
+        }
+        What::Intervals(port, differs) => {
+            put(map, alloc, "portNumber", Value::from(*port))?;
+            put_differs(alloc, map, differs)
+        }
+        What::Incomplete(missing) => put_missing(alloc, map, missing),
+        What::Changed(port, change) | What::IdentityTwice(port, change) => {
+            put_change(alloc, map, *port, change)
+        }
+    }
+}
+
+fn put_masterless(
+    alloc: Global,
+    map: &mut Map<String, Value>,
+    why: &Masterless,
+) -> Result<(), AllocError> {
+    let reason = match why {
+        Masterless::SlaveOnly => "slaveOnly",
+        Masterless::Silent => "ownGrandmaster",
+        Masterless::Lost(grandmaster) => {
+            let identity = identity_value(alloc, *grandmaster)?;
+            put(map, alloc, "grandmasterIdentity", identity)?;
+            "lost"
+        }
+    };
+    put(map, alloc, "reason", text_value(alloc, reason)?)
+}
+
+fn put_steps(alloc: Global, map: &mut Map<String, Value>, steps: &Steps) -> Result<(), AllocError> {
+    put(map, alloc, "stepsRemoved", Value::from(steps.steps))?;
+    let parent = match steps.parent {
+        Some(parent) => Value::from(parent),
+        None => Value::Null,
+    };
+    put(map, alloc, "parentStepsRemoved", parent)
+}
+
+/// The member, its value, and what the other clock has.
+fn put_differs(
+    alloc: Global,
+    map: &mut Map<String, Value>,
+    differs: &Differs,
+) -> Result<(), AllocError> {
+    put(
+        map,
+        alloc,
+        "member",
+        text_value(alloc, differs.member.name())?,
+    )?;
+    put(map, alloc, "value", member_value(alloc, differs.own)?)?;
+    put(map, alloc, "expected", member_value(alloc, differs.other)?)
+}
+
+/// The ids, and the ports in runs of the first and the last.
+fn put_missing(
+    alloc: Global,
+    map: &mut Map<String, Value>,
+    missing: &Missing,
+) -> Result<(), AllocError> {
+    let mut ids = Vec::new(alloc);
+    for asked in missing.asked.as_slice() {
+        ids.push(text_value(alloc, asked.name())?)?;
+    }
+    let mut ports = Vec::new(alloc);
+    for (first, last) in missing.ports.as_slice() {
+        ports.push(json!(in alloc; [*first, *last])?)?;
+    }
+    put(map, alloc, "managementIds", Value::Array(ids))?;
+    put(map, alloc, "portNumbers", Value::Array(ports))
+}
+
+/// The member, the value of the earlier answer, and that of the later.
+fn put_change(
+    alloc: Global,
+    map: &mut Map<String, Value>,
+    port: Option<u16>,
+    change: &Change<'_>,
+) -> Result<(), AllocError> {
+    if let Some(port) = port {
+        put(map, alloc, "portNumber", Value::from(port))?;
+    }
+    put(
+        map,
+        alloc,
+        "member",
+        text_value(alloc, change.member.name())?,
+    )?;
+    put(map, alloc, "before", member_value(alloc, change.before)?)?;
+    put(map, alloc, "after", member_value(alloc, change.after)?)
+}

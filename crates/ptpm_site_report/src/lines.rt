@@ -1,0 +1,140 @@
+//! What a drawing of a site has in its rows.
+
+use crate::columns::Columns;
+use crate::ports_text::PortsText;
+use crate::rows::{Rows, notes_of};
+use crate::telling::Said;
+use ptpm_site::clock::Clock;
+use ptpm_site::picture::Picture;
+use ptpm_site::source::Source;
+use ptpm_site::tree::Row;
+use std::alloc::{AllocError, Global};
+
+/// What is drawn round the name of a row.
+#[derive(Clone, Copy)]
+pub(crate) enum Frame {
+    /// Nothing: a domain begins, or something is said of the whole.
+    Nothing,
+    /// A thick line: a grandmaster.
+    Thick,
+    /// A line: any other clock.
+    Thin,
+    /// Dashes: a port whose clock is not seen.
+    Dashed,
+}
+
+/// A row.
+#[derive(Drop)]
+pub(crate) struct Line {
+    pub(crate) frame: Frame,
+    /// How many rows are above it up to its root.
+    pub(crate) depth: usize,
+    pub(crate) name: String,
+    /// Whom its clock follows, in words.
+    pub(crate) follows: String,
+    /// What its clock answered.
+    pub(crate) facts: String,
+    /// What is wrong with its clock.
+    pub(crate) findings: Vec<String>,
+}
+
+/// The rows of a drawing.
+pub(crate) fn lines_of(alloc: Global, picture: &Picture<'_>) -> Result<Vec<Line>, AllocError> {
+    let all = Rows(picture);
+    let mut lines = Vec::new(alloc);
+    let mut rest = picture.rows.as_slice();
+    for _ in 0..picture.rows.len() {
+        let Some(first) = rest.first() else {
+            break;
+        };
+        let domain = all.domain_of(first);
+        let (rows, others) = rest.split_at(all.count_of(domain, rest));
+        lines.push(said(alloc, all.head_of(alloc, domain, rows)?))?;
+        for row in rows {
+            if let Some(line) = line_of(alloc, all, row)? {
+                lines.push(line)?;
+            }
+        }
+        rest = others;
+    }
+    for note in notes_of(alloc, picture)? {
+        lines.push(said(alloc, note))?;
+    }
+    Ok(lines)
+}
+
+/// A row that is said of the whole.
+fn said(alloc: Global, name: String) -> Line {
+    Line {
+        frame: Frame::Nothing,
+        depth: 0,
+        name,
+        follows: String::new(alloc),
+        facts: String::new(alloc),
+        findings: Vec::new(alloc),
+    }
+}
+
+fn line_of(alloc: Global, all: Rows<'_>, row: &Row) -> Result<Option<Line>, AllocError> {
+    match row {
+        Row::NotSeen { parent, .. } => Ok(Some(Line {
+            frame: Frame::Dashed,
+            depth: 0,
+            name: format!(in alloc; "not seen: {parent}")?,
+            follows: String::new(alloc),
+            facts: String::new(alloc),
+            findings: Vec::new(alloc),
+        })),
+        Row::Clock { place, depth } => match all.clock_of(row) {
+            Some((source, clock)) => {
+                let cut = all.cut(*place, *depth);
+                Ok(Some(clock_line(alloc, all, source, clock, *depth, cut)?))
+            }
+            None => Ok(None),
+        },
+    }
+}
+
+fn clock_line(
+    alloc: Global,
+    all: Rows<'_>,
+    source: Source,
+    clock: &Clock,
+    depth: u32,
+    cut: &str,
+) -> Result<Line, AllocError> {
+    let columns = Columns::of(alloc, clock)?;
+    let leads = all.0.site.leads(source);
+    Ok(Line {
+        frame: if leads { Frame::Thick } else { Frame::Thin },
+        depth: depth as usize,
+        name: format!(in alloc; "{} {}", source.clock, columns.description)?,
+        follows: follows_of(alloc, all.0, source)?,
+        facts: format!(in alloc; "{columns}; {}{cut}", PortsText(clock))?,
+        findings: findings_of(alloc, all.0, source)?,
+    })
+}
+
+/// Whom a clock follows, in words; nothing if it follows nobody.
+fn follows_of(alloc: Global, picture: &Picture<'_>, source: Source) -> Result<String, AllocError> {
+    match picture.site.followed(source) {
+        Some(parent) => format!(in alloc; ", follows {parent}"),
+        None => Ok(String::new(alloc)),
+    }
+}
+
+/// What is wrong with a clock, in the order of the findings.
+fn findings_of(
+    alloc: Global,
+    picture: &Picture<'_>,
+    source: Source,
+) -> Result<Vec<String>, AllocError> {
+    let findings = picture.findings.as_slice();
+    let from = findings.partition_point(|finding| finding.source < source);
+    let to = findings.partition_point(|finding| finding.source <= source);
+    let mut texts = Vec::new(alloc);
+    for finding in findings.get(from..to).unwrap_or(&[]) {
+        texts.push(format!(in alloc; "{}", Said(&finding.what))?)?;
+    }
+    Ok(texts)
+}

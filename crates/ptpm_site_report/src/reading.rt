@@ -1,0 +1,24 @@
+//! The answers among lines of datagrams.
+
+use ptpm_commands::Fault;
+use ptpm_commands::lines::Lines;
+use ptpm_site::site::Site;
+use std::alloc::Global;
+use std::io::Read;
+
+/// The site that the answers among a reader's lines make. A datagram that is no answer to one of the six is passed over; a
+/// line that is no datagram in hexadecimal is a fault.
+pub(crate) fn read_site<R: Read + Drop>(alloc: Global, reader: R) -> Result<Site, Fault> {
+    let mut lines = Lines::new(alloc, reader)?;
+    let mut site = Site::new(alloc);
+    for number in 1..u64::MAX {
+        if !lines.read(number)? {
+            break;
+        }
+        if let Some(datagram) = lines.datagram(alloc, number)? {
+            site.take_datagram(alloc, datagram.as_slice())
+                .map_err(|_| Fault::OutOfMemory)?;
+        }
+    }
+    Ok(site)
+}

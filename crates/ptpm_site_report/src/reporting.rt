@@ -1,0 +1,98 @@
+//! `ptpm site`: a site's tree and what is wrong with it, by the answers among lines of datagrams.
+
+use crate::drawing::draw;
+use crate::json::Object;
+use crate::reading::read_site;
+use crate::text::Sheet;
+use ptpm_commands::Fault;
+use ptpm_site::limits::Limits;
+use ptpm_site::picture::Picture;
+use ptpm_site::site::{LeftOut, Site};
+use std::alloc::Global;
+use std::io::{Read, Write};
+
+/// How a site is printed.
+#[derive(Clone, Copy)]
+pub enum Form {
+    /// A tree, and the findings one a line.
+    Text,
+    /// One object.
+    Json,
+    /// The tree as a picture in SVG, with the findings.
+    Drawing,
+}
+
+/// What an operator asks for.
+#[derive(Clone, Copy)]
+pub struct Options {
+    pub form: Form,
+    pub limits: Limits,
+}
+
+/// What came of it.
+#[derive(Clone, Copy)]
+pub enum Outcome {
+    /// No clock answered.
+    NoClock,
+    /// Nothing is wrong.
+    Sound,
+    /// Findings are printed.
+    Findings,
+}
+
+impl Outcome {
+    /// The exit status.
+    pub fn status(self) -> u8 {
+        match self {
+            Outcome::Sound => 0,
+            Outcome::Findings => 1,
+            Outcome::NoClock => 3,
+        }
+    }
+}
+
+/// Prints the site of a reader's lines.
+pub fn report<R: Read + Drop, O: Write>(
+    alloc: Global,
+    options: Options,
+    reader: R,
+    out: &mut O,
+) -> Result<Outcome, Fault> {
+    let mut site = read_site(alloc, reader)?;
+    let left_out = site.keep_first();
+    report_of(alloc, options, &site, left_out, out)
+}
+
+/// Prints a site of which this much is left out.
+fn report_of<O: Write>(
+    alloc: Global,
+    options: Options,
+    site: &Site,
+    left_out: LeftOut,
+    out: &mut O,
+) -> Result<Outcome, Fault> {
+    match Picture::of(alloc, site, left_out, options.limits) {
+        Ok(picture) => print_picture(alloc, options.form, &picture, out),
+        Err(_) => Err(Fault::OutOfMemory),
+    }
+}
+
+fn print_picture<O: Write>(
+    alloc: Global,
+    form: Form,
+    picture: &Picture<'_>,
+    out: &mut O,
+) -> Result<Outcome, Fault> {
+    match form {
+        Form::Text => Sheet(picture).print(alloc, out)?,
+        Form::Json => Object(picture).print(alloc, out)?,
+        Form::Drawing => draw(alloc, picture, out)?,
+    }
+    Ok(if picture.site.is_empty() {
+        Outcome::NoClock
+    } else if picture.findings.is_empty() {
+        Outcome::Sound
+    } else {
+        Outcome::Findings
+    })
+}

@@ -1,0 +1,134 @@
+//! A finding as a line of text.
+
+use crate::intervals::Exact;
+use ptpm_codec::PortIdentity;
+use ptpm_site::changes::Change;
+use ptpm_site::completeness::Missing;
+use ptpm_site::differences::Differs;
+use ptpm_site::finding::{Finding, What};
+use ptpm_site::grandmasters::Masterless;
+use ptpm_site::member::state_name;
+use ptpm_site::parents::{NoMaster, Steps};
+use std::fmt;
+
+/// A finding in words: the domain, the clock, and what is wrong.
+#[derive(Clone, Copy)]
+pub(crate) struct Words<'a>(pub(crate) &'a Finding<'a>);
+
+impl fmt::Display for Words<'_> {
+    fn fmt<W: fmt::Write>(&self, f: &mut fmt::Formatter<W>) -> fmt::Result {
+        let source = self.0.source;
+        write!(f, "{} {} ", source.domain, source.clock)?;
+        write!(f, "{}", Said(&self.0.what))
+    }
+}
+
+/// What is wrong: the finding's name, and the values.
+#[derive(Clone, Copy)]
+pub(crate) struct Said<'a>(pub(crate) &'a What<'a>);
+
+impl fmt::Display for Said<'_> {
+    fn fmt<W: fmt::Write>(&self, f: &mut fmt::Formatter<W>) -> fmt::Result {
+        f.write_str(self.0.name())?;
+        match self.0 {
+            What::TwoGrandmasters => Ok(()),
+            What::NoMaster(why) => write_masterless(why, f),
+            What::GrandmasterNotSeen(clock) => write!(f, " {clock}"),
+            What::ParentNotSeen(parent) => write!(f, " {parent}"),
+            What::ParentNotMaster(parent, why) => write_no_master(parent, why, f),
+            What::Steps(steps) => write_steps(steps, f),
+            What::GrandmasterDiffers(differs) | What::Utc(differs) => write_differs(differs, f),
+            What::Loop(clocks) => {
+                for clock in clocks.as_slice() {
+                    write!(f, " {clock}")?;
+                }
+                Ok(())
+            }
+            What::PortState(port, state) => write!(f, " port {port} {}", state_name(Some(*state))),
+            What::Offset(offset) => write!(f, " offsetFromMaster {} ns", Exact(*offset)),
+            What::Delay(delay) => write!(f, " meanDelay {} ns", Exact(*delay)),
+            What::LinkDelay(port, delay) => {
+                write!(f, " port {port} meanLinkDelay {} ns", Exact(*delay))
+            }
+            What::Intervals(port, differs) => {
+                write!(f, " port {port}")?;
+                write_differs(differs, f)
+            }
+            What::Incomplete(missing) => write_missing(missing, f),
+            What::Changed(port, change) => write_change(*port, change, "then", f),
+            What::IdentityTwice(port, change) => write_change(*port, change, "and", f),
+        }
+    }
+}
+
+/// The ids that were neither answered nor refused, and the ports that lack.
+fn write_missing<W: fmt::Write>(missing: &Missing, f: &mut fmt::Formatter<W>) -> fmt::Result {
+    for asked in missing.asked.as_slice() {
+        write!(f, " {}", asked.name())?;
+    }
+    for (first, last) in missing.ports.as_slice() {
+        if first == last {
+            write!(f, " port {first}")?;
+        } else {
+            write!(f, " ports {first}-{last}")?;
+        }
+    }
+    Ok(())
+}
+
+fn write_masterless<W: fmt::Write>(why: &Masterless, f: &mut fmt::Formatter<W>) -> fmt::Result {
+    match why {
+        Masterless::SlaveOnly => f.write_str(" slaveOnly, and its own grandmaster"),
+        Masterless::Silent => {
+            f.write_str(" its own grandmaster, with no port in MASTER, PRE_MASTER or PASSIVE")
+        }
+        Masterless::Lost(grandmaster) => write!(
+            f,
+            " names {grandmaster}, with no port in SLAVE or UNCALIBRATED"
+        ),
+    }
+}
+
+fn write_no_master<W: fmt::Write>(
+    parent: &PortIdentity,
+    why: &NoMaster,
+    f: &mut fmt::Formatter<W>,
+) -> fmt::Result {
+    match why {
+        NoMaster::NoPort => write!(f, " {parent}, which that clock lacks"),
+        NoMaster::InState(state) => write!(f, " {parent}, which is in {}", state_name(*state)),
+    }
+}
+
+fn write_steps<W: fmt::Write>(steps: &Steps, f: &mut fmt::Formatter<W>) -> fmt::Result {
+    match steps.parent {
+        Some(parent) => write!(
+            f,
+            " stepsRemoved {}, and its parent has {parent}",
+            steps.steps
+        ),
+        None => write!(f, " stepsRemoved {} at a grandmaster", steps.steps),
+    }
+}
+
+fn write_differs<W: fmt::Write>(differs: &Differs, f: &mut fmt::Formatter<W>) -> fmt::Result {
+    let Differs { member, own, other } = differs;
+    write!(f, " {} {own}, not {other}", member.name())
+}
+
+fn write_change<W: fmt::Write>(
+    port: Option<u16>,
+    change: &Change<'_>,
+    word: &str,
+    f: &mut fmt::Formatter<W>,
+) -> fmt::Result {
+    if let Some(port) = port {
+        write!(f, " port {port}")?;
+    }
+    let Change {
+        member,
+        before,
+        after,
+    } = change;
+    write!(f, " {} {before}, {word} {after}", member.name())
+}

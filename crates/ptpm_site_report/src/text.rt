@@ -1,0 +1,190 @@
+//! A site as text: for each domain its tree, a line a clock, and then the findings, one a line.
+
+use crate::columns::{Columns, Widths, print_spaces};
+use crate::ports_text::PortsText;
+use crate::rows::{Rows, notes_of};
+use crate::telling::Words;
+use ptpm_commands::Fault;
+use ptpm_site::finding::{Finding, What};
+use ptpm_site::picture::Picture;
+use ptpm_site::source::Source;
+use ptpm_site::tree::Row;
+use std::alloc::{AllocError, Global};
+use std::io;
+use std::io::Write;
+
+/// The first column has so many characters to its left, and two more for each clock above.
+const MARGIN: usize = 2;
+
+/// A picture as text.
+#[derive(Clone, Copy)]
+pub(crate) struct Sheet<'a>(pub(crate) &'a Picture<'a>);
+
+impl Sheet<'_> {
+    /// Prints the tree of each domain, and the findings.
+    pub(crate) fn print<O: Write>(&self, alloc: Global, out: &mut O) -> Result<(), Fault> {
+        let all = Rows(self.0);
+        let mut rest = self.0.rows.as_slice();
+        for _ in 0..self.0.rows.len() {
+            let Some(first) = rest.first() else {
+                break;
+            };
+            let domain = all.domain_of(first);
+            let (rows, others) = rest.split_at(all.count_of(domain, rest));
+            let head = all
+                .head_of(alloc, domain, rows)
+                .map_err(|_| Fault::OutOfMemory)?;
+            writeln!(out, "{head}")?;
+            print_rows(alloc, all, rows, out)?;
+            writeln!(out)?;
+            rest = others;
+        }
+        if !self.0.site.is_empty() {
+            self.print_findings(alloc, out)?;
+        }
+        let notes = notes_of(alloc, self.0).map_err(|_| Fault::OutOfMemory)?;
+        for note in notes.as_slice() {
+            writeln!(out, "{note}")?;
+        }
+        Ok(())
+    }
+
+    /// The findings, one a line. A grandmaster that is not seen is one, with how many clocks name it.
+    fn print_findings<O: Write>(&self, alloc: Global, out: &mut O) -> Result<(), Fault> {
+        let unseen = self.unseen(alloc).map_err(|_| Fault::OutOfMemory)?;
+        let lines = lines_of(self.0.findings.as_slice(), unseen.as_slice());
+        if lines == 0 {
+            writeln!(out, "findings: none")?;
+        } else {
+            writeln!(out, "findings: {lines}")?;
+        }
+        let mut unseen = unseen.as_slice();
+        for finding in self.0.findings.as_slice() {
+            if let What::GrandmasterNotSeen(_) = finding.what {
+                continue;
+            }
+            unseen = print_unseen(unseen, Some(finding.source), out)?;
+            writeln!(out, "{}", Words(finding))?;
+        }
+        print_unseen(unseen, None, out)?;
+        Ok(())
+    }
+
+    /// The grandmasters that are not seen, in their order, each once for each clock that names it.
+    fn unseen(&self, alloc: Global) -> Result<Vec<Source>, AllocError> {
+        let mut unseen = Vec::new(alloc);
+        for finding in self.0.findings.as_slice() {
+            if let What::GrandmasterNotSeen(grandmaster) = finding.what {
+                unseen.push(finding.source.beside(grandmaster))?;
+            }
+        }
+        unseen.sort()?;
+        Ok(unseen)
+    }
+}
+
+fn print_rows<O: Write>(
+    alloc: Global,
+    all: Rows<'_>,
+    rows: &[Row],
+    out: &mut O,
+) -> Result<(), Fault> {
+    let widths = widths_of(alloc, all, rows).map_err(|_| Fault::OutOfMemory)?;
+    for row in rows {
+        match row {
+            Row::Clock { place, depth } => {
+                if let Some((source, clock)) = all.clock_of(row) {
+                    let columns = Columns::of(alloc, clock).map_err(|_| Fault::OutOfMemory)?;
+                    print_clock(source, indent(*depth), &columns, &widths, out)?;
+                    let cut = all.cut(*place, *depth);
+                    writeln!(out, "  {}{cut}", PortsText(clock))?;
+                }
+            }
+            Row::NotSeen { parent, .. } => {
+                print_spaces(MARGIN, out)?;
+                writeln!(out, "not seen: {parent}")?;
+            }
+        }
+    }
+    Ok(())
+}
+
+/// Prints the identity of a clock, which begins this far from the left, and its columns.
+fn print_clock<O: Write>(
+    source: Source,
+    indent: usize,
+    columns: &Columns,
+    widths: &Widths,
+    out: &mut O,
+) -> io::Result<()> {
+    print_spaces(indent, out)?;
+    write!(out, "{}", source.clock)?;
+    columns.print(indent, widths, out)
+}
+
+/// The widths that the columns of these rows need.
+fn widths_of(alloc: Global, all: Rows<'_>, rows: &[Row]) -> Result<Widths, AllocError> {
+    let mut widths = Widths::of_none();
+    for row in rows {
+        if let Row::Clock { depth, .. } = row {
+            if let Some((_, clock)) = all.clock_of(row) {
+                widths.widen(indent(*depth), &Columns::of(alloc, clock)?);
+            }
+        }
+    }
+    Ok(widths)
+}
+
+/// Where the identity of a clock at this depth begins.
+fn indent(depth: u32) -> usize {
+    MARGIN + 2 * depth as usize
+}
+
+/// How many lines the findings take.
+fn lines_of(findings: &[Finding<'_>], unseen: &[Source]) -> usize {
+    let mut lines = 0usize;
+    for finding in findings {
+        if !matches!(finding.what, What::GrandmasterNotSeen(_)) {
+            lines = lines.saturating_add(1);
+        }
+    }
+    let mut last = None;
+    for source in unseen {
+        if last != Some(*source) {
+            lines = lines.saturating_add(1);
+        }
+        last = Some(*source);
+    }
+    lines
+}
+
+/// Prints those grandmasters that are not seen and stand before a clock, or all; what is left of them.
+fn print_unseen<'a, O: Write>(
+    unseen: &'a [Source],
+    before: Option<Source>,
+    out: &mut O,
+) -> io::Result<&'a [Source]> {
+    let mut rest = unseen;
+    for _ in 0..unseen.len() {
+        let Some(first) = rest.first() else {
+            break;
+        };
+        if before.is_some_and(|before| before <= *first) {
+            break;
+        }
+        let count = rest.partition_point(|source| source <= first);
+        let (domain, clock) = (first.domain, first.clock);
+        let names = if count == 1 {
+            "clock names"
+        } else {
+            "clocks name"
+        };
+        writeln!(
+            out,
+            "{domain} {clock} grandmaster_not_seen {count} {names} it"
+        )?;
+        let (_, others) = rest.split_at(count);
+        rest = others;
+    }
+    Ok(rest)
+}

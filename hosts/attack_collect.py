@@ -1,0 +1,204 @@
+"""What may answer a collection of manage.c: strangers without end, junk, answers to others, two clocks with one identity; and what may
+become of the program that shows the site."""
+import os
+import random
+import select
+import signal
+import subprocess
+import time
+
+from attacking import ME, OTHER, Peer, check, has_own_socket, path, start, work, write
+
+# The dataFields of the six ids, of a clock with one port (IEEE 1588-2019, 15.5.3).
+DEFAULT, CURRENT, PARENT, TIMES, PORT, TEXT = 0x2000, 0x2001, 0x2002, 0x2003, 0x2004, 0x0002
+
+
+def field(name, clock, priority=128, ports=1):
+    return {
+        DEFAULT: bytes([1, 0]) + ports.to_bytes(2, "big") + bytes([priority, 248, 0xFE, 255, 255, 128]) + clock + bytes(2),
+        CURRENT: bytes(18),
+        PARENT: clock + bytes([0, 0, 0, 0]) + bytes([255, 255, 127, 255, 255, 255, priority, 248, 0xFE, 255, 255, 128]) + clock,
+        TIMES: bytes([0, 37, 0, 0xA0]),
+        PORT: clock + bytes([0, 1, 6]) + bytes(9) + bytes([1, 3, 0, 1, 0, 2]),
+        TEXT: bytes([1, 0x61]),
+    }[name]
+
+
+def answer(request, clock, **members):
+    """The answer of a clock's port 1 to a request for one of the six."""
+    name = int.from_bytes(request[52:54], "big")
+    content = field(name, clock, **members)
+    head = bytearray(request[:48])
+    head[2:4] = (54 + len(content)).to_bytes(2, "big")
+    head[20:30], head[34:44], head[46] = clock + bytes([0, 1]), request[20:30], 2
+    return bytes(head) + (1).to_bytes(2, "big") + (2 + len(content)).to_bytes(2, "big") + request[52:54] + content
+
+
+def changed(message, place, octets):
+    return message[:place] + octets + message[place + len(octets):]
+
+
+class Site:
+    """Whoever answers at a Unix socket: each request is handed to a function, which has a list of datagrams for it. More than
+    `most` requests are not read."""
+
+    def __init__(self, answers, *words, idle=lambda: [], most=1 << 30, **streams):
+        self.peer = Peer("socket")
+        self.output = [open(os.path.join(work, name), "w+b") for name in ("printed", "said")]
+        self.process = start("manage", "-u", path, *words, stdout=self.output[0], stderr=self.output[1], **streams)
+        began = time.monotonic()
+        self.requests, self.asker = [], None
+        while self.process.poll() is None and time.monotonic() < began + 100:
+            if select.select([self.peer.socket][:most - len(self.requests)], [], [], 0.02)[0]:
+                request, self.asker = self.peer.socket.recvfrom(2048)
+                self.requests.append(request)
+                self.send(answers(request))
+            elif self.asker is not None:
+                self.send(idle())
+        self.status = self.process.wait(10)
+        self.took = time.monotonic() - began
+        self.peer.close()
+
+    def send(self, datagrams):
+        for one in datagrams:
+            try:
+                self.peer.socket.sendto(one, self.asker)
+            except OSError:
+                return
+
+    def read(self, place):
+        self.output[place].seek(0)
+        return self.output[place].read().decode()
+
+    def lines(self):
+        return self.read(0).splitlines()
+
+    def said(self):
+        return self.read(1)
+
+
+def identity(number):
+    return bytes.fromhex("02") + number.to_bytes(7, "big")
+
+
+def strangers_without_end():
+    """5,000 clocks answer the first request, where 4,096 have room. No other is read."""
+    many = [identity(number) for number in range(5000)]
+    site = Site(lambda request: [answer(request, clock) for clock in many], "-t", "4000", "-a", "1", "collect", most=1)
+    clocks = {line[40:56] for line in site.lines()}
+    check("of 5,000 clocks 4,096 are collected", site.status == 0 and len(clocks) == 4096 and len(site.lines()) == 4096)
+    check("the others are counted", "there is room for 4096 clocks and 65536 answers: 904 answers more are left out" in site.said())
+    check("where there is no room for requests it ends all the same", site.took < 60)
+
+
+def strangers_that_never_end():
+    """A new clock answers in each silence, and answers no more."""
+    count = iter(range(1, 1 << 30))
+    asked = []
+
+    def reply(request):
+        asked[:] = [request]
+        return []
+
+    site = Site(reply, "-t", "50", "-a", "3", "collect", idle=lambda: [answer(asked[0], identity(next(count)))])
+    check("a silence that never comes is not waited for", site.status == 0 and site.lines() and site.took < 10)
+
+
+def junk():
+    """What is no answer to the request, before the one that is."""
+    draw = random.Random(1588)
+    me, other = bytes.fromhex(ME), bytes.fromhex(OTHER)
+
+    def reply(request):
+        good = answer(request, me)
+        yield from (draw.randbytes(draw.randrange(1, 1500)) for _ in range(100))
+        yield from (good[:size] for size in range(1, len(good)))
+        stranger = answer(request, other)
+        yield changed(stranger, 4, bytes([9]))                                  # another domain
+        yield changed(stranger, 30, bytes([stranger[30] ^ 1]))                  # another number
+        yield changed(stranger, 34, other)                                      # to another manager
+        yield changed(stranger, 46, bytes([0]))                                 # a request
+        yield changed(stranger, 52, bytes([0x20, 0x05]))                        # another id
+        yield changed(stranger, 2, bytes([5, 0]))                               # longer than the datagram
+        yield good + b"what follows is passed over"
+
+    site = Site(reply, "-t", "1000", "collect")
+    check("junk is no answer", site.status == 0 and len(site.lines()) == 6 and {line[40:56] for line in site.lines()} == {ME})
+    check("what follows a message is not printed", all(len(line) == 2 * int(line[4:8], 16) for line in site.lines()))
+
+
+def one_identity():
+    """Two clocks with one identity, each answer twice; then what differs is printed once more, and no copy."""
+    me = bytes.fromhex(ME)
+    site = Site(lambda request: 2 * [answer(request, me), answer(request, me, priority=7)], "-t", "1000", "collect")
+    check("the answers of two clocks with one identity are printed", site.status == 0 and len(site.lines()) == 8)
+
+
+def ids_that_lack():
+    """A clock that answers three of the six, and one of its two ports: the rest is asked of it alone, and so often."""
+    me = bytes.fromhex(ME)
+
+    def reply(request):
+        return [answer(request, me, ports=2)] if request[52:54] in (b"\x20\x00", b"\x20\x01", b"\x20\x04") else []
+
+    site = Site(reply, "-t", "300", "-a", "4", "collect")
+    everybody = [request for request in site.requests if request[34:44] == bytes([255]) * 10]
+    alone = [request for request in site.requests if request[34:44] == me + bytes([255, 255])]
+    ids = sorted(request[52:54].hex() for request in alone)
+    check("what a clock lacks is asked of it alone", site.status == 0 and len(everybody) == 6
+          and ids == sorted(4 * ["0002", "2002", "2003", "2004"]))
+    numbers = {request[52:54]: request[30:32] for request in everybody}
+    check("a repeat has its number", len(set(numbers.values())) == 6 and len({request[20:30] for request in site.requests}) == 1
+          and all(request[30:32] == numbers[request[52:54]] for request in alone))
+    check("it goes through seven boundary clocks", all(request[44:46] == b"\x07\x07" for request in site.requests))
+
+
+def signals_to_collect():
+    """SIGINT ends it: what came is printed."""
+    me = bytes.fromhex(ME)
+    site = []
+
+    def reply(request):
+        if request[52:54] == b"\x00\x02":
+            os.kill(site[0].process.pid, signal.SIGINT)
+            return []
+        return [answer(request, me)]
+
+    class Held(Site):
+        def __init__(self, *words):
+            site.append(self)
+            super().__init__(reply, *words)
+
+    held = Held("-t", "5000", "collect")
+    check("SIGINT ends a collection, and what came is printed", held.status == 130 and len(held.lines()) == 5
+          and "ended by a signal" in held.said() and held.took < 5 and not has_own_socket())
+
+
+def programs_that_show():
+    """A program ptpm that hangs, one that is killed, and none."""
+    me = bytes.fromhex(ME)
+    folder = os.path.join(work, "shown")
+    os.mkdir(folder)
+    program = os.path.join(folder, "ptpm")
+    environment = dict(os.environ, PATH=folder + ":" + os.environ["PATH"])
+
+    def shown(script, *words):
+        write("shown/ptpm", "#!/bin/sh\n" + script + "\n")
+        os.chmod(program, 0o755)
+        return Site(lambda request: [answer(request, me)], *words, "-t", "500", "status", env=environment)
+
+    site = shown("kill -KILL $$")
+    check("a program ptpm that is killed is a fault", site.status == 1 and "ended by signal 9" in site.said())
+    site = shown("kill -TERM $PPID; exec sleep 60")
+    check("a program ptpm that hangs is ended by a signal", site.status == 143 and site.took < 10)
+    site = shown("echo 'no findings here'; exit 1")
+    check("what it prints is printed as it is", site.status == 1 and site.lines() == ["no findings here"] and site.took < 2)
+    site = shown("yes | head -c 3000000; exit 0")
+    check("it may print three million octets and read none", site.status == 0 and len(site.read(0)) == 3000000)
+    os.unlink(program)
+    site = Site(lambda request: [], "status", env=dict(os.environ, PATH=folder))
+    check("where there is no program ptpm nothing is asked", site.status == 2 and not site.requests
+          and "the program ptpm is neither beside" in site.said())
+
+
+ATTACKS = [strangers_without_end, strangers_that_never_end, junk, one_identity, ids_that_lack, signals_to_collect, programs_that_show]

@@ -1,0 +1,267 @@
+"""What may become of the file of a clock's state (clock.c -s): of one that is damaged, in the way, another clock's or another
+program's, of a disk without room, and of calls that fail as it is saved."""
+import os
+import re
+import shutil
+import signal
+import stat
+import subprocess
+import time
+
+from attack_numbers import next_number
+from attacking import HOME, MANAGER, ME, OTHER, Clock, Peer, check, clear, fill_disk, get, manage, path, read, run, started, work
+
+PROGRAM = os.path.join(HOME, "clock")
+NOBODY = 65534
+state, session = (os.path.join(work, name) for name in ("state", "session"))
+UNIX = ("-m", MANAGER + "/1", "-u", path, ME)
+WORDS = ("-s", state, *UNIX)
+
+
+def octets(name=state):
+    with open(name, "rb") as file:
+        return file.read()
+
+
+def put(content, name=state):
+    with open(name, "wb") as file:
+        file.write(content)
+
+
+def begins(*words, user=None):
+    """A clock that ends as soon as it has started: its status, and what it says."""
+    who = {} if user is None else {"user": user, "group": user, "extra_groups": []}
+    done = subprocess.run([PROGRAM, "-n", "0", *words], stdout=subprocess.PIPE, stderr=subprocess.STDOUT, text=True, timeout=60, **who)
+    return done.returncode, done.stdout
+
+
+def is_refused(status, why, *words, user=None):
+    """Whether a clock does not start for this reason, before it has made its socket."""
+    found, said = begins(*words, user=user)
+    return (found, why in said, "in domain" in said, os.path.exists(path)) == (status, True, False, False)
+
+
+def sets(number, *words):
+    """A run of the manager that sets PRIORITY1: whether the clock answers it, and has the value."""
+    status, said, _ = manage("-u", path, "-k", session, "-t", "40", "-a", "4", *words, "set", "PRIORITY1", str(number))
+    return status == 0 and said.splitlines()[-1:] == [f"priority1 {number}"] and value() == number
+
+
+def value():
+    """What the clock has, read by nobody; None where it does not answer."""
+    said = run(os.path.join(HOME, "manage"), "-u", path, "-a", "3", "-t", "40", "--target", ME, "get", "PRIORITY1").stdout
+    return int(said.split()[1]) if said.startswith("priority1 ") else None
+
+
+def saves_of(clock):
+    """How many saves a clock has told, once what it tells is written."""
+    time.sleep(0.3)
+    return clock.text().count("saved: ")
+
+
+def saved_state():
+    """The file of a clock of which the manager has set PRIORITY1, and of whose GET an entry is kept."""
+    clock = Clock(*WORDS)
+    check("a clock that saves is asked", sets(100) and stat.S_IMODE(os.stat(state).st_mode) == 0o600)
+    check("a clock that saves ends in order", clock.end()[0] == 0)
+    return octets()
+
+
+def states():
+    """A state outlasts its clock, and not only where that ends in order."""
+    whole = saved_state()
+    clock = Clock(*WORDS)
+    check("the state is as it was", value() == 100 and octets() == whole and "PRIORITY1" not in clock.text())
+    check("it goes on from there", sets(50))
+    clock.end(signal.SIGKILL)
+    clock = Clock("-v", *WORDS)
+    check("also where it was killed", value() == 50)
+    saves = saves_of(clock)
+    peer, number = Peer("peer"), next_number("session")
+    check("a manager's GET is a change", peer.is_answered(number) and saves_of(clock) == saves + 1)
+    check("its repeat is none", peer.is_answered(number) and saves_of(clock) == saves + 1)
+    peer.ask(get((number - 1) % 65536))
+    check("an old copy is dropped", saves_of(clock) == saves + 1 and clock.text().count("7 DROPPED_OLD") == 1)
+    peer.close()
+    clock.process.send_signal(signal.SIGUSR1)
+    time.sleep(0.2)
+    for line in [f"saved: {saves + 1}", r"microseconds of a save, least: \d+", r"microseconds of a save, mean: \d+",
+                 r"microseconds of a save, most: \d+"]:
+        check(f"it counts {line}", re.search(f"^{line}$", clock.text(), re.M) is not None)
+    clock.end()
+    check("a clock without a file saves nothing", begins("-v", *UNIX)[0] == 0 and "saved" not in begins("-v", *UNIX)[1])
+
+
+def configurations():
+    """What the command line has otherwise than before."""
+    clock = Clock("-d", "7", *WORDS)
+    check("-d counts at the first start", " in domain 7: " in clock.text())
+    peer = Peer("peer")
+    peer.ask(get(5)[:4] + b"\7" + get(5)[5:])
+    check("a manager asks", len(peer.socket.recv(2048)) > 0)
+    peer.close()
+    clock.end()
+    said = begins("-d", "3", *WORDS)[1]
+    check("and at no later one, which is said", f"{state}: -d 3 counts at the first start alone: the clock is in domain 7\n" in said
+          and " in domain 7: " in said)
+    check("nor is the same domain told", "counts" not in begins("-d", "7", *WORDS)[1])
+    gone = f"{state}: 1 manager of it is not configured any more, and what was kept of its requests is let go\n"
+    check("a manager that is gone loses its entry", gone in begins("-s", state, "-u", path, ME)[1])
+    check("which is said once", "configured any more" not in begins("-s", state, "-u", path, ME)[1])
+    whole = octets()
+    for why, words in [("OTHER_CLOCK: " + state + ": it has the state of clock " + ME, (OTHER,)), ("OTHER_PORTS", (ME, "lo", "attack0"))]:
+        check(f"it does not start: {why}", is_refused(1, why, "-s", state, "-u", path, *words) and octets() == whole)
+
+
+def damages():
+    """A file of which octets are missing or others: a refusal by name, or a clock of just this state."""
+    whole, wrong, started, let_go = saved_state(), [], 0, 0
+    cut = [whole[:size] for size in range(len(whole))] + [whole + b"\0", whole + whole]
+    changed = [whole[:place] + bytes([whole[place] ^ change]) + whole[place + 1:] for place in range(len(whole)) for change in (1, 128)]
+    names = {name: 0 for name in ("NOT_AN_IMAGE", "OTHER_VERSION", "OTHER_KIND", "DAMAGED", "OTHER_CLOCK")}
+    for content in cut + changed:
+        put(content)
+        status, said = begins(*WORDS)
+        named = [name for name in names if f"ptpm-clock: it does not start: {name}: {state}: " in said]
+        if status == 1 and len(named) == 1 and not os.path.exists(path) and octets() == content:
+            names[named[0]] += 1
+        elif content in cut or status != 0 or named != []:
+            wrong.append((content.hex(), status, said))
+        elif "1 manager of it is not configured any more" in said:
+            let_go += 1
+        elif octets() == content:
+            started += 1
+        else:
+            wrong.append((content.hex(), status, said))
+    check(f"damaged files of a state: {wrong[:3]}", wrong == [] and all(names.values()))
+    check("an entry of another manager is let go", let_go == 20)        # each octet of it is changed twice
+    print(f"{len(cut)} files that are cut and {len(changed)} of which an octet is another: "
+          f"{', '.join(f'{count} {name}' for name, count in names.items())}, {let_go} of another manager, {started} of another state")
+    put(whole)
+    check("the whole one is not refused", begins(*WORDS)[0] == 0)
+
+
+def files_in_the_way():
+    """What is no file of a state, or can't be used as one."""
+    folder = os.path.join(work, "folder")
+    os.mkdir(folder)
+    os.symlink("nothing", state)
+    check("a link is refused", is_refused(2, f"{state}: it is a link", *WORDS) and os.readlink(state) == "nothing")
+    os.unlink(state), os.mkdir(state)
+    check("a folder is refused", is_refused(2, f"{state}: it is no file", *WORDS))
+    os.rmdir(state), os.mkfifo(state)
+    check("a pipe is refused", is_refused(2, f"{state}: it is no file", *WORDS))
+    os.unlink(state)
+    for name, why in [(folder + "/", "no name of a file"), (folder + "/no/no/state", "No such file or directory"), ("/proc/state", "")]:
+        check(f"{name} is refused", is_refused(2, f"{name}: {why}", "-s", name, *UNIX))
+    inner = os.path.join(folder, "state")
+    os.mkdir(inner + ".new")
+    check("a folder in the way of a new file is", is_refused(2, f"{inner}: File exists", "-s", inner, *UNIX))
+    check("and no lock is left without a state", os.listdir(folder) == ["state.new"])
+    os.rmdir(inner + ".new")
+    put(b"left over", inner + ".new")
+    status, _ = begins("-s", inner, *UNIX)
+    check("a file that a killed save left is not", status == 0 and sorted(os.listdir(folder)) == ["state", "state.lock"])
+    put(b"7\n", inner)
+    check("what is no state is refused", is_refused(1, f"NOT_AN_IMAGE: {inner}", "-s", inner, *UNIX) and octets(inner) == b"7\n")
+
+
+def places_without_rights():
+    """A file and a folder that the clock's user may not read or write, and a disk that nobody may write."""
+    folder = os.path.join(work, "folder")
+    inner = os.path.join(folder, "state")
+    own = ("-s", inner, "-m", MANAGER + "/1", "-u", os.path.join(work, "nobodys"), ME)
+    os.chmod(work, 0o777), os.mkdir(folder)
+    check("a folder that can't be written", is_refused(2, f"{inner}: Permission denied", *own, user=NOBODY) and os.listdir(folder) == [])
+    check("nor by the user that it becomes", is_refused(2, f"{inner}: Permission denied", "--user", "nobody", *own))
+    shutil.rmtree(folder), os.mkdir(folder)
+    begins(*own)
+    os.chmod(folder, 0o777), os.chmod(inner + ".lock", 0o666)
+    whole = octets(inner)
+    check("a file that can't be read", is_refused(2, f"{inner}: Permission denied", *own, user=NOBODY) and octets(inner) == whole)
+    status, _ = begins("--user", "nobody", *own)
+    check("which root reads, and which is its user's then", status == 0 and os.stat(inner).st_uid == NOBODY and octets(inner) == whole)
+    shutil.rmtree(folder), os.mkdir(folder)
+    run("mount", "-t", "tmpfs", "-o", "ro", "tmpfs", folder)
+    check("a disk that can't be written", is_refused(2, f"{inner}: Read-only file system", *own) and os.listdir(folder) == [])
+    run("umount", folder)
+    run("mount", "-t", "tmpfs", "-o", "size=16k", "tmpfs", folder)
+    check("a disk without room for a state", is_refused(2, f"{inner}: No space left on device", *own) and os.listdir(folder) == [])
+    run("umount", folder)
+
+
+def second_clocks():
+    """Two clocks with one file."""
+    clock = Clock(*WORDS)
+    other = ("-s", state, "-m", MANAGER + "/1", "-u", path + "2", ME)
+    status, said = begins(*other)
+    check("the second one is refused", status == 2 and not os.path.exists(path + "2")
+          and said == f"ptpm-clock: {state}: another clock, process {clock.process.pid}, has it\n")
+    check("the first one goes on", sets(77))
+    clock.end(signal.SIGKILL)
+    check("and a later one takes the file", begins(*other)[0] == 0)
+
+
+def full_disks():
+    """A disk that is full as the clock saves: it does not answer, and has what the file has."""
+    folder = os.path.join(work, "folder")
+    os.mkdir(folder)
+    run("mount", "-t", "tmpfs", "-o", "size=64k", "tmpfs", folder)
+    inner = os.path.join(folder, "state")
+    clock = Clock("-v", "-s", inner, *UNIX)
+    check("there is room at first", sets(100))
+    whole = octets(inner)
+    filler = fill_disk(folder)
+    status = manage("-u", path, "-k", session, "-t", "40", "-a", "4", "set", "PRIORITY1", "50")[0]
+    check("nothing is answered that is not saved", status == 3)
+    time.sleep(0.3)
+    said = f"ptpm-clock: {inner}: nothing is answered: No space left on device\n"
+    check("which is said", said in clock.text() and ", 0 of 1 sent" in clock.text())
+    check("the clock and the file are as before", value() == 100 and octets(inner) == whole and not os.path.exists(inner + ".new"))
+    os.unlink(filler)
+    check("once there is room it goes on", sets(60))
+    clock.process.send_signal(signal.SIGUSR1)
+    time.sleep(0.2)
+    check("saves that failed are counted", re.search(r"^not saved: [1-9]", clock.text(), re.M) is not None)
+    clock.end(signal.SIGKILL)
+    clock = Clock("-s", inner, *UNIX)
+    check("and is there after a restart", value() == 60)
+    clock.end()
+    run("umount", folder)
+
+
+def calls_that_fail():
+    """Each call of a save that fails once, as the third one of this clock: nothing leaves before a later save, and all is well after it."""
+    if shutil.which("strace") is None:
+        print("attack_clock: strace is missing")
+        return
+    for name, at in [("write", 4), ("fsync", 4), ("renameat", 2), ("fsync", 5)]:
+        clear()
+        with open(os.path.join(work, "output"), "w") as output:
+            clock = subprocess.Popen(["strace", "-D", "-qq", "-o", "/dev/null", "-e", f"trace={name}", "-e",
+                                      f"inject={name}:error=EIO:when={at}", PROGRAM, "-v", *WORDS], stdout=output, stderr=subprocess.STDOUT)
+        started.append(clock)
+        for _ in range(200):
+            if "in domain" in read("output"):
+                break
+            time.sleep(0.02)
+        check(f"{name} {at} fails, and the manager is answered all the same", sets(50))
+        time.sleep(0.3)
+        said = read("output")
+        check("the failure is said", f"ptpm-clock: {state}: nothing is answered: Input/output error\n" in said)
+        lines = [line for line in said.splitlines() if line.startswith(("saved", "port"))]
+        failures = [place for place, line in enumerate(lines) if ", 0 of 1 sent" in line]
+        is_saved = all(before.startswith("saved") for before, line in zip(lines, lines[1:]) if " 5 " in line and ", 1 of 1 sent" in line)
+        check(f"nothing leaves before a save: {lines}", is_saved and len(failures) == 1)
+        if (name, at) == ("fsync", 5):
+            check(f"nothing at all while the save is in doubt: {lines}", lines[failures[0] + 1].startswith("saved"))
+        clock.send_signal(signal.SIGTERM)
+        check("and it ends in order", clock.wait(10) == 0)
+    clock = Clock(*WORDS)
+    os.unlink(state), os.mkdir(state + ".new")
+    peer = Peer("peer")
+    check("a clock without its file does not go on", not peer.is_answered(next_number("session")) and clock.end(None)[0] == 2)
+    peer.close()
+
+
+ATTACKS = [states, configurations, damages, files_in_the_way, places_without_rights, second_clocks, full_disks, calls_that_fail]

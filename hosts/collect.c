@@ -1,0 +1,269 @@
+#include "collect.h"
+#include "asking.h"
+#include "common.h"
+#include "draw.h"
+#include "names.h"
+#include "notices.h"
+#include "seen.h"
+#include "way.h"
+#include <errno.h>
+#include <stdlib.h>
+#include <string.h>
+
+/* One request each 50 ms: all at once lose answers in the buffers of the clocks, which hear each other's answers too. Of requests to
+   one clock alone a burst has fewer answers than such a buffer holds, unless they would take more than so many bursts. */
+enum { STEP = 50, BURST = 128, MOST_BURSTS = 16, DOMAINS_AT_ONCE = 32 };
+
+/* A socket without room is tried again so often, this many milliseconds apart. A silence that never comes is not waited for longer
+   than this many time-outs. */
+enum { TRIES = 25, TRY = 2, MOST_TIMEOUTS = 10 };
+
+/* Where members are in a message: of the header, and of a TLV and its dataField (IEEE 1588-2019, 13.3, 15.4 and 15.5). */
+enum {
+    LENGTH_AT = 2, DOMAIN_AT = 4, CLOCK_AT = 20, PORT_AT = 28, NUMBER_AT = 30, TARGET_AT = 34, ACTION_AT = 46, TLV_AT = 48, FIELD_AT = 54,
+    PORT_COUNT_AT = FIELD_AT + 2, FIELD_PORT_AT = FIELD_AT + 8, LEAST_MESSAGE = FIELD_AT,
+};
+enum { ERROR_TLV = 2, DEFAULT_SIZE = 20, PORT_SIZE = 26 };
+
+static const uint16_t ids[COLLECTED] = {
+    PTPM_ID_DEFAULT_DATA_SET, PTPM_ID_CURRENT_DATA_SET, PTPM_ID_PARENT_DATA_SET, PTPM_ID_TIME_PROPERTIES_DATA_SET,
+    PTPM_ID_PORT_DATA_SET, PTPM_ID_USER_DESCRIPTION,
+};
+
+/* A request to every clock of a domain. */
+struct request {
+    struct ptpm_survey survey;
+    uint16_t number;
+    uint8_t domain;
+    enum collected id;
+    size_t size;
+    uint8_t message[PTPM_MOST_OCTETS];
+};
+
+static struct request requests[DOMAINS_AT_ONCE * COLLECTED];
+static size_t request_count;
+static FILE *output;
+static long sent, latest;               /* messages that went out; when an answer came that is no copy */
+static int has_no_way;
+
+static unsigned two_octets(const uint8_t *at) { return (unsigned)at[0] << 8 | at[1]; }
+
+/* Starts the request of an id; whether the library would ask it. If not, that is said. */
+static int start_request(const struct task *task, uint8_t domain, enum collected id) {
+    static uint16_t number;
+    static int is_drawn;
+    if (!is_drawn) number = draw_number();
+    is_drawn = 1;
+    struct request *request = &requests[request_count];
+    struct ptpm_survey_settings settings = {
+        .port = task->settings.port, .number = ++number, .id = ids[id], .domain = domain, .hops = task->settings.hops,
+    };
+    memcpy(settings.clock, task->settings.clock, sizeof settings.clock);
+    uint32_t refusal = ptpm_survey_start(&request->survey, &settings);
+    if (refusal == PTPM_STARTED) {
+        refusal = ptpm_survey_send(&request->survey, request->message, sizeof request->message, &request->size);
+    }
+    if (refusal != PTPM_SENT) {
+        complain("nothing was asked: %s", answer_name(refusal));
+        return 0;
+    }
+    request->number = number;
+    request->domain = domain;
+    request->id = id;
+    request_count++;
+    return 1;
+}
+
+static void stop_requests(void) {
+    for (size_t i = 0; i < request_count; i++) ptpm_survey_stop(&requests[i].survey);
+    request_count = 0;
+}
+
+/* The sum of what copies of an answer have in common: the action and the TLV. */
+static uint64_t sum_of(const uint8_t *message, size_t size) {
+    uint64_t sum = 0xcbf29ce484222325;                  /* FNV-1a */
+    for (size_t i = ACTION_AT; i < size; i++) sum = (sum ^ message[i]) * 0x100000001b3;
+    return sum;
+}
+
+/* Notes an answer that the library took, and prints it unless it is a copy. Octets may follow the message. */
+static void take_answer(const struct request *request, const uint8_t *message) {
+    size_t size = two_octets(message + LENGTH_AT);
+    struct seen_answer answer = {
+        .clock = message + CLOCK_AT, .domain = request->domain, .id = request->id, .port = (uint16_t)two_octets(message + PORT_AT),
+        .is_refusal = two_octets(message + TLV_AT) == ERROR_TLV, .sum = sum_of(message, size),
+    };
+    int has_field = !answer.is_refusal && size >= FIELD_AT;
+    if (has_field && answer.id == DEFAULT_SET && size == FIELD_AT + DEFAULT_SIZE) {
+        answer.port_count = (uint16_t)two_octets(message + PORT_COUNT_AT);
+    }
+    if (has_field && answer.id == PORT_SET && size == FIELD_AT + PORT_SIZE) {
+        int is_own = memcmp(message + FIELD_AT, answer.clock, 8) == 0;
+        answer.port = is_own ? (uint16_t)two_octets(message + FIELD_PORT_AT) : 0;       /* 0 is no port, and none is answered */
+    }
+    enum seen seen = see_answer(&answer);
+    if (seen == SEEN_BEFORE || seen == NO_PLACE) return;
+    latest = milliseconds();
+    clear_progress();
+    for (size_t i = 0; i < size; i++) fprintf(output, "%02x", message[i]);
+    fputc('\n', output);
+}
+
+/* The request that a datagram would answer by its number. The library judges whether it does. */
+static struct request *asked_under(const uint8_t *datagram, size_t size) {
+    if (size < LEAST_MESSAGE) return NULL;
+    for (size_t i = 0; i < request_count; i++) {
+        if (requests[i].number == two_octets(datagram + NUMBER_AT)) return &requests[i];
+    }
+    return NULL;
+}
+
+static void hear_until(long end) {
+    size_t size;
+    for (const uint8_t *datagram; (datagram = hear(&size, end)) != NULL;) {
+        struct request *request = asked_under(datagram, size);
+        if (request == NULL) continue;
+        switch ((uint32_t)ptpm_survey_receive(&request->survey, datagram, size)) {
+        case PTPM_TAKEN:
+        case PTPM_AGAIN:                                /* which may be of another port, or of another clock with that identity */
+        case PTPM_FULL:
+        case PTPM_NO_MEMORY: take_answer(request, datagram); break;
+        default: break;
+        }
+    }
+}
+
+/* Until a time-out was quiet. */
+static void hear_until_quiet(const struct task *task) {
+    long now = milliseconds(), end = now + MOST_TIMEOUTS * task->milliseconds;
+    for (latest = now; now < end && now < latest + task->milliseconds && !stopped; now = milliseconds()) {
+        hear_until(latest + task->milliseconds < end ? latest + task->milliseconds : end);
+    }
+}
+
+/* Whether a message went out, which waits for room. */
+static int is_sent(const uint8_t *message, size_t size) {
+    for (int tries = 0; tries < TRIES && !stopped && !has_no_way; tries++) {
+        enum sending sending = send_out(message, size);
+        sent += sending == OUT;
+        has_no_way = sending == NO_WAY && sent == 0;
+        if (sending == OUT) return 1;
+        if (!has_no_way) hear_until(milliseconds() + TRY);
+    }
+    return 0;
+}
+
+/* Asks every clock, one id after the other. */
+static void ask_every(void) {
+    for (int id = 0; id < COLLECTED && !stopped && !has_no_way; id++) {
+        long end = milliseconds() + STEP;
+        for (size_t i = 0; i < request_count; i++) {
+            if (requests[i].id == (enum collected)id) is_sent(requests[i].message, requests[i].size);
+        }
+        if (id + 1 < COLLECTED) hear_until(end);
+    }
+}
+
+static const struct request *request_of(uint8_t domain, enum collected id) {
+    for (size_t i = 0; i < request_count; i++) {
+        if (requests[i].domain == domain && requests[i].id == id) return &requests[i];
+    }
+    return NULL;
+}
+
+/* The request for what a clock lacks, if it lacks an answer to it; NULL otherwise. */
+static const struct request *lacking(const struct seen_clock *clock, int id) {
+    return is_lacking(clock, (enum collected)id) ? request_of(clock->domain, (enum collected)id) : NULL;
+}
+
+static size_t count_lacking(void) {
+    size_t count = 0;
+    for (size_t place = 0; place < seen_count(); place++) {
+        for (int id = 0; id < COLLECTED; id++) count += lacking(seen_clock(place), id) != NULL;
+    }
+    return count;
+}
+
+/* Asks one clock, and all its ports: the message of the request with its identity as the target's. Whether that went out. */
+static int is_asked_alone(const struct request *request, const struct seen_clock *clock) {
+    static uint8_t message[PTPM_MOST_OCTETS];
+    memcpy(message, request->message, request->size);
+    memcpy(message + TARGET_AT, clock->identity, sizeof clock->identity);
+    return is_sent(message, request->size);
+}
+
+/* Asks each clock of these domains for what it lacks, until there is no room for more. */
+static void ask_lacking(size_t count) {
+    size_t asked = 0, burst = count / MOST_BURSTS > BURST ? count / MOST_BURSTS : BURST;
+    long end = milliseconds() + STEP;
+    for (size_t place = 0; place < seen_count(); place++) {
+        for (int id = 0; id < COLLECTED; id++) {
+            const struct request *request = lacking(seen_clock(place), id);
+            if (request == NULL) continue;
+            if (!is_asked_alone(request, seen_clock(place))) return;
+            if (++asked % burst != 0) continue;
+            hear_until(end);
+            end = milliseconds() + STEP;
+        }
+    }
+}
+
+/* Asks in so many domains; whether the library would ask at all. */
+static int ask_in(const struct task *task, const uint8_t *domains, size_t count) {
+    for (size_t i = 0; i < count; i++) {
+        for (int id = 0; id < COLLECTED; id++) {
+            if (start_request(task, domains[i], (enum collected)id)) continue;
+            stop_requests();
+            return 0;
+        }
+    }
+    show_progress("%zu clocks so far; asking from domain %u on", seen_count(), domains[0]);
+    ask_every();
+    hear_until_quiet(task);
+    for (int round = 1; round <= task->settings.attempts && !stopped && !has_no_way; round++) {
+        size_t lacks = count_lacking();
+        if (lacks == 0) break;
+        show_progress("%zu clocks so far; attempt %d for %zu answers that lack", seen_count(), round, lacks);
+        ask_lacking(lacks);
+        hear_until_quiet(task);
+    }
+    stop_requests();
+    return 1;
+}
+
+static int end_of_collection(const struct task *task, const struct domains *domains) {
+    clear_progress();
+    if (unseen_answers() > 0) {
+        complain("there is room for %d clocks and %d answers: %lu answers more are left out", MOST_CLOCKS, MOST_KEPT, unseen_answers());
+    }
+    if (has_no_way) complain("nothing was sent: %s: %s", way_name(), strerror(errno));
+    else if (stopped && task->site.watch == 0) complain("ended by a signal: more may answer");
+    else if (sent == 0 && !stopped) complain("nothing was sent: no message is taken at %s", way_name());
+    if (has_no_way || (sent == 0 && !stopped)) return NOT_ASKED;
+    if (stopped) return BY_SIGNAL + stopped;
+    if (seen_count() > 0) return ANSWERED;
+    complain("no answer at %s in %s to %ld message%s", way_name(), domains_text(domains), sent, sent == 1 ? "" : "s");
+    return NOT_ANSWERED;
+}
+
+int collect_answers(const struct task *task, const struct domains *domains, FILE *to) {
+    uint8_t together[DOMAINS_AT_ONCE];
+    size_t count = 0;
+    see_none();
+    output = to;
+    sent = has_no_way = 0;
+    for (int domain = 0; domain < DOMAINS && !stopped && !has_no_way; domain++) {
+        if (domains->is_in[domain]) together[count++] = (uint8_t)domain;
+        if (count < DOMAINS_AT_ONCE && (domain + 1 < DOMAINS || count == 0)) continue;
+        if (!ask_in(task, together, count)) return NOT_ASKED;
+        count = 0;
+    }
+    return end_of_collection(task, domains);
+}
+
+int collect(const struct task *task) {
+    struct domains domains;
+    widen_way();
+    find_domains(&domains, task);
+    return collect_answers(task, &domains, stdout);
+}

@@ -1,0 +1,56 @@
+/* A file that is replaced whole, so that it is the old one or the new one whatever becomes of the program or the machine. Beside it
+   in its folder are NAME.new while it is written, and NAME.lock, whose lock one process at a time has. */
+#ifndef KEPT_FILE_H
+#define KEPT_FILE_H
+
+#include <stddef.h>
+#include <stdint.h>
+#include <sys/stat.h>
+#include <sys/types.h>
+
+enum { KEPT_NAME = 256 };
+
+struct kept_file {
+    int folder;
+    char name[KEPT_NAME], new_name[KEPT_NAME], lock_name[KEPT_NAME];
+    mode_t mode;                        /* that a new file gets */
+    struct stat before;                 /* of a file whose owner and mode it gets in place of that; st_nlink is 0 if of none */
+};
+
+/* Opens the folder of a path. It is made if it is missing; what is above it is not. Whether it could; if not, errno says why, and
+   is EINVAL if the path names no file. */
+int open_kept_folder(struct kept_file *file, const char *path);
+
+/* The file of the lock, which is made if it is missing; -1 if it can't be had, as errno says. */
+int open_kept_lock(const struct kept_file *file);
+
+/* Takes the lock if no process has it. Whether it could; if not, errno says why, EAGAIN or EACCES if another has it. It goes when
+   this process ends. */
+int take_kept_lock(int lock);
+
+/* The process that has the lock; 0 if it is not known. */
+pid_t kept_lock_owner(int lock);
+
+/* Whether this is still the file of the lock: the process that had it before may have removed it. */
+int is_kept_lock(const struct kept_file *file, int lock);
+
+/* Removes the file of the lock if there is no file that it is for. */
+void leave_no_lock(const struct kept_file *file);
+
+/* What is at the place of the file. */
+enum kept_found { KEPT_FILE, KEPT_NONE, KEPT_LINK, KEPT_OTHER, KEPT_UNREADABLE };
+
+/* Reads up to `most` octets of it; how many there are, and what is known of it. If it can't be read, errno says why. */
+enum kept_found read_kept(const struct kept_file *file, uint8_t *octets, size_t most, size_t *size, struct stat *found);
+
+/* Whether there is room for so many octets; if not, errno says why. What the file holds stays. */
+int has_room(const struct kept_file *file, const uint8_t *octets, size_t size);
+
+/* What became of the file. If it is in doubt it is the new one, but may be the old one again after a loss of power. */
+enum replaced { NOT_REPLACED, IN_DOUBT, REPLACED };
+
+/* Replaces it by one with these octets: synchronized, renamed, and its folder synchronized. If it isn't replaced for sure, errno
+   says why. */
+enum replaced replace_kept(const struct kept_file *file, const uint8_t *octets, size_t size);
+
+#endif

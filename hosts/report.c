@@ -1,0 +1,271 @@
+#define _GNU_SOURCE
+#include "report.h"
+#include <ctype.h>
+#include <stdlib.h>
+#include <string.h>
+
+/* Findings that a change makes for a moment: the answers of a clock are not of one time, and a change goes from clock to clock. */
+static const char *const passing[] = {
+    "steps", "grandmaster_differs", "parent_not_master", "parent_not_seen", "grandmaster_not_seen", "no_master", "two_grandmasters",
+};
+
+/* One that tells of a change, and so goes by itself; and those whose values are other ones each time. */
+static const char changed[] = "changed";
+static const char *const moving[] = { "offset", "delay" };
+
+static const char red[] = "\033[31m", green[] = "\033[32m", plain[] = "\033[0m";
+
+static int is_piece(const struct piece *piece, const char *text) {
+    return piece->size == strlen(text) && memcmp(piece->at, text, piece->size) == 0;
+}
+
+static int is_named(const struct finding *finding, const char *const *names, size_t count) {
+    for (size_t i = 0; i < count; i++) {
+        if (is_piece(&finding->key[NAME_PART], names[i])) return 1;
+    }
+    return 0;
+}
+
+static int is_passing(const struct finding *finding) { return is_named(finding, passing, sizeof passing / sizeof *passing); }
+
+static void add_finding(struct report *report, const struct finding *finding) {
+    struct finding *more = reallocarray(report->findings, report->count + 1, sizeof *more);
+    if (more == NULL) return;
+    report->findings = more;
+    report->findings[report->count++] = *finding;
+}
+
+/* Text: after a line `findings: N` a line for each, with the domain, the clock and the name first. */
+
+static const char *end_of_line(const char *at, const char *end) {
+    const char *found = memchr(at, '\n', (size_t)(end - at));
+    return found == NULL ? end : found + 1;
+}
+
+static int read_line(struct finding *finding, const char *at, const char *end) {
+    const char *next = at;
+    if (at == end || !isdigit((unsigned char)*at)) return 0;
+    finding->whole = (struct piece){ at, (size_t)(end - at) - (end[-1] == '\n') };
+    for (int part = 0; part < KEY_PARTS; part++) {
+        const char *first = next;
+        while (next < end && !isspace((unsigned char)*next)) next++;
+        finding->key[part] = (struct piece){ first, (size_t)(next - first) };
+        if (next == first) return 0;
+        if (part + 1 < KEY_PARTS && *next++ != ' ') return 0;
+    }
+    return 1;
+}
+
+static void read_text(struct report *report) {
+    static const char heading[] = "findings: ";
+    const char *at = report->text, *end = at + report->size;
+    while (at < end && strncmp(at, heading, sizeof heading - 1) != 0) at = end_of_line(at, end);
+    if (at == end) return;
+    report->has_findings = 1;
+    report->head.size = (size_t)(at - report->text);
+    at = end_of_line(at, end);
+    for (const char *next; at < end; at = next) {
+        struct finding finding = { 0 };
+        next = end_of_line(at, end);
+        if (!read_line(&finding, at, next)) break;
+        add_finding(report, &finding);
+    }
+    report->tail = (struct piece){ at, (size_t)(end - at) };
+}
+
+/* JSON: objects in the list `findings` of the one object. */
+
+static const char *after_spaces(const char *at, const char *end) {
+    while (at < end && isspace((unsigned char)*at)) at++;
+    return at;
+}
+
+static const char *after_string(const char *at, const char *end) {
+    for (at++; at < end && *at != '"'; at++) {
+        if (*at == '\\' && at + 1 < end) at++;
+    }
+    return at < end ? at + 1 : end;
+}
+
+/* Where a value ends: at the comma after it, or at the bracket of what it is in. */
+static const char *after_value(const char *at, const char *end) {
+    for (int depth = 0; at < end;) {
+        if (*at == '"') {
+            at = after_string(at, end);
+            continue;
+        }
+        if (*at == '{' || *at == '[') depth++;
+        else if (*at == '}' || *at == ']') depth--;
+        if (depth < 0 || (depth == 0 && *at == ',')) return at;
+        at++;
+    }
+    return end;
+}
+
+/* A member of an object, without quotes if it is a string; whether there is one. */
+static int find_member(struct piece *member, const char *at, const char *end, const char *name) {
+    at = after_spaces(at, end);
+    if (at == end || *at != '{') return 0;
+    for (at = after_spaces(at + 1, end); at < end && *at == '"';) {
+        const char *after = after_string(at, end);
+        struct piece key = { at + 1, (size_t)(after - at) - 2 };
+        after = after_spaces(after, end);
+        if (after == end || *after != ':') return 0;
+        after = after_spaces(after + 1, end);
+        at = after_value(after, end);
+        if (is_piece(&key, name)) {
+            const char *last = at;
+            while (last > after && isspace((unsigned char)last[-1])) last--;
+            int is_string = *after == '"' && last - after >= 2;
+            *member = (struct piece){ after + is_string, (size_t)(last - after) - 2 * (size_t)is_string };
+            return 1;
+        }
+        if (at < end && *at == ',') at = after_spaces(at + 1, end);
+    }
+    return 0;
+}
+
+static int read_object(struct finding *finding, const char *at, const char *end) {
+    static const char *const names[KEY_PARTS] = { "domainNumber", "clockIdentity", "finding" };
+    while (end > at && isspace((unsigned char)end[-1])) end--;
+    finding->whole = (struct piece){ at, (size_t)(end - at) };
+    for (int part = 0; part < KEY_PARTS; part++) {
+        if (!find_member(&finding->key[part], at, end, names[part])) return 0;
+    }
+    return 1;
+}
+
+static void read_json(struct report *report) {
+    struct piece list;
+    const char *end = report->text + report->size;
+    if (!find_member(&list, report->text, end, "findings") || list.size < 2 || *list.at != '[') return;
+    const char *at = after_spaces(list.at + 1, end);
+    report->has_findings = 1;
+    report->head.size = (size_t)(list.at + 1 - report->text);
+    while (at < end && *at == '{') {
+        struct finding finding = { 0 };
+        const char *next = after_value(at, end);
+        if (read_object(&finding, at, next)) add_finding(report, &finding);
+        at = next < end && *next == ',' ? after_spaces(next + 1, end) : next;
+    }
+    report->tail = (struct piece){ at, (size_t)(end - at) };
+}
+
+void read_report(struct report *report) {
+    report->head = (struct piece){ report->text, report->size };
+    if (report->size == 0) return;
+    const char *first = after_spaces(report->text, report->text + report->size);
+    report->is_json = first < report->text + report->size && *first == '{';
+    if (report->is_json) read_json(report);
+    else read_text(report);
+}
+
+void free_report(struct report *report) {
+    free(report->text);
+    free(report->findings);
+    *report = (struct report){ 0 };
+}
+
+int has_passing_finding(const struct report *report) {
+    for (size_t i = 0; i < report->count; i++) {
+        if (is_passing(&report->findings[i])) return 1;
+    }
+    return 0;
+}
+
+static int compare_pieces(const struct piece *one, const struct piece *other) {
+    size_t least = one->size < other->size ? one->size : other->size;
+    int order = memcmp(one->at, other->at, least);
+    return order != 0 ? order : (one->size > other->size) - (one->size < other->size);
+}
+
+static int by_key(const void *one, const void *other) {
+    const struct finding *first = *(const struct finding *const *)one, *second = *(const struct finding *const *)other;
+    int order = 0;
+    for (int part = 0; part < KEY_PARTS && order == 0; part++) order = compare_pieces(&first->key[part], &second->key[part]);
+    return order;
+}
+
+static int by_text(const void *one, const void *other) {
+    return compare_pieces(&(*(const struct finding *const *)one)->whole, &(*(const struct finding *const *)other)->whole);
+}
+
+/* The findings of a report that are not left out, in an order. */
+struct sorted { const struct finding **at; size_t count; int (*order)(const void *, const void *); };
+
+static struct sorted sort_findings(const struct report *report, int (*order)(const void *, const void *)) {
+    struct sorted sorted = { calloc(report->count + 1, sizeof *sorted.at), 0, order };
+    for (size_t i = 0; i < report->count && sorted.at != NULL; i++) {
+        if (!report->findings[i].is_left_out) sorted.at[sorted.count++] = &report->findings[i];
+    }
+    if (sorted.count > 0) qsort(sorted.at, sorted.count, sizeof *sorted.at, order);
+    return sorted;
+}
+
+static int has_finding(const struct sorted *sorted, const struct finding *finding) {
+    return sorted->count > 0 && bsearch(&finding, sorted->at, sorted->count, sizeof *sorted->at, sorted->order) != NULL;
+}
+
+void leave_out_passing(struct report *report, const struct report *earlier) {
+    struct sorted keys = sort_findings(earlier, by_key);
+    for (size_t i = 0; i < report->count && keys.at != NULL; i++) {
+        struct finding *finding = &report->findings[i];
+        finding->is_left_out = is_passing(finding) && !has_finding(&keys, finding);
+    }
+    free(keys.at);
+}
+
+size_t findings_left(const struct report *report) {
+    size_t left = 0;
+    for (size_t i = 0; i < report->count; i++) left += !report->findings[i].is_left_out;
+    return left;
+}
+
+static void print_piece(FILE *to, const struct piece *piece) {
+    if (piece->size > 0) fwrite(piece->at, 1, piece->size, to);
+}
+
+void print_report_text(FILE *to, const struct report *report, int is_coloured) {
+    const char *between = "\n";
+    print_piece(to, &report->head);
+    if (!report->has_findings) return;
+    size_t left = findings_left(report);
+    if (!report->is_json && left == 0) fprintf(to, "findings: none\n");
+    else if (!report->is_json) fprintf(to, "findings: %zu\n", left);
+    for (size_t i = 0; i < report->count; i++) {
+        const struct finding *finding = &report->findings[i];
+        if (finding->is_left_out) continue;
+        if (report->is_json) fputs(between, to);
+        if (is_coloured && !report->is_json) fputs(red, to);
+        print_piece(to, &finding->whole);
+        if (is_coloured && !report->is_json) fputs(plain, to);
+        if (!report->is_json) fputc('\n', to);
+        between = ",\n";
+    }
+    print_piece(to, &report->tail);
+}
+
+static void print_change(FILE *to, const char *lead, char sign, const struct finding *finding, const char *colour) {
+    fprintf(to, "%s%s%c %.*s%s\n", lead, colour == NULL ? "" : colour, sign, (int)finding->whole.size, finding->whole.at,
+            colour == NULL ? "" : plain);
+}
+
+/* Prints the findings of a report that another lacks: with other values, too, unless their values move. Of what tells of a change, all
+   or none. */
+static void print_lacking(FILE *to, const char *lead, char sign, const struct report *report, const struct report *other,
+                          const char *colour) {
+    struct sorted keys = sort_findings(other, by_key), texts = sort_findings(other, by_text);
+    for (size_t i = 0; i < report->count; i++) {
+        const struct finding *finding = &report->findings[i];
+        int is_moving = is_named(finding, moving, sizeof moving / sizeof *moving);
+        int is_in_other = is_piece(&finding->key[NAME_PART], changed) ? sign == '-' : has_finding(is_moving ? &keys : &texts, finding);
+        if (!finding->is_left_out && !is_in_other) print_change(to, lead, sign, finding, colour);
+    }
+    free(keys.at);
+    free(texts.at);
+}
+
+void print_changes(FILE *to, const char *lead, const struct report *report, const struct report *earlier, int is_coloured) {
+    print_lacking(to, lead, '-', earlier, report, is_coloured ? green : NULL);
+    print_lacking(to, lead, '+', report, earlier, is_coloured ? red : NULL);
+}

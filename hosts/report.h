@@ -1,0 +1,46 @@
+/* What `ptpm site` prints, and the findings in it: lines of a text, or objects of JSON. */
+#ifndef REPORT_H
+#define REPORT_H
+
+#include <stddef.h>
+#include <stdio.h>
+
+/* A piece of a report. */
+struct piece { const char *at; size_t size; };
+
+/* A finding: all of it; its domain, its clock and its name, which together are its key; and whether it is left out. */
+enum { DOMAIN_PART, CLOCK_PART, NAME_PART, KEY_PARTS };
+struct finding { struct piece whole, key[KEY_PARTS]; int is_left_out; };
+
+/* A report. Its findings stand between `head` and `tail`; where it has no place for findings, `head` is all of it. */
+struct report {
+    char *text;
+    size_t size;
+    int is_json, has_findings;
+    struct piece head, tail;
+    struct finding *findings;
+    size_t count;
+};
+
+/* Finds the findings in a report's text. */
+void read_report(struct report *report);
+
+/* Frees what a report holds, which then holds nothing. */
+void free_report(struct report *report);
+
+/* Whether a report has a finding that may be of one moment alone: while a change goes through a site its clocks do not agree. */
+int has_passing_finding(const struct report *report);
+
+/* Leaves out of a report each such finding whose key is not in an earlier one. */
+void leave_out_passing(struct report *report, const struct report *earlier);
+
+/* How many findings are not left out. */
+size_t findings_left(const struct report *report);
+
+/* Prints it without what is left out, its findings in colour if so wished. */
+void print_report_text(FILE *to, const struct report *report, int is_coloured);
+
+/* Prints the findings that came since an earlier report, and those that went, a line each after `lead`. */
+void print_changes(FILE *to, const char *lead, const struct report *report, const struct report *earlier, int is_coloured);
+
+#endif

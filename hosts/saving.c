@@ -1,0 +1,176 @@
+#define _GNU_SOURCE
+#include "saving.h"
+#include "identity.h"
+#include "kept_file.h"
+#include "names.h"
+#include "output.h"
+#include <errno.h>
+#include <stdlib.h>
+#include <string.h>
+#include <time.h>
+#include <unistd.h>
+
+/* Statuses of the program, and the place of a clockIdentity in the image of a clock. */
+enum { NOT_STARTED = 1, NOT_OPENED = 2, IDENTITY = 12 };
+
+enum { MOST_IN_FILE = PTPM_CLOCK_IMAGE_OCTETS + 1, LOCK_TRIES = 100 };
+
+static struct kept_file file = { .folder = -1, .mode = 0600 };
+static const struct options *options;
+static uint8_t octets[MOST_IN_FILE];
+int is_unsaved;
+static struct saves saves;
+
+_Noreturn static void end_with(int status) {
+    end_output();
+    exit(status);
+}
+
+/* Why the file can't be used, where `why` has more to tell than errno. */
+_Noreturn static void refuse_file(const char *why) {
+    say("%s: %s", options->state, why != NULL ? why : strerror(errno));
+    end_with(NOT_OPENED);
+}
+
+static void leave_nothing(void) { leave_no_lock(&file); }
+
+_Noreturn static void refuse_second(long owner) {
+    if (owner == 0) say("%s: another clock has it", options->state);
+    else say("%s: another clock, process %ld, has it", options->state, owner);
+    end_with(NOT_OPENED);
+}
+
+/* Two clocks that save to one file would each undo what the other said. */
+static void take_file(void) {
+    for (int tries = 0; tries < LOCK_TRIES; tries++) {
+        int lock = open_kept_lock(&file);
+        if (lock < 0) refuse_file(NULL);
+        if (!take_kept_lock(lock)) {
+            if (errno != EAGAIN && errno != EACCES) refuse_file(NULL);
+            refuse_second(kept_lock_owner(lock));
+        }
+        if (is_kept_lock(&file, lock)) return;
+        close(lock);
+    }
+    refuse_second(0);
+}
+
+/* Whether there is a file; its octets are in `octets`. */
+static int read_state(size_t *size) {
+    struct stat found;
+    switch (read_kept(&file, octets, MOST_IN_FILE, size, &found)) {
+    case KEPT_FILE: return 1;
+    case KEPT_NONE: return 0;
+    case KEPT_LINK: refuse_file("it is a link");
+    case KEPT_OTHER: refuse_file("it is no file");
+    case KEPT_UNREADABLE: break;
+    }
+    refuse_file(NULL);
+}
+
+static const char *reason(enum ptpm_restored refusal) {
+    switch (refusal) {
+    case PTPM_NOT_AN_IMAGE: return "it has no state of a clock";
+    case PTPM_DAMAGED: return "octets of the state were lost or changed";
+    case PTPM_OTHER_VERSION: return "it has a state in the form of another version of this program";
+    case PTPM_OTHER_KIND: return "it has the session of a manager, and not the state of a clock";
+    case PTPM_OTHER_PORTS: return "it has the state of a clock with another number of ports";
+    default: return "the clock is not restored from it";
+    }
+}
+
+_Noreturn static void refuse_octets(enum ptpm_restored refusal) {
+    char identity[IDENTITY_TEXT];
+    const char *name = answer_name(refusal);
+    write_identity(identity, octets + IDENTITY);
+    if (refusal == PTPM_OTHER_CLOCK) say("it does not start: %s: %s: it has the state of clock %s", name, options->state, identity);
+    else say("it does not start: %s: %s: %s", name, options->state, reason(refusal));
+    end_with(refusal == PTPM_RESTORE_NO_MEMORY ? NOT_OPENED : NOT_STARTED);
+}
+
+/* The clock of the octets that were read; how many managers it had that are not configured any more. */
+static size_t restore(struct ptpm_clock *clock, size_t size) {
+    size_t gone = 0;
+    enum ptpm_restored answer = ptpm_clock_restore(clock, options->settings.identity, ports_of(options), options->managers,
+                                                   options->manager_count, octets, size, &gone);
+    if (answer != PTPM_RESTORED) refuse_octets(answer);
+    return gone;
+}
+
+static void tell_gone(size_t gone) {
+    if (gone == 0) return;
+    say("%s: %zu manager%s of it %s not configured any more, and what was kept of %s is let go", options->state, gone,
+        gone == 1 ? "" : "s", gone == 1 ? "is" : "are", gone == 1 ? "its requests" : "their requests");
+}
+
+/* What the command line says of the data sets is for a clock that starts afresh. */
+static void tell_domain(const struct ptpm_clock *clock) {
+    uint8_t field[PTPM_MOST_READ];
+    size_t size;
+    if (!options->has_domain || ptpm_clock_read(clock, PTPM_ID_DOMAIN, 0, field, sizeof field, &size) != PTPM_READ) return;
+    if (*field == options->settings.domain) return;
+    say("%s: -d %u counts at the first start alone: the clock is in domain %u", options->state, options->settings.domain, *field);
+}
+
+int restore_clock(struct ptpm_clock *clock, const struct options *given) {
+    size_t size;
+    options = given;
+    if (options->state == NULL) return 0;
+    if (!open_kept_folder(&file, options->state)) refuse_file(errno == EINVAL ? "no name of a file" : NULL);
+    take_file();
+    if (atexit(leave_nothing)) refuse_file(NULL);
+    int is_there = read_state(&size);
+    if (is_there) {
+        tell_gone(restore(clock, size));
+        tell_domain(clock);
+    }
+    static const uint8_t room[PTPM_CLOCK_IMAGE_OCTETS];
+    if (!has_room(&file, room, sizeof room)) refuse_file(NULL);
+    return is_there;
+}
+
+static unsigned long microseconds(void) {
+    struct timespec now;
+    clock_gettime(CLOCK_MONOTONIC, &now);
+    return (unsigned long)now.tv_sec * 1000000 + (unsigned long)now.tv_nsec / 1000;
+}
+
+static void count_save(size_t size, unsigned long time) {
+    saves.made++;
+    saves.all += time;
+    if (saves.made == 1 || time < saves.least) saves.least = time;
+    if (time > saves.most) saves.most = time;
+    if (options->is_told) print_line("saved: %zu octets in %lu us", size, time);
+}
+
+/* Whether it is saved for sure; if not, errno says why. */
+static enum replaced save(const struct ptpm_clock *clock) {
+    size_t size;
+    unsigned long begun = microseconds();
+    if (ptpm_clock_image(clock, octets, sizeof octets, &size) != PTPM_SAVED) return NOT_REPLACED;
+    enum replaced answer = replace_kept(&file, octets, size);
+    if (answer == REPLACED) count_save(size, microseconds() - begun);
+    else saves.failed++;
+    return answer;
+}
+
+void save_at_start(struct ptpm_clock *clock) {
+    if (options->state != NULL && save(clock) != REPLACED) refuse_file(NULL);
+}
+
+void note_change(void) { is_unsaved = options->state != NULL; }
+
+/* What the store holds may be what was to be saved, and may be gone again with the power: then no message leaves before it is saved. */
+int save_changes(struct ptpm_clock *clock) {
+    size_t size;
+    if (!is_unsaved) return 1;
+    enum replaced answer = save(clock);
+    is_unsaved = answer == IN_DOUBT;
+    if (answer == REPLACED) return 1;
+    say_at_times("%s: nothing is answered: %s", options->state, strerror(errno));
+    if (!read_state(&size)) refuse_file("it is gone");
+    restore(clock, size);
+    return 0;
+}
+
+const struct saves *told_saves(void) { return &saves; }

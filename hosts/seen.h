@@ -1,0 +1,56 @@
+/* Which clocks answered in a collection, and what each of them lacks still. Strangers may answer without end: there is room for
+   so many clocks and answers, and what comes behind them is counted. */
+#ifndef SEEN_H
+#define SEEN_H
+
+#include <stddef.h>
+#include <stdint.h>
+
+enum { COLLECTED = 6, MOST_CLOCKS = 4096, MOST_KEPT = 65536 };
+
+/* What is collected, in the order in which it is asked. */
+enum collected { DEFAULT_SET, CURRENT_SET, PARENT_SET, TIME_SET, PORT_SET, DESCRIPTION };
+
+/* A clock that answered. */
+struct seen_clock {
+    uint8_t identity[8], domain;
+    uint8_t answered;                   /* a bit for each of what is collected: an answer or a refusal came */
+    uint8_t are_ports_refused;          /* by an error in place of a PORT_DATA_SET */
+    uint16_t port_count, ports;         /* numberPorts, 0 until it is told; how many of them gave a PORT_DATA_SET */
+};
+
+/* An answer: who gave it, to what, and its content, of which copies have the same sum. */
+struct seen_answer {
+    const uint8_t *clock;
+    uint8_t domain;
+    enum collected id;
+    uint16_t port;                      /* that gave it, or of a PORT_DATA_SET the port that it describes */
+    int is_refusal;
+    uint16_t port_count;                /* of a DEFAULT_DATA_SET */
+    uint64_t sum;
+};
+
+/* What an answer is: the first of its clock, id and port; one that differs from that first; a copy, or one more that differs; one for
+   which there is no room. */
+enum seen { FIRST_SEEN, DIFFERENT, SEEN_BEFORE, NO_PLACE };
+
+/* From now on no clock was seen. */
+void see_none(void);
+
+/* Notes an answer. */
+enum seen see_answer(const struct seen_answer *answer);
+
+/* Whether a clock was seen in a domain. */
+int is_seen(uint8_t domain, const uint8_t clock[8]);
+
+/* The clocks, in the order in which they came. */
+size_t seen_count(void);
+const struct seen_clock *seen_clock(size_t place);
+
+/* Whether it lacks an answer: one to the id, or that of one of its ports. */
+int is_lacking(const struct seen_clock *clock, enum collected id);
+
+/* How many answers found no room. */
+unsigned long unseen_answers(void);
+
+#endif

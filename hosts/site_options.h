@@ -1,0 +1,31 @@
+/* What a command line of `collect` and `status` says beyond that of a survey: the domains, and how the site is shown. */
+#ifndef SITE_OPTIONS_H
+#define SITE_OPTIONS_H
+
+#include <stdint.h>
+
+enum { DOMAINS = 256 };
+
+/* Its options, which have no letter of their own. */
+enum site_option { LISTEN = 512, JSON, DRAW, MAX_OFFSET, MAX_DELAY, ONCE, WATCH };
+
+struct site_options {
+    int is_collected, is_shown;                 /* `collect`; `status` */
+    uint8_t first_domain, last_domain;
+    int is_every_domain;                        /* those that Announce messages tell, and 0 and 127 */
+    long listen, watch;                         /* in milliseconds: for such messages, or -1 by default; between two looks, or 0 */
+    int is_json, is_drawn, is_once;
+    const char *max_offset, *max_delay;         /* as they are written, or NULL */
+    const char *given;                          /* an option of `status` alone that was given, or NULL */
+};
+
+/* Takes an option; whether it is one of these. Ends the program with status 2 if its value is none. */
+int take_site_option(struct site_options *options, int option, const char *value);
+
+/* The domains of a word: a number, two with a hyphen, or `all`. Ends the program with status 2 if it is none. */
+void read_domains(struct site_options *options, const char *text);
+
+/* Refuses options that do not stand together, or not with what is asked. */
+void judge_site_options(const struct site_options *options);
+
+#endif

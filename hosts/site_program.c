@@ -1,0 +1,139 @@
+#define _GNU_SOURCE
+#include "site_program.h"
+#include "common.h"
+#include "notices.h"
+#include <errno.h>
+#include <fcntl.h>
+#include <limits.h>
+#include <spawn.h>
+#include <stdlib.h>
+#include <string.h>
+#include <sys/mman.h>
+#include <sys/stat.h>
+#include <sys/wait.h>
+#include <unistd.h>
+
+enum { MOST_ARGUMENTS = 8, PART = 65536, TURN = 1000, FAULT = 1 };
+
+static char site_program[2 * PATH_MAX];
+
+static int is_program(const char *folder, size_t size) {
+    struct stat found;
+    snprintf(site_program, sizeof site_program, "%.*s/ptpm", (int)size, folder);
+    return stat(site_program, &found) == 0 && S_ISREG(found.st_mode) && access(site_program, X_OK) == 0;
+}
+
+void find_site_program(void) {
+    char own[PATH_MAX];
+    ssize_t size = readlink("/proc/self/exe", own, sizeof own - 1);
+    own[size > 0 ? size : 0] = '\0';
+    char *slash = strrchr(own, '/');
+    if (slash != NULL && is_program(own, (size_t)(slash - own))) return;
+    for (const char *path = getenv("PATH"), *next; path != NULL; path = *next == ':' ? next + 1 : NULL) {
+        next = strchrnul(path, ':');
+        if (next > path && next - path < PATH_MAX && is_program(path, (size_t)(next - path))) return;
+    }
+    refuse("nothing was asked: the program ptpm is neither beside this one nor in the PATH");
+}
+
+/* A file without a name that has the lines, and is read from its beginning. -1 if there is no room for it. */
+static int file_of(const struct piece *lines, size_t count) {
+    int at = memfd_create("lines", MFD_CLOEXEC);
+    for (size_t i = 0; at >= 0 && i < count; i++) {
+        for (size_t done = 0; done < lines[i].size;) {
+            ssize_t written = write(at, lines[i].at + done, lines[i].size - done);
+            if (written <= 0) {
+                close(at);
+                return -1;
+            }
+            done += (size_t)written;
+        }
+    }
+    if (at >= 0) lseek(at, 0, SEEK_SET);
+    return at;
+}
+
+/* Starts it with a standard input and output; whether it is started. */
+static int is_started(pid_t *process, char *const *arguments, int from, int to) {
+    posix_spawn_file_actions_t files;
+    posix_spawnattr_t attributes;
+    sigset_t none, usual;
+    sigemptyset(&none);
+    sigemptyset(&usual);
+    sigaddset(&usual, SIGPIPE);
+    if (posix_spawn_file_actions_init(&files) != 0 || posix_spawnattr_init(&attributes) != 0) return 0;
+    posix_spawn_file_actions_adddup2(&files, from, STDIN_FILENO);
+    posix_spawn_file_actions_adddup2(&files, to, STDOUT_FILENO);
+    posix_spawnattr_setsigmask(&attributes, &none);
+    posix_spawnattr_setsigdefault(&attributes, &usual);
+    posix_spawnattr_setflags(&attributes, POSIX_SPAWN_SETSIGMASK | POSIX_SPAWN_SETSIGDEF);
+    errno = posix_spawn(process, site_program, &files, &attributes, arguments, environ);
+    posix_spawn_file_actions_destroy(&files);
+    posix_spawnattr_destroy(&attributes);
+    return errno == 0;
+}
+
+/* Reads what it prints until its end, or until a signal asks this program to end. */
+static void read_all(int from, struct report *report) {
+    for (size_t room = 0; !stopped;) {
+        struct pollfd waits = { from, POLLIN, 0 };
+        if (wait_for(&waits, 1, TURN) <= 0) continue;
+        if (room - report->size < PART) {
+            char *more = realloc(report->text, room + 2 * PART + room / 2);
+            if (more == NULL) return;
+            report->text = more;
+            room += 2 * PART + room / 2;
+        }
+        ssize_t size = read(from, report->text + report->size, PART);
+        if (size <= 0) return;
+        report->size += (size_t)size;
+        report->text[report->size] = '\0';      /* there is room for it: a part is left */
+    }
+}
+
+static int status_of(pid_t process) {
+    int status;
+    wait_for(NULL, 0, 0);                   /* a signal of the terminal asks both programs to end */
+    if (stopped) kill(process, SIGTERM);
+    while (waitpid(process, &status, 0) < 0) {
+        if (errno != EINTR) return FAULT;
+    }
+    if (WIFEXITED(status)) return WEXITSTATUS(status);
+    if (!stopped) complain("%s was ended by signal %d", site_program, WTERMSIG(status));
+    return FAULT;
+}
+
+static void name_arguments(char **arguments, const struct site_options *options, enum shown_as as) {
+    size_t count = 0;
+    arguments[count++] = site_program;
+    arguments[count++] = (char *)"site";
+    if (as != AS_TEXT) arguments[count++] = (char *)(as == AS_JSON ? "--json" : "--draw");
+    if (options->max_offset != NULL) arguments[count++] = (char *)"--max-offset";
+    if (options->max_offset != NULL) arguments[count++] = (char *)options->max_offset;
+    if (options->max_delay != NULL) arguments[count++] = (char *)"--max-delay";
+    if (options->max_delay != NULL) arguments[count++] = (char *)options->max_delay;
+    arguments[count] = NULL;
+}
+
+int run_site_program(const struct site_options *options, enum shown_as as, const struct piece *lines, size_t count, struct report *report) {
+    char *arguments[MOST_ARGUMENTS];
+    int ends[2], status = FAULT, input = file_of(lines, count);
+    pid_t process;
+    *report = (struct report){ 0 };
+    name_arguments(arguments, options, as);
+    if (input < 0 || pipe2(ends, O_CLOEXEC)) {
+        complain("%s: %s", site_program, strerror(errno));
+        return FAULT;
+    }
+    int has_started = is_started(&process, arguments, input, ends[1]);
+    if (!has_started) complain("%s: %s", site_program, strerror(errno));
+    close(input);
+    close(ends[1]);
+    if (has_started) {
+        read_all(ends[0], report);
+        status = status_of(process);
+    }
+    close(ends[0]);
+    read_report(report);
+    return status;
+}

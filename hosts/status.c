@@ -1,0 +1,201 @@
+#define _GNU_SOURCE
+#include "status.h"
+#include "asking.h"
+#include "collect.h"
+#include "common.h"
+#include "identity.h"
+#include "notices.h"
+#include "report.h"
+#include "seen.h"
+#include "site_program.h"
+#include "way.h"
+#include <errno.h>
+#include <stdlib.h>
+#include <string.h>
+#include <time.h>
+#include <unistd.h>
+
+/* A change has gone through a site by then. */
+enum { BEFORE_SECOND_LOOK = 2000, TIME_TEXT = 32 };
+
+/* `ptpm site` found something, or failed. */
+enum { FINDINGS = 1 };
+
+/* Where the domain and the clock are in a line of hexadecimal. */
+enum { DOMAIN_IN_LINE = 8, CLOCK_IN_LINE = 40, LEAST_LINE = 56 };
+
+/* A look at the site: the answers as lines, and what they show. */
+struct look {
+    char *lines;
+    size_t size;
+    struct report report;
+    int status;
+};
+
+/* The clocks of the look before. */
+static struct seen_clock clocks_before[MOST_CLOCKS];
+static size_t count_before;
+
+static void free_look(struct look *look) {
+    free(look->lines);
+    free_report(&look->report);
+    *look = (struct look){ 0 };
+}
+
+/* Whether the clock that gave a line answered this time too. */
+static int is_of_seen_clock(const char *line, size_t size) {
+    uint8_t domain, clock[8];
+    const char *domain_text = line + DOMAIN_IN_LINE, *clock_text = line + CLOCK_IN_LINE;
+    if (size < LEAST_LINE) return 0;
+    return read_octets(&domain_text, &domain, 1) == 1 && read_octets(&clock_text, clock, 8) == 8 && is_seen(domain, clock);
+}
+
+/* Leaves of the lines of a look those of clocks that answered this time. */
+static void leave_seen(struct look *look) {
+    size_t left = 0;
+    for (size_t at = 0, next; at < look->size; at = next) {
+        const char *end = memchr(look->lines + at, '\n', look->size - at);
+        next = end == NULL ? look->size : (size_t)(end - look->lines) + 1;
+        if (!is_of_seen_clock(look->lines + at, next - at)) continue;
+        memmove(look->lines + left, look->lines + at, next - at);
+        left += next - at;
+    }
+    look->size = left;
+}
+
+/* Collects, and has it shown after the lines of an earlier look, if there is one; the status. */
+static int look_at_site(struct look *look, const struct task *task, const struct domains *domains, struct look *earlier) {
+    *look = (struct look){ 0 };
+    FILE *lines = open_memstream(&look->lines, &look->size);
+    if (lines == NULL) refuse("nothing was asked: %s", strerror(errno));
+    look->status = collect_answers(task, domains, lines);
+    if (fclose(lines) != 0) complain("some answers are left out: %s", strerror(errno));
+    if (look->status != ANSWERED && look->status != NOT_ANSWERED) return look->status;
+    if (earlier != NULL && earlier->size > 0) leave_seen(earlier);
+    struct piece parts[2] = {
+        { earlier == NULL ? NULL : earlier->lines, earlier == NULL ? 0 : earlier->size }, { look->lines, look->size },
+    };
+    enum shown_as as = task->site.is_json ? AS_JSON : AS_TEXT;
+    look->status = run_site_program(&task->site, as, parts, 2, &look->report);
+    return look->status;
+}
+
+/* Looks at the site, and if it may be that a change goes through it, a second time: then only what holds twice is left of such
+   findings. */
+static void look_twice(struct look *look, const struct task *task, struct domains *domains, struct look *earlier) {
+    look_at_site(look, task, domains, earlier);
+    if (stopped || task->site.is_once || look->status != FINDINGS || !has_passing_finding(&look->report)) return;
+    struct look second;
+    show_progress("findings: %zu; a second look in %d s", look->report.count, BEFORE_SECOND_LOOK / 1000);
+    listen_for_domains(domains, task, BEFORE_SECOND_LOOK);
+    if (stopped) return;
+    look_at_site(&second, task, domains, earlier);
+    leave_out_passing(&second.report, &look->report);
+    if (second.status == FINDINGS && second.report.has_findings && findings_left(&second.report) == 0) second.status = 0;
+    free_look(look);
+    *look = second;
+}
+
+/* Whether colour is wished for: on a terminal, unless the environment says that it is not. */
+static int is_coloured(void) {
+    const char *without = getenv("NO_COLOR"), *terminal = getenv("TERM");
+    if (without != NULL && *without != '\0') return 0;
+    return isatty(STDOUT_FILENO) && terminal != NULL && strcmp(terminal, "dumb") != 0;
+}
+
+/* Has the lines of a look drawn; the status, which is the look's unless that fails. */
+static int draw_look(const struct look *look, const struct task *task) {
+    struct report drawing;
+    const struct piece lines = { look->lines, look->size };
+    int status = run_site_program(&task->site, AS_DRAWING, &lines, 1, &drawing);
+    if (drawing.size > 0) fwrite(drawing.text, 1, drawing.size, stdout);
+    free_report(&drawing);
+    return status > FINDINGS ? status : look->status;
+}
+
+/* Prints it; the status. */
+static int print_look(const struct look *look, const struct task *task) {
+    clear_progress();
+    if (task->site.is_drawn && look->status <= FINDINGS) return draw_look(look, task);
+    print_report_text(stdout, &look->report, is_coloured());
+    return look->status;
+}
+
+static int was_seen(const struct seen_clock *clock) {
+    for (size_t i = 0; i < count_before; i++) {
+        if (clocks_before[i].domain == clock->domain && memcmp(clocks_before[i].identity, clock->identity, 8) == 0) return 1;
+    }
+    return 0;
+}
+
+/* Prints which clocks came and which went since the look before. */
+static void print_clocks(const char *lead) {
+    char clock[IDENTITY_TEXT];
+    for (size_t i = 0; i < count_before; i++) {
+        if (is_seen(clocks_before[i].domain, clocks_before[i].identity)) continue;
+        write_identity(clock, clocks_before[i].identity);
+        printf("%s- %u %s answers no more\n", lead, clocks_before[i].domain, clock);
+    }
+    for (size_t i = 0; i < seen_count(); i++) {
+        if (was_seen(seen_clock(i))) continue;
+        write_identity(clock, seen_clock(i)->identity);
+        printf("%s+ %u %s answers\n", lead, seen_clock(i)->domain, clock);
+    }
+}
+
+static void keep_clocks(void) {
+    count_before = seen_count();
+    for (size_t i = 0; i < count_before; i++) clocks_before[i] = *seen_clock(i);
+}
+
+/* What is other than in the look before, each line after the time. */
+static void print_difference(const struct look *look, const struct look *earlier, const struct task *task) {
+    char lead[TIME_TEXT];
+    time_t now = time(NULL);
+    struct tm parts;
+    strftime(lead, sizeof lead, "%F %T ", localtime_r(&now, &parts));
+    clear_progress();
+    if (task->site.is_json) {
+        print_look(look, task);
+        return;
+    }
+    print_clocks(lead);
+    print_changes(stdout, lead, &look->report, &earlier->report, is_coloured());
+}
+
+/* Whether a look shows the site, which may have no clock by now; otherwise something failed, and that is said. */
+static int is_whole(const struct look *look) { return look->report.has_findings || look->status == NOT_ANSWERED; }
+
+/* Looks again and again, until the program is asked to end. */
+static int watch(struct look *earlier, const struct task *task, struct domains *domains) {
+    struct look look;
+    keep_clocks();
+    while (!stopped && fflush(stdout) == 0 && !ferror(stdout)) {
+        show_progress("%zu clocks; the next look comes %ld s after this one", count_before, task->site.watch / 1000);
+        listen_for_domains(domains, task, task->site.watch);
+        if (stopped) break;
+        look_twice(&look, task, domains, earlier);
+        if (stopped || !is_whole(&look)) {
+            free_look(&look);
+            continue;
+        }
+        print_difference(&look, earlier, task);
+        keep_clocks();
+        free_look(earlier);
+        *earlier = look;
+    }
+    return stopped ? BY_SIGNAL + stopped : NOT_WRITTEN;
+}
+
+int show_status(const struct task *task) {
+    static struct look look;
+    struct domains domains;
+    find_site_program();
+    widen_way();
+    find_domains(&domains, task);
+    look_twice(&look, task, &domains, NULL);
+    int status = stopped ? BY_SIGNAL + stopped : print_look(&look, task);
+    if (!stopped && task->site.watch > 0 && status != NOT_ASKED) status = watch(&look, task, &domains);
+    free_look(&look);
+    return status;
+}
