@@ -109,7 +109,7 @@ answers_more : (xs : List Answer) (i : ℕ) (a : Answer)
 unfolding answers_image
 answers_more xs i a is = flat_more answer_image xs i a is
 
-answers_within : (xs : List Answer) (i : ℕ) → length (answers_image (take i xs)) ≤ length (answers_image xs)
+pub answers_within : (xs : List Answer) (i : ℕ) → length (answers_image (take i xs)) ≤ length (answers_image xs)
 unfolding answers_image
 answers_within xs i = flat_within answer_image xs i
 
@@ -186,33 +186,29 @@ lent m i after x so inside next =
     }
 
 -- an entry by its parts
-pub entry_parts : (x : ManagerEntry) (front : List ℕ)
-    → front ≡ port_identity_octets x.manager ++ big_bytes 2 x.entry.number ++ request_front x.entry.request
-    → ((front ++ x.entry.request.octets) ++ length x.entry.reply.answers ∷ []) ++ answers_image x.entry.reply.answers
+pub entry_parts : (x : ManagerEntry) (q : RequestValue) (front : List ℕ)
+    → q ≡ x.entry.request
+    → front ≡ port_identity_octets x.manager ++ big_bytes 2 x.entry.number ++ request_front q
+    → ((front ++ q.octets) ++ length x.entry.reply.answers ∷ []) ++ answers_image x.entry.reply.answers
     ≡ entry_image (x.manager, x.entry)
 unfolding entry_image front_image request_image
-entry_parts x front is =
-    let q = x.entry.request in
+entry_parts x q front own is =
     let count : List ℕ = length x.entry.reply.answers ∷ [] in
-    let number : List ℕ = big_bytes 2 x.entry.number in
+    let who : List ℕ = port_identity_octets x.manager ++ big_bytes 2 x.entry.number in
     ap (λ f. ((f ++ q.octets) ++ count) ++ answers_image x.entry.reply.answers) is
-    ∙ ap (λ l. (l ++ count) ++ answers_image x.entry.reply.answers)
-    (append_assoc (port_identity_octets x.manager) (number ++ request_front q) q.octets
-    ∙ ap (λ l. port_identity_octets x.manager ++ l) (append_assoc number (request_front q) q.octets))
-    ∙ ap (λ l. l ++ answers_image x.entry.reply.answers)
-    (append_assoc (port_identity_octets x.manager) (number ++ (request_front q ++ q.octets)) count
-    ∙ ap (λ l. port_identity_octets x.manager ++ l) (append_assoc number (request_front q ++ q.octets) count))
+    ∙ ap (λ l. (l ++ count) ++ answers_image x.entry.reply.answers) (append_assoc who (request_front q) q.octets)
+    ∙ ap (λ r. ((who ++ (request_front r ++ r.octets)) ++ count) ++ answers_image x.entry.reply.answers) own
 
-pub entry_length : (x : ManagerEntry) (front : List ℕ)
-    → front ≡ port_identity_octets x.manager ++ big_bytes 2 x.entry.number ++ request_front x.entry.request
+pub entry_length : (x : ManagerEntry) (q : RequestValue) (front : List ℕ)
+    → q ≡ x.entry.request
+    → front ≡ port_identity_octets x.manager ++ big_bytes 2 x.entry.number ++ request_front q
     → length (entry_image (x.manager, x.entry))
-    ≡ length front + length x.entry.request.octets + 1 + length (answers_image x.entry.reply.answers)
-entry_length x front is =
-    let q = x.entry.request in
+    ≡ length front + length q.octets + 1 + length (answers_image x.entry.reply.answers)
+entry_length x q front own is =
     let count : List ℕ = length x.entry.reply.answers ∷ [] in
     omega (
       arith,
-      ap length (entry_parts x front is),
+      ap length (entry_parts x q front own is),
       length-append ((front ++ q.octets) ++ count) (answers_image x.entry.reply.answers),
       length-append (front ++ q.octets) count,
       length-append front q.octets,
@@ -222,14 +218,20 @@ front_length : (p : PortIdentity) (n : ℕ) (q : RequestValue) → length p.cloc
     → length (port_identity_octets p ++ big_bytes 2 n ++ request_front q) ≡ 19
 unfolding port_identity_octets
 front_length p n q eight =
-    omega (arith, length-append (p.clock.0 ++ big_bytes 2 p.port) (big_bytes 2 n ++ request_front q), length-append p.clock.0 (big_bytes 2 p.port), eight)
+    omega (
+      arith,
+      length-append ((p.clock.0 ++ big_bytes 2 p.port) ++ big_bytes 2 n) (request_front q),
+      length-append (p.clock.0 ++ big_bytes 2 p.port) (big_bytes 2 n),
+      length-append p.clock.0 (big_bytes 2 p.port),
+      eight,
+    )
 
 pub entry_small : (x : ManagerEntry) → IsKeepable x.entry → EntryFits x → length (entry_image (x.manager, x.entry)) ≤ 1678
 entry_small x keepable fits =
     let small : length x.entry.request.octets ≤ 1418 = keepable.octets.small in
     omega (
       arith,
-      entry_length x (port_identity_octets x.manager ++ big_bytes 2 x.entry.number ++ request_front x.entry.request) refl,
+      entry_length x x.entry.request (port_identity_octets x.manager ++ big_bytes 2 x.entry.number ++ request_front x.entry.request) refl refl,
       front_length x.manager x.entry.number x.entry.request fits.manager.clock,
       reply_small x.entry.request x.entry.reply keepable.fits,
       small,
@@ -263,8 +265,8 @@ sets_small d sized fits =
     let text : length d.description ≤ 128 = sized.text in
     omega (
       arith,
-      length-append (clock_members d) (length d.description ∷ d.description ++ length d.ports ∷ ports_image d.ports),
-      length-append d.description (length d.ports ∷ ports_image d.ports),
+      length-append (clock_members d ++ length d.description ∷ d.description) (length d.ports ∷ ports_image d.ports),
+      length-append (clock_members d) (length d.description ∷ d.description),
       clock_length d fits,
       ports_length d.ports,
       few,
@@ -273,14 +275,14 @@ sets_small d sized fits =
 
 parts : (s : State) (size : ℕ)
     → size ≡ length (clock_image s)
-    → image_head 1 (size - 12) ++ (data_sets_octets s.sets ++ length (entries s.entries) ∷ []) ++ entries_image (entries s.entries)
+    → image_head 1 (size - 12) ++ ((data_sets_octets s.sets ++ length (entries s.entries) ∷ []) ++ entries_image (entries s.entries))
     ≡ clock_image s
 unfolding saved_image body_image
 parts s size whole =
     let sets' : List ℕ = data_sets_octets s.sets in
     let es : List ℕ = entries_image (entries s.entries) in
     let left : size - 12 ≡ length (body_image (saved_of s)) = omega (arith, whole, image_length s, body_length s) in
-    ap (λ n. image_head 1 n ++ (sets' ++ length (entries s.entries) ∷ []) ++ es) left
+    ap (λ n. image_head 1 n ++ ((sets' ++ length (entries s.entries) ∷ []) ++ es)) left
     ∙ ap (λ x. image_head 1 (length (body_image (saved_of s))) ++ x) (append_assoc sets' (length (entries s.entries) ∷ []) es)
 
 -- what a place has room for: these octets of the data sets, one more, and these of the entries, or those of any entries
@@ -305,10 +307,10 @@ module _ (s : State) (d : DataSetsValue) (m : Entries) (of_sets : d ≡ s.sets) 
 
   -- the parts, one after the other
   pub put_together : (size n : ℕ) → size ≡ length (clock_image s) → n ≡ length (entries m)
-      → image_head 1 (size - 12) ++ (data_sets_octets d ++ n ∷ []) ++ entries_image (entries m) ≡ clock_image s
+      → image_head 1 (size - 12) ++ ((data_sets_octets d ++ n ∷ []) ++ entries_image (entries m)) ≡ clock_image s
   put_together size n whole count =
-      (λ i. image_head 1 (size - 12) ++ (data_sets_octets (of_sets i) ++ (count ∙ ap (λ e. length (entries e)) of_entries) i ∷ [])
-      ++ entries_image (entries (of_entries i)))
+      (λ i. image_head 1 (size - 12) ++ ((data_sets_octets (of_sets i) ++ (count ∙ ap (λ e. length (entries e)) of_entries) i ∷ [])
+      ++ entries_image (entries (of_entries i))))
       ∙ parts s size whole
 
 -- ---- nothing yet

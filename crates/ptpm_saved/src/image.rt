@@ -70,7 +70,13 @@ fn entry_size(entry: &LentEntry<'_>) -> usize
     ensures small { result ≤ ENTRY_OCTETS }
 {
     let request = entry.request();
-    front(entry, &request).len() + request.octets.len() + 1 + answers_size(entry)
+    front(entry, &request).len() + field_size(&request) + 1 + answers_size(entry)
+}
+
+fn field_size(request: &Request<'_>) -> usize
+    ensures { result ≡ length request.now.octets }
+{
+    request.octets.len()
 }
 
 fn answers_size(entry: &LentEntry<'_>) -> usize
@@ -221,7 +227,7 @@ fn write_entry(place: &mut [u8], at: usize, entry: &LentEntry<'_>) -> usize
 {
     let request = entry.request();
     let first = write(place, at, front(entry, &request).as_slice());
-    let second = write(place, first, request.octets);
+    let second = write_field(place, first, &request);
     let third = write(place, second, &[entry.answer_count() as u8]);
     write_answers(place, third, entry)
 }
@@ -246,6 +252,14 @@ fn front(entry: &LentEntry<'_>, request: &Request<'_>) -> Front
     put_u16(&mut front, request.port);
     put_u16(&mut front, request.octets.len() as u16);
     front
+}
+
+fn write_field(place: &mut [u8], at: usize, request: &Request<'_>) -> usize
+    requires { at + length request.now.octets ≤ length place.old }
+    ensures place { place.new ≡ over at request.now.octets place.old }
+    ensures end { result ≡ at + length request.now.octets }
+{
+    write(place, at, request.octets)
 }
 
 fn write_answers(place: &mut [u8], at: usize, entry: &LentEntry<'_>) -> usize

@@ -1,4 +1,4 @@
-use Rattle.std.proofs.Common.{◌≡◌, ◌+◌, ◌*◌, ◌<◌, ◌≤◌, ◌∙◌, ⊎_elim, Option, Some, ap, arith, length, refl, subst, sym, take}
+use Rattle.std.proofs.Common.{◌≡◌, ◌+◌, ◌*◌, ◌<◌, ◌≤◌, ◌⊎◌, ℕ, ◌∙◌, ⊎_elim, Option, Some, ap, arith, length, refl, subst, sym, take}
 use Rattle.std.proofs.lemmas.List.{take_all}
 use Rattle.std.specs.FinMap.{entries, len-entries}
 use Rattle.ptpm_codec.specs.declared.identity.PortIdentity.{PortIdentity}
@@ -9,6 +9,18 @@ use Rattle.ptpm_saved.proofs.EntryOrder.{none_next}
 use Rattle.ptpm_saved.proofs.ImageLemmas.{entry_small, lent, no_entries}
 use Rattle.ptpm_saved.proofs.WrittenLemmas.{over_none, over_on}
 use Rattle.ptpm_saved.proofs.image.write_entries.Goals as goal
+
+room_for_one : (at end i count len one all done : ℕ)
+    → i < count
+    → count ≤ 16
+    → one ≤ 1678
+    → end ≤ at + i * 1678
+    → end ≡ at + done
+    → done + one ≤ all
+    → (at + 16 * 1678 ≤ len) ⊎ (at + all ≤ len)
+    → end + one ≤ len
+room_for_one at end i count len one all done inside few small so_far ends fits =
+    ⊎_elim (λ (every : at + 16 * 1678 ≤ len). omega (arith, inside, few, small, so_far, every)) (λ (own : at + all ≤ len). omega (arith, ends, fits, own))
 
 pub loop-place-init : goal.loop-place-init
 loop-place-init g c = record {
@@ -30,13 +42,11 @@ write_entry-end-requires-clause-room g c =
     let x = c.in-Some.entry in
     let inside : c.loop-place._place < length (entries m) = omega (arith, c.loop-place-test.true, c.entry_count-place-end.ensures.count, len-entries m) in
     let l = lent m c.loop-place._place c.loop-place.after x c.loop-place.invariant.after inside c.in-Some.ensures.next in
-    let one = entry_small x c.in-Some.ensures.keepable c.in-Some.ensures.fits in
-    ⊎_elim
-    (λ (every : c.args.at + 16 * 1678 ≤ length c.args.place.now).
-    omega (arith, c.loop-place.invariant.small, one, every, c.loop-place-test.true, c.entry_count-place-end.ensures.few, c.loop-place.auto.place))
-    (λ (own : c.args.at + length (entries_image (entries m)) ≤ length c.args.place.now).
-    omega (arith, c.loop-place.invariant.end, l.room, own, c.loop-place.auto.place))
-    c.requires
+    let room = room_for_one c.args.at c.loop-place.end c.loop-place._place c.entry_count-place-end.result (length c.args.place.now)
+    (length (entry_image (x.manager, x.entry))) (length (entries_image (entries m))) (length (entries_image (take c.loop-place._place (entries m))))
+    (omega (arith, c.loop-place-test.true)) c.entry_count-place-end.ensures.few
+    (entry_small x c.in-Some.ensures.keepable c.in-Some.ensures.fits) c.loop-place.invariant.small c.loop-place.invariant.end l.room c.requires in
+    omega (arith, room, c.loop-place.auto.place)
 
 pub loop-place-preserved : goal.loop-place-preserved
 loop-place-preserved g c =
@@ -49,11 +59,14 @@ loop-place-preserved g c =
     let first = c.args.place.now in
     let inside : i < length (entries m) = omega (arith, c.loop-place-test.true, c.entry_count-place-end.ensures.count, len-entries m) in
     let l = lent m i c.loop-place.after x c.loop-place.invariant.after inside c.in-Some.ensures.next in
+    let room = room_for_one at c.loop-place.end i c.entry_count-place-end.result (length first) (length one) (length (entries_image (entries m)))
+    (length done) (omega (arith, c.loop-place-test.true)) c.entry_count-place-end.ensures.few
+    (entry_small x c.in-Some.ensures.keepable c.in-Some.ensures.fits) c.loop-place.invariant.small c.loop-place.invariant.end l.room c.requires in
     record {
       place =
           c.write_entry-end.ensures.place ∙ ap (over c.loop-place.end one) c.loop-place.invariant.place
           ∙ over_on at c.loop-place.end done one first c.loop-place.invariant.end
-          (omega (arith, c.write_entry-end.requires.room, c.loop-place.auto.place))
+          (omega (arith, room))
           ∙ ap (λ s. over at s first) (sym l.on);
       end = omega (arith, c.write_entry-end.ensures.end, c.loop-place.invariant.end, l.size);
       small = omega (
