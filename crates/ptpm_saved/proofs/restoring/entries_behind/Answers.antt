@@ -1,6 +1,4 @@
-use Rattle.std.proofs.Common.{◌∙◌, ap, length, sym}
-use Rattle.ptpm_data.specs.Image.{BeginsWithImage}
-use Rattle.ptpm_manager.specs.Image.{image_head}
+use Rattle.std.proofs.Common.{◌∙◌, length, sym}
 use Rattle.ptpm_saved.specs.Image.{entries_image}
 use Rattle.ptpm_saved.proofs.BodyLemmas.{back_is, body_is, nothing_behind, opened}
 use Rattle.ptpm_saved.proofs.ReadingLemmas.{same_heads, same_tails}

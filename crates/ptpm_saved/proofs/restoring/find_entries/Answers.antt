@@ -1,4 +1,4 @@
-use Rattle.std.proofs.Common.{refl, sym}
+use Rattle.std.proofs.Common.{refl}
 use Rattle.ptpm_saved.proofs.EntryOrder.{same_Some}
 use Rattle.ptpm_saved.proofs.restoring.find_entries.Goals as goal
 

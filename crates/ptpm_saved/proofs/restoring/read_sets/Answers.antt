@@ -1,4 +1,4 @@
-use Rattle.std.proofs.Common.{◌∙◌, ◌∷◌, ◌≡◌, arith, length, sym}
+use Rattle.std.proofs.Common.{◌∙◌, ◌∷◌, arith, length, sym}
 use Rattle.std.proofs.lemmas.Bool.{false≢true}
 use Rattle.ptpm_saved.specs.Image.{entries_image}
 use Rattle.ptpm_saved.proofs.BodyLemmas.{begins, begun, body_is, front_is, image_long}
