@@ -1,16 +1,16 @@
 -- The head of an image, its data sets and its entries, put together and taken apart.
-use Rattle.std.proofs.Common.{◌≡◌, ℕ, ◌%◌, ◌/◌, ◌≤◌, ◌||◌, false, arith, sym, ◌∙◌, ap, List, [], ◌∷◌, ◌++◌, length, take, drop, None, nat_lt, length-append}
+use Rattle.std.proofs.Common.{◌≡◌, ℕ, ◌%◌, ◌/◌, ◌≤◌, ◌||◌, false, arith, refl, sym, ◌∙◌, ap, List, [], ◌∷◌, ◌++◌, length, take, drop, Option, Some, None, IfSome, subst, nat_lt, length-append}
 use Rattle.std.proofs.lemmas.Bool.Decides.{nat_tests}
 use Rattle.std.proofs.lemmas.List.{take-append-drop}
 use Rattle.std.proofs.Math.Seq.{drop-append_seam, take-append_seam}
 use Rattle.ptpm_codec.specs.Ordered.{first_of}
-use Rattle.ptpm_data.specs.Image.{BeginsWithImage, data_sets_octets}
-use Rattle.ptpm_data.specs.Members.{DataSetsValue}
+use Rattle.ptpm_data.specs.Image.{BeginsWithImage, DataSetsFit, data_sets_octets}
+use Rattle.ptpm_data.specs.Members.{DataSetsValue, IsConsistent}
 use Rattle.ptpm_manager.specs.Image.{image_head, mark}
 use Rattle.ptpm_saved.specs.declared.error.RestoreError.{RestoreError}
 use Rattle.ptpm_saved.specs.declared.error.RestoreError.TheVariants as restores
 use Rattle.ptpm_saved.specs.Image.{SavedClock, body_image, entries_image, saved_image}
-use Rattle.ptpm_saved.specs.Restoring.{IsImageOf, IsRefusedByHead, head_refusal}
+use Rattle.ptpm_saved.specs.Restoring.{IsBegun, IsImageOf, IsOpened, IsRefusedByHead, head_refusal}
 use Rattle.ptpm_saved.proofs.EntryOrder.{Pair}
 use Rattle.ptpm_saved.proofs.ImageLemmas.{head_length}
 
@@ -116,3 +116,37 @@ whole_image image front body back tail sets es count size fronts bodies head fir
     sym (take-append-drop 12 image)
     ∙ (λ i. sym fronts i ++ sym bodies i)
     ∙ (λ i. (head ∙ head_wraps (length body) ∙ ap (λ b. image_head 1 (length b)) whole) i ++ whole i)
+
+-- data sets read behind a head that is right
+pub begun : (image front body : List ℕ) (read : Option DataSetsValue)
+    → 12 ≤ length image
+    → front ≡ take 12 image
+    → body ≡ drop 12 image
+    → front ≡ image_head 1 (length body % 4294967296)
+    → IfSome read (λ d. BeginsWithImage d body)
+    → IfSome read (λ d. IsBegun image d)
+begun image front body None long fronts bodies head first = tt
+begun image front body (Some d) long fronts bodies head first = record {
+  long = long;
+  head = sym fronts ∙ head ∙ ap (λ b. image_head 1 (length b % 4294967296)) bodies;
+  sets_first = subst (BeginsWithImage d) bodies first;
+}
+
+-- what stands behind the data sets
+pub opened : (image body back tail : List ℕ) (sets : DataSetsValue) (count size : ℕ)
+    → IsBegun image sets
+    → IsConsistent sets
+    → DataSetsFit sets
+    → body ≡ drop 12 image
+    → back ≡ drop size body
+    → size ≡ length (data_sets_octets sets)
+    → back ≡ count ∷ tail
+    → IsOpened image sets count tail
+opened image body back tail sets count size is consistent fits bodies backs sizes parts = record {
+  whole = λ es entries counts tails. record {
+    saved = record { consistent = consistent; fits = fits; entries = entries };
+    octets_are = whole_image image (take 12 image) body back tail sets es count size refl bodies
+        (is.head ∙ ap (λ b. image_head 1 (length b % 4294967296)) (sym bodies))
+        (subst (BeginsWithImage sets) (sym bodies) is.sets_first) backs sizes parts counts tails;
+  };
+}

@@ -1,21 +1,26 @@
 -- Images by their parts: one more entry, one more answer, and how many octets they have.
-use Rattle.std.proofs.Common.{suc, zero, arith, ◌≡◌, ℕ, ◌+◌, ◌*◌, ◌-◌, ◌<◌, ◌≤◌, Bool, true, false, refl, sym, ◌∙◌, ap, subst, List, [], ◌∷◌, ◌++◌, length, take, Option, Some, slice_get, All, append_assoc, append-nil, length-append}
+use Rattle.std.proofs.Common.{suc, zero, arith, ◌≡◌, ℕ, ◌+◌, ◌*◌, ◌-◌, ◌<◌, ◌≤◌, ◌⊎◌, inl, inr, ⊎_elim, Bool, true, false, refl, sym, ◌∙◌, ap, subst, List, [], ◌∷◌, ◌++◌, length, take, Option, Some, slice_get, All, append_assoc, append-nil, length-append}
 use Rattle.std.specs.List.{flat_map}
 use Rattle.std.specs.FinMap.{entries}
 use Rattle.std.proofs.lemmas.Option.{get_or_from_slice_get, slice_get_within}
 use Rattle.std.proofs.lemmas.List.Elements.{All-head, All-tail}
 use Rattle.ptpm_codec.specs.declared.message.Action.{Action}
-use Rattle.ptpm_data.specs.Image.{data_sets_octets}
+use Rattle.byteorder.specs.Endian.{big_bytes}
+use Rattle.ptpm_codec.specs.Canonical.{port_identity_octets}
+use Rattle.ptpm_data.specs.Image.{DataSetsFit, clock_image as clock_members, data_sets_octets, ports_image}
+use Rattle.ptpm_data.specs.Members.{DataSetsValue}
+use Rattle.ptpm_data.specs.RequestLaws.{IsSized}
+use Rattle.ptpm_data.proofs.ImageLemmas.{clock_length, ports_length}
 use Rattle.ptpm_data.specs.Reply as reply
 use Rattle.ptpm_data.specs.Reply.{Answer, Outcome, ReplyValue}
 use Rattle.ptpm_data.specs.Request.{RequestValue}
 use Rattle.ptpm_data.specs.ManagementId.{is_of_port}
 use Rattle.ptpm_agent.specs.Turn.{State}
-use Rattle.ptpm_manager.specs.Image.{image_head}
+use Rattle.ptpm_manager.specs.Image.{image_head, request_front, request_image}
 use Rattle.ptpm_table.specs.Entries.{Entries, Entry, FitsAnswer, FitsCount, FitsOutcome, FitsRequest}
-use Rattle.ptpm_table.specs.Lending.{IsNext, ManagerEntry}
+use Rattle.ptpm_table.specs.Lending.{EntryFits, IsKeepable, IsNext, ManagerEntry}
 use Rattle.ptpm_codec.specs.declared.identity.PortIdentity.{PortIdentity}
-use Rattle.ptpm_saved.specs.Image.{answer_image, answers_image, body_image, clock_image, entries_image, entry_image, outcome_image, port_octets, saved_image, saved_of}
+use Rattle.ptpm_saved.specs.Image.{answer_image, answers_image, body_image, clock_image, entries_image, entry_image, front_image, outcome_image, port_octets, saved_image, saved_of}
 use Rattle.ptpm_saved.proofs.EntryOrder.{after_at, after_next, next_is}
 
 -- ---- one after the other
@@ -104,7 +109,7 @@ answers_more : (xs : List Answer) (i : ℕ) (a : Answer)
 unfolding answers_image
 answers_more xs i a is = flat_more answer_image xs i a is
 
-answers_within : (xs : List Answer) (i : ℕ) → length (answers_image (take i xs)) ≤ length (answers_image xs)
+pub answers_within : (xs : List Answer) (i : ℕ) → length (answers_image (take i xs)) ≤ length (answers_image xs)
 unfolding answers_image
 answers_within xs i = flat_within answer_image xs i
 
@@ -116,31 +121,25 @@ answer_at q r i a fits is =
     subst (FitsAnswer (is_of_port q.id) q.action) (get_or_from_slice_get r.answers i a a is)
     (fits.answers i a (slice_get_within r.answers i a is))
 
-pub room_for : (q : RequestValue) (r : ReplyValue) (i : ℕ) (a : Answer) (front items : List ℕ)
-    → FitsRequest q r
-    → slice_get r.answers i ≡ Some a
-    → items ≡ front ++ answers_image (take i r.answers)
-    → length front ≤ 1438
-    → length items + length (answer_image a) ≤ 1678
-room_for q r i a front items fits is so_far small =
-    omega (
-      arith,
-      ap length so_far,
-      length-append front (answers_image (take i r.answers)),
-      ap length (answers_more r.answers i a is),
-      length-append (answers_image (take i r.answers)) (answer_image a),
-      answers_within r.answers (suc i),
-      answers_small (is_of_port q.id) q.action r.answers fits.count fits.answers,
-    )
+pub reply_small : (q : RequestValue) (r : ReplyValue) → FitsRequest q r → length (answers_image r.answers) ≤ 240
+reply_small q r fits = answers_small (is_of_port q.id) q.action r.answers fits.count fits.answers
 
-pub answers_on : (xs : List Answer) (i : ℕ) (a : Answer) (front items items' : List ℕ)
-    → slice_get xs i ≡ Some a
-    → items ≡ front ++ answers_image (take i xs)
-    → items' ≡ items ++ answer_image a
-    → items' ≡ front ++ answers_image (take (i + 1) xs)
-answers_on xs i a front items items' is so_far now =
-    now ∙ ap (λ s. s ++ answer_image a) so_far ∙ append_assoc front (answers_image (take i xs)) (answer_image a)
-    ∙ ap (λ s. front ++ s) (sym (answers_more xs i a is) ∙ ap (λ n. answers_image (take n xs)) (sym (next_place i)))
+-- where an answer was lent, at this place
+pub record IsGiven (xs : List Answer) (i : ℕ) (a : Answer) : Type 0 where
+  pub on : answers_image (take (i + 1) xs) ≡ answers_image (take i xs) ++ answer_image a
+  pub size : length (answers_image (take (i + 1) xs)) ≡ length (answers_image (take i xs)) + length (answer_image a)
+  pub room : length (answers_image (take i xs)) + length (answer_image a) ≤ length (answers_image xs)
+
+pub given : (xs : List Answer) (i : ℕ) (a : Answer) → slice_get xs i ≡ Some a → IsGiven xs i a
+given xs i a is =
+    let on = answers_more xs i a is in
+    let next : answers_image (take (i + 1) xs) ≡ answers_image (take i xs) ++ answer_image a =
+    ap (λ n. answers_image (take n xs)) (next_place i) ∙ on in
+    record {
+      on = next;
+      size = ap length next ∙ length-append (answers_image (take i xs)) (answer_image a);
+      room = omega (arith, ap length on, length-append (answers_image (take i xs)) (answer_image a), answers_within xs (suc i));
+    }
 
 -- ---- entries
 
@@ -158,6 +157,8 @@ entries_within es i = flat_within entry_image es i
 pub record IsLent (m : Entries) (i : ℕ) (x : ManagerEntry) : Type 0 where
   pub there : slice_get (entries m) i ≡ Some (x.manager, x.entry)
   pub on : entries_image (take (i + 1) (entries m)) ≡ entries_image (take i (entries m)) ++ entry_image (x.manager, x.entry)
+  pub size : length (entries_image (take (i + 1) (entries m)))
+      ≡ length (entries_image (take i (entries m))) + length (entry_image (x.manager, x.entry))
   pub after : Some x.manager ≡ after_at (entries m) (i + 1)
   pub room : length (entries_image (take i (entries m))) + length (entry_image (x.manager, x.entry)) ≤ length (entries_image (entries m))
 
@@ -169,9 +170,12 @@ pub lent : (m : Entries) (i : ℕ) (after : Option PortIdentity) (x : ManagerEnt
 lent m i after x so inside next =
     let there = next_is m i x inside (subst (λ o. IsNext m o x) so next) in
     let on = entries_more (entries m) i (x.manager, x.entry) there in
+    let next : entries_image (take (i + 1) (entries m)) ≡ entries_image (take i (entries m)) ++ entry_image (x.manager, x.entry) =
+    ap (λ n. entries_image (take n (entries m))) (next_place i) ∙ on in
     record {
       there = there;
-      on = ap (λ n. entries_image (take n (entries m))) (next_place i) ∙ on;
+      on = next;
+      size = ap length next ∙ length-append (entries_image (take i (entries m))) (entry_image (x.manager, x.entry));
       after = after_next (entries m) i (x.manager, x.entry) there ∙ ap (after_at (entries m)) (sym (next_place i));
       room = omega (
         arith,
@@ -180,6 +184,58 @@ lent m i after x so inside next =
         entries_within (entries m) (suc i),
       );
     }
+
+-- an entry by its parts
+pub entry_parts : (x : ManagerEntry) (q : RequestValue) (front : List ℕ)
+    → q ≡ x.entry.request
+    → front ≡ port_identity_octets x.manager ++ big_bytes 2 x.entry.number ++ request_front q
+    → ((front ++ q.octets) ++ length x.entry.reply.answers ∷ []) ++ answers_image x.entry.reply.answers
+    ≡ entry_image (x.manager, x.entry)
+unfolding entry_image front_image request_image
+entry_parts x q front own is =
+    let count : List ℕ = length x.entry.reply.answers ∷ [] in
+    let who : List ℕ = port_identity_octets x.manager ++ big_bytes 2 x.entry.number in
+    ap (λ f. ((f ++ q.octets) ++ count) ++ answers_image x.entry.reply.answers) is
+    ∙ ap (λ l. (l ++ count) ++ answers_image x.entry.reply.answers) (append_assoc who (request_front q) q.octets)
+    ∙ ap (λ r. ((who ++ (request_front r ++ r.octets)) ++ count) ++ answers_image x.entry.reply.answers) own
+
+pub entry_length : (x : ManagerEntry) (q : RequestValue) (front : List ℕ)
+    → q ≡ x.entry.request
+    → front ≡ port_identity_octets x.manager ++ big_bytes 2 x.entry.number ++ request_front q
+    → length (entry_image (x.manager, x.entry))
+    ≡ length front + length q.octets + 1 + length (answers_image x.entry.reply.answers)
+entry_length x q front own is =
+    let count : List ℕ = length x.entry.reply.answers ∷ [] in
+    omega (
+      arith,
+      ap length (entry_parts x q front own is),
+      length-append ((front ++ q.octets) ++ count) (answers_image x.entry.reply.answers),
+      length-append (front ++ q.octets) count,
+      length-append front q.octets,
+    )
+
+front_length : (p : PortIdentity) (n : ℕ) (q : RequestValue) → length p.clock.0 ≡ 8
+    → length (port_identity_octets p ++ big_bytes 2 n ++ request_front q) ≡ 19
+unfolding port_identity_octets
+front_length p n q eight =
+    omega (
+      arith,
+      length-append ((p.clock.0 ++ big_bytes 2 p.port) ++ big_bytes 2 n) (request_front q),
+      length-append (p.clock.0 ++ big_bytes 2 p.port) (big_bytes 2 n),
+      length-append p.clock.0 (big_bytes 2 p.port),
+      eight,
+    )
+
+pub entry_small : (x : ManagerEntry) → IsKeepable x.entry → EntryFits x → length (entry_image (x.manager, x.entry)) ≤ 1678
+entry_small x keepable fits =
+    let small : length x.entry.request.octets ≤ 1418 = keepable.octets.small in
+    omega (
+      arith,
+      entry_length x x.entry.request (port_identity_octets x.manager ++ big_bytes 2 x.entry.number ++ request_front x.entry.request) refl refl,
+      front_length x.manager x.entry.number x.entry.request fits.manager.clock,
+      reply_small x.entry.request x.entry.reply keepable.fits,
+      small,
+    )
 
 -- ---- the whole
 
@@ -202,36 +258,67 @@ image_length s =
       body_length s,
     )
 
--- the parts, one after the other
-pub put_together : (s : State) (size n : ℕ) (a b c d : List ℕ)
+pub sets_small : (d : DataSetsValue) → IsSized d → DataSetsFit d → length (data_sets_octets d) ≤ 324
+unfolding data_sets_octets
+sets_small d sized fits =
+    let few : length d.ports ≤ 8 = sized.at_most_eight in
+    let text : length d.description ≤ 128 = sized.text in
+    omega (
+      arith,
+      length-append (clock_members d ++ length d.description ∷ d.description) (length d.ports ∷ ports_image d.ports),
+      length-append (clock_members d) (length d.description ∷ d.description),
+      clock_length d fits,
+      ports_length d.ports,
+      few,
+      text,
+    )
+
+parts : (s : State) (size : ℕ)
     → size ≡ length (clock_image s)
-    → n ≡ length (entries s.entries)
-    → a ≡ image_head 1 (size - 12)
-    → b ≡ a ++ data_sets_octets s.sets
-    → c ≡ b ++ n ∷ []
-    → d ≡ c ++ entries_image (entries s.entries)
-    → d ≡ clock_image s
+    → image_head 1 (size - 12) ++ ((data_sets_octets s.sets ++ length (entries s.entries) ∷ []) ++ entries_image (entries s.entries))
+    ≡ clock_image s
 unfolding saved_image body_image
-put_together s size n a b c d whole count head sets counted all =
+parts s size whole =
     let sets' : List ℕ = data_sets_octets s.sets in
     let es : List ℕ = entries_image (entries s.entries) in
     let left : size - 12 ≡ length (body_image (saved_of s)) = omega (arith, whole, image_length s, body_length s) in
-    all
-    ∙ ap (λ x. x ++ es) (counted ∙ ap (λ x. x ++ n ∷ []) (sets ∙ ap (λ x. x ++ sets') (head ∙ ap (image_head 1) left)))
-    ∙ ap (λ k. ((image_head 1 (length (body_image (saved_of s))) ++ sets') ++ k ∷ []) ++ es) count
-    ∙ append_assoc (image_head 1 (length (body_image (saved_of s))) ++ sets') (length (entries s.entries) ∷ []) es
-    ∙ append_assoc (image_head 1 (length (body_image (saved_of s)))) sets' (length (entries s.entries) ∷ es)
+    ap (λ n. image_head 1 n ++ ((sets' ++ length (entries s.entries) ∷ []) ++ es)) left
+    ∙ ap (λ x. image_head 1 (length (body_image (saved_of s))) ++ x) (append_assoc sets' (length (entries s.entries) ∷ []) es)
+
+-- what a place has room for: these octets of the data sets, one more, and these of the entries, or those of any entries
+pub record HasRoomFor (sets entries : List ℕ) (len : ℕ) : Type 0 where
+  pub before : 12 + length sets + 1 ≤ len
+  pub behind : (12 + length sets + 1 + 16 * 1678 ≤ len) ⊎ (12 + length sets + 1 + length entries ≤ len)
+
+-- so has one that has room for every clock, or for this one
+module _ (s : State) (d : DataSetsValue) (m : Entries) (of_sets : d ≡ s.sets) (of_entries : m ≡ s.entries) where
+  pub size_is : length (clock_image s) ≡ 12 + length (data_sets_octets d) + 1 + length (entries_image (entries m))
+  size_is =
+      image_length s
+      ∙ (λ i. 12 + length (data_sets_octets (sym of_sets i)) + 1 + length (entries_image (entries (sym of_entries i))))
+
+  pub has_room : (len : ℕ) → IsSized d → DataSetsFit d → (27185 ≤ len) ⊎ (length (clock_image s) ≤ len)
+      → HasRoomFor (data_sets_octets d) (entries_image (entries m)) len
+  has_room len sized fits =
+      let small = sets_small d sized fits in
+      ⊎_elim
+      (λ (every : 27185 ≤ len). record { before = omega (arith, every, small); behind = inl (omega (arith, every, small)) })
+      (λ (own : length (clock_image s) ≤ len). record { before = omega (arith, own, size_is); behind = inr (omega (arith, own, size_is)) })
+
+  -- the parts, one after the other
+  pub put_together : (size n : ℕ) → size ≡ length (clock_image s) → n ≡ length (entries m)
+      → image_head 1 (size - 12) ++ ((data_sets_octets d ++ n ∷ []) ++ entries_image (entries m)) ≡ clock_image s
+  put_together size n whole count =
+      (λ i. image_head 1 (size - 12) ++ ((data_sets_octets (of_sets i) ++ (count ∙ ap (λ e. length (entries e)) of_entries) i ∷ [])
+      ++ entries_image (entries (of_entries i))))
+      ∙ parts s size whole
 
 -- ---- nothing yet
 
-pub no_answers : (front : List ℕ) → front ≡ front ++ answers_image []
+pub no_answers : answers_image [] ≡ []
 unfolding answers_image
-no_answers front = sym (append-nil front)
+no_answers = refl
 
-pub no_entries : (front : List ℕ) → front ≡ front ++ entries_image []
+pub no_entries : entries_image [] ≡ []
 unfolding entries_image
-no_entries front = sym (append-nil front)
-
-pub no_entries_length : length (entries_image []) ≡ 0
-unfolding entries_image
-no_entries_length = refl
+no_entries = refl

@@ -7,3 +7,4 @@ pub mod BodyLemmas
 pub mod SavingLaws
 pub mod SavingClockLaws
 pub mod SavingSessionLaws
+pub mod WrittenLemmas

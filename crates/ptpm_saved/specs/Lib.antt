@@ -5,3 +5,4 @@ pub mod Restoring
 pub mod Saving
 pub mod SavingClock
 pub mod SavingSession
+pub mod Written

@@ -1,13 +1,14 @@
 -- Which clock octets restore, over the table of a clock with these managers, and why they restore none (this project's profile).
-use Rattle.std.specs.Prelude.{◌≡◌, ◌≢◌, ℕ, ◌+◌, ◌==◌, ◌||◌, not, nat_lt, Bool, if◌then◌else◌, List, [], ◌∷◌, length, take, bytes_eq, Option, Some, None}
+use Rattle.std.specs.Prelude.{◌≡◌, ◌≢◌, ℕ, ◌+◌, ◌%◌, ◌≤◌, ◌==◌, ◌||◌, not, nat_lt, Bool, if◌then◌else◌, List, [], ◌∷◌, length, take, drop, bytes_eq, Option, Some, None}
 use Rattle.std.specs.FinMap as fin
 use Rattle.ptpm_codec.specs.declared.identity.ClockIdentity.{ClockIdentity}
 use Rattle.ptpm_codec.specs.declared.identity.PortIdentity.{PortIdentity}
 use Rattle.ptpm_codec.specs.Layout.{octet}
 use Rattle.ptpm_codec.specs.Ordered.{first_of}
+use Rattle.ptpm_data.specs.Image.{BeginsWithImage}
 use Rattle.ptpm_data.specs.Members.{DataSetsValue}
 use Rattle.ptpm_table.specs.Entries.{Entries, Entry, is_known}
-use Rattle.ptpm_manager.specs.Image.{image_version, mark}
+use Rattle.ptpm_manager.specs.Image.{image_head, image_version, mark}
 use Rattle.ptpm_saved.specs.declared.error.RestoreError.{RestoreError}
 use Rattle.ptpm_saved.specs.declared.error.RestoreError.TheVariants as restores
 use Rattle.ptpm_saved.specs.Image.{AreEntries, IsSaved, SavedClock, clock_kind, entries_image, saved_image}
@@ -18,6 +19,12 @@ pub record IsImageOf (c : SavedClock) (octets : List ℕ) : Type 0 where
   pub octets_are : octets ≡ saved_image c
 
 -- ---- an image, read as far as its data sets
+
+-- its head is right, and these data sets are behind it
+pub record IsBegun (image : List ℕ) (sets : DataSetsValue) : Type 0 where
+  pub long : 12 ≤ length image
+  pub head : take 12 image ≡ image_head clock_kind (length (drop 12 image) % 4294967296)
+  pub sets_first : BeginsWithImage sets (drop 12 image)
 
 -- with so many entries behind them it is the image of the clock of these data sets and these entries
 pub record IsOpened (image : List ℕ) (sets : DataSetsValue) (count : ℕ) (octets : List ℕ) : Type 0 where

@@ -1,33 +1,43 @@
 //! The image of a clock: the octets in which it outlasts its power (this project's profile).
 
-ghost use Rattle.std.specs.Prelude.{◌≡◌, ◌≤◌, ◌+◌, ◌*◌, ◌++◌, ◌↔◌, length, take, drop, IfSome, IfNone, IsSome};
+ghost use Rattle.std.specs.Prelude.{◌≡◌, ◌≤◌, ◌+◌, ◌*◌, ◌++◌, ◌↔◌, ◌⊎◌, ◌<◌, false, length, drop, IfSome, IfNone, IsSome, IsTrue};
 ghost use Rattle.std.specs.FinMap as fin;
 ghost use Rattle.arrayvec.specs.ArrayVec.{array_vec_len};
+ghost use Rattle.byteorder.specs.Endian.{big_bytes};
+ghost use Rattle.ptpm_codec.specs.Canonical.{port_identity_octets};
 ghost use Rattle.ptpm_agent.specs.Agent.{state_of};
 ghost use Rattle.ptpm_data.specs.Image.{data_sets_octets};
-ghost use Rattle.ptpm_manager.specs.Image.{image_head, request_image};
+ghost use Rattle.ptpm_manager.specs.Image.{image_head, request_front};
 ghost use Rattle.ptpm_codec.specs.Message.{IsDataField};
 ghost use Rattle.ptpm_table.specs.Lending.{IsKeepable, lent_answer, lent_outcome};
-ghost use Rattle.ptpm_saved.specs.Image.{answer_image, answers_image, clock_image, entries_image, entry_image, front_image, outcome_image, port_octets};
+ghost use Rattle.ptpm_saved.specs.Image.{answer_image, answers_image, clock_image, entries_image, entry_image, outcome_image, port_octets};
+ghost use Rattle.ptpm_saved.specs.Written.{over};
 
 use arrayvec::ArrayVec;
 use ptpm_agent::Agent;
 use ptpm_codec::{DATA_FIELD_OCTETS, put, put_u16};
-use ptpm_data::{DATA_SETS_OCTETS, DataSets, Request};
+use ptpm_data::{DATA_SETS_OCTETS, DataSets, Request, data_sets_law, fits_law};
 use ptpm_table::{LendingTable, LentAnswer, LentEntry, LentWhat};
 
 /// How many octets an image has before the clock.
 pub(crate) const HEAD_OCTETS: usize = 12;
 
-/// How many octets the image of an entry has at most: 20, the request's dataField, and eight answers of 30.
-const ENTRY_OCTETS: usize = 20 + DATA_FIELD_OCTETS + 240;
+/// How many octets the image of an entry has before the request's dataField.
+const FRONT_OCTETS: usize = 19;
+
+/// How many octets the images of a reply's answers have at most: eight of 30.
+const ANSWERS_OCTETS: usize = 240;
+
+/// How many octets the image of an entry has at most: those before the dataField, the dataField, one that counts the answers, and
+/// the answers.
+const ENTRY_OCTETS: usize = FRONT_OCTETS + DATA_FIELD_OCTETS + 1 + ANSWERS_OCTETS;
 
 /// How many octets the image of a clock has at most: 12 of the head, those of the data sets, one that counts the entries, and
 /// sixteen entries.
 pub const CLOCK_OCTETS: usize = HEAD_OCTETS + DATA_SETS_OCTETS + 1 + 16 * ENTRY_OCTETS;
 
-/// Room for the image of an entry.
-type EntryImage = ArrayVec<u8, ENTRY_OCTETS>;
+/// Room for what stands before the dataField.
+type Front = ArrayVec<u8, FRONT_OCTETS>;
 
 /// How many octets a clock's image has.
 pub fn image_size<T: LendingTable + Drop>(agent: &Agent<T>) -> usize
@@ -59,13 +69,61 @@ fn entry_size(entry: &LentEntry<'_>) -> usize
     ensures size { result ≡ length (entry_image (entry.now.manager, entry.now.entry)) }
     ensures small { result ≤ ENTRY_OCTETS }
 {
-    let mut image = ArrayVec::new();
-    put_entry(&mut image, entry);
-    image.len()
+    let request = entry.request();
+    front(entry, &request).len() + field_size(&request) + 1 + answers_size(entry)
+}
+
+fn field_size(request: &Request<'_>) -> usize
+    ensures { result ≡ length request.now.octets }
+{
+    request.octets.len()
+}
+
+fn answers_size(entry: &LentEntry<'_>) -> usize
+    requires { IsKeepable entry.now.entry }
+    ensures size { result ≡ length (answers_image entry.now.entry.reply.answers) }
+    ensures small { result ≤ ANSWERS_OCTETS }
+{
+    let mut size = 0;
+    for place in 0..entry.answer_count() {
+        size += answer_size(&entry.answer(place));
+    }
+    size
+}
+
+#[tactic(auto, unfolding(crate::specs::Image::answer_image))]
+fn answer_size(answer: &LentAnswer<'_>) -> usize
+    requires { length (outcome_image (lent_outcome answer.now.what)) ≤ 132 }
+    ensures { result ≡ length (answer_image (lent_answer answer.now)) }
+{
+    port_size(answer.port) + outcome_size(&answer.what)
+}
+
+fn port_size(port: Option<u16>) -> usize
+    ensures size { result ≡ length (port_octets port) }
+    ensures small { result ≤ 2 }
+{
+    match port {
+        None => 0,
+        Some(_) => 2,
+    }
+}
+
+fn outcome_size(what: &LentWhat<'_>) -> usize
+    requires { length (outcome_image (lent_outcome what.now)) ≤ 132 }
+    ensures { result ≡ length (outcome_image (lent_outcome what.now)) }
+{
+    match what {
+        LentWhat::Value(octets) => 2 + octets.len(),
+        LentWhat::Done => 1,
+        LentWhat::Refused(_) => 3,
+    }
 }
 
 /// Writes a clock's image over the first octets of a place, and answers how many there are: 104 to 27,185. The others stay.
-/// `None`, and nothing is written, where the place has too few. Takes no memory.
+/// `None`, and nothing is written, where the place has too few. Where it has room for every clock, the entries are gone through
+/// once; otherwise once more before, for their sizes. Takes no memory.
+#[tactic(auto, unfolding(crate::specs::Written::over))]
 pub fn image_into<T: LendingTable + Drop>(agent: &Agent<T>, place: &mut [u8]) -> Option<usize>
     ensures room { IsSome result
         ↔ (length (clock_image (state_of T.entries agent.now)) ≤ length place.old) }
@@ -75,82 +133,189 @@ pub fn image_into<T: LendingTable + Drop>(agent: &Agent<T>, place: &mut [u8]) ->
         (λ size. place.new ≡ clock_image (state_of T.entries agent.now) ++ drop size place.old) }
     ensures unchanged { IfNone result (place.new ≡ place.old) }
 {
-    let size = image_size(agent);
-    if place.len() < size {
+    if !has_room(agent, place.len()) {
         return None;
     }
-    write_image(agent, &mut place[..size]);
-    Some(size)
+    Some(write_image(agent, place))
 }
 
-/// Writes the image over as many octets.
-fn write_image<T: LendingTable + Drop>(agent: &Agent<T>, image: &mut [u8])
-    requires size { length image.old ≡ length (clock_image (state_of T.entries agent.now)) }
-    requires small { length image.old ≤ CLOCK_OCTETS }
-    ensures { image.new ≡ clock_image (state_of T.entries agent.now) }
+/// Whether so many octets are room for a clock's image. Nothing is counted where they are room for that of every clock.
+fn has_room<T: LendingTable + Drop>(agent: &Agent<T>, room: usize) -> bool
+    ensures room { IsTrue result → (CLOCK_OCTETS ≤ room)
+        ⊎ (length (clock_image (state_of T.entries agent.now)) ≤ room) }
+    ensures none { result ≡ false
+        → room < length (clock_image (state_of T.entries agent.now)) }
 {
+    if CLOCK_OCTETS <= room {
+        return true;
+    }
+    image_size(agent) <= room
+}
+
+/// Writes the image over the first octets of a place, and answers how many there are. The head comes last, since it says how many
+/// follow it.
+fn write_image<T: LendingTable + Drop>(agent: &Agent<T>, place: &mut [u8]) -> usize
+    requires { (CLOCK_OCTETS ≤ length place.old)
+        ⊎ (length (clock_image (state_of T.entries agent.now)) ≤ length place.old) }
+    ensures size { result ≡ length (clock_image (state_of T.entries agent.now)) }
+    ensures room { result ≤ length place.old }
+    ensures place { place.new ≡ over 0 (clock_image (state_of T.entries agent.now)) place.old }
+{
+    let sets = agent.sets();
+    data_sets_law(sets);
+    fits_law(sets);
     let table = agent.table();
-    let head = head(image.len() - HEAD_OCTETS);
-    let filled = append(image, 0, &head);
-    let filled = append_sets(image, filled, agent.sets());
-    let filled = append(image, filled, &[table.entry_count() as u8]);
-    append_entries(image, filled, table);
-}
-
-/// Writes octets behind those that are filled, and answers how many are filled then.
-fn append(image: &mut [u8], filled: usize, octets: &[u8]) -> usize
-    requires { filled + length octets.now ≤ length image.old }
-    ensures octets { take result image.new ≡ take filled image.old ++ octets.now }
-    ensures filled { result ≡ filled + length octets.now }
-{
-    let end = filled + octets.len();
-    image[filled..end].copy_from_slice(octets);
+    let end = write_sets(place, HEAD_OCTETS, sets);
+    let end = write(place, end, &[table.entry_count() as u8]);
+    let end = write_entries(place, end, table);
+    write(place, 0, &head(end - HEAD_OCTETS));
     end
 }
 
-fn append_sets(image: &mut [u8], filled: usize, sets: &DataSets) -> usize
-    requires { filled + length (data_sets_octets sets.now) ≤ length image.old }
-    ensures octets { take result image.new ≡ take filled image.old ++ data_sets_octets sets.now }
-    ensures filled { result ≡ filled + length (data_sets_octets sets.now) }
+/// Writes octets over those of a place, from the one at `at` on, and answers where they end.
+#[tactic(auto, unfolding(crate::specs::Written::over))]
+#[inline(always)]
+fn write(place: &mut [u8], at: usize, octets: &[u8]) -> usize
+    requires { at + length octets.now ≤ length place.old }
+    ensures place { place.new ≡ over at octets.now place.old }
+    ensures end { result ≡ at + length octets.now }
 {
-    let mut octets = [0; DATA_SETS_OCTETS];
-    let size = sets.image_size();
-    let _ = sets.image_into(&mut octets);
-    append(image, filled, &octets[..size])
+    let end = at + octets.len();
+    place[at..end].copy_from_slice(octets);
+    end
 }
 
-fn append_entries<T: LendingTable>(image: &mut [u8], filled: usize, table: &T) -> usize
-    requires { filled + length (entries_image (fin.entries (T.entries table.now)))
-        ≤ length image.old }
-    ensures octets { take result image.new
-        ≡ take filled image.old ++ entries_image (fin.entries (T.entries table.now)) }
-    ensures filled { result
-        ≡ filled + length (entries_image (fin.entries (T.entries table.now))) }
+#[tactic(auto, unfolding(crate::specs::Written::over), using(crate::proofs::WrittenLemmas::drop_twice))]
+fn write_sets(place: &mut [u8], at: usize, sets: &DataSets) -> usize
+    requires { at + length (data_sets_octets sets.now) ≤ length place.old }
+    ensures place { place.new ≡ over at (data_sets_octets sets.now) place.old }
+    ensures end { result ≡ at + length (data_sets_octets sets.now) }
 {
-    let mut end = filled;
+    let Some(size) = sets.image_into(&mut place[at..]) else {
+        unreachable!()
+    };
+    at + size
+}
+
+fn write_entries<T: LendingTable>(place: &mut [u8], at: usize, table: &T) -> usize
+    requires { (at + 16 * ENTRY_OCTETS ≤ length place.old)
+        ⊎ (at + length (entries_image (fin.entries (T.entries table.now))) ≤ length place.old) }
+    ensures place { place.new
+        ≡ over at (entries_image (fin.entries (T.entries table.now))) place.old }
+    ensures end { result ≡ at + length (entries_image (fin.entries (T.entries table.now))) }
+    ensures small { result ≤ at + 16 * ENTRY_OCTETS }
+{
+    let mut end = at;
     let mut after = None;
     for _place in 0..table.entry_count() {
         let Some(entry) = table.next_entry(after) else {
             unreachable!()
         };
-        end = append_entry(image, end, &entry);
+        end = write_entry(place, end, &entry);
         after = Some(entry.manager());
     }
     end
 }
 
-fn append_entry(image: &mut [u8], filled: usize, entry: &LentEntry<'_>) -> usize
+fn write_entry(place: &mut [u8], at: usize, entry: &LentEntry<'_>) -> usize
     requires keepable { IsKeepable entry.now.entry }
-    requires room { filled + length (entry_image (entry.now.manager, entry.now.entry))
-        ≤ length image.old }
-    ensures octets { take result image.new
-        ≡ take filled image.old ++ entry_image (entry.now.manager, entry.now.entry) }
-    ensures filled { result
-        ≡ filled + length (entry_image (entry.now.manager, entry.now.entry)) }
+    requires room { at + length (entry_image (entry.now.manager, entry.now.entry))
+        ≤ length place.old }
+    ensures place { place.new
+        ≡ over at (entry_image (entry.now.manager, entry.now.entry)) place.old }
+    ensures end { result ≡ at + length (entry_image (entry.now.manager, entry.now.entry)) }
 {
-    let mut octets = ArrayVec::new();
-    put_entry(&mut octets, entry);
-    append(image, filled, octets.as_slice())
+    let request = entry.request();
+    let first = write(place, at, front(entry, &request).as_slice());
+    let second = write_field(place, first, &request);
+    let third = write(place, second, &[entry.answer_count() as u8]);
+    write_answers(place, third, entry)
+}
+
+/// What stands in front of the dataField of an entry's request.
+#[tactic(auto, unfolding(ptpm_codec::specs::Canonical::port_identity_octets))]
+#[inline(always)]
+fn front(entry: &LentEntry<'_>, request: &Request<'_>) -> Front
+    requires { IsDataField request.now.octets }
+    ensures items { result.items
+        ≡ port_identity_octets entry.now.manager ++ big_bytes 2 entry.now.entry.number
+        ++ request_front request.now }
+    ensures len { array_vec_len result ≡ FRONT_OCTETS }
+{
+    let mut front = ArrayVec::new();
+    let manager = entry.manager();
+    put(&mut front, &manager.clock.0);
+    put_u16(&mut front, manager.port);
+    put_u16(&mut front, entry.number());
+    put(&mut front, &[request.action.code()]);
+    put_u16(&mut front, request.id);
+    put_u16(&mut front, request.port);
+    put_u16(&mut front, request.octets.len() as u16);
+    front
+}
+
+fn write_field(place: &mut [u8], at: usize, request: &Request<'_>) -> usize
+    requires { at + length request.now.octets ≤ length place.old }
+    ensures place { place.new ≡ over at request.now.octets place.old }
+    ensures end { result ≡ at + length request.now.octets }
+{
+    write(place, at, request.octets)
+}
+
+fn write_answers(place: &mut [u8], at: usize, entry: &LentEntry<'_>) -> usize
+    requires keepable { IsKeepable entry.now.entry }
+    requires room { at + length (answers_image entry.now.entry.reply.answers) ≤ length place.old }
+    ensures place { place.new ≡ over at (answers_image entry.now.entry.reply.answers) place.old }
+    ensures end { result ≡ at + length (answers_image entry.now.entry.reply.answers) }
+{
+    let mut end = at;
+    for index in 0..entry.answer_count() {
+        end = write_answer(place, end, &entry.answer(index));
+    }
+    end
+}
+
+#[tactic(auto, unfolding(crate::specs::Image::answer_image))]
+fn write_answer(place: &mut [u8], at: usize, answer: &LentAnswer<'_>) -> usize
+    requires room { at + length (answer_image (lent_answer answer.now)) ≤ length place.old }
+    requires small { length (outcome_image (lent_outcome answer.now.what)) ≤ 132 }
+    ensures place { place.new ≡ over at (answer_image (lent_answer answer.now)) place.old }
+    ensures end { result ≡ at + length (answer_image (lent_answer answer.now)) }
+{
+    let end = write_port(place, at, answer.port);
+    write_what(place, end, &answer.what)
+}
+
+#[tactic(auto, using(crate::proofs::WrittenLemmas::over_none))]
+fn write_port(place: &mut [u8], at: usize, port: Option<u16>) -> usize
+    requires { at + length (port_octets port) ≤ length place.old }
+    ensures place { place.new ≡ over at (port_octets port) place.old }
+    ensures end { result ≡ at + length (port_octets port) }
+{
+    match port {
+        None => at,
+        Some(port) => write(place, at, &port.to_be_bytes()),
+    }
+}
+
+#[tactic(auto, using(crate::proofs::WrittenLemmas::over_on))]
+fn write_what(place: &mut [u8], at: usize, what: &LentWhat<'_>) -> usize
+    requires room { at + length (outcome_image (lent_outcome what.now)) ≤ length place.old }
+    requires small { length (outcome_image (lent_outcome what.now)) ≤ 132 }
+    ensures place { place.new ≡ over at (outcome_image (lent_outcome what.now)) place.old }
+    ensures end { result ≡ at + length (outcome_image (lent_outcome what.now)) }
+{
+    match what {
+        LentWhat::Value(octets) => {
+            let end = write(place, at, &[0, octets.len() as u8]);
+            write(place, end, octets)
+        }
+        LentWhat::Done => write(place, at, &[1]),
+        LentWhat::Refused(error) => {
+            let [high, low] = error.number().to_be_bytes();
+            write(place, at, &[2, high, low])
+        }
+    }
 }
 
 /// The head of the image of a clock, before so many octets.
@@ -161,99 +326,4 @@ pub(crate) fn head(size: usize) -> [u8; HEAD_OCTETS]
 {
     let [a, b, c, d] = (size as u32).to_be_bytes();
     [b'p', b't', b'p', b'm', 1, 1, 0, 0, a, b, c, d]
-}
-
-#[tactic(auto, unfolding(crate::specs::Image::entry_image))]
-fn put_entry(image: &mut EntryImage, entry: &LentEntry<'_>)
-    requires empty { array_vec_len image.old ≡ 0 }
-    requires keepable { IsKeepable entry.now.entry }
-    ensures { image.new.items ≡ entry_image (entry.now.manager, entry.now.entry) }
-{
-    put_front(image, entry);
-    put_answers(image, entry);
-}
-
-/// What stands in front of the answers.
-#[tactic(auto, unfolding(crate::specs::Image::front_image, ptpm_codec::specs::Canonical::port_identity_octets))]
-fn put_front(image: &mut EntryImage, entry: &LentEntry<'_>)
-    requires empty { array_vec_len image.old ≡ 0 }
-    requires octets { IsDataField entry.now.entry.request.octets }
-    requires few { length entry.now.entry.reply.answers ≤ 8 }
-    ensures items { image.new.items ≡ front_image (entry.now.manager, entry.now.entry) }
-    ensures small { array_vec_len image.new ≤ 1438 }
-{
-    let manager = entry.manager();
-    put(image, &manager.clock.0);
-    put_u16(image, manager.port);
-    put_u16(image, entry.number());
-    put_request(image, &entry.request());
-    put(image, &[entry.answer_count() as u8]);
-}
-
-#[tactic(auto, unfolding(ptpm_manager::specs::Image::request_image))]
-fn put_request(image: &mut EntryImage, request: &Request<'_>)
-    requires room { array_vec_len image.old ≡ 12 }
-    requires octets { IsDataField request.now.octets }
-    ensures items { image.new.items ≡ image.old.items ++ request_image request.now }
-    ensures small { array_vec_len image.new ≤ 1437 }
-{
-    put(image, &[request.action.code()]);
-    put_u16(image, request.id);
-    put_u16(image, request.port);
-    put_u16(image, request.octets.len() as u16);
-    put(image, request.octets);
-}
-
-fn put_answers(image: &mut EntryImage, entry: &LentEntry<'_>)
-    requires room { array_vec_len image.old ≤ 1438 }
-    requires keepable { IsKeepable entry.now.entry }
-    ensures { image.new.items ≡ image.old.items ++ answers_image entry.now.entry.reply.answers }
-{
-    for place in 0..entry.answer_count() {
-        put_answer(image, &entry.answer(place));
-    }
-}
-
-#[tactic(auto, unfolding(crate::specs::Image::answer_image))]
-fn put_answer(image: &mut EntryImage, answer: &LentAnswer<'_>)
-    requires room { array_vec_len image.old + length (answer_image (lent_answer answer.now))
-        ≤ ENTRY_OCTETS }
-    requires small { length (outcome_image (lent_outcome answer.now.what)) ≤ 132 }
-    ensures items { image.new.items ≡ image.old.items ++ answer_image (lent_answer answer.now) }
-    ensures len { array_vec_len image.new
-        ≡ array_vec_len image.old + length (answer_image (lent_answer answer.now)) }
-{
-    put_port(image, answer.port);
-    put_what(image, &answer.what);
-}
-
-fn put_port(image: &mut EntryImage, port: Option<u16>)
-    requires { array_vec_len image.old + length (port_octets port) ≤ ENTRY_OCTETS }
-    ensures items { image.new.items ≡ image.old.items ++ port_octets port }
-    ensures len { array_vec_len image.new ≡ array_vec_len image.old + length (port_octets port) }
-{
-    if let Some(port) = port {
-        put_u16(image, port);
-    }
-}
-
-fn put_what(image: &mut EntryImage, what: &LentWhat<'_>)
-    requires room { array_vec_len image.old + length (outcome_image (lent_outcome what.now))
-        ≤ ENTRY_OCTETS }
-    requires small { length (outcome_image (lent_outcome what.now)) ≤ 132 }
-    ensures items { image.new.items ≡ image.old.items ++ outcome_image (lent_outcome what.now) }
-    ensures len { array_vec_len image.new
-        ≡ array_vec_len image.old + length (outcome_image (lent_outcome what.now)) }
-{
-    match what {
-        LentWhat::Value(octets) => {
-            put(image, &[0, octets.len() as u8]);
-            put(image, octets);
-        }
-        LentWhat::Done => put(image, &[1]),
-        LentWhat::Refused(error) => {
-            put(image, &[2]);
-            put_u16(image, error.number());
-        }
-    }
 }

@@ -1,6 +1,6 @@
 //! A clock back from its image (this project's profile).
 
-ghost use Rattle.std.specs.Prelude.{◌≡◌, ◌≤◌, ◌%◌, ◌↔◌, IfErr, IfOk, IfSome, IsOkAnd, IsSome, IsSomeAnd, IsTrue, List, MatchResult, None, true, if◌then◌else◌, length};
+ghost use Rattle.std.specs.Prelude.{◌≡◌, ◌≤◌, ◌%◌, ◌↔◌, IfErr, IfOk, IfSome, IsOkAnd, IsSome, IsSomeAnd, IsTrue, List, MatchResult, None, Some, true, if◌then◌else◌, length};
 ghost use Rattle.std.specs.FinMap as fin;
 ghost use Rattle.std.specs.List.{All};
 ghost use Rattle.std.specs.Ordering.{is_lt};
@@ -8,11 +8,12 @@ ghost use Rattle.ptpm_agent.specs.Agent.{state_of};
 ghost use Rattle.ptpm_agent.specs.Turn.{State};
 ghost use Rattle.ptpm_codec.specs.declared.identity.PortIdentity.{PortIdentity};
 ghost use Rattle.ptpm_codec.specs.Identity.{identity_cmp};
+ghost use Rattle.ptpm_data.specs.Members.{DataSetsValue};
 ghost use Rattle.ptpm_table.specs.Entries.{Entry, is_known};
 ghost use Rattle.ptpm_table.specs.Lending.{IsAfter, IsKeepable};
 ghost use Rattle.ptpm_manager.specs.Image.{image_head};
 ghost use Rattle.ptpm_saved.specs.Image.{AreEntries, IsSaved, SavedClock, clock_image, entries_image, saved_of};
-ghost use Rattle.ptpm_saved.specs.Restoring.{IsImageOf, IsOpened, IsRefused, IsRefusedByHead, IsRestored, OpensAs, head_refusal, kept_by};
+ghost use Rattle.ptpm_saved.specs.Restoring.{IsBegun, IsImageOf, IsOpened, IsRefused, IsRefusedByHead, IsRestored, OpensAs, head_refusal, kept_by};
 ghost use Rattle.ptpm_saved.specs.Reading.{entry_read};
 
 use crate::error::RestoreError;
@@ -27,13 +28,12 @@ use std::cmp::Ordering;
 /// How many entries a clock has at most, one for each manager.
 const ENTRIES: u8 = 16;
 
-/// An image, read as far as its data sets.
+/// The entries of an image, as its octets say before they are read.
 #[derive(Drop)]
-struct Opened<'a> {
-    sets: DataSets,
-    /// How many entries it says that it has, and the octets behind.
+struct SavedEntries<'a> {
+    /// How many there are.
     count: u8,
-    entries: &'a [u8],
+    octets: &'a [u8],
 }
 
 /// The clock whose image this is, over a table without entries, of a clock of so many ports; and how many entries were let go,
@@ -110,8 +110,8 @@ pub fn put_back<T: SureTable + Drop>(image: &[u8], agent: &mut Agent<T>) -> Opti
     ensures sets { agent.new.sets ≡ agent.old.sets }
     ensures owner { T.owner agent.new.table ≡ T.owner agent.old.table }
 {
-    let opened = open(image)?;
-    let gone = read_entries(opened.count, opened.entries, agent)?;
+    let entries = find_entries(image)?;
+    let gone = read_entries(entries.count, entries.octets, agent)?;
     Some(gone)
 }
 
@@ -143,34 +143,46 @@ fn read_body(image: &[u8]) -> Option<DataSets>
     ensures found { (c : SavedClock) → IsImageOf c image.now
         → IsSomeAnd result (λ sets. sets ≡ c.sets) }
 {
-    let opened = open(image)?;
-    judge_entries(&opened)?;
-    Some(opened.sets)
+    let sets = read_sets(image)?;
+    let entries = entries_behind(&sets, image)?;
+    judge_entries(&sets, &entries)?;
+    Some(sets)
 }
 
-/// How many entries an image has that stand where its data sets end, and nothing else; they are read, and none is kept. `None` of other
-/// octets. Never inlined.
+/// How many entries stand where an image has its entries, and nothing else; they are read, and none is kept, by a clock of these
+/// data sets. `None` of other octets. Never inlined.
 #[inline(never)]
-fn judge_entries(opened: &Opened<'_>) -> Option<u8>
+fn judge_entries(sets: &DataSets, entries: &SavedEntries<'_>) -> Option<u8>
     ensures sound { IfSome result
         (λ _. (es : List (PortIdentity × Entry)) × AreEntries es
-        × (length es ≡ opened.now.count) × (opened.now.entries.now ≡ entries_image es)) }
+        × (length es ≡ entries.now.count) × (entries.now.octets.now ≡ entries_image es)) }
     ensures found { (es : List (PortIdentity × Entry)) → AreEntries es
-        → length es ≡ opened.now.count → opened.now.entries.now ≡ entries_image es
+        → length es ≡ entries.now.count → entries.now.octets.now ≡ entries_image es
         → IsSome result }
 {
-    let mut nobody: Agent<SlotTable<0>> = Agent::without_managers(opened.sets.copy());
-    let gone = read_entries(opened.count, opened.entries, &mut nobody)?;
+    let mut nobody: Agent<SlotTable<0>> = Agent::without_managers(sets.copy());
+    let gone = read_entries(entries.count, entries.octets, &mut nobody)?;
     Some(gone)
 }
 
-/// Reads an image as far as its data sets. `None` where its head or its data sets are none. Never inlined.
+/// The entries of an image, of which its head and its data sets are judged. `None` where these are none. Never inlined.
 #[inline(never)]
-fn open(image: &[u8]) -> Option<Opened<'_>>
+fn find_entries(image: &[u8]) -> Option<SavedEntries<'_>>
     ensures opened { IfSome result
-        (λ o. IsOpened image.now o.sets o.count o.entries.now) }
+        (λ o. (d : DataSetsValue) × IsOpened image.now d o.count o.octets.now) }
     ensures found { (c : SavedClock) → IsImageOf c image.now
-        → IsSomeAnd result (λ o. OpensAs c o.sets o.count o.entries.now) }
+        → IsSomeAnd result (λ o. OpensAs c c.sets o.count o.octets.now) }
+{
+    let sets = read_sets(image)?;
+    let entries = entries_behind(&sets, image)?;
+    Some(entries)
+}
+
+/// The data sets behind the head of an image. `None` where its head or its data sets are none. Never inlined.
+#[inline(never)]
+fn read_sets(image: &[u8]) -> Option<DataSets>
+    ensures begun { IfSome result (λ d. IsBegun image.now d) }
+    ensures found { (c : SavedClock) → IsImageOf c image.now → result ≡ Some c.sets }
 {
     if image.len() < HEAD_OCTETS {
         return None;
@@ -179,15 +191,24 @@ fn open(image: &[u8]) -> Option<Opened<'_>>
     if !is_head(front, body.len()) {
         return None;
     }
-    let sets = DataSets::restored(body)?;
-    data_sets_law(&sets);
-    fits_law(&sets);
+    DataSets::restored(body)
+}
+
+/// The entries of an image that begins with these data sets. `None` where it ends with them.
+fn entries_behind<'a>(sets: &DataSets, image: &'a [u8]) -> Option<SavedEntries<'a>>
+    requires { IsBegun image.now sets.now }
+    ensures opened { IfSome result (λ o. IsOpened image.now sets.now o.count o.octets.now) }
+    ensures found { (c : SavedClock) → IsImageOf c image.now → sets.now ≡ c.sets
+        → IsSomeAnd result (λ o. OpensAs c sets.now o.count o.octets.now) }
+{
+    data_sets_law(sets);
+    fits_law(sets);
+    let (_, body) = image.split_at(HEAD_OCTETS);
     let (_, octets) = body.split_at(sets.image_size());
-    let (count, entries) = octets.split_first()?;
-    Some(Opened {
-        sets,
+    let (count, octets) = octets.split_first()?;
+    Some(SavedEntries {
         count: *count,
-        entries,
+        octets,
     })
 }
 
@@ -199,7 +220,8 @@ fn is_head(front: &[u8], size: usize) -> bool
 }
 
 /// Keeps the entries of which the agent's table knows the managers, of so many whose images stand there and nothing else, and
-/// answers how many the others are. `None` of other octets.
+/// answers how many the others are. `None` of other octets. Never inlined.
+#[inline(never)]
 fn read_entries<T: SureTable + Drop>(count: u8, octets: &[u8], agent: &mut Agent<T>) -> Option<u8>
     ensures sound { IfSome result
         (λ gone. (es : List (PortIdentity × Entry)) × AreEntries es × (length es ≡ count)

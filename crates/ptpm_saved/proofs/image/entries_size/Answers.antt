@@ -5,12 +5,12 @@ use Rattle.ptpm_codec.specs.declared.identity.PortIdentity.{PortIdentity}
 use Rattle.ptpm_table.specs.Lending.{HasNoneAfter}
 use Rattle.ptpm_saved.specs.Image.{entries_image, entry_image}
 use Rattle.ptpm_saved.proofs.EntryOrder.{none_next}
-use Rattle.ptpm_saved.proofs.ImageLemmas.{lent, no_entries_length}
+use Rattle.ptpm_saved.proofs.ImageLemmas.{lent, no_entries}
 use Rattle.std.proofs.lemmas.List.{length-append}
 use Rattle.ptpm_saved.proofs.image.entries_size.Goals as goal
 
 pub loop-place-init : goal.loop-place-init
-loop-place-init g c = record { size = sym no_entries_length; small = omega arith; after = refl }
+loop-place-init g c = record { size = ap length (sym no_entries); small = omega arith; after = refl }
 
 pub unreachable-requires : goal.unreachable-requires
 unreachable-requires g c =

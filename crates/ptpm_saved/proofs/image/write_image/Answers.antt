@@ -1,103 +1,120 @@
-use Rattle.std.proofs.Common.{◌-◌, ◌≤◌, ◌∙◌, ◌++◌, ap, arith, length, sym, take}
-use Rattle.std.proofs.lemmas.List.{take_all}
+use Rattle.std.proofs.Common.{◌≡◌, ◌+◌, ◌*◌, ◌-◌, ◌≤◌, ◌∙◌, ⊎_elim, inl, inr, List, [], ◌∷◌, ℕ, ap, arith, length, sym}
 use Rattle.std.specs.FinMap.{entries, len-entries}
 use Rattle.ptpm_data.specs.Image.{data_sets_octets}
 use Rattle.ptpm_agent.specs.Agent.{state_of}
-use Rattle.ptpm_saved.specs.Image.{entries_image}
-use Rattle.ptpm_saved.proofs.ImageLemmas.{head_length, image_length, put_together}
+use Rattle.ptpm_manager.specs.Image.{image_head}
+use Rattle.ptpm_saved.specs.Image.{clock_image, entries_image}
+use Rattle.ptpm_saved.specs.Written.{over}
+use Rattle.ptpm_saved.proofs.ImageLemmas.{has_room, head_length, put_together, sets_small, size_is}
+use Rattle.ptpm_saved.proofs.WrittenLemmas.{all_written}
 use Rattle.ptpm_saved.proofs.image.write_image.Goals as goal
 
-pub overflow_sub-image : goal.overflow_sub-image
-overflow_sub-image g c = omega (arith, c.requires.size, image_length (state_of g.T.ReplyTable.entries c.args.agent.now))
-
-pub append-filled-requires : goal.append-filled-requires
-append-filled-requires g c =
-    omega (
-      arith,
-      c.requires.size,
-      image_length (state_of g.T.ReplyTable.entries c.args.agent.now),
-      ap length c.head-head.ensures,
-      head_length 1 (length c.args.image.now - 12),
-    )
-
-pub append_sets-filled-requires : goal.append_sets-filled-requires
-append_sets-filled-requires g c =
-    omega (
-      arith,
-      c.requires.size,
-      image_length (state_of g.T.ReplyTable.entries c.args.agent.now),
-      ap length c.head-head.ensures,
-      head_length 1 (length c.args.image.now - 12),
-      c.append-filled.ensures.filled,
-      c.append-filled.auto.image,
-      ap (λ d. length (data_sets_octets d)) c.sets.ensures,
-    )
-
-pub append-filled-requires-2 : goal.append-filled-requires-2
-append-filled-requires-2 g c =
-    omega (
-      arith,
-      c.requires.size,
-      image_length (state_of g.T.ReplyTable.entries c.args.agent.now),
-      ap length c.head-head.ensures,
-      head_length 1 (length c.args.image.now - 12),
-      c.append-filled.ensures.filled,
-      c.append-filled.auto.image,
-      ap (λ d. length (data_sets_octets d)) c.sets.ensures,
-      c.append_sets-filled.ensures.filled,
-      c.append_sets-filled.auto.image,
-    )
-
-pub append_entries-requires : goal.append_entries-requires
-append_entries-requires g c =
-    omega (
-      arith,
-      c.requires.size,
-      image_length (state_of g.T.ReplyTable.entries c.args.agent.now),
-      ap length c.head-head.ensures,
-      head_length 1 (length c.args.image.now - 12),
-      c.append-filled.ensures.filled,
-      c.append-filled.auto.image,
-      ap (λ d. length (data_sets_octets d)) c.sets.ensures,
-      c.append_sets-filled.ensures.filled,
-      c.append_sets-filled.auto.image,
-      c.append-filled-2.ensures.filled,
-      c.append-filled-2.auto.image,
-      ap (λ t. length (entries_image (entries (g.T.ReplyTable.entries t)))) c.table-table.ensures,
-    )
-
-pub returns : goal.returns
-returns g c =
+pub write_sets-end-requires : goal.write_sets-end-requires
+write_sets-end-requires g c =
     let s = state_of g.T.ReplyTable.entries c.args.agent.now in
-    let written : length c.append_entries.new.image ≤ c.append_entries.result =
+    let m = g.T.ReplyTable.entries c.table-table.result.now in
+    let room = has_room s c.sets-sets.result.now m c.sets-sets.ensures (ap g.T.ReplyTable.entries c.table-table.ensures)
+    (length c.args.place.now) c.data_sets_law.ensures.sized c.fits_law.ensures c.requires in
+    omega (arith, room.before)
+
+pub write-end-requires : goal.write-end-requires
+write-end-requires g c =
+    let s = state_of g.T.ReplyTable.entries c.args.agent.now in
+    let m = g.T.ReplyTable.entries c.table-table.result.now in
+    let room = has_room s c.sets-sets.result.now m c.sets-sets.ensures (ap g.T.ReplyTable.entries c.table-table.ensures)
+    (length c.args.place.now) c.data_sets_law.ensures.sized c.fits_law.ensures c.requires in
+    omega (arith, room.before, c.write_sets-end.ensures.end, c.write_sets-end.auto.place)
+
+pub write_entries-end-requires : goal.write_entries-end-requires
+write_entries-end-requires g c =
+    let s = state_of g.T.ReplyTable.entries c.args.agent.now in
+    let m = g.T.ReplyTable.entries c.table-table.result.now in
+    let sets : List ℕ = data_sets_octets c.sets-sets.result.now in
+    let es : List ℕ = entries_image (entries m) in
+    let room = has_room s c.sets-sets.result.now m c.sets-sets.ensures (ap g.T.ReplyTable.entries c.table-table.ensures)
+    (length c.args.place.now) c.data_sets_law.ensures.sized c.fits_law.ensures c.requires in
+    ⊎_elim
+    (λ (every : 12 + length sets + 1 + 16 * 1678 ≤ length c.args.place.now).
+    inl (omega (arith, every, c.write_sets-end.ensures.end, c.write_sets-end.auto.place, c.write-end.ensures.end, c.write-end.auto.place)))
+    (λ (own : 12 + length sets + 1 + length es ≤ length c.args.place.now).
+    inr (omega (arith, own, c.write_sets-end.ensures.end, c.write_sets-end.auto.place, c.write-end.ensures.end, c.write-end.auto.place)))
+    room.behind
+
+pub returns-clause-size : goal.returns-clause-size
+returns-clause-size g c =
+    let s = state_of g.T.ReplyTable.entries c.args.agent.now in
+    let m = g.T.ReplyTable.entries c.table-table.result.now in
     omega (
       arith,
-      c.requires.size,
-      image_length s,
-      ap length c.head-head.ensures,
-      head_length 1 (length c.args.image.now - 12),
-      c.append-filled.ensures.filled,
-      c.append-filled.auto.image,
-      ap (λ d. length (data_sets_octets d)) c.sets.ensures,
-      c.append_sets-filled.ensures.filled,
-      c.append_sets-filled.auto.image,
-      c.append-filled-2.ensures.filled,
-      c.append-filled-2.auto.image,
-      ap (λ t. length (entries_image (entries (g.T.ReplyTable.entries t)))) c.table-table.ensures,
-      c.append_entries.ensures.filled,
-      c.append_entries.auto.image,
+      size_is s c.sets-sets.result.now m c.sets-sets.ensures (ap g.T.ReplyTable.entries c.table-table.ensures),
+      c.write_sets-end.ensures.end,
+      c.write-end.ensures.end,
+      c.write_entries-end.ensures.end,
+    )
+
+pub returns-clause-place : goal.returns-clause-place
+returns-clause-place g c =
+    let s = state_of g.T.ReplyTable.entries c.args.agent.now in
+    let t = c.table-table.result.now in
+    let d = c.sets-sets.result.now in
+    let m = g.T.ReplyTable.entries t in
+    let p = c.args.place.now in
+    let of_entries = ap g.T.ReplyTable.entries c.table-table.ensures in
+    let room = has_room s d m c.sets-sets.ensures of_entries (length p) c.data_sets_law.ensures.sized c.fits_law.ensures c.requires in
+    let end = c.write_entries-end.result in
+    let size : end ≡ length (clock_image s) = omega (
+      arith,
+      size_is s d m c.sets-sets.ensures of_entries,
+      c.write_sets-end.ensures.end,
+      c.write-end.ensures.end,
+      c.write_entries-end.ensures.end,
     ) in
-    sym (take_all c.append_entries.result c.append_entries.new.image written)
-    ∙ put_together s (length c.args.image.now) c.entry_count.result
-    (take c.append-filled.result c.append-filled.new.image)
-    (take c.append_sets-filled.result c.append_sets-filled.new.image)
-    (take c.append-filled-2.result c.append-filled-2.new.image)
-    (take c.append_entries.result c.append_entries.new.image)
-    c.requires.size
-    (c.entry_count.ensures.count ∙ len-entries (g.T.ReplyTable.entries c.table-table.result.now)
-    ∙ ap (λ t. length (entries (g.T.ReplyTable.entries t))) c.table-table.ensures)
-    (c.append-filled.ensures.octets ∙ c.head-head.ensures)
-    (c.append_sets-filled.ensures.octets ∙ ap (λ d. take c.append-filled.result c.append-filled.new.image ++ data_sets_octets d) c.sets.ensures)
-    c.append-filled-2.ensures.octets
-    (c.append_entries.ensures.octets
-    ∙ ap (λ t. take c.append-filled-2.result c.append-filled-2.new.image ++ entries_image (entries (g.T.ReplyTable.entries t))) c.table-table.ensures)
+    all_written (image_head 1 (end - 12)) (data_sets_octets d) (c.entry_count.result ∷ []) (entries_image (entries m)) p
+    c.write_sets-end.new.place c.write-end.new.place c.write_entries-end.new.place c.write.new.place 12 c.write_sets-end.result c.write-end.result
+    c.write_sets-end.ensures.place c.write_sets-end.ensures.end c.write-end.ensures.place c.write-end.ensures.end
+    c.write_entries-end.ensures.place
+    (c.write.ensures.place ∙ ap (λ h. over 0 h c.write_entries-end.new.place) c.head.ensures)
+    (sym (head_length 1 (end - 12)))
+    (omega (arith, room.before, c.write_sets-end.ensures.end, c.write-end.ensures.end))
+    ∙ ap (λ xs. over 0 xs p) (put_together s d m c.sets-sets.ensures of_entries end c.entry_count.result size
+    (c.entry_count.ensures.count ∙ len-entries m))
+
+pub head-requires : goal.head-requires
+head-requires g c =
+    omega (
+      arith,
+      c.write_sets-end.ensures.end,
+      c.write-end.ensures.end,
+      c.write_entries-end.ensures.small,
+      sets_small c.sets-sets.result.now c.data_sets_law.ensures.sized c.fits_law.ensures,
+    )
+
+pub write-requires : goal.write-requires
+write-requires g c =
+    let s = state_of g.T.ReplyTable.entries c.args.agent.now in
+    let m = g.T.ReplyTable.entries c.table-table.result.now in
+    let room = has_room s c.sets-sets.result.now m c.sets-sets.ensures (ap g.T.ReplyTable.entries c.table-table.ensures)
+    (length c.args.place.now) c.data_sets_law.ensures.sized c.fits_law.ensures c.requires in
+    omega (
+      arith,
+      room.before,
+      ap length c.head.ensures,
+      head_length 1 (c.write_entries-end.result - 12),
+      c.write_sets-end.auto.place,
+      c.write-end.auto.place,
+      c.write_entries-end.auto.place,
+    )
+
+pub returns-clause-room : goal.returns-clause-room
+returns-clause-room g c =
+    let s = state_of g.T.ReplyTable.entries c.args.agent.now in
+    let m = g.T.ReplyTable.entries c.table-table.result.now in
+    let d = c.sets-sets.result.now in
+    let small = sets_small d c.data_sets_law.ensures.sized c.fits_law.ensures in
+    let size = size_is s d m c.sets-sets.ensures (ap g.T.ReplyTable.entries c.table-table.ensures) in
+    ⊎_elim
+    (λ (every : 27185 ≤ length c.args.place.now).
+    omega (arith, every, small, c.write_sets-end.ensures.end, c.write-end.ensures.end, c.write_entries-end.ensures.small))
+    (λ (own : length (clock_image s) ≤ length c.args.place.now).
+    omega (arith, own, size, c.write_sets-end.ensures.end, c.write-end.ensures.end, c.write_entries-end.ensures.end))
+    c.requires
