@@ -208,6 +208,41 @@ fn a_session_from_start_to_stop(rt: HostRuntime) {
     assert!(rt; answer == 37);
 }
 
+/// The request has the port that is named. It is let go, and its answer is none of the next one's, which has the next number.
+#[test]
+fn a_request_at_a_port_is_given_up(rt: HostRuntime) {
+    let alloc = rt.alloc();
+    let settings = SessionSettings {
+        port: 1,
+        target_ports: 2,
+        first: 7,
+        clock: [0x00, 0x11, 0x22, 0x33, 0x44, 0x55, 0x66, 0x77],
+        target: [0xaa, 0xbb, 0xcc, 0xff, 0xfe, 0xdd, 0xee, 0x01],
+        domain: 0,
+        hops: 1,
+        attempts: 2,
+    };
+    let mut handle = Handle::empty();
+    let mut octets = [0; 1472];
+    let mut size = 1;
+    assert!(rt; ptpm_session_begin_at(alloc, &mut handle, 0, 0x2005, 1, &[]) == 37);
+    assert!(rt; ptpm_session_give_up(alloc, &mut handle) == 37);
+    assert!(rt; ptpm_session_start(alloc, &mut handle, &settings) == 0);
+    assert!(rt; ptpm_session_give_up(alloc, &mut handle) == 43);
+    assert!(rt; ptpm_session_begin_at(alloc, &mut handle, 0, 0x2005, 3, &[]) == 39);
+    assert!(rt; ptpm_session_begin_at(alloc, &mut handle, 0, 0x2005, 1, &[]) == 0);
+    assert!(rt; ptpm_session_begin_at(alloc, &mut handle, 0, 0x2005, 1, &[]) == 38);
+    assert!(rt; ptpm_session_send(alloc, &mut handle, &mut octets, &mut size) == 0);
+    assert!(rt; size == 54 && octets.starts_with(&REQUEST[..42]));
+    assert!(rt; octets[42] == 0 && octets[43] == 1 && &octets[44..54] == &REQUEST[44..]);
+    assert!(rt; ptpm_session_give_up(alloc, &mut handle) == 0);
+    assert!(rt; ptpm_session_receive(alloc, &mut handle, REPLY) == 13);
+    assert!(rt; ptpm_session_begin(alloc, &mut handle, 0, 0x2005, 0, &[]) == 0);
+    assert!(rt; ptpm_session_receive(alloc, &mut handle, REPLY) == 14);
+    assert!(rt; ptpm_session_issued(&mut handle) == 2);
+    ptpm_session_stop(alloc, &mut handle);
+}
+
 /// The image of a session whose GET of PRIORITY1, its first request, is not answered. A second program made it.
 const WAITING: &[u8; 60] = b"ptpm\x02\x01\x00\x00\x00\x00\x00\x30\
     \x00\x11\x22\x33\x44\x55\x66\x77\x00\x01\xaa\xbb\xcc\xff\xfe\xdd\xee\x01\
@@ -366,6 +401,33 @@ fn a_survey_from_start_to_stop(rt: HostRuntime) {
     assert!(rt; ptpm_survey_count(&mut handle) == 0);
 }
 
+/// The clock that is named is asked at every port, and no other clock answers.
+#[test]
+fn a_survey_of_one_clock(rt: HostRuntime) {
+    let settings = SurveySettings {
+        port: 1,
+        number: 7,
+        id: 0x2005,
+        clock: [0x00, 0x11, 0x22, 0x33, 0x44, 0x55, 0x66, 0x77],
+        domain: 0,
+        hops: 1,
+    };
+    let clock = [0xaa, 0xbb, 0xcc, 0xff, 0xfe, 0xdd, 0xee, 0x01];
+    let other = [0xaa, 0xbb, 0xcc, 0xff, 0xfe, 0xdd, 0xee, 0x02];
+    let alloc = rt.alloc();
+    let mut handle = Handle::empty();
+    let mut octets = [0; 1472];
+    let mut size = 1;
+    assert!(rt; ptpm_survey_start_at(alloc, &mut handle, &settings, &other) == 0);
+    assert!(rt; ptpm_survey_receive(alloc, &mut handle, REPLY) == 12);
+    assert!(rt; ptpm_survey_start_at(alloc, &mut handle, &settings, &clock) == 0);
+    assert!(rt; ptpm_survey_send(&mut handle, &mut octets, &mut size) == 0);
+    assert!(rt; size == 54 && octets.starts_with(REQUEST.as_slice()));
+    assert!(rt; ptpm_survey_receive(alloc, &mut handle, REPLY) == 0);
+    assert!(rt; ptpm_survey_start_at(alloc, &mut handle, &settings, &[0xff; 8]) == 54);
+    assert!(rt; ptpm_survey_count(&mut handle) == 0);
+}
+
 /// The ids' names are the standard's (15.5.2.3), in either case. Memory is ample, and none is taken.
 #[test]
 fn ids_by_name_and_back(rt: HostRuntime) {
@@ -405,6 +467,7 @@ fn names_of_answers(rt: HostRuntime) {
         (55, b"SAME_CLOCK".as_slice()),
         (84, b"BAD_GRANDMASTER_PRIORITY2".as_slice()),
         (101, b"BAD_LOG_MIN_PDELAY".as_slice()),
+        (112, b"OUT_OF_REACH".as_slice()),
         (0, b"".as_slice()),
         (24, b"".as_slice()),
         (102, b"".as_slice()),
