@@ -548,7 +548,8 @@ static void surveys(void) {
     check(ptpm_survey_start_at_sized(&survey, &s, s.clock) == PTPM_SAME_CLOCK && ptpm_survey_count(held) == 0,
           "a survey of the manager's own clock");
     octets_of(OTHER, other);
-    check(ptpm_survey_start_at_sized(&survey, &s, other) == PTPM_STARTED && ptpm_survey_send(held, octets, sizeof octets, &size) == PTPM_SENT
+    check(ptpm_survey_start_at_sized(&survey, &s, other) == PTPM_STARTED
+          && ptpm_survey_send(held, octets, sizeof octets, &size) == PTPM_SENT
           && is_text(octets, size, message(0x2c, MANAGER "0b22", 0x5566, OTHER "ffff", 0x0404, PTPM_GET, "0001" "0002" "2006")),
           "the GET of a survey of one clock");
     size = octets_of(message(0x2c, "b0b1b2b3b4b5b6b7" "0c33", 0x5566, MANAGER "0b22", 0, 2, "0001" "0004" "2006" "5b00"), octets);

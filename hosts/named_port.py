@@ -1,6 +1,6 @@
 #!/usr/bin/env python3
-"""hosts/named_port.py PATH: at the Unix socket PATH a clock that answers a request to it alone only if its port 1 is named, as a ptpd
-does. A GET of PRIORITY1 is answered 77, and a GET of DEFAULT_DATA_SET so too; nothing else is."""
+"""hosts/named_port.py PATH: at the Unix socket PATH a clock that answers a request to it alone only if its port 1 is named, as a
+ptpd does. GETs of PRIORITY1, which is 77, and of DEFAULT_DATA_SET are answered, and nothing else is."""
 import socket
 import sys
 

@@ -247,9 +247,9 @@ enum { PTPM_GET = 0, PTPM_SET = 1, PTPM_COMMAND = 3 };
 /* A survey of a manager: what it asks and its answers, at one pointer. All zeros hold no survey. */
 struct ptpm_survey { void *at; bool live; };
 
-/* One manager, and the GET that it sends to every port of every clock, or of one. If it is for every clock, a clock answers it whatever
-   numbers it took from this manager before. A late answer to an earlier GET with the same number and id is taken for this survey's: use a number with nothing
-   in flight. */
+/* One manager, and the GET that it sends to every port of every clock, or of one. A clock answers one that is for every clock
+   whatever numbers it took from this manager before. A late answer to an earlier GET with the same number and id is taken for this
+   survey's: use a number with nothing in flight. */
 struct ptpm_survey_settings {
     uint16_t port;                      /* portNumber of the manager */
     uint16_t number;                    /* sequenceId */
@@ -730,8 +730,8 @@ static inline enum ptpm_started ptpm_session_start_sized(struct ptpm_session *ha
 enum ptpm_begun ptpm_session_begin(struct ptpm_session *session, uint8_t action, uint16_t id, uint16_t port,
                                    const uint8_t *octets, size_t size);
 
-/* Does what ptpm_session_begin does, at the port that is named whatever the id. Some clocks answer for an id of the clock too only if
-   one of their ports is named. Any port of the clock may answer for such an id.
+/* Does what ptpm_session_begin does, at the port that is named whatever the id. Some clocks answer for an id of the clock too only
+   if one of their ports is named. Any port of the clock may answer for such an id.
    Takes:   what ptpm_session_begin takes. The port is 1 to the number of the managed clock's ports.
    Answers: what ptpm_session_begin answers.
    Memory:  a copy of the dataField, until the request is answered or given up.
@@ -816,9 +816,9 @@ static inline enum ptpm_started ptpm_survey_start_sized(struct ptpm_survey *hand
     return answer != PTPM_STARTED ? answer : ptpm_survey_start(handle, settings);
 }
 
-/* Starts a survey of one clock, without answers, in place of what the handle holds, which is freed first. Every port of the clock is
-   asked, and another clock's answer is ignored (PTPM_OTHER_SOURCE). A clock takes such a GET of one of its managers for a numbered
-   request, as of a session. So the manager here is none of them, for example another port of the same identity.
+/* Starts a survey of one clock, without answers, in place of what the handle holds, which is freed first. Every port of the clock
+   is asked, and another clock's answer is ignored (PTPM_OTHER_SOURCE). A clock takes such a GET of one of its managers for a
+   numbered request, as of a session. So the manager here is none of them, for example another port of the same identity.
    Takes:   the identity of the clock: another one than the manager's, and neither all ones nor all zeros.
    Answers: PTPM_STARTED; or why not, and then the handle holds nothing.
    Memory:  the survey, until it is stopped.

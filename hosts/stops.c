@@ -81,7 +81,8 @@ static void use_session(struct ptpm_session *session) {
     expect(ptpm_session_resume(session, 1), PTPM_RESUMED, "session_resume");
     expect(ptpm_session_retune(session, 1), PTPM_RETUNED, "session_retune");
     expect(ptpm_session_give_up(session), PTPM_GIVEN_UP, "session_give_up");
-    expect(ptpm_session_begin_at(session, PTPM_SET, PTPM_ID_USER_DESCRIPTION, 1, text, sizeof text), PTPM_BEGUN, "session_begin_at");
+    expect(ptpm_session_begin_at(session, PTPM_SET, PTPM_ID_USER_DESCRIPTION, 1, text, sizeof text), PTPM_BEGUN,
+           "session_begin_at");
 }
 
 static void sessions(struct ptpm_session *session) {

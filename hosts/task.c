@@ -150,7 +150,9 @@ static void read_verb(struct task *task, const char *verb) {
 static void read_every_port(struct task *task, const struct words *words) {
     if (!words->is_every_port) return;
     if (task->is_survey || task->action != PTPM_GET) refuse("--port all stands with get");
-    if (task->has_manager || task->numbers != NULL) refuse("--port all asks by no manager: it stands without --manager and --numbers");
+    if (task->has_manager || task->numbers != NULL) {
+        refuse("--port all asks by no manager: it stands without --manager and --numbers");
+    }
     task->is_survey = task->is_of_clock = 1;
 }
 

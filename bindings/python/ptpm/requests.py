@@ -71,15 +71,15 @@ class Requests(Handle):
         done(self._call(library.ptpm_session_begin, Action(action), id_of(named), port_number(port), octets, len(octets)))
 
     def begin_at(self, action: int, named: IdLike, port: int, data: bytes = b"") -> None:
-        """Does what `begin` does at the port that is named, whatever the id. Some clocks answer for an id of the clock too only if one
-        of their ports is named; any port of the clock may answer for such an id."""
+        """Does what `begin` does at the port that is named, whatever the id. Some clocks answer for an id of the clock too only if
+        one of their ports is named; any port of the clock may answer for such an id."""
         octets = bytes(data)
         words = (Action(action), id_of(named), port_number(port), octets, len(octets))
         done(self._call(library.ptpm_session_begin_at, *words))
 
     def give_up(self) -> None:
-        """Lets the unanswered request go, so that the next can be begun. Its number is used for no other, and no answer to it is taken
-        any more. The clock may have carried it out, once, or may still: until it takes a later request of this session."""
+        """Lets the unanswered request go, so that the next can be begun. Its number is used for no other, and no answer to it is
+        taken any more. The clock may have carried it out, once, or may still: until it takes a later request of this session."""
         done(self._call(library.ptpm_session_give_up))
 
     def send(self) -> bytes:

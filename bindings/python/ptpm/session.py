@@ -143,8 +143,8 @@ class Session(Requests):
         timeout: float = 0.2,
     ) -> Report:
         """Asks until it is answered; `timeout` is how long each answer is waited for, in seconds. `value` is a dataField, or the
-        value of an id's one member. A port that is not 0 is named to the clock whatever the id. If no answer came, NoAnswer says whether the request itself was sent; if it was, `go_on` asks
-        the same again."""
+        value of an id's one member. A port that is not 0 is named to the clock, whatever the id. If no answer came, NoAnswer says
+        whether the request itself was sent; if it was, `go_on` asks the same again."""
         number = id_of(named)
         data = data_field(number, value)
         self._judge(action, number, data, port)

@@ -25,8 +25,8 @@ _QUIET_AT_FIRST = 5
 
 @dataclass(frozen=True)
 class SurveySettings:
-    """One manager, and the GET that it sends to every port of every clock, or of one. Each survey gets a number that is not on its way any
-    more."""
+    """One manager, and the GET that it sends to every port of every clock, or of one. Each survey gets a number that is not on its
+    way any more."""
 
     manager: PortIdentityLike
     number: int

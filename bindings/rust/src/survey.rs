@@ -9,7 +9,8 @@ use crate::sys;
 use core::fmt;
 use core::ptr::null_mut;
 
-/// One manager, and the GET that it sends to every port of every clock, or of one. Each survey gets a number that is not on its way any more.
+/// One manager, and the GET that it sends to every port of every clock, or of one. Each survey gets a number that is not on its way
+/// any more.
 #[derive(Clone, Copy, Debug, PartialEq, Eq)]
 pub struct SurveySettings {
     /// The manager; its clock is not all ones.
@@ -85,9 +86,9 @@ impl Survey {
         Ok(survey)
     }
 
-    /// Starts a survey of one clock, without answers: every port of it is asked, and no other clock answers. A clock takes such a GET
-    /// of one of its managers for a numbered request, as of a session. So the manager here is none of them, for example another port
-    /// of the same identity.
+    /// Starts a survey of one clock, without answers: every port of it is asked, and no other clock answers. A clock takes such a
+    /// GET of one of its managers for a numbered request, as of a session. So the manager here is none of them, for example another
+    /// port of the same identity.
     ///
     /// # Errors
     ///
