@@ -91,9 +91,7 @@ static int carry_out(struct session *session, const struct task *task, long *all
 int judge_request(const struct task *task) {
     struct ptpm_session session = { 0 };
     uint32_t refusal = ptpm_session_start(&session, &task->settings);
-    if (refusal == PTPM_STARTED) {
-        refusal = ptpm_session_begin(&session, task->action, task->id, task->port, task->octets, task->size);
-    }
+    if (refusal == PTPM_STARTED) refusal = begin_of_task(&session, task);
     ptpm_session_stop(&session);
     return refusal == PTPM_BEGUN ? ANSWERED : not_asked(refusal);
 }
@@ -144,7 +142,12 @@ static int end_of_survey(const struct task *task, long sent, long lost) {
     return stopped ? BY_SIGNAL + stopped : ANSWERED;
 }
 
-int ask_every_clock(const struct task *task) {
+static uint32_t start_survey(const struct task *task, const struct ptpm_survey_settings *settings) {
+    if (task->is_of_clock) return ptpm_survey_start_at(&survey, settings, task->settings.target);
+    return ptpm_survey_start(&survey, settings);
+}
+
+int ask_every_port(const struct task *task) {
     struct ptpm_survey_settings settings = {
         .port = task->settings.port, .number = task->settings.first, .id = task->id, .domain = task->settings.domain,
         .hops = task->settings.hops,
@@ -153,7 +156,7 @@ int ask_every_clock(const struct task *task) {
     size_t size;
     long sent = 0, lost = 0;
     memcpy(settings.clock, task->settings.clock, sizeof settings.clock);
-    uint32_t refusal = ptpm_survey_start(&survey, &settings);
+    uint32_t refusal = start_survey(task, &settings);
     if (refusal == PTPM_STARTED) refusal = ptpm_survey_send(&survey, message, sizeof message, &size);
     if (refusal != PTPM_SENT) return not_asked(refusal);
     for (int attempt = 1, quiet = 0; attempt <= task->settings.attempts && !stopped; attempt++) {

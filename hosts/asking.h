@@ -20,8 +20,8 @@ int send_until_answered(struct session *session, const struct task *task, long *
    attempts are used, and prints what each answer says; the program's status. */
 int ask_clock(struct session *session, const struct task *task);
 
-/* Asks every clock and every port until two rounds bring no new answer, or the attempts are used, and prints what each answer
-   says after the port that gave it; the program's status. */
-int ask_every_clock(const struct task *task);
+/* Asks every port of every clock, or of the task's clock alone, until two rounds bring no new answer, or the attempts are used, and
+   prints what each answer says after the port that gave it; the program's status. */
+int ask_every_port(const struct task *task);
 
 #endif

@@ -2,17 +2,20 @@
 #include "answer.h"
 #include "asking.h"
 #include "fresh_number.h"
+#include "names.h"
 #include "notices.h"
 #include "unanswered.h"
 #include <stdio.h>
 
-static void let_go(struct session *session, const struct task *task) {
-    start_session(session, task, (uint16_t)(latest_number(session) + 1));
-}
-
 static void say_let_go(const struct task *earlier, uint16_t number) {
     const char *end = earlier->action == PTPM_GET ? "" : ": a get shows whether it was carried out";
     complain("%s of an earlier run, number %u, is let go%s", task_words(earlier), number, end);
+}
+
+/* The clock might take a further number for an old one. */
+_Noreturn static void refuse_to_let_go(const struct task *earlier, uint32_t refusal, uint16_t number) {
+    refuse("nothing was sent: %s: %s of an earlier run, number %u, is not let go, since too many before it had no answer; without "
+           "--give-up it is sent again", answer_name(refusal), task_words(earlier), number);
 }
 
 /* Says what came of it, before the session is kept without it. */
@@ -36,7 +39,9 @@ static int finish(struct session *session, const struct task *earlier) {
 int settle_earlier(struct session *session, const struct task *earlier, const struct task *task) {
     int is_own = is_question(earlier);
     if (!is_own && !task->is_letting_go) return finish(session, earlier);
+    uint32_t answer = ptpm_session_give_up(&session->handle);
+    if (answer != PTPM_GIVEN_UP && is_own) return finish(session, earlier);
+    if (answer != PTPM_GIVEN_UP) refuse_to_let_go(earlier, answer, latest_number(session));
     if (!is_own) say_let_go(earlier, latest_number(session));
-    let_go(session, task);
     return ANSWERED;
 }

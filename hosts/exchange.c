@@ -1,5 +1,14 @@
 #include "exchange.h"
 
+enum { EVERY_PORT = 65535 };        /* a portNumber (IEEE 1588-2019, 15.4.1) */
+
+enum ptpm_begun begin_of_task(struct ptpm_session *session, const struct task *task) {
+    if (task->port == 0 || task->port == EVERY_PORT) {
+        return ptpm_session_begin(session, task->action, task->id, task->port, task->octets, task->size);
+    }
+    return ptpm_session_begin_at(session, task->action, task->id, task->port, task->octets, task->size);
+}
+
 enum sending send_again(struct ptpm_session *session) {
     static uint8_t message[PTPM_MOST_OCTETS];
     size_t size;

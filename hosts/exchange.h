@@ -1,9 +1,13 @@
-/* A request goes out, and its answer comes in. */
+/* A request is begun and goes out, and its answer comes in. */
 #ifndef EXCHANGE_H
 #define EXCHANGE_H
 
-#include "ptpm.h"
+#include "task.h"
 #include "way.h"
+
+/* Begins the task's request at the port that it names, for an id of the clock too, since some clocks answer for none without. If it
+   names none, or every port, such an id is asked of every port. What the library answers. */
+enum ptpm_begun begin_of_task(struct ptpm_session *session, const struct task *task);
 
 /* Sends the session's request once more, which uses one of its attempts: NONE_LEFT if there is none. */
 enum sending send_again(struct ptpm_session *session);

@@ -84,7 +84,7 @@ static enum finding ask_under_number(const struct task *task, uint16_t number, i
             return NOT_OUT;
         }
         int is_read_too = attempt > 1 || task->settings.attempts == 1;
-        if (is_read_too && begin_reading(&reading, task, question.id, task->port)) send_again(&reading);
+        if (is_read_too && begin_reading(&reading, task, question.id)) send_again(&reading);
         if (is_answered(task, &readings)) return NEW;
     }
     return readings > 0 ? NOT_NEW : SILENT;

@@ -433,6 +433,30 @@ static void sessions(void) {
     check(ptpm_session_issued(held) == 2, "how many requests were begun");
 }
 
+/* Requests at a port that is named; they are given up, and the last in reach of the clock's numbers is kept. */
+static void requests_given_up(void) {
+    struct ptpm_session_settings s = session_values();
+    uint8_t octets[PTPM_MOST_OCTETS], image[PTPM_SESSION_IMAGE_OCTETS], none = 0;
+    size_t size = 0;
+    check(ptpm_session_give_up(&session) == PTPM_IDLE, "nothing to give up");
+    check(ptpm_session_begin_at(&session, PTPM_GET, 0x2005, 8, &none, 0) == PTPM_NEEDS_PORT
+          && ptpm_session_begin_at(&session, PTPM_GET, 0x2005, 7, &none, 0) == PTPM_BEGUN, "a port that is named");
+    check(ptpm_session_send(&session, octets, sizeof octets, &size) == PTPM_SENT
+          && is_text(octets, size, message(0x2b, MANAGER "0a11", 0x3346, OTHER "0007", 0x0909, PTPM_GET, "0001" "0002" "2005")),
+          "the request at a port that is named");
+    check(ptpm_session_give_up(&session) == PTPM_GIVEN_UP
+          && ptpm_session_send(&session, octets, sizeof octets, &size) == PTPM_IDLE, "a request that is given up");
+    check(ptpm_session_image(&session, image, sizeof image, &size) == PTPM_SAVED
+          && is_text(image, size, "7074706d" "02" "01" "0000" "00000029" MANAGER "0a11" OTHER "07" "3344" "09" "03" "2b"
+                     "0000000000000003" "0000000000000002" "00"), "the image after it");
+    memset(image + 36, 0, 16);
+    image[42] = 0x7f;
+    image[43] = 0xfe;
+    check(ptpm_session_restore(&session, &s, image, size) == PTPM_RESTORED
+          && ptpm_session_begin(&session, PTPM_GET, 0x2005, 0, &none, 0) == PTPM_BEGUN
+          && ptpm_session_give_up(&session) == PTPM_OUT_OF_REACH, "PTPM_OUT_OF_REACH");
+}
+
 /* A session whose GET is not answered, as its image has it, and the session back from the image. */
 static void images(void) {
     struct ptpm_session_settings s = session_values();
@@ -508,7 +532,7 @@ static void surveys(void) {
     struct ptpm_survey_settings s = { .port = 0x0b22, .number = 0x5566, .id = 0x2006, .domain = 0x2c, .hops = 4 };
     const struct ptpm_survey *held = &survey;
     struct ptpm_source source;
-    uint8_t octets[PTPM_MOST_OCTETS];
+    uint8_t octets[PTPM_MOST_OCTETS], other[8];
     size_t size = 0;
     uint16_t error = 0;
     octets_of(MANAGER, s.clock);
@@ -521,6 +545,15 @@ static void surveys(void) {
     check(ptpm_survey_answer(held, 0, &source, octets, sizeof octets, &size, &error) == PTPM_VALUE
           && is_text(octets, size, "5b00") && is_text(source.clock, 8, OTHER) && source.port == 0x0c33,
           "the port that gave it");
+    check(ptpm_survey_start_at_sized(&survey, &s, s.clock) == PTPM_SAME_CLOCK && ptpm_survey_count(held) == 0,
+          "a survey of the manager's own clock");
+    octets_of(OTHER, other);
+    check(ptpm_survey_start_at_sized(&survey, &s, other) == PTPM_STARTED
+          && ptpm_survey_send(held, octets, sizeof octets, &size) == PTPM_SENT
+          && is_text(octets, size, message(0x2c, MANAGER "0b22", 0x5566, OTHER "ffff", 0x0404, PTPM_GET, "0001" "0002" "2006")),
+          "the GET of a survey of one clock");
+    size = octets_of(message(0x2c, "b0b1b2b3b4b5b6b7" "0c33", 0x5566, MANAGER "0b22", 0, 2, "0001" "0004" "2006" "5b00"), octets);
+    check(ptpm_survey_receive(&survey, octets, size) == PTPM_OTHER_SOURCE, "an answer of another clock");
 }
 
 /* A table of a host, and a bucket. */
@@ -573,7 +606,7 @@ static const struct answer refused[] = {
     ANSWER(BAD_STATE), ANSWER(BAD_LOG_MIN_DELAY_REQ), ANSWER(BAD_PEER_DELAY), ANSWER(BAD_LOG_ANNOUNCE),
     ANSWER(BAD_RECEIPT_TIMEOUT), ANSWER(BAD_LOG_SYNC), ANSWER(BAD_DELAY_MECHANISM), ANSWER(BAD_LOG_MIN_PDELAY),
     ANSWER(NOT_AN_IMAGE), ANSWER(OTHER_VERSION), ANSWER(OTHER_KIND), ANSWER(DAMAGED), ANSWER(OTHER_CLOCK),
-    ANSWER(OTHER_PORTS), ANSWER(OTHER_SESSION),
+    ANSWER(OTHER_PORTS), ANSWER(OTHER_SESSION), ANSWER(OUT_OF_REACH),
 };
 #undef ANSWER
 
@@ -675,6 +708,7 @@ int main(void) {
     changes();
     changed_members();
     sessions();
+    requests_given_up();
     images();
     clock_images();
     surveys();

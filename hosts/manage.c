@@ -47,7 +47,7 @@ static int ask(struct task *task) {
     task->settings.first = draw_number();
     open_way(task);
     if (task->site.is_collected) return task->site.is_shown ? show_status(task) : collect(task);
-    if (task->is_survey) return ask_every_clock(task);
+    if (task->is_survey) return ask_every_port(task);
     start_session(&session, task, task->settings.first);
     return ask_clock(&session, task);
 }

@@ -1,7 +1,7 @@
 /* PTP management (IEEE 1588-2019, clause 15) for a host in C. An agent: the data sets of one clock, and what becomes of each
    management message that comes in at its ports. And a session of a manager: one request at a time to one clock. Such an agent
-   carries it out once, however often it is sent. And a survey: one GET to every clock, and the first answer of each port. The
-   library opens no socket, reads no clock and starts no thread. Link libptpm.a or libptpm.so. Either needs the C library
+   carries it out once, however often it is sent. And a survey: one GET to every clock, or to one, and the first answer of each
+   port. The library opens no socket, reads no clock and starts no thread. Link libptpm.a or libptpm.so. Either needs the C library
    alone, and calls malloc, realloc and free of the host. This file is C99, C11, C17 and C++17, of gcc or clang.
 
    What is proved of a call is proved of callers that keep to this:
@@ -247,9 +247,9 @@ enum { PTPM_GET = 0, PTPM_SET = 1, PTPM_COMMAND = 3 };
 /* A survey of a manager: what it asks and its answers, at one pointer. All zeros hold no survey. */
 struct ptpm_survey { void *at; bool live; };
 
-/* One manager, and the GET that it sends to every clock and every port. A clock answers it whatever numbers it took from this
-   manager before. A late answer to an earlier GET with the same number and id is taken for this survey's: use a number with nothing
-   in flight. */
+/* One manager, and the GET that it sends to every port of every clock, or of one. A clock answers one that is for every clock
+   whatever numbers it took from this manager before. A late answer to an earlier GET with the same number and id is taken for this
+   survey's: use a number with nothing in flight. */
 struct ptpm_survey_settings {
     uint16_t port;                      /* portNumber of the manager */
     uint16_t number;                    /* sequenceId */
@@ -309,8 +309,8 @@ enum { PTPM_CLOCK_IMAGE_OCTETS = 27185 };
 enum { PTPM_MOST_ANSWERS = 512 };
 
 /* What calls answer. 0 says that the call was done. 1 to 31 say what became of a datagram or of a request. From 32 on the call was
-   refused (ptpm_is_refusal). 48 to 63 say why nothing starts, or an observation is refused. From 64 on a member is out of its
-   range.
+   refused (ptpm_is_refusal). 48 to 63 say why nothing starts, or an observation is refused. 64 to 101 say which member is out of
+   its range. 104 to 110 say why a restore is refused.
 
    Each kind of call has a type for its answers. With -Wenum-compare gcc, g++ and clang++ warn if an answer is compared with a
    name of another kind's. A name that several kinds of calls answer is a plain number, and compares with each type. Each type has
@@ -323,6 +323,7 @@ enum { PTPM_MOST_ANSWERS = 512 };
 /* Why a session or a survey ignores a datagram; another domain, and what is no management message, too. */
 #define PTPM_NOT_A_REPLY 10
 #define PTPM_OTHER_TARGET 11
+#define PTPM_OTHER_SOURCE 12            /* of another clock, or of another port than is asked */
 #define PTPM_OTHER_NUMBER 14
 #define PTPM_OTHER_CONTENT 15
 
@@ -362,9 +363,10 @@ enum { PTPM_MOST_ANSWERS = 512 };
 #endif
 
 /* The starts. A session is refused by PTPM_MANAGER_IS_EVERY, PTPM_TARGET_IS_EVERY, PTPM_SAME_CLOCK, PTPM_NO_PORTS,
-   PTPM_TOO_MANY_PORTS, PTPM_TARGET_IS_ZERO or PTPM_NO_MEMORY, in this order. A survey is refused by the first or the last of
-   these. A clock is refused by all others, PTPM_IDENTITY_IS_ZERO last, and by PTPM_NO_PORTS, PTPM_TOO_MANY_PORTS and
-   PTPM_NO_MEMORY. PTPM_OTHER_SIZES comes before all of them, of ptpm_clock_start_sized and its like alone. */
+   PTPM_TOO_MANY_PORTS, PTPM_TARGET_IS_ZERO or PTPM_NO_MEMORY, in this order. A survey of every clock is refused by the first or the
+   last of these, and one of one clock by all except the two of ports. A clock is refused by all others, PTPM_IDENTITY_IS_ZERO last,
+   and by PTPM_NO_PORTS, PTPM_TOO_MANY_PORTS and PTPM_NO_MEMORY. PTPM_OTHER_SIZES comes before all of them, of
+   ptpm_clock_start_sized and its like alone. */
 __extension__ enum PTPM_FOUR_OCTETS(ptpm_started) {
     PTPM_STARTED = 0,
     PTPM_START_NO_MEMORY = PTPM_NO_MEMORY,
@@ -447,13 +449,13 @@ __extension__ enum PTPM_FOUR_OCTETS(ptpm_read) {
     PTPM_NOT_READABLE = 36              /* the id is not in the table, or permits no GET */
 };
 
-/* ptpm_session_begin. */
+/* ptpm_session_begin and ptpm_session_begin_at. */
 __extension__ enum PTPM_FOUR_OCTETS(ptpm_begun) {
     PTPM_BEGUN = 0,
     PTPM_BEGIN_NO_MEMORY = PTPM_NO_MEMORY,
     PTPM_BEGIN_NO_SESSION = PTPM_NO_SESSION,
     PTPM_BUSY = 38,                     /* a request is not answered yet */
-    PTPM_NEEDS_PORT = 39,               /* the id is of a port, and no port of the clock is named */
+    PTPM_NEEDS_PORT = 39,               /* no port of the clock is named: for an id of a port, or at all by ptpm_session_begin_at */
     PTPM_NOT_PERMITTED = 40,            /* the action is none of the three */
     PTPM_BAD_VALUE = 41,                /* the dataField has an odd number of octets, or over 1,418 */
     PTPM_COUNT_AT_MAXIMUM = 42          /* the session has begun 1,000,000 requests */
@@ -476,6 +478,14 @@ __extension__ enum PTPM_FOUR_OCTETS(ptpm_resumed) {
     PTPM_RESUME_IDLE = PTPM_IDLE
 };
 
+/* ptpm_session_give_up. */
+__extension__ enum PTPM_FOUR_OCTETS(ptpm_given_up) {
+    PTPM_GIVEN_UP = 0,
+    PTPM_GIVE_UP_NO_SESSION = PTPM_NO_SESSION,
+    PTPM_GIVE_UP_IDLE = PTPM_IDLE,
+    PTPM_OUT_OF_REACH = 112             /* 32,767 requests were begun since the latest that was answered */
+};
+
 /* ptpm_session_retune. */
 __extension__ enum PTPM_FOUR_OCTETS(ptpm_retuned) {
     PTPM_RETUNED = 0,
@@ -488,7 +498,7 @@ __extension__ enum PTPM_FOUR_OCTETS(ptpm_session_received) {
     PTPM_SESSION_OTHER_DOMAIN = PTPM_OTHER_DOMAIN,
     PTPM_SESSION_NOT_A_REPLY = PTPM_NOT_A_REPLY,
     PTPM_SESSION_OTHER_TARGET = PTPM_OTHER_TARGET,
-    PTPM_OTHER_SOURCE = 12,
+    PTPM_SESSION_OTHER_SOURCE = PTPM_OTHER_SOURCE,
     PTPM_NOTHING_ASKED = 13,
     PTPM_SESSION_OTHER_NUMBER = PTPM_OTHER_NUMBER,
     PTPM_SESSION_OTHER_CONTENT = PTPM_OTHER_CONTENT,
@@ -510,6 +520,7 @@ __extension__ enum PTPM_FOUR_OCTETS(ptpm_survey_received) {
     PTPM_SURVEY_OTHER_DOMAIN = PTPM_OTHER_DOMAIN,
     PTPM_SURVEY_NOT_A_REPLY = PTPM_NOT_A_REPLY,
     PTPM_SURVEY_OTHER_TARGET = PTPM_OTHER_TARGET,
+    PTPM_SURVEY_OTHER_SOURCE = PTPM_OTHER_SOURCE, /* of a survey of one clock alone */
     PTPM_SURVEY_OTHER_NUMBER = PTPM_OTHER_NUMBER,
     PTPM_SURVEY_OTHER_CONTENT = PTPM_OTHER_CONTENT,
     PTPM_SURVEY_TOO_SHORT = PTPM_TOO_SHORT,
@@ -570,6 +581,7 @@ PTPM_IS_WIDE(ptpm_read);
 PTPM_IS_WIDE(ptpm_begun);
 PTPM_IS_WIDE(ptpm_sending);
 PTPM_IS_WIDE(ptpm_resumed);
+PTPM_IS_WIDE(ptpm_given_up);
 PTPM_IS_WIDE(ptpm_retuned);
 PTPM_IS_WIDE(ptpm_session_received);
 PTPM_IS_WIDE(ptpm_survey_received);
@@ -713,10 +725,19 @@ static inline enum ptpm_started ptpm_session_start_sized(struct ptpm_session *ha
    Takes:   PTPM_GET, PTPM_SET or PTPM_COMMAND; the id; a port of the managed clock; and the dataField, of size octets. The
             port matters for an id of a port alone.
    Answers: PTPM_BEGUN; or why not, and then nothing changes.
-   Memory:  a copy of the dataField, until the request is answered.
+   Memory:  a copy of the dataField, until the request is answered or given up.
    Owed:    the caller saves the session's image in a place where a restart finds it, and then sends the request. */
 enum ptpm_begun ptpm_session_begin(struct ptpm_session *session, uint8_t action, uint16_t id, uint16_t port,
                                    const uint8_t *octets, size_t size);
+
+/* Does what ptpm_session_begin does, at the port that is named whatever the id. Some clocks answer for an id of the clock too only
+   if one of their ports is named. Any port of the clock may answer for such an id.
+   Takes:   what ptpm_session_begin takes. The port is 1 to the number of the managed clock's ports.
+   Answers: what ptpm_session_begin answers.
+   Memory:  a copy of the dataField, until the request is answered or given up.
+   Owed:    what ptpm_session_begin leaves owed. */
+enum ptpm_begun ptpm_session_begin_at(struct ptpm_session *session, uint8_t action, uint16_t id, uint16_t port,
+                                      const uint8_t *octets, size_t size);
 
 /* Makes the message of the unanswered request, and uses one of its attempts. The message has the same octets each time, until
    the session is retuned.
@@ -729,6 +750,15 @@ enum ptpm_sending ptpm_session_send(struct ptpm_session *session, uint8_t *octet
 /* Gives the unanswered request this many attempts, whatever was left.
    Answers: PTPM_RESUMED; or why not, and then nothing changes. */
 enum ptpm_resumed ptpm_session_resume(struct ptpm_session *session, uint8_t attempts);
+
+/* Lets the unanswered request go, so that the next can be begun. Its number is used for no other, and no answer to it is taken any
+   more. The clock may have carried it out, once, or may still: until it takes a later request of this session. So once a later
+   one is answered, the one that was given up was carried out before it, or never will be.
+   Answers: PTPM_GIVEN_UP; or PTPM_IDLE or PTPM_OUT_OF_REACH, and then nothing changes. The clock might take a number further ahead
+            for an old one; so send the request until it is answered.
+   Owed:    the caller begins the next request before it ends, or saves the session's image: else a restart goes on with the
+            request that was given up. */
+enum ptpm_given_up ptpm_session_give_up(struct ptpm_session *session);
 
 /* Has requests sent, and replies expected, in this domain from now on, the unanswered request among them.
    Answers: PTPM_RETUNED, or why not. */
@@ -784,6 +814,24 @@ enum ptpm_started ptpm_survey_start(struct ptpm_survey *survey, const struct ptp
 static inline enum ptpm_started ptpm_survey_start_sized(struct ptpm_survey *handle, const struct ptpm_survey_settings *settings) {
     enum ptpm_started answer = ptpm_header_agrees();
     return answer != PTPM_STARTED ? answer : ptpm_survey_start(handle, settings);
+}
+
+/* Starts a survey of one clock, without answers, in place of what the handle holds, which is freed first. Every port of the clock
+   is asked, and another clock's answer is ignored (PTPM_OTHER_SOURCE). A clock takes such a GET of one of its managers for a
+   numbered request, as of a session. So the manager here is none of them, for example another port of the same identity.
+   Takes:   the identity of the clock: another one than the manager's, and neither all ones nor all zeros.
+   Answers: PTPM_STARTED; or why not, and then the handle holds nothing.
+   Memory:  the survey, until it is stopped.
+   Owed:    the caller stops the survey. */
+enum ptpm_started ptpm_survey_start_at(struct ptpm_survey *survey, const struct ptpm_survey_settings *settings,
+                                       const uint8_t target[8]);
+
+/* Does what ptpm_survey_start_at does if this file is that of the library.
+   Answers: what ptpm_survey_start_at answers; or PTPM_OTHER_SIZES, and then the handle holds what it held. */
+static inline enum ptpm_started ptpm_survey_start_at_sized(struct ptpm_survey *handle, const struct ptpm_survey_settings *settings,
+                                                           const uint8_t target[8]) {
+    enum ptpm_started answer = ptpm_header_agrees();
+    return answer != PTPM_STARTED ? answer : ptpm_survey_start_at(handle, settings, target);
 }
 
 /* Makes the message of the GET, the same each time.

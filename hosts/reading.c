@@ -11,13 +11,16 @@ uint16_t port_of_nobody(uint16_t managers) {
     return port == managers ? (uint16_t)(port + 1) : port;
 }
 
-int begin_reading(struct ptpm_session *session, const struct task *task, uint16_t id, uint16_t port) {
-    struct ptpm_session_settings settings = task->settings;
-    settings.port = port_of_nobody(settings.port);
-    settings.first = draw_number();
-    settings.attempts = MOST_READINGS;
-    return ptpm_session_start(session, &settings) == PTPM_STARTED
-           && ptpm_session_begin(session, PTPM_GET, id, port, settings.clock, 0) == PTPM_BEGUN;
+int begin_reading(struct ptpm_session *session, const struct task *task, uint16_t id) {
+    static struct task reading;
+    reading = *task;
+    reading.action = PTPM_GET;
+    reading.id = id;
+    reading.size = 0;
+    reading.settings.port = port_of_nobody(task->settings.port);
+    reading.settings.first = draw_number();
+    reading.settings.attempts = MOST_READINGS;
+    return ptpm_session_start(session, &reading.settings) == PTPM_STARTED && begin_of_task(session, &reading) == PTPM_BEGUN;
 }
 
 int is_read(struct ptpm_session *session, const struct task *task) {

@@ -8,9 +8,9 @@
 /* The portNumber at which nobody asks on behalf of this process; not the one that is given. */
 uint16_t port_of_nobody(uint16_t managers);
 
-/* Begins a GET of this id and port of the task's clock, under a drawn number, in a session in place of the one that the handle
+/* Begins a GET of this id, at the task's clock and port, under a drawn number, in a session in place of the one that the handle
    holds; whether it is begun. */
-int begin_reading(struct ptpm_session *session, const struct task *task, uint16_t id, uint16_t port);
+int begin_reading(struct ptpm_session *session, const struct task *task, uint16_t id);
 
 /* Sends it until it is answered, a few times at most; whether it is. */
 int is_read(struct ptpm_session *session, const struct task *task);

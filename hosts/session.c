@@ -1,4 +1,5 @@
 #include "session.h"
+#include "exchange.h"
 #include "identity.h"
 #include "names.h"
 #include "notices.h"
@@ -107,16 +108,12 @@ void see_to_hops(struct session *session, const struct task *task) {
     if (session->settings.hops != task->settings.hops) start_session(session, task, (uint16_t)(latest_number(session) + 1));
 }
 
-static uint32_t begin(struct session *session, const struct task *task) {
-    return ptpm_session_begin(&session->handle, task->action, task->id, task->port, task->octets, task->size);
-}
-
 /* A session that has begun as many requests as one can goes on as a new one, at its next number. */
 void begin_request(struct session *session, const struct task *task) {
-    uint32_t refusal = begin(session, task);
+    uint32_t refusal = begin_of_task(&session->handle, task);
     if (refusal == PTPM_COUNT_AT_MAXIMUM) {
         start_session(session, task, (uint16_t)(latest_number(session) + 1));
-        refusal = begin(session, task);
+        refusal = begin_of_task(&session->handle, task);
     }
     if (refusal != PTPM_BEGUN) refuse("nothing was asked: %s", answer_name(refusal));
     ptpm_session_resume(&session->handle, task->settings.attempts);

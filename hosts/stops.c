@@ -62,7 +62,7 @@ static void clocks(struct ptpm_clock *clock, const uint8_t *request) {
     ptpm_clock_stop(clock);
 }
 
-/* One request that is answered and reported, one that is refused, and one that is left unanswered. */
+/* One request that is answered and reported, one that is refused, one that is given up, and one that is left unanswered. */
 static void use_session(struct ptpm_session *session) {
     static const uint8_t text[128] = { 127 };
     uint8_t octets[PTPM_MOST_OCTETS];
@@ -80,6 +80,9 @@ static void use_session(struct ptpm_session *session) {
     expect(ptpm_session_send(session, octets, sizeof octets, &size), PTPM_SENT, "session_send");
     expect(ptpm_session_resume(session, 1), PTPM_RESUMED, "session_resume");
     expect(ptpm_session_retune(session, 1), PTPM_RETUNED, "session_retune");
+    expect(ptpm_session_give_up(session), PTPM_GIVEN_UP, "session_give_up");
+    expect(ptpm_session_begin_at(session, PTPM_SET, PTPM_ID_USER_DESCRIPTION, 1, text, sizeof text), PTPM_BEGUN,
+           "session_begin_at");
 }
 
 static void sessions(struct ptpm_session *session) {
@@ -120,6 +123,7 @@ static void surveys(struct ptpm_survey *survey) {
     use_survey(survey);
     expect(ptpm_survey_start(survey, &settings), PTPM_STARTED, "survey_start in a live handle");
     use_survey(survey);
+    expect(ptpm_survey_start_at(survey, &settings, target), PTPM_STARTED, "survey_start_at in a live handle");
     memset(settings.clock, 0xff, 8);
     expect(ptpm_survey_start(survey, &settings), PTPM_MANAGER_IS_EVERY, "survey_start that is refused");
     memcpy(settings.clock, manager, 8);

@@ -40,7 +40,7 @@ static const struct option options[] = {
 /* The words of the command line, and what options say of them that a later one may change. */
 struct words {
     const char *at[MOST_WORDS + 1], *domain;
-    int count, is_text, has_target;
+    int count, is_text, has_target, is_every_port;
     long port, target_port, hops, attempts;
 };
 
@@ -57,6 +57,11 @@ static void read_target(struct task *task, struct words *words, const char *text
     if (rest == NULL) refuse("--target %s: it takes aabbccfffeddee01 or aabbcc.fffe.ddee01, and -1 behind it for port 1", text);
     words->target_port = *rest == '\0' ? NOT_NAMED : port_behind(rest, 65535);
     if (*rest != '\0' && words->target_port < 0) refuse("--target %s: %s is no port", text, rest);
+}
+
+static void read_port(struct words *words, const char *text) {
+    words->is_every_port = strcasecmp(text, "all") == 0;
+    words->port = words->is_every_port ? NOT_NAMED : number("port", text, 0, 65535);
 }
 
 static void read_manager(struct task *task, const char *text) {
@@ -80,7 +85,7 @@ static void take_option(struct task *task, struct words *words, int option, cons
     case '2': task->is_ethernet = 1; break;
     case 'u': task->path = value; break;
     case 'T': read_target(task, words, value); break;
-    case 'p': words->port = number("port", value, 0, 65535); break;
+    case 'p': read_port(words, value); break;
     case 'd': words->domain = value; break;
     case 'b': words->hops = number("hops", value, 0, 255); break;
     case 'm': read_manager(task, value); break;
@@ -141,6 +146,16 @@ static void read_verb(struct task *task, const char *verb) {
     if (!task->is_survey) refuse("%s: it is none of get, set, command, survey, collect and status", verb);
 }
 
+/* A get of every port is a survey of one clock. It asks by nobody, since a clock numbers what its managers ask of it alone. */
+static void read_every_port(struct task *task, const struct words *words) {
+    if (!words->is_every_port) return;
+    if (task->is_survey || task->action != PTPM_GET) refuse("--port all stands with get");
+    if (task->has_manager || task->numbers != NULL) {
+        refuse("--port all asks by no manager: it stands without --manager and --numbers");
+    }
+    task->is_survey = task->is_of_clock = 1;
+}
+
 static void read_id(struct task *task, const char *text) {
     long id = id_named(text);
     if (id < 0) refuse("%s: it is no managementId of the list in ptpm-manage --help, and not four hexadecimal digits", text);
@@ -160,7 +175,7 @@ static void read_value(struct task *task, const struct words *words) {
     int is_set = !task->is_survey && task->action == PTPM_SET;
     if (text == NULL && is_set && !has_no_member(task->id)) refuse("set %s: it takes a value behind it", id);
     if (text == NULL) return;
-    if (task->is_survey) refuse("survey %s: it takes no value", id);
+    if (task->is_survey) refuse("%s %s%s: it takes no value", words->at[0], id, task->is_of_clock ? " of every port" : "");
     if (words->is_text) {
         if (!has_text(task->id)) refuse("--text: %s has no text", id);
         if (strlen(text) > MOST_TEXT) refuse("the text has over %d octets", MOST_TEXT);
@@ -184,8 +199,10 @@ static void judge(const struct task *task, const struct words *words) {
     }
     if (task->address != NULL && task->interface_count > 1) refuse("--udp stands with one --interface");
     if (task->is_ethernet && (task->address != NULL || task->is_six)) refuse("--ethernet stands without --udp and --ipv6");
-    if (task->is_survey && words->has_target) refuse("%s asks every clock: it takes no --target", words->at[0]);
-    if (!task->is_survey && !words->has_target) refuse("--target is missing: the clock that is asked; survey asks every clock");
+    int asks_one = !task->is_survey || task->is_of_clock;
+    if (!asks_one && words->has_target) refuse("%s asks every clock: it takes no --target", words->at[0]);
+    if (asks_one && !words->has_target) refuse("--target is missing: the clock that is asked; survey asks every clock");
+    if (words->is_every_port && words->target_port >= 0) refuse("--port all and --target name ports apart");
     if (words->port >= 0 && words->target_port >= 0 && words->port != words->target_port) {
         refuse("--port %ld and --target name two ports", words->port);
     }
@@ -236,6 +253,7 @@ void read_task(struct task *task, int argc, char **argv) {
     read_words(task, &words, argc, argv);
     if (words.count == 0) refuse("it takes get, set, command or survey and a managementId, or collect or status; see ptpm-manage --help");
     read_verb(task, words.at[0]);
+    read_every_port(task, &words);
     read_asked(task, &words);
     read_reach(task, &words);
     judge(task, &words);

@@ -9,11 +9,12 @@
 enum { MOST_INTERFACES = 8 };
 
 struct task {
-    int is_survey;                              /* every clock is asked */
+    int is_survey;                              /* every clock is asked, or one, at every port */
+    int is_of_clock;                            /* a survey of one clock */
     struct site_options site;                   /* of a survey that collects, and what is shown of it */
     uint8_t action;                             /* PTPM_GET, PTPM_SET or PTPM_COMMAND, if it is no survey */
     uint16_t id;
-    uint16_t port;                              /* the clock's, of an id of a port; 0 if none is named */
+    uint16_t port;                              /* the clock's; 0 if none is named */
     size_t size;
     uint8_t octets[PTPM_MOST_OCTETS];           /* the dataField */
     struct ptpm_session_settings settings;      /* the number of the first request is 0 until one is drawn */

@@ -12,7 +12,7 @@
 static int tell_value(const struct task *task) {
     static struct answer answer;
     struct ptpm_session session = { 0 };
-    int is_told = begin_reading(&session, task, task->id, task->port) && is_read(&session, task);
+    int is_told = begin_reading(&session, task, task->id) && is_read(&session, task);
     if (is_told) {
         take_report(&session, &answer);
         complain("the clock answers reads%s", answer.told == PTPM_VALUE ? ", and has by now" : "");
@@ -47,6 +47,7 @@ static void tell_reason(const struct task *task, enum asked asked, uint16_t numb
 
 /* What may be wrong if the clock answers nobody. */
 static void advise(const struct task *task) {
+    if (task->port == 0) complain("a clock that answers only if its port is named, such as a ptpd, is asked with --port 1");
     if (task->port > 1) complain("numberPorts of get DEFAULT_DATA_SET tells whether the clock has a port %u", task->port);
     if (task->path == NULL) complain("survey DEFAULT_DATA_SET shows which clocks are in that domain; --domain names another");
 }
@@ -80,7 +81,7 @@ int no_answer(const struct task *task, enum asked asked, uint16_t number, long s
              sent == 1 ? "" : "s", request_clause(task, asked));
     tell_rest(task, asked, number);
     if (stopped) return BY_SIGNAL + stopped;
-    if (task->is_survey) return NOT_ANSWERED;
+    if (task->is_survey && !task->is_of_clock) return NOT_ANSWERED;
     int is_answered = (task->is_kept || task->action != PTPM_GET) && tell_value(task);
     if (stopped) return BY_SIGNAL + stopped;
     if (!is_answered) advise(task);

@@ -56,6 +56,7 @@ _ptpm_manage() {
     *,-*) _ptpm_offer_lines < <(_ptpm_options ptpm-manage) ;;
     get,* | set,* | command,* | survey,*) _ptpm_offer_lines < <(_ptpm_ids) ;;
     -i,* | --interface,*) _ptpm_offer_interfaces ;;
+    -p,* | --port,*) _ptpm_offer all ;;
     *) _ptpm_takes ptpm-manage "$before" || [[ -n $(_ptpm_last "${actions[*]}") ]] || _ptpm_offer "${actions[@]}" ;;
     esac
 }

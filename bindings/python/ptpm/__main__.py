@@ -14,7 +14,7 @@ from .ids import Action, ManagementId, id_of
 from .members import data_field, has_one_member, takes_no_value
 from .nobody import ask_as_nobody
 from .report import Report
-from .requests import Requests, SessionSettings
+from .requests import Requests, SessionSettings, begin_request
 from .session import Session
 from .session_file import SessionFile, SessionFileError
 from .survey import survey
@@ -50,7 +50,7 @@ def _parser() -> argparse.ArgumentParser:
     add("--udp", metavar="ADDRESS", help="over UDP to this address")
     add("-u", "--unix", metavar="PATH", help="at a Unix socket of this machine, as /var/run/ptp4l")
     add("-T", "--target", "--to", metavar="IDENTITY", help="the clock, as aabbccfffeddee01 or aabbcc.fffe.ddee01-1 for its port 1")
-    add("-p", "--port", type=_number(0, 65535), help="the port, of an id of a port")
+    add("-p", "--port", type=_number(0, 65535), help="the clock's port, named apart")
     add("-d", "--domain", type=_number(0, 255), default=0)
     add("-b", "--hops", type=_number(0, 255), default=1, help="boundary clocks that pass the request on")
     add("-m", "--manager", metavar="IDENTITY-PORT", help="the manager's own identity")
@@ -141,7 +141,7 @@ class Task:
             if not self.is_numbered:
                 report = ask_as_nobody(way, settings, self.action, self.id, self.data, self.port, timeout=seconds)
                 return _print([report], words.hexadecimal)
-            Requests(settings).begin(self.action, self.id, self.data, self.port)  # what is refused makes no file
+            begin_request(Requests(settings), self.action, self.id, self.data, self.port)  # what is refused makes no file
             with SessionFile(manager, self.target, words.numbers) as file:
                 is_new = file.octets is None
                 with Session(settings, file, wait=words.wait / 1000) as session:

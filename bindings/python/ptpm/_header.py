@@ -124,6 +124,7 @@ PTPM_MOST_ANSWERS = 512
 PTPM_OTHER_DOMAIN = 1
 PTPM_NOT_A_REPLY = 10
 PTPM_OTHER_TARGET = 11
+PTPM_OTHER_SOURCE = 12
 PTPM_OTHER_NUMBER = 14
 PTPM_OTHER_CONTENT = 15
 PTPM_TOO_SHORT = 16
@@ -266,6 +267,12 @@ PTPM_RESUMED = 0
 PTPM_RESUME_NO_SESSION = 37
 PTPM_RESUME_IDLE = 43
 
+# enum ptpm_given_up.
+PTPM_GIVEN_UP = 0
+PTPM_GIVE_UP_NO_SESSION = 37
+PTPM_GIVE_UP_IDLE = 43
+PTPM_OUT_OF_REACH = 112
+
 # enum ptpm_retuned.
 PTPM_RETUNED = 0
 PTPM_RETUNE_NO_SESSION = 37
@@ -275,7 +282,7 @@ PTPM_ANSWERED = 0
 PTPM_SESSION_OTHER_DOMAIN = 1
 PTPM_SESSION_NOT_A_REPLY = 10
 PTPM_SESSION_OTHER_TARGET = 11
-PTPM_OTHER_SOURCE = 12
+PTPM_SESSION_OTHER_SOURCE = 12
 PTPM_NOTHING_ASKED = 13
 PTPM_SESSION_OTHER_NUMBER = 14
 PTPM_SESSION_OTHER_CONTENT = 15
@@ -295,6 +302,7 @@ PTPM_TAKEN = 0
 PTPM_SURVEY_OTHER_DOMAIN = 1
 PTPM_SURVEY_NOT_A_REPLY = 10
 PTPM_SURVEY_OTHER_TARGET = 11
+PTPM_SURVEY_OTHER_SOURCE = 12
 PTPM_SURVEY_OTHER_NUMBER = 14
 PTPM_SURVEY_OTHER_CONTENT = 15
 PTPM_SURVEY_TOO_SHORT = 16
@@ -598,8 +606,10 @@ CALLS: Dict[str, Tuple[Any, List[Any]]] = {
     "ptpm_clock_stop": (None, [POINTER(ptpm_clock)]),
     "ptpm_session_start": (c_uint32, [POINTER(ptpm_session), POINTER(ptpm_session_settings)]),
     "ptpm_session_begin": (c_uint32, [POINTER(ptpm_session), c_uint8, c_uint16, c_uint16, c_char_p, c_size_t]),
+    "ptpm_session_begin_at": (c_uint32, [POINTER(ptpm_session), c_uint8, c_uint16, c_uint16, c_char_p, c_size_t]),
     "ptpm_session_send": (c_uint32, [POINTER(ptpm_session), POINTER(c_uint8), c_size_t, POINTER(c_size_t)]),
     "ptpm_session_resume": (c_uint32, [POINTER(ptpm_session), c_uint8]),
+    "ptpm_session_give_up": (c_uint32, [POINTER(ptpm_session)]),
     "ptpm_session_retune": (c_uint32, [POINTER(ptpm_session), c_uint8]),
     "ptpm_session_receive": (c_uint32, [POINTER(ptpm_session), c_char_p, c_size_t]),
     "ptpm_session_image": (c_uint32, [POINTER(ptpm_session), POINTER(c_uint8), c_size_t, POINTER(c_size_t)]),
@@ -608,6 +618,7 @@ CALLS: Dict[str, Tuple[Any, List[Any]]] = {
     "ptpm_session_report": (c_uint32, [POINTER(ptpm_session), POINTER(c_uint8), c_size_t, POINTER(c_size_t), POINTER(c_uint16)]),
     "ptpm_session_stop": (None, [POINTER(ptpm_session)]),
     "ptpm_survey_start": (c_uint32, [POINTER(ptpm_survey), POINTER(ptpm_survey_settings)]),
+    "ptpm_survey_start_at": (c_uint32, [POINTER(ptpm_survey), POINTER(ptpm_survey_settings), c_char_p]),
     "ptpm_survey_send": (c_uint32, [POINTER(ptpm_survey), POINTER(c_uint8), c_size_t, POINTER(c_size_t)]),
     "ptpm_survey_receive": (c_uint32, [POINTER(ptpm_survey), c_char_p, c_size_t]),
     "ptpm_survey_count": (c_size_t, [POINTER(ptpm_survey)]),

@@ -16,7 +16,7 @@ from .asking import NoAnswer, first_answered, next_message, send_out
 from .identity import PortIdentity
 from .ids import Action
 from .nobody import draw, nobody
-from .requests import Requests, SessionSettings
+from .requests import Requests, SessionSettings, begin_request
 from .transport import Transport
 
 # Of four numbers this far apart at least one is new, whatever the latest of this manager is.
@@ -66,7 +66,7 @@ def _reading(question: Question, id_read: int) -> Requests:
     """A read of the same by nobody."""
     settings = question.settings
     reading = Requests(replace(settings, manager=nobody(PortIdentity.of(settings.manager)), first=draw()))
-    reading.begin(Action.GET, id_read, b"", question.port)
+    begin_request(reading, Action.GET, id_read, b"", question.port)
     return reading
 
 
@@ -75,7 +75,7 @@ def _ask_under(first: int, question: Question, way: Transport, enough: int) -> _
     readings = sent = attempt = 0
     id_read, size = _what(question)
     asking = Requests(replace(question.settings, first=first))
-    asking.begin(Action.GET, id_read, os.urandom(size), question.port)
+    begin_request(asking, Action.GET, id_read, os.urandom(size), question.port)
     while readings < enough:
         message = next_message(asking)
         if message is None:

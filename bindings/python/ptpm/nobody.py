@@ -9,7 +9,7 @@ from .asking import carry_out
 from .identity import IdentityLike, PortIdentity
 from .ids import Action, IdLike
 from .report import Report
-from .requests import Requests, SessionSettings
+from .requests import Requests, SessionSettings, begin_request
 from .transport import Transport
 
 
@@ -30,7 +30,7 @@ def ask_as_nobody(
     """Asks in the place of a session's manager until it is answered. A clock of ptpm carries out a SET of managers alone; a ptp4l
     takes some of anybody at its Unix socket, once for each copy."""
     asking = Requests(replace(settings, manager=nobody(PortIdentity.of(settings.manager)), first=draw()))
-    asking.begin(action, named, data, port)
+    begin_request(asking, action, named, data, port)
     return carry_out(asking, way, timeout)
 
 

@@ -20,6 +20,9 @@ from .settings import write_number, write_octets
 # A tlvType (14.1): its TLV has a managementErrorId before the managementId (15.5.4).
 _MANAGEMENT_ERROR_STATUS = 2
 
+# A portNumber (15.4.1).
+_EVERY_PORT = 65535
+
 
 @dataclass(frozen=True)
 class SessionSettings:
@@ -66,6 +69,18 @@ class Requests(Handle):
         """Begins a request, and lets the answer to the one before go. The port matters for an id of a port alone."""
         octets = bytes(data)
         done(self._call(library.ptpm_session_begin, Action(action), id_of(named), port_number(port), octets, len(octets)))
+
+    def begin_at(self, action: int, named: IdLike, port: int, data: bytes = b"") -> None:
+        """Does what `begin` does at the port that is named, whatever the id. Some clocks answer for an id of the clock too only if
+        one of their ports is named; any port of the clock may answer for such an id."""
+        octets = bytes(data)
+        words = (Action(action), id_of(named), port_number(port), octets, len(octets))
+        done(self._call(library.ptpm_session_begin_at, *words))
+
+    def give_up(self) -> None:
+        """Lets the unanswered request go, so that the next can be begun. Its number is used for no other, and no answer to it is
+        taken any more. The clock may have carried it out, once, or may still: until it takes a later request of this session."""
+        done(self._call(library.ptpm_session_give_up))
 
     def send(self) -> bytes:
         """The message of the unanswered request; it uses one of its attempts."""
@@ -130,3 +145,11 @@ class Requests(Handle):
     def is_busy(self) -> bool:
         """Whether a request is unanswered."""
         return is_under_way(self.image())
+
+
+def begin_request(session: Requests, action: int, named: IdLike, data: bytes, port: int) -> None:
+    """Begins a request at the port that is named, for an id of the clock too; if none is, such an id is asked of every port."""
+    if port in (0, _EVERY_PORT):
+        session.begin(action, named, data, port)
+    else:
+        session.begin_at(action, named, port, data)

@@ -15,7 +15,7 @@ from .ids import IdLike, id_of
 from .members import data_field
 from .nobody import draw
 from .report import Report
-from .requests import Requests, SessionSettings
+from .requests import Requests, SessionSettings, begin_request
 from .session_file import SessionFile
 from .session_image import first_number, has_question, number_of_line
 from .transport import Transport
@@ -57,9 +57,7 @@ class Session(Requests):
             self._start(replace(settings, first=number))
             return
         self.retune(settings.domain)
-        self.is_under_way = self.is_busy() and not has_question(octets)
-        if self.is_busy() and not self.is_under_way:
-            self.let_go()
+        self.is_under_way = self.is_busy() and not (has_question(octets) and self._gives_up())
 
     def __enter__(self) -> Session:
         return self
@@ -78,10 +76,18 @@ class Session(Requests):
         self._file = None
         super().close()
 
+    def _gives_up(self) -> bool:
+        """Lets a question go. One that can't be is finished like any request."""
+        try:
+            self.give_up()
+        except Error:
+            return False
+        return True
+
     def let_go(self) -> None:
         """Goes on at the next number, without the request that has no answer. Once the clock has answered a later one, it was
-        carried out, or never will be."""
-        self._start(replace(self.settings, first=self.next_number))
+        carried out, or never will be. It is refused if 32,767 in a row had no answer (OUT_OF_REACH)."""
+        self.give_up()
         self.is_under_way = False
 
     def _judge(self, action: int, number: int, data: bytes, port: int) -> None:
@@ -89,7 +95,7 @@ class Session(Requests):
         if not self.is_under_way and self.is_busy():
             raise Error(header.PTPM_BUSY)
         probe = Requests(self.settings)
-        probe.begin(action, number, data, port)
+        begin_request(probe, action, number, data, port)
         probe.close()
 
     def _finish(self, way: Transport, timeout: float) -> None:
@@ -117,12 +123,12 @@ class Session(Requests):
     def _begin(self, action: int, number: int, data: bytes, port: int) -> None:
         """Begins a request, and keeps it. A session that has begun as many as one can goes on as a new one, at its next number."""
         try:
-            self.begin(action, number, data, port)
+            begin_request(self, action, number, data, port)
         except Error as error:
             if error.number != header.PTPM_COUNT_AT_MAXIMUM:
                 raise
             self._start(replace(self.settings, first=self.next_number))
-            self.begin(action, number, data, port)
+            begin_request(self, action, number, data, port)
         if self._file is not None:
             self._file.write(self.image())
 
@@ -137,8 +143,8 @@ class Session(Requests):
         timeout: float = 0.2,
     ) -> Report:
         """Asks until it is answered; `timeout` is how long each answer is waited for, in seconds. `value` is a dataField, or the
-        value of an id's one member. If no answer came, NoAnswer says whether the request itself was sent; if it was, `go_on` asks
-        the same again."""
+        value of an id's one member. A port that is not 0 is named to the clock, whatever the id. If no answer came, NoAnswer says
+        whether the request itself was sent; if it was, `go_on` asks the same again."""
         number = id_of(named)
         data = data_field(number, value)
         self._judge(action, number, data, port)

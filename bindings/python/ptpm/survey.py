@@ -1,4 +1,4 @@
-"""One GET to every clock, and the first answer of each port."""
+"""One GET to every clock, or to one, and the first answer of each port."""
 
 from __future__ import annotations
 
@@ -25,8 +25,8 @@ _QUIET_AT_FIRST = 5
 
 @dataclass(frozen=True)
 class SurveySettings:
-    """One manager, and the GET that it sends to every clock and every port. Each survey gets a number that is not on its way any
-    more."""
+    """One manager, and the GET that it sends to every port of every clock, or of one. Each survey gets a number that is not on its
+    way any more."""
 
     manager: PortIdentityLike
     number: int
@@ -46,12 +46,19 @@ class SurveySettings:
 
 
 class Survey(Handle):
-    """What a survey asks, and its answers: the first of each port, of 512 ports at most."""
+    """What a survey asks, and its answers: the first of each port, of 512 ports at most.
 
-    def __init__(self, settings: SurveySettings) -> None:
+    With a target every port of that clock is asked, and no other clock answers. A clock takes such a GET of one of its managers for
+    a numbered request, as of a session. So the manager is none of them then, for example another port of the same identity.
+    """
+
+    def __init__(self, settings: SurveySettings, target: Optional[IdentityLike] = None) -> None:
         super().__init__(header.ptpm_survey, library.ptpm_survey_stop)
         struct = settings.as_in_c()
-        done(self._call(library.ptpm_survey_start, ctypes.byref(struct)))
+        if target is None:
+            done(self._call(library.ptpm_survey_start, ctypes.byref(struct)))
+        else:
+            done(self._call(library.ptpm_survey_start_at, ctypes.byref(struct), Identity.of(target).octets))
         self._id = struct.id
 
     def __enter__(self) -> Survey:

@@ -180,6 +180,30 @@ class Managers(unittest.TestCase):
             restored.receive(octets)
             self.assertEqual(restored.report().members, {"priority1": 100})
 
+    def test_a_request_at_a_port_is_given_up(self) -> None:
+        with clock() as asked, ptpm.Session(ptpm.SessionSettings(MANAGER, CLOCK, 7)) as session:
+            self.assertRaisesRegex(ptpm.Error, "IDLE", session.give_up)
+            self.assertRaisesRegex(ptpm.Error, "NEEDS_PORT", session.begin_at, ptpm.Action.SET, "PRIORITY1", 9, b"\x64\0")
+            session.begin_at(ptpm.Action.SET, "PRIORITY1", 2, b"\x64\0")
+            message = session.send()
+            self.assertEqual(message, request(7, "aabbccfffeddee010002", 1, 1, "20056400"))
+            [(_, octets)] = asked.handle(1, message).messages
+            session.give_up()
+            self.assertEqual(session.receive(octets), SessionAnswer.NOTHING_ASKED)
+            session.begin(ptpm.Action.GET, "PRIORITY1")
+            [(_, octets)] = asked.handle(1, session.send()).messages
+            session.receive(octets)
+            self.assertEqual((session.report().members, session.issued), ({"priority1": 100}, 2))
+
+    def test_a_survey_of_one_clock_hears_no_other(self) -> None:
+        settings = ptpm.SurveySettings("0a0b0c0d0e0f1011/9", 3, "PRIORITY1")
+        self.assertRaisesRegex(ptpm.Error, "TARGET_IS_EVERY", ptpm.Survey, settings, "ff" * 8)
+        with clock() as asked, ptpm.Survey(settings, CLOCK) as survey:
+            [(_, octets)] = asked.handle(1, survey.send()).messages
+            other = octets[:27] + b"\2" + octets[28:]  # of the sourcePortIdentity
+            self.assertEqual(survey.receive(other), SurveyAnswer.OTHER_SOURCE)
+            self.assertEqual((survey.receive(octets), len(survey)), (SurveyAnswer.TAKEN, 1))
+
     def test_a_survey_keeps_first_answers(self) -> None:
         with clock() as asked, ptpm.Survey(ptpm.SurveySettings("0a0b0c0d0e0f1011/9", 3, "PORT_DATA_SET")) as survey:
             for became in (SurveyAnswer.TAKEN, SurveyAnswer.AGAIN):

@@ -135,6 +135,8 @@ answers! {
         NotAReply = PTPM_NOT_A_REPLY,
         /// It is an answer to another manager.
         OtherTarget = PTPM_OTHER_TARGET,
+        /// Another clock answers than the one that is asked.
+        OtherSource = PTPM_OTHER_SOURCE,
         /// It answers another request.
         OtherNumber = PTPM_OTHER_NUMBER,
         /// Its number is the survey's, and what it answers is not.

@@ -53,7 +53,7 @@ errors! {
     NotReadable = PTPM_NOT_READABLE, "the id is not in the table, or permits no GET";
     NoSession = PTPM_NO_SESSION, "the handle holds no session";
     Busy = PTPM_BUSY, "a request is not answered yet";
-    NeedsPort = PTPM_NEEDS_PORT, "the id is of a port, and no port of the clock is named";
+    NeedsPort = PTPM_NEEDS_PORT, "no port of the clock is named";
     NotPermitted = PTPM_NOT_PERMITTED, "the action is none of GET, SET and COMMAND";
     BadValue = PTPM_BAD_VALUE, "the dataField has an odd number of octets, or over 1,418";
     CountAtMaximum = PTPM_COUNT_AT_MAXIMUM, "the session has begun 1,000,000 requests";
@@ -89,6 +89,7 @@ errors! {
     OtherClock = PTPM_OTHER_CLOCK, "the image is of a clock of another identity";
     OtherPorts = PTPM_OTHER_PORTS, "the image is of a clock with another number of ports";
     OtherSession = PTPM_OTHER_SESSION, "the image is of another manager, clock, number of ports or first number";
+    OutOfReach = PTPM_OUT_OF_REACH, "32,767 requests were begun since the latest that was answered";
 }
 
 /// The number of a call that was done is 0, and every other one an error.

@@ -161,6 +161,17 @@ impl Session {
         done(unsafe { sys::ptpm_session_begin(&mut self.handle, action as u8, id.0, port, data.as_ptr(), data.len()) })
     }
 
+    /// Does what [`Session::begin`] does at the port that is named, whatever the id. Some clocks answer for an id of the clock too
+    /// only if one of their ports is named; any port of the clock may answer for such an id.
+    ///
+    /// # Errors
+    ///
+    /// Those of [`Session::begin`]: [`Error::NeedsPort`] for each port that the clock lacks.
+    pub fn begin_at(&mut self, action: Action, id: ManagementId, port: u16, data: &[u8]) -> Result<(), Error> {
+        // SAFETY: the octets and their size are those of a slice, which may be read.
+        done(unsafe { sys::ptpm_session_begin_at(&mut self.handle, action as u8, id.0, port, data.as_ptr(), data.len()) })
+    }
+
     /// Makes the message of the unanswered request in the room that it is given, and uses one of its attempts.
     ///
     /// # Errors
@@ -181,6 +192,17 @@ impl Session {
     pub fn resume(&mut self, attempts: u8) -> Result<(), Error> {
         // SAFETY: the handle is live.
         done(unsafe { sys::ptpm_session_resume(&mut self.handle, attempts) })
+    }
+
+    /// Lets the unanswered request go, so that the next can be begun. Its number is used for no other, and no answer to it is taken
+    /// any more. The clock may have carried it out, once, or may still: until it takes a later request of this session.
+    ///
+    /// # Errors
+    ///
+    /// The first of [`Error::Idle`] and [`Error::OutOfReach`] that holds; then nothing changes.
+    pub fn give_up(&mut self) -> Result<(), Error> {
+        // SAFETY: the handle is live.
+        done(unsafe { sys::ptpm_session_give_up(&mut self.handle) })
     }
 
     /// Has requests sent, and replies expected, in this domain from now on, the unanswered request among them.

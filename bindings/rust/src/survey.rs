@@ -1,4 +1,4 @@
-//! One GET to every clock, and the first answer of each port.
+//! One GET to every clock, or to one, and the first answer of each port.
 
 use crate::answers::Surveyed;
 use crate::error::{done, judged, Error};
@@ -9,7 +9,8 @@ use crate::sys;
 use core::fmt;
 use core::ptr::null_mut;
 
-/// One manager, and the GET that it sends to every clock and every port. Each survey gets a number that is not on its way any more.
+/// One manager, and the GET that it sends to every port of every clock, or of one. Each survey gets a number that is not on its way
+/// any more.
 #[derive(Clone, Copy, Debug, PartialEq, Eq)]
 pub struct SurveySettings {
     /// The manager; its clock is not all ones.
@@ -28,6 +29,18 @@ impl SurveySettings {
     /// A survey of a manager in domain 0, over one boundary clock at most.
     pub const fn new(manager: PortIdentity, number: u16, id: ManagementId) -> Self {
         Self { manager, number, id, domain: 0, hops: 1 }
+    }
+
+    /// As the library takes them.
+    const fn as_in_c(&self) -> sys::ptpm_survey_settings {
+        sys::ptpm_survey_settings {
+            port: self.manager.port,
+            number: self.number,
+            id: self.id.0,
+            clock: self.manager.clock.0,
+            domain: self.domain,
+            hops: self.hops,
+        }
     }
 }
 
@@ -59,25 +72,40 @@ pub struct Survey {
 unsafe impl Send for Survey {}
 
 impl Survey {
-    /// Starts a survey without answers.
+    /// Starts a survey of every clock, without answers.
     ///
     /// # Errors
     ///
     /// [`Error::ManagerIsEvery`] or [`Error::NoMemory`].
     pub fn start(settings: &SurveySettings) -> Result<Self, Error> {
         done(sys::ptpm_header_agrees())?;
-        let mut survey = Self { handle: sys::ptpm_survey { at: null_mut(), live: false } };
-        let settings = sys::ptpm_survey_settings {
-            port: settings.manager.port,
-            number: settings.number,
-            id: settings.id.0,
-            clock: settings.manager.clock.0,
-            domain: settings.domain,
-            hops: settings.hops,
-        };
+        let mut survey = Self::none();
+        let settings = settings.as_in_c();
         // SAFETY: the handle is all zeros before this first call, and the settings may be read.
         done(unsafe { sys::ptpm_survey_start(&mut survey.handle, &settings) })?;
         Ok(survey)
+    }
+
+    /// Starts a survey of one clock, without answers: every port of it is asked, and no other clock answers. A clock takes such a
+    /// GET of one of its managers for a numbered request, as of a session. So the manager here is none of them, for example another
+    /// port of the same identity.
+    ///
+    /// # Errors
+    ///
+    /// The first of [`Error::ManagerIsEvery`], [`Error::TargetIsEvery`], [`Error::SameClock`], [`Error::TargetIsZero`] and
+    /// [`Error::NoMemory`] that holds.
+    pub fn start_at(settings: &SurveySettings, target: Identity) -> Result<Self, Error> {
+        done(sys::ptpm_header_agrees())?;
+        let mut survey = Self::none();
+        let settings = settings.as_in_c();
+        // SAFETY: the handle is all zeros before this first call. The settings may be read, and so may the identity's octets.
+        done(unsafe { sys::ptpm_survey_start_at(&mut survey.handle, &settings, target.0.as_ptr()) })?;
+        Ok(survey)
+    }
+
+    /// A handle that holds nothing.
+    const fn none() -> Self {
+        Self { handle: sys::ptpm_survey { at: null_mut(), live: false } }
     }
 
     /// Makes the message of the GET in the room that it is given, the same each time.

@@ -18,6 +18,7 @@ pub type ptpm_read = u32;
 pub type ptpm_begun = u32;
 pub type ptpm_sending = u32;
 pub type ptpm_resumed = u32;
+pub type ptpm_given_up = u32;
 pub type ptpm_retuned = u32;
 pub type ptpm_session_received = u32;
 pub type ptpm_survey_received = u32;
@@ -295,8 +296,17 @@ extern "C" {
         octets: *const u8,
         size: usize,
     ) -> ptpm_begun;
+    pub fn ptpm_session_begin_at(
+        session: *mut ptpm_session,
+        action: u8,
+        id: u16,
+        port: u16,
+        octets: *const u8,
+        size: usize,
+    ) -> ptpm_begun;
     pub fn ptpm_session_send(session: *mut ptpm_session, octets: *mut u8, room: usize, size: *mut usize) -> ptpm_sending;
     pub fn ptpm_session_resume(session: *mut ptpm_session, attempts: u8) -> ptpm_resumed;
+    pub fn ptpm_session_give_up(session: *mut ptpm_session) -> ptpm_given_up;
     pub fn ptpm_session_retune(session: *mut ptpm_session, domain: u8) -> ptpm_retuned;
     pub fn ptpm_session_receive(session: *mut ptpm_session, datagram: *const u8, size: usize) -> ptpm_session_received;
     pub fn ptpm_session_image(session: *const ptpm_session, octets: *mut u8, room: usize, size: *mut usize) -> ptpm_saved;
@@ -316,6 +326,11 @@ extern "C" {
     ) -> ptpm_told;
     pub fn ptpm_session_stop(session: *mut ptpm_session);
     pub fn ptpm_survey_start(survey: *mut ptpm_survey, settings: *const ptpm_survey_settings) -> ptpm_started;
+    pub fn ptpm_survey_start_at(
+        survey: *mut ptpm_survey,
+        settings: *const ptpm_survey_settings,
+        target: *const u8,
+    ) -> ptpm_started;
     pub fn ptpm_survey_send(survey: *const ptpm_survey, octets: *mut u8, room: usize, size: *mut usize) -> ptpm_sending;
     pub fn ptpm_survey_receive(survey: *mut ptpm_survey, datagram: *const u8, size: usize) -> ptpm_survey_received;
     pub fn ptpm_survey_count(survey: *const ptpm_survey) -> usize;

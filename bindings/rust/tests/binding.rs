@@ -238,6 +238,44 @@ fn a_session_is_answered() {
 }
 
 #[test]
+fn a_request_at_a_port_is_given_up() {
+    let mut clock = clock();
+    let settings = SessionSettings::new(port_identity("0011223344556677/1"), identity(CLOCK), 7);
+    let mut session = Session::start(&settings).expect("it starts");
+    let (mut room, mut outbox) = ([0; MOST_OCTETS], Outbox::boxed());
+    assert_eq!(session.give_up(), Err(Error::Idle));
+    assert_eq!(session.begin_at(Action::Set, ManagementId::PRIORITY1, 9, &[100, 0]), Err(Error::NeedsPort));
+    assert_eq!(session.begin_at(Action::Set, ManagementId::PRIORITY1, 2, &[100, 0]), Ok(()));
+    let message = session.send(&mut room).expect("it is made");
+    assert_eq!(message, request(7, "aabbccfffeddee010002", 1, 1, "20056400"));
+    let turn = clock.handle(1, message, &mut outbox).expect("it is judged");
+    assert_eq!(session.give_up(), Ok(()));
+    for (_, octets) in turn.messages {
+        assert_eq!(session.receive(octets), Ok(Received::NothingAsked));
+    }
+    assert_eq!(session.begin(Action::Get, ManagementId::PRIORITY1, 0, &[]), Ok(()));
+    assert_eq!(exchanged(&mut session, &mut clock), Ok(Received::Answered));
+    assert_eq!(session.report(&mut room), Ok(Report::Value(&[100, 0])));
+    assert_eq!(session.issued(), 2);
+}
+
+#[test]
+fn a_survey_of_one_clock_hears_no_other() {
+    let settings = SurveySettings::new(port_identity("0a0b0c0d0e0f1011/9"), 3, ManagementId::PRIORITY1);
+    assert_eq!(Survey::start_at(&settings, Identity([0xff; 8])).map(|_| ()), Err(Error::TargetIsEvery));
+    let mut survey = Survey::start_at(&settings, identity(CLOCK)).expect("it starts");
+    let (mut clock, mut room, mut outbox) = (clock(), [0; MOST_OCTETS], Outbox::boxed());
+    let turn = clock.handle(1, survey.send(&mut room).expect("it is made"), &mut outbox).expect("it is judged");
+    for (_, octets) in turn.messages {
+        let mut other = octets.to_vec();
+        other[27] = 2; // of the sourcePortIdentity
+        assert_eq!(survey.receive(&other), Ok(Surveyed::OtherSource));
+        assert_eq!(survey.receive(octets), Ok(Surveyed::Taken));
+    }
+    assert_eq!(survey.count(), 1);
+}
+
+#[test]
 fn a_survey_keeps_first_answers() {
     let mut clock = clock();
     let settings = SurveySettings::new(port_identity("0a0b0c0d0e0f1011/9"), 3, ManagementId::PORT_DATA_SET);

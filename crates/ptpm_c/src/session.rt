@@ -4,27 +4,28 @@ ghost use Rattle.std.specs.Prelude.{◌≡◌, ◌≢◌, ◌≤◌, false, true
 ghost use Rattle.ptpm_codec.specs.declared.message.Message.{Message};
 ghost use Rattle.ptpm_codec.specs.Canonical.{canonical};
 ghost use Rattle.ptpm_manager.specs.declared.error.BeginError.{BeginError};
+ghost use Rattle.ptpm_manager.specs.declared.error.GiveUpRefusal.{GiveUpRefusal};
 ghost use Rattle.ptpm_manager.specs.declared.error.SendError.{SendError};
 ghost use Rattle.ptpm_manager.specs.declared.report.Report.{Report};
 ghost use Rattle.ptpm_manager.specs.Receiving.{NeedsMemory, received_of};
-ghost use Rattle.ptpm_manager.specs.Session.{begin_refusal, due_message, is_waiting, resumed, retuned, sent};
+ghost use Rattle.ptpm_manager.specs.Session.{begin_at_refusal, begin_refusal, due_message, give_up_refusal, given_up, is_waiting, resumed, retuned, sent};
 ghost use Rattle.ptpm_host.specs.declared.refusal.ReportRefusal.{ReportRefusal};
 ghost use Rattle.ptpm_host.specs.declared.refusal.SendRefusal.{SendRefusal};
 ghost use Rattle.ptpm_host.specs.declared.refusal.SessionRefusal.{SessionRefusal};
 ghost use Rattle.ptpm_host.specs.declared.session.HostedSession.{HostedSession};
-ghost use Rattle.ptpm_host.specs.Numbers.{begin_number, heard_number, no_memory, no_session, report_number, resume_number, send_number, session_number, told_number};
+ghost use Rattle.ptpm_host.specs.Numbers.{begin_number, give_up_number, heard_number, no_memory, no_session, report_number, resume_number, send_number, session_number, told_number};
 ghost use Rattle.ptpm_host.specs.Session.{ask_of, hand_refusal, heard_of, report_refusal};
 ghost use Rattle.ptpm_host.specs.SessionSettings.{session_refusal, session_start};
 ghost use Rattle.ptpm_host.specs.Told.{told_error, told_octets, told_of};
 ghost use Rattle.ptpm_c.specs.declared.kept.Hosted.TheVariants.{Nothing};
 ghost use Rattle.ptpm_c.specs.Held.{held, session_held};
-ghost use Rattle.ptpm_c.specs.Session.{HasBegun, HasHeard, IsAt};
+ghost use Rattle.ptpm_c.specs.Session.{HasBegun, HasBegunAt, HasHeard, IsAt};
 
 use crate::handle::Handle;
 use crate::kept::{Hosted, Kept};
 use ptpm_host::{
-    HostedSession, NO_MEMORY, NO_SESSION, SessionSettings, begin_number, heard_number,
-    report_number, resume_number, send_number, session_number, told_number,
+    HostedSession, NO_MEMORY, NO_SESSION, SessionSettings, begin_number, give_up_number,
+    heard_number, report_number, resume_number, send_number, session_number, told_number,
 };
 use std::alloc::Global;
 
@@ -108,6 +109,53 @@ pub extern "C" fn ptpm_session_begin(
     number
 }
 
+/// Does what `ptpm_session_begin` does at the port that is named, also for an id of the clock; it has to be one of the clock's.
+#[tactic(auto, using(crate::proofs::Numbers::memory_of_refusal))]
+#[unsafe(no_mangle)]
+pub extern "C" fn ptpm_session_begin_at(
+    alloc: Global,
+    handle: &mut Handle,
+    action: u8,
+    id: u16,
+    port: u16,
+    octets: &[u8],
+) -> u32
+    ensures begun { (s : HostedSession)
+        → session_held handle.old.keeping ≡ Some s
+        → result ≡ 0
+        → IsSomeAnd (session_held handle.new.keeping)
+        (λ t. HasBegunAt s (ask_of action id port octets.now) t) }
+    ensures permitted { (s : HostedSession)
+        → session_held handle.old.keeping ≡ Some s
+        → result ≡ 0
+        → begin_at_refusal s.session (ask_of action id port octets.now) ≡ None }
+    ensures number { (s : HostedSession) (e : BeginError)
+        → session_held handle.old.keeping ≡ Some s
+        → begin_at_refusal s.session (ask_of action id port octets.now) ≡ Some e
+        → result ≡ begin_number e }
+    ensures memory { (s : HostedSession)
+        → session_held handle.old.keeping ≡ Some s
+        → begin_at_refusal s.session (ask_of action id port octets.now) ≡ None
+        → result ≢ 0
+        → result ≡ no_memory }
+    ensures unchanged { (s : HostedSession)
+        → session_held handle.old.keeping ≡ Some s
+        → result ≢ 0
+        → session_held handle.new.keeping ≡ Some s }
+    ensures empty { session_held handle.old.keeping ≡ None →
+        (result ≡ no_session) × (held handle.new.keeping ≡ held handle.old.keeping) }
+{
+    let Some((kept, mut session)) = handle.take_session(alloc) else {
+        return NO_SESSION;
+    };
+    let number = match session.begin_at(action, id, port, octets) {
+        Ok(()) => 0,
+        Err(refusal) => begin_number(refusal),
+    };
+    *handle = Handle::of(kept, Hosted::Session(session));
+    number
+}
+
 /// Leaves the unanswered request at the head of `octets`, `size` octets: 0, or the number of the refusal. What follows
 /// them stays. Takes no memory.
 #[unsafe(no_mangle)]
@@ -174,6 +222,33 @@ pub extern "C" fn ptpm_session_resume(alloc: Global, handle: &mut Handle, attemp
     let number = match session.resume(attempts) {
         Ok(()) => 0,
         Err(refusal) => resume_number(refusal),
+    };
+    *handle = Handle::of(kept, Hosted::Session(session));
+    number
+}
+
+/// Lets the unanswered request go: 0, or the number of the refusal. Takes no memory.
+#[unsafe(no_mangle)]
+pub extern "C" fn ptpm_session_give_up(alloc: Global, handle: &mut Handle) -> u32
+    ensures given_up { (s : HostedSession)
+        → session_held handle.old.keeping ≡ Some s
+        → give_up_refusal s.session ≡ None
+        → (result ≡ 0)
+        × IsSomeAnd (session_held handle.new.keeping)
+        (λ t. IsAt t (given_up s.session) s.report) }
+    ensures refused { (s : HostedSession) (e : GiveUpRefusal)
+        → session_held handle.old.keeping ≡ Some s
+        → give_up_refusal s.session ≡ Some e
+        → (result ≡ give_up_number e) × (session_held handle.new.keeping ≡ Some s) }
+    ensures empty { session_held handle.old.keeping ≡ None →
+        (result ≡ no_session) × (held handle.new.keeping ≡ held handle.old.keeping) }
+{
+    let Some((kept, mut session)) = handle.take_session(alloc) else {
+        return NO_SESSION;
+    };
+    let number = match session.give_up() {
+        Ok(()) => 0,
+        Err(refusal) => give_up_number(refusal),
     };
     *handle = Handle::of(kept, Hosted::Session(session));
     number

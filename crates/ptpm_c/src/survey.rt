@@ -12,7 +12,7 @@ ghost use Rattle.ptpm_host.specs.declared.survey.HostedSurvey.{HostedSurvey};
 ghost use Rattle.ptpm_host.specs.Numbers.{no_memory, no_survey, report_number, send_number, session_number, surveyed_number, told_number};
 ghost use Rattle.ptpm_host.specs.Session.{message_refusal};
 ghost use Rattle.ptpm_host.specs.Survey.{answer_refusal, source_of};
-ghost use Rattle.ptpm_host.specs.SurveySettings.{enquiry_of, survey_refusal};
+ghost use Rattle.ptpm_host.specs.SurveySettings.{enquiry_at, enquiry_of, survey_refusal, survey_refusal_at};
 ghost use Rattle.ptpm_host.specs.Told.{told_error, told_octets, told_of};
 ghost use Rattle.ptpm_c.specs.declared.kept.Hosted.TheVariants.{Nothing};
 ghost use Rattle.ptpm_c.specs.Held.{held, survey_held};
@@ -44,10 +44,46 @@ pub extern "C" fn ptpm_survey_start(
     ensures memory { survey_refusal settings.now ≡ None → result ≢ 0 → result ≡ no_memory }
 {
     handle.end(alloc);
-    let survey = match HostedSurvey::start(alloc, settings) {
-        Ok(survey) => survey,
-        Err(refusal) => return session_number(refusal),
-    };
+    match HostedSurvey::start(alloc, settings) {
+        Ok(survey) => put(alloc, handle, survey),
+        Err(refusal) => session_number(refusal),
+    }
+}
+
+/// Does what `ptpm_survey_start` does, of the clock of this identity alone.
+#[unsafe(no_mangle)]
+pub extern "C" fn ptpm_survey_start_at(
+    alloc: Global,
+    handle: &mut Handle,
+    settings: &SurveySettings,
+    target: &[u8; 8],
+) -> u32
+    ensures started { IfSome (survey_held handle.new.keeping)
+        (λ s. (result ≡ 0) × IsAt s (enquiry_at settings.now (record { 0 = target.now })) []) }
+    ensures refused { IfNone (survey_held handle.new.keeping)
+        ((1 ≤ result) × (held handle.new.keeping ≡ Nothing)) }
+    ensures number { (e : SessionRefusal)
+        → survey_refusal_at settings.now (record { 0 = target.now }) ≡ Some e
+        → result ≡ session_number e }
+    ensures memory { survey_refusal_at settings.now (record { 0 = target.now }) ≡ None
+        → result ≢ 0
+        → result ≡ no_memory }
+{
+    handle.end(alloc);
+    match HostedSurvey::start_at(alloc, settings, target) {
+        Ok(survey) => put(alloc, handle, survey),
+        Err(refusal) => session_number(refusal),
+    }
+}
+
+/// Puts a survey into a handle that holds nothing: 0, or the number of the refusal, and then the handle holds nothing.
+fn put(alloc: Global, handle: &mut Handle, survey: HostedSurvey) -> u32
+    requires { held handle.old.keeping ≡ Nothing }
+    ensures put { IfSome (survey_held handle.new.keeping)
+        (λ s. (result ≡ 0) × IsAt s survey.survey.enquiry survey.survey.answers) }
+    ensures refused { IfNone (survey_held handle.new.keeping)
+        ((result ≡ no_memory) × (held handle.new.keeping ≡ Nothing)) }
+{
     let Ok(kept) = Box::new(alloc, Kept::of(Hosted::Nothing)) else {
         return NO_MEMORY;
     };

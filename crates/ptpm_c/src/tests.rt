@@ -163,17 +163,24 @@ fn a_clock_that_is_observed(rt: HostRuntime) {
     ptpm_clock_stop(alloc, &mut handle);
 }
 
+/// A session of the manager with that clock of two ports.
+const SESSION: SessionSettings = SessionSettings {
+    port: 1,
+    target_ports: 2,
+    first: 7,
+    clock: [0x00, 0x11, 0x22, 0x33, 0x44, 0x55, 0x66, 0x77],
+    target: [0xaa, 0xbb, 0xcc, 0xff, 0xfe, 0xdd, 0xee, 0x01],
+    domain: 0,
+    hops: 1,
+    attempts: 2,
+};
+
 #[test]
 fn a_session_from_start_to_stop(rt: HostRuntime) {
     let settings = SessionSettings {
-        port: 1,
-        target_ports: 2,
-        first: 7,
-        clock: [0x00, 0x11, 0x22, 0x33, 0x44, 0x55, 0x66, 0x77],
-        target: [0xaa, 0xbb, 0xcc, 0xff, 0xfe, 0xdd, 0xee, 0x01],
         domain: 5,
-        hops: 1,
         attempts: 0,
+        ..SESSION
     };
     let mut handle = Handle::empty();
     let mut octets = [0; 1472];
@@ -208,6 +215,31 @@ fn a_session_from_start_to_stop(rt: HostRuntime) {
     assert!(rt; answer == 37);
 }
 
+/// The request has the port that is named. It is let go, and its answer is none of the next one's, which has the next number.
+#[test]
+fn a_request_at_a_port_is_given_up(rt: HostRuntime) {
+    let alloc = rt.alloc();
+    let mut handle = Handle::empty();
+    let mut octets = [0; 1472];
+    let mut size = 1;
+    assert!(rt; ptpm_session_begin_at(alloc, &mut handle, 0, 0x2005, 1, &[]) == 37);
+    assert!(rt; ptpm_session_give_up(alloc, &mut handle) == 37);
+    assert!(rt; ptpm_session_start(alloc, &mut handle, &SESSION) == 0);
+    assert!(rt; ptpm_session_give_up(alloc, &mut handle) == 43);
+    assert!(rt; ptpm_session_begin_at(alloc, &mut handle, 0, 0x2005, 3, &[]) == 39);
+    assert!(rt; ptpm_session_begin_at(alloc, &mut handle, 0, 0x2005, 1, &[]) == 0);
+    assert!(rt; ptpm_session_begin_at(alloc, &mut handle, 0, 0x2005, 1, &[]) == 38);
+    assert!(rt; ptpm_session_send(alloc, &mut handle, &mut octets, &mut size) == 0);
+    assert!(rt; size == 54 && octets.starts_with(&REQUEST[..42]));
+    assert!(rt; octets[42] == 0 && octets[43] == 1 && &octets[44..54] == &REQUEST[44..]);
+    assert!(rt; ptpm_session_give_up(alloc, &mut handle) == 0);
+    assert!(rt; ptpm_session_receive(alloc, &mut handle, REPLY) == 13);
+    assert!(rt; ptpm_session_begin(alloc, &mut handle, 0, 0x2005, 0, &[]) == 0);
+    assert!(rt; ptpm_session_receive(alloc, &mut handle, REPLY) == 14);
+    assert!(rt; ptpm_session_issued(&mut handle) == 2);
+    ptpm_session_stop(alloc, &mut handle);
+}
+
 /// The image of a session whose GET of PRIORITY1, its first request, is not answered. A second program made it.
 const WAITING: &[u8; 60] = b"ptpm\x02\x01\x00\x00\x00\x00\x00\x30\
     \x00\x11\x22\x33\x44\x55\x66\x77\x00\x01\xaa\xbb\xcc\xff\xfe\xdd\xee\x01\
@@ -218,26 +250,16 @@ const WAITING: &[u8; 60] = b"ptpm\x02\x01\x00\x00\x00\x00\x00\x30\
 #[test]
 fn a_session_from_its_image(rt: HostRuntime) {
     let alloc = rt.alloc();
-    let settings = SessionSettings {
-        port: 1,
-        target_ports: 2,
-        first: 7,
-        clock: [0x00, 0x11, 0x22, 0x33, 0x44, 0x55, 0x66, 0x77],
-        target: [0xaa, 0xbb, 0xcc, 0xff, 0xfe, 0xdd, 0xee, 0x01],
-        domain: 0,
-        hops: 1,
-        attempts: 2,
-    };
     let other = SessionSettings {
         first: 8,
-        ..settings
+        ..SESSION
     };
     let mut handle = Handle::empty();
     let mut octets = [0; 1478];
     let mut size = 1;
     let answer = ptpm_session_image(&mut handle, &mut octets, &mut size);
     assert!(rt; answer == 37 && size == 0);
-    assert!(rt; ptpm_session_start(alloc, &mut handle, &settings) == 0);
+    assert!(rt; ptpm_session_start(alloc, &mut handle, &SESSION) == 0);
     assert!(rt; ptpm_session_begin(alloc, &mut handle, 0, 0x2005, 0, &[]) == 0);
     let answer = ptpm_session_image(&mut handle, &mut octets[..59], &mut size);
     assert!(rt; answer == 34 && size == 0 && octets[0] == 0);
@@ -245,11 +267,11 @@ fn a_session_from_its_image(rt: HostRuntime) {
     assert!(rt; answer == 0 && size == 60);
     assert!(rt; octets.starts_with(WAITING.as_slice()));
     ptpm_session_stop(alloc, &mut handle);
-    assert!(rt; ptpm_session_restore(alloc, &mut handle, &settings, &WAITING[..11]) == 104);
-    assert!(rt; ptpm_session_restore(alloc, &mut handle, &settings, &WAITING[..59]) == 107);
+    assert!(rt; ptpm_session_restore(alloc, &mut handle, &SESSION, &WAITING[..11]) == 104);
+    assert!(rt; ptpm_session_restore(alloc, &mut handle, &SESSION, &WAITING[..59]) == 107);
     assert!(rt; ptpm_session_restore(alloc, &mut handle, &other, WAITING) == 110);
     assert!(rt; ptpm_session_send(alloc, &mut handle, &mut octets, &mut size) == 37);
-    assert!(rt; ptpm_session_restore(alloc, &mut handle, &settings, WAITING) == 0);
+    assert!(rt; ptpm_session_restore(alloc, &mut handle, &SESSION, WAITING) == 0);
     assert!(rt; ptpm_session_restore(alloc, &mut handle, &other, WAITING) == 110);
     assert!(rt; ptpm_session_send(alloc, &mut handle, &mut octets, &mut size) == 0);
     assert!(rt; size == 54 && octets.starts_with(REQUEST.as_slice()));
@@ -313,16 +335,18 @@ const ENQUIRY: &[u8; 54] = b"\x0d\x12\x00\x36\x00\x00\
     \xff\xff\xff\xff\xff\xff\xff\xff\xff\xff\x01\x01\x00\x00\
     \x00\x01\x00\x02\x20\x05";
 
+/// A survey of PRIORITY1 by the manager.
+const SURVEY: SurveySettings = SurveySettings {
+    port: 1,
+    number: 7,
+    id: 0x2005,
+    clock: [0x00, 0x11, 0x22, 0x33, 0x44, 0x55, 0x66, 0x77],
+    domain: 0,
+    hops: 1,
+};
+
 #[test]
 fn a_survey_from_start_to_stop(rt: HostRuntime) {
-    let settings = SurveySettings {
-        port: 1,
-        number: 7,
-        id: 0x2005,
-        clock: [0x00, 0x11, 0x22, 0x33, 0x44, 0x55, 0x66, 0x77],
-        domain: 0,
-        hops: 1,
-    };
     let alloc = rt.alloc();
     let mut handle = Handle::empty();
     let mut source = Source {
@@ -333,7 +357,7 @@ fn a_survey_from_start_to_stop(rt: HostRuntime) {
     let mut size = 1;
     let mut error = 1;
     assert!(rt; ptpm_survey_receive(alloc, &mut handle, REPLY) == 46);
-    assert!(rt; ptpm_survey_start(alloc, &mut handle, &settings) == 0);
+    assert!(rt; ptpm_survey_start(alloc, &mut handle, &SURVEY) == 0);
     assert!(rt; ptpm_session_begin(alloc, &mut handle, 0, 0x2005, 0, &[]) == 37);
     assert!(rt; ptpm_survey_send(&mut handle, &mut octets, &mut size) == 0);
     assert!(rt; size == 54 && octets.starts_with(ENQUIRY.as_slice()));
@@ -363,6 +387,25 @@ fn a_survey_from_start_to_stop(rt: HostRuntime) {
     );
     assert!(rt; answer == 45 && size == 0);
     ptpm_survey_stop(alloc, &mut handle);
+    assert!(rt; ptpm_survey_count(&mut handle) == 0);
+}
+
+/// The clock that is named is asked at every port, and no other clock answers.
+#[test]
+fn a_survey_of_one_clock(rt: HostRuntime) {
+    let clock = [0xaa, 0xbb, 0xcc, 0xff, 0xfe, 0xdd, 0xee, 0x01];
+    let other = [0xaa, 0xbb, 0xcc, 0xff, 0xfe, 0xdd, 0xee, 0x02];
+    let alloc = rt.alloc();
+    let mut handle = Handle::empty();
+    let mut octets = [0; 1472];
+    let mut size = 1;
+    assert!(rt; ptpm_survey_start_at(alloc, &mut handle, &SURVEY, &other) == 0);
+    assert!(rt; ptpm_survey_receive(alloc, &mut handle, REPLY) == 12);
+    assert!(rt; ptpm_survey_start_at(alloc, &mut handle, &SURVEY, &clock) == 0);
+    assert!(rt; ptpm_survey_send(&mut handle, &mut octets, &mut size) == 0);
+    assert!(rt; size == 54 && octets.starts_with(REQUEST.as_slice()));
+    assert!(rt; ptpm_survey_receive(alloc, &mut handle, REPLY) == 0);
+    assert!(rt; ptpm_survey_start_at(alloc, &mut handle, &SURVEY, &[0xff; 8]) == 54);
     assert!(rt; ptpm_survey_count(&mut handle) == 0);
 }
 
@@ -405,6 +448,7 @@ fn names_of_answers(rt: HostRuntime) {
         (55, b"SAME_CLOCK".as_slice()),
         (84, b"BAD_GRANDMASTER_PRIORITY2".as_slice()),
         (101, b"BAD_LOG_MIN_PDELAY".as_slice()),
+        (112, b"OUT_OF_REACH".as_slice()),
         (0, b"".as_slice()),
         (24, b"".as_slice()),
         (102, b"".as_slice()),

@@ -13,20 +13,22 @@ use Rattle.ptpm_data.specs.declared.start.StartError.TheVariants.{BadValue}
 use Rattle.ptpm_data.specs.MemberNames.{member_name}
 use Rattle.ptpm_manager.specs.declared.error.BeginError.{BeginError}
 use Rattle.ptpm_manager.specs.declared.error.BeginError.TheVariants as begins
+use Rattle.ptpm_manager.specs.declared.error.GiveUpRefusal.{GiveUpRefusal}
+use Rattle.ptpm_manager.specs.declared.error.GiveUpRefusal.TheVariants as give_ups
 use Rattle.ptpm_manager.specs.declared.error.RestoreError.{RestoreError}
 use Rattle.ptpm_manager.specs.declared.error.RestoreError.TheVariants as restores
 use Rattle.ptpm_manager.specs.declared.error.SendError.{SendError}
 use Rattle.ptpm_manager.specs.declared.error.SendError.TheVariants as sends
 use Rattle.ptpm_manager.specs.declared.receiving.Reason.{Reason}
 use Rattle.ptpm_manager.specs.declared.receiving.Reason.TheVariants as reasons
-use Rattle.ptpm_manager.specs.ErrorText.{begin_error_text, restore_error_text, send_error_text}
+use Rattle.ptpm_manager.specs.ErrorText.{begin_error_text, give_up_refusal_text, restore_error_text, send_error_text}
 use Rattle.ptpm_saved.specs.declared.error.RestoreError.{RestoreError as ClockImageError}
 use Rattle.ptpm_saved.specs.declared.error.RestoreError.TheVariants as images
 use Rattle.ptpm_saved.specs.ErrorText.{restore_error_text as clock_image_error_text}
 use Rattle.ptpm_host.specs.AnswerNames.{answer_name, name_in, cause_word, reason_word, verdict_word, words_in_capitals}
 use Rattle.ptpm_host.specs.ErrorNames.{error_name}
 use Rattle.ptpm_host.specs.Names.{capitals}
-use Rattle.ptpm_host.specs.Numbers.{begin_number, cause_number, image_number, reason_number, restore_number, resume_number, values_number, verdict_number}
+use Rattle.ptpm_host.specs.Numbers.{begin_number, cause_number, give_up_number, image_number, reason_number, restore_number, resume_number, values_number, verdict_number}
 
 cause_named : (c : DecodeError) → answer_name (cause_number c) ≡ cause_word c
 unfolding name_in
@@ -78,6 +80,11 @@ pub send_named : (e : SendError) → answer_name (resume_number e) ≡ Some (wor
 unfolding name_in
 send_named sends.Idle = refl
 send_named sends.GaveUp = refl
+
+pub give_up_named : (e : GiveUpRefusal) → answer_name (give_up_number e) ≡ Some (words_in_capitals (give_up_refusal_text e))
+unfolding name_in
+give_up_named give_ups.Idle = refl
+give_up_named give_ups.OutOfReach = refl
 
 pub restore_named : (e : RestoreError) → e ≢ restores.OutOfMemory
     → answer_name (restore_number e) ≡ Some (words_in_capitals (restore_error_text e))

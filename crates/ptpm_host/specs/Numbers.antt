@@ -15,6 +15,8 @@ use Rattle.ptpm_agent.specs.declared.verdict.Verdict.{Verdict}
 use Rattle.ptpm_agent.specs.declared.verdict.Verdict.TheVariants as verdicts
 use Rattle.ptpm_manager.specs.declared.error.BeginError.{BeginError}
 use Rattle.ptpm_manager.specs.declared.error.BeginError.TheVariants as begins
+use Rattle.ptpm_manager.specs.declared.error.GiveUpRefusal.{GiveUpRefusal}
+use Rattle.ptpm_manager.specs.declared.error.GiveUpRefusal.TheVariants as give_ups
 use Rattle.ptpm_manager.specs.declared.error.RestoreError.{RestoreError}
 use Rattle.ptpm_manager.specs.declared.error.RestoreError.TheVariants as restores
 use Rattle.ptpm_manager.specs.declared.error.SendError.{SendError}
@@ -145,6 +147,10 @@ begin_number begins.CountAtMaximum = 42
 abbrev pub resume_number : SendError → ℕ
 resume_number errors.Idle = 43
 resume_number errors.GaveUp = 44
+
+abbrev pub give_up_number : GiveUpRefusal → ℕ
+give_up_number give_ups.Idle = 43
+give_up_number give_ups.OutOfReach = 112
 
 abbrev pub send_number : SendRefusal → ℕ
 send_number sends.NoRoom = no_room

@@ -1,26 +1,43 @@
 -- What the settings of a host describe: a survey. And why they describe none.
 use Rattle.std.specs.Prelude.{[], ◌∷◌, Option}
+use Rattle.ptpm_codec.specs.declared.identity.ClockIdentity.{ClockIdentity}
 use Rattle.ptpm_codec.specs.declared.identity.PortIdentity.{PortIdentity}
 use Rattle.ptpm_codec.specs.Identity.{every_clock, same_clock}
 use Rattle.ptpm_codec.specs.Ordered.{first_of}
 use Rattle.ptpm_manager.specs.declared.enquiry.Enquiry.{Enquiry}
 use Rattle.ptpm_host.specs.declared.refusal.SessionRefusal.{SessionRefusal}
-use Rattle.ptpm_host.specs.declared.refusal.SessionRefusal.TheVariants.{ManagerIsEvery}
+use Rattle.ptpm_host.specs.declared.refusal.SessionRefusal.TheVariants as refusals
 use Rattle.ptpm_host.specs.declared.survey_settings.SurveySettings.{SurveySettings}
+use Rattle.ptpm_host.specs.Settings.{is_zero}
 
 abbrev pub surveying_port : SurveySettings → PortIdentity
 surveying_port s = record { clock = record { 0 = s.clock }; port = s.port }
 
-abbrev pub enquiry_of : SurveySettings → Enquiry
-enquiry_of s = record {
+-- of every port of one clock
+abbrev pub enquiry_at : SurveySettings → ClockIdentity → Enquiry
+enquiry_at s target = record {
   me = surveying_port s;
-  target = every_clock;
+  target = target;
   domain = s.domain;
   number = s.number;
   hops = s.hops;
   id = s.id;
 }
 
+-- of every port of every clock
+abbrev pub enquiry_of : SurveySettings → Enquiry
+enquiry_of s = enquiry_at s every_clock
+
 -- the manager's clock is not the identity that means every clock (15.3.1)
 abbrev pub survey_refusal : SurveySettings → Option SessionRefusal
-survey_refusal s = first_of ((same_clock (surveying_port s).clock every_clock, ManagerIsEvery) ∷ [])
+survey_refusal s = first_of ((same_clock (surveying_port s).clock every_clock, refusals.ManagerIsEvery) ∷ [])
+
+-- the clock that is asked is another one, neither is the identity that means every clock, and that of the clock is not zeros (this
+-- project's profile): what is judged of a session, the ports left out
+abbrev pub survey_refusal_at : SurveySettings → ClockIdentity → Option SessionRefusal
+survey_refusal_at s target = first_of (
+    (same_clock (surveying_port s).clock every_clock, refusals.ManagerIsEvery)
+    ∷ (same_clock target every_clock, refusals.TargetIsEvery)
+    ∷ (same_clock (surveying_port s).clock target, refusals.SameClock)
+    ∷ (is_zero target, refusals.TargetIsZero)
+    ∷ [])

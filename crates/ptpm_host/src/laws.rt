@@ -10,16 +10,17 @@ ghost use Rattle.ptpm_data.specs.declared.start.StartError.TheVariants.{BadValue
 ghost use Rattle.ptpm_data.specs.MemberNames.{member_name};
 ghost use Rattle.ptpm_manager.specs.declared.error.BeginError.{BeginError};
 ghost use Rattle.ptpm_manager.specs.declared.error.BeginError.TheVariants.{OutOfMemory};
+ghost use Rattle.ptpm_manager.specs.declared.error.GiveUpRefusal.{GiveUpRefusal};
 ghost use Rattle.ptpm_manager.specs.declared.error.RestoreError.{RestoreError};
 ghost use Rattle.ptpm_manager.specs.declared.error.SendError.{SendError};
 ghost use Rattle.ptpm_manager.specs.declared.receiving.Reason.{Reason};
-ghost use Rattle.ptpm_manager.specs.ErrorText.{begin_error_text, restore_error_text, send_error_text};
+ghost use Rattle.ptpm_manager.specs.ErrorText.{begin_error_text, give_up_refusal_text, restore_error_text, send_error_text};
 ghost use Rattle.ptpm_saved.specs.declared.error.RestoreError.{RestoreError as ClockImageError};
 ghost use Rattle.ptpm_saved.specs.ErrorText.{restore_error_text as clock_image_error_text};
 ghost use Rattle.ptpm_host.specs.AnswerNames.{answer_name, reason_word, verdict_word, words_in_capitals};
 ghost use Rattle.ptpm_host.specs.ErrorNames.{error_name};
 ghost use Rattle.ptpm_host.specs.Names.{capitals, id_name};
-ghost use Rattle.ptpm_host.specs.Numbers.{begin_number, image_number, reason_number, restore_number, resume_number, values_number, verdict_number};
+ghost use Rattle.ptpm_host.specs.Numbers.{begin_number, give_up_number, image_number, reason_number, restore_number, resume_number, values_number, verdict_number};
 ghost use Rattle.ptpm_host.specs.PassedOnLaw.{NotTwice};
 ghost use Rattle.ptpm_host.specs.RateLaw.{WithinRate};
 
@@ -34,6 +35,8 @@ pub fn names_law()
         → answer_name (begin_number e) ≡ Some (words_in_capitals (begin_error_text e)) }
     ensures send { (e : SendError)
         → answer_name (resume_number e) ≡ Some (words_in_capitals (send_error_text e)) }
+    ensures give_up { (e : GiveUpRefusal)
+        → answer_name (give_up_number e) ≡ Some (words_in_capitals (give_up_refusal_text e)) }
     ensures restore { (e : RestoreError)
         → e ≢ RestoreError.OutOfMemory
         → answer_name (restore_number e) ≡ Some (words_in_capitals (restore_error_text e)) }

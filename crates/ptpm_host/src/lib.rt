@@ -35,9 +35,9 @@ pub use laws::{names_law, passed_on_law, rate_law};
 pub use names::hand_out_name;
 pub use numbers::{
     NO_CLOCK, NO_MEMORY, NO_ROOM, NO_SESSION, NO_SURVEY, OTHER_SIZES, begin_number,
-    clock_restore_number, handle_number, heard_number, observe_number, read_number, report_number,
-    restore_number, resume_number, send_number, session_number, start_number, surveyed_number,
-    told_number, verdict_number,
+    clock_restore_number, give_up_number, handle_number, heard_number, observe_number, read_number,
+    report_number, restore_number, resume_number, send_number, session_number, start_number,
+    surveyed_number, told_number, verdict_number,
 };
 pub use observing::{ObservedClock, ObservedPort, left_number};
 pub use passed_on::{MessageKey, PassedOn, PassedOnPlace};

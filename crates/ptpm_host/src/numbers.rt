@@ -3,10 +3,11 @@
 //!
 //! 1 to 9 are verdicts, 10 to 15 why a session or a survey ignores a datagram, 16 to 24 why it holds no message, 25 and 26 what
 //! became of a request, 27 and 28 what a survey makes of an answer; 29 to 31 are free. 32 to 47 are refusals of a call, 48 to 57
-//! of a start, 64 to 101 the members that may be out of range, in their order, and from 104 on refusals of a restore.
+//! of a start, 64 to 101 the members that may be out of range, in their order, 104 to 110 refusals of a restore, and from 112 on
+//! further refusals of a call.
 
 ghost use Rattle.std.specs.Prelude.{◌≡◌, ◌≤◌};
-ghost use Rattle.ptpm_host.specs.Numbers.{begin_number, cause_number, clock_restore_number, handle_number, heard_number, image_number, managers_number, member_number, observe_number, read_number, reason_number, report_number, restore_number, resume_number, send_number, session_number, start_number, surveyed_number, told_number, values_number, verdict_number};
+ghost use Rattle.ptpm_host.specs.Numbers.{begin_number, cause_number, clock_restore_number, give_up_number, handle_number, heard_number, image_number, managers_number, member_number, observe_number, read_number, reason_number, report_number, restore_number, resume_number, send_number, session_number, start_number, surveyed_number, told_number, values_number, verdict_number};
 
 use crate::refusal::{
     ClockRestoreRefusal, HandleRefusal, ReadRefusal, ReportRefusal, SendRefusal, SessionRefusal,
@@ -17,7 +18,7 @@ use crate::told::Told;
 use ptpm_agent::Verdict;
 use ptpm_codec::DecodeError;
 use ptpm_data::{Member, ObservationError, StartError};
-use ptpm_manager::{BeginError, Reason, RestoreError, SendError, Surveyed};
+use ptpm_manager::{BeginError, GiveUpRefusal, Reason, RestoreError, SendError, Surveyed};
 use ptpm_table::TableError;
 
 /// A handle holds no clock.
@@ -225,6 +226,17 @@ pub fn resume_number(refusal: SendError) -> u32
     match refusal {
         SendError::Idle => 43,
         SendError::GaveUp => 44,
+    }
+}
+
+/// Why a request is not given up, 43 or 112.
+pub fn give_up_number(refusal: GiveUpRefusal) -> u32
+    ensures number { result ≡ give_up_number refusal }
+    ensures some { 1 ≤ result }
+{
+    match refusal {
+        GiveUpRefusal::Idle => 43,
+        GiveUpRefusal::OutOfReach => 112,
     }
 }
 

@@ -49,7 +49,8 @@ pub enum ReadRefusal {
     NoRoom,
 }
 
-/// Why a session does not start, in the order in which the reasons are judged; a survey, for the first alone.
+/// Why a session does not start, in the order in which the reasons are judged; a survey, for the first alone, and one of one clock
+/// for each but the two of ports.
 #[derive(Clone, Copy, Debug, PartialEq, Eq)]
 pub enum SessionRefusal {
     /// The manager's clockIdentity means every clock.

@@ -7,11 +7,11 @@ ghost use Rattle.ptpm_manager.specs.declared.error.BeginError.{BeginError};
 ghost use Rattle.ptpm_manager.specs.declared.error.RestoreError.{RestoreError};
 ghost use Rattle.ptpm_manager.specs.declared.error.SendError.{SendError};
 ghost use Rattle.ptpm_manager.specs.declared.report.Report.{Report};
-ghost use Rattle.ptpm_manager.specs.Ask.{request_of};
+ghost use Rattle.ptpm_manager.specs.Ask.{request_at_port, request_of};
 ghost use Rattle.ptpm_manager.specs.Image.{session_image};
 ghost use Rattle.ptpm_manager.specs.ImageReading.{session_at};
 ghost use Rattle.ptpm_manager.specs.Receiving.{NeedsMemory, left_by, received_of};
-ghost use Rattle.ptpm_manager.specs.Session.{begin_refusal, begun, due_message, is_waiting, resumed, retuned, sent};
+ghost use Rattle.ptpm_manager.specs.Session.{begin_at_refusal, begin_refusal, begun, due_message, give_up_refusal, given_up, is_waiting, resumed, retuned, sent};
 ghost use Rattle.ptpm_host.specs.Session.{ask_of, asked_action, hand_refusal, heard_of, report_after, report_refusal};
 ghost use Rattle.ptpm_host.specs.SessionSettings.{settings_refusal, session_refusal, session_start};
 ghost use Rattle.ptpm_host.specs.Told.{told_octets, told_of, told_size};
@@ -21,7 +21,9 @@ use crate::session_settings::SessionSettings;
 use crate::settings::NO_IDENTITY;
 use crate::told::{Told, tell};
 use ptpm_codec::{Action, Buffer, ClockIdentity, MESSAGE_OCTETS, OutOfMemory};
-use ptpm_manager::{BeginError, Reason, Received, Report, RestoreError, SendError, Session};
+use ptpm_manager::{
+    BeginError, GiveUpRefusal, Reason, Received, Report, RestoreError, SendError, Session,
+};
 use std::alloc::Global;
 
 /// A session, room for the request that it sends, and the answer to the latest request.
@@ -167,6 +169,35 @@ impl HostedSession {
         Ok(())
     }
 
+    /// Does what `begin` does at the port that is named, also for an id of the clock; it has to be one of the clock's ports. There
+    /// are clocks that answer for an id of the clock too only where one of their ports is named. Any port of the clock may answer
+    /// for such an id.
+    pub fn begin_at(
+        &mut self,
+        action: u8,
+        id: u16,
+        port: u16,
+        octets: &[u8],
+    ) -> Result<(), BeginError>
+        ensures begun { OnOk result
+            (self.new.session
+            ≡ begun self.old.session (request_at_port (ask_of action id port octets.now))) }
+        ensures report { OnOk result (self.new.report ≡ None) }
+        ensures permitted { OnOk result
+            (begin_at_refusal self.old.session (ask_of action id port octets.now) ≡ None) }
+        ensures refused { (e : BeginError)
+            → begin_at_refusal self.old.session (ask_of action id port octets.now) ≡ Some e
+            → result ≡ Err e }
+        ensures no_other { IfErr result (λ e. e ≢ BeginError.OutOfMemory →
+            begin_at_refusal self.old.session (ask_of action id port octets.now) ≡ Some e) }
+        ensures unchanged { OnErr result (self.new ≡ self.old) }
+    {
+        let action = asked_action(action);
+        self.session.begin_at(action, id, port, octets)?;
+        self.report = None;
+        Ok(())
+    }
+
     /// Leaves the unanswered request at the head of `octets`, uses one of its attempts, and answers how many octets it has.
     /// Until `retune` they are the same each time. The octets after them stay. If it is refused, nothing changes. Takes
     /// no memory.
@@ -204,6 +235,19 @@ impl HostedSession {
         ensures unchanged { OnErr result (self.new ≡ self.old) }
     {
         self.session.resume(attempts)
+    }
+
+    /// Lets the unanswered request go, so that the next can be begun. No answer to it is taken any more. The clock may have carried
+    /// it out, or may still, until it takes a later request of this session. Takes no memory.
+    pub fn give_up(&mut self) -> Result<(), GiveUpRefusal>
+        ensures refusal { MatchResult result (λ _. give_up_refusal self.old.session ≡ None)
+            (λ e. give_up_refusal self.old.session ≡ Some e) }
+        ensures given_up { OnOk result (self.new.session ≡ given_up self.old.session) }
+        ensures idle { OnOk result (is_waiting self.new.session ≡ false) }
+        ensures report { self.new.report ≡ self.old.report }
+        ensures unchanged { OnErr result (self.new ≡ self.old) }
+    {
+        self.session.give_up()
     }
 
     /// From now on requests are sent, and replies expected, in this domain, also of a request that was begun before. Takes

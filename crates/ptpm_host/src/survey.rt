@@ -7,17 +7,18 @@ ghost use Rattle.ptpm_manager.specs.Answers.{Answer, first_of_each_source, heard
 ghost use Rattle.ptpm_manager.specs.Enquiry.{survey_message};
 ghost use Rattle.ptpm_host.specs.Session.{message_refusal};
 ghost use Rattle.ptpm_host.specs.Survey.{answer_refusal, source_of};
-ghost use Rattle.ptpm_host.specs.SurveySettings.{enquiry_of, survey_refusal};
+ghost use Rattle.ptpm_host.specs.SurveySettings.{enquiry_at, enquiry_of, survey_refusal, survey_refusal_at};
 ghost use Rattle.ptpm_host.specs.Told.{told_octets, told_of, told_size};
 
 use crate::refusal::{ReportRefusal, SendRefusal, SessionRefusal};
+use crate::settings::NO_IDENTITY;
 use crate::survey_settings::SurveySettings;
 use crate::told::{Told, tell};
 use ptpm_codec::{Buffer, ClockIdentity, MESSAGE_OCTETS, OutOfMemory, PortIdentity};
 use ptpm_manager::{Survey, Surveyed};
 use std::alloc::Global;
 
-/// One GET to every clock and every port, and the first answer of each port that answers.
+/// One GET to every port of every clock, or of one, and the first answer of each port that answers.
 #[derive(Drop)]
 pub struct HostedSurvey {
     survey: Survey,
@@ -53,7 +54,7 @@ pub struct SurveyAnswer {
 }
 
 impl HostedSurvey {
-    /// A survey without answers. Takes no memory.
+    /// A survey of every clock, without answers. Takes no memory.
     pub fn start(alloc: Global, settings: &SurveySettings) -> Result<HostedSurvey, SessionRefusal>
         ensures enquiry { IfOk result (λ s. s.survey.enquiry ≡ enquiry_of settings.now) }
         ensures answers { IfOk result (λ s. s.survey.answers ≡ []) }
@@ -62,20 +63,62 @@ impl HostedSurvey {
         ensures refusal { MatchResult result (λ _. survey_refusal settings.now ≡ None)
             (λ e. survey_refusal settings.now ≡ Some e) }
     {
-        let me = settings.manager();
-        if me.clock == ClockIdentity::EVERY {
+        if settings.manager().clock == ClockIdentity::EVERY {
             return Err(SessionRefusal::ManagerIsEvery);
         }
-        Ok(HostedSurvey {
-            survey: Survey::new(
+        Ok(HostedSurvey::asking(alloc, settings, ClockIdentity::EVERY))
+    }
+
+    /// The same of the clock of this identity alone: every port of it is asked, and what another clock says is no answer. Takes
+    /// no memory.
+    pub fn start_at(
+        alloc: Global,
+        settings: &SurveySettings,
+        target: &[u8; 8],
+    ) -> Result<HostedSurvey, SessionRefusal>
+        ensures enquiry { IfOk result
+            (λ s. s.survey.enquiry ≡ enquiry_at settings.now (record { 0 = target.now })) }
+        ensures answers { IfOk result (λ s. s.survey.answers ≡ []) }
+        ensures first { IfOk result
+            (λ s. s.survey.answers ≡ first_of_each_source s.survey.enquiry []) }
+        ensures refusal { MatchResult result
+            (λ _. survey_refusal_at settings.now (record { 0 = target.now }) ≡ None)
+            (λ e. survey_refusal_at settings.now (record { 0 = target.now }) ≡ Some e) }
+    {
+        let me = settings.manager().clock;
+        let target = ClockIdentity(*target);
+        if me == ClockIdentity::EVERY {
+            return Err(SessionRefusal::ManagerIsEvery);
+        }
+        if target == ClockIdentity::EVERY {
+            return Err(SessionRefusal::TargetIsEvery);
+        }
+        if me == target {
+            return Err(SessionRefusal::SameClock);
+        }
+        if target == NO_IDENTITY {
+            return Err(SessionRefusal::TargetIsZero);
+        }
+        Ok(HostedSurvey::asking(alloc, settings, target))
+    }
+
+    /// A survey of this clock, or of every clock, without answers.
+    fn asking(alloc: Global, settings: &SurveySettings, target: ClockIdentity) -> HostedSurvey
+        ensures enquiry { result.survey.enquiry ≡ enquiry_at settings.now target }
+        ensures answers { result.survey.answers ≡ [] }
+        ensures first { result.survey.answers ≡ first_of_each_source result.survey.enquiry [] }
+    {
+        HostedSurvey {
+            survey: Survey::of_clock(
                 alloc,
-                me,
+                settings.manager(),
+                target,
                 settings.domain,
                 settings.number,
                 settings.hops,
                 settings.id,
             ),
-        })
+        }
     }
 
     /// Leaves the GET at the head of `octets`, and answers how many octets it has, the same each time. What follows it

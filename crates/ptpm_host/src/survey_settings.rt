@@ -5,7 +5,7 @@ ghost use Rattle.ptpm_host.specs.SurveySettings.{surveying_port};
 
 use ptpm_codec::{ClockIdentity, PortIdentity};
 
-/// One manager, and the GET that it sends to every clock and every port.
+/// One manager, and the GET that it sends to every port of every clock, or of one.
 #[repr(C)]
 #[derive(Clone, Copy)]
 pub struct SurveySettings {

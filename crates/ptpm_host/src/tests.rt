@@ -3,6 +3,7 @@
 mod observing;
 mod passing;
 mod places;
+mod requests;
 mod restoring;
 mod surveys;
 

@@ -99,6 +99,7 @@ pub const PTPM_MOST_ANSWERS: usize = 512;
 pub const PTPM_OTHER_DOMAIN: u32 = 1;
 pub const PTPM_NOT_A_REPLY: u32 = 10;
 pub const PTPM_OTHER_TARGET: u32 = 11;
+pub const PTPM_OTHER_SOURCE: u32 = 12;
 pub const PTPM_OTHER_NUMBER: u32 = 14;
 pub const PTPM_OTHER_CONTENT: u32 = 15;
 pub const PTPM_TOO_SHORT: u32 = 16;
@@ -241,6 +242,12 @@ pub const PTPM_RESUMED: u32 = 0;
 pub const PTPM_RESUME_NO_SESSION: u32 = 37;
 pub const PTPM_RESUME_IDLE: u32 = 43;
 
+// `enum ptpm_given_up`.
+pub const PTPM_GIVEN_UP: u32 = 0;
+pub const PTPM_GIVE_UP_NO_SESSION: u32 = 37;
+pub const PTPM_GIVE_UP_IDLE: u32 = 43;
+pub const PTPM_OUT_OF_REACH: u32 = 112;
+
 // `enum ptpm_retuned`.
 pub const PTPM_RETUNED: u32 = 0;
 pub const PTPM_RETUNE_NO_SESSION: u32 = 37;
@@ -250,7 +257,7 @@ pub const PTPM_ANSWERED: u32 = 0;
 pub const PTPM_SESSION_OTHER_DOMAIN: u32 = 1;
 pub const PTPM_SESSION_NOT_A_REPLY: u32 = 10;
 pub const PTPM_SESSION_OTHER_TARGET: u32 = 11;
-pub const PTPM_OTHER_SOURCE: u32 = 12;
+pub const PTPM_SESSION_OTHER_SOURCE: u32 = 12;
 pub const PTPM_NOTHING_ASKED: u32 = 13;
 pub const PTPM_SESSION_OTHER_NUMBER: u32 = 14;
 pub const PTPM_SESSION_OTHER_CONTENT: u32 = 15;
@@ -270,6 +277,7 @@ pub const PTPM_TAKEN: u32 = 0;
 pub const PTPM_SURVEY_OTHER_DOMAIN: u32 = 1;
 pub const PTPM_SURVEY_NOT_A_REPLY: u32 = 10;
 pub const PTPM_SURVEY_OTHER_TARGET: u32 = 11;
+pub const PTPM_SURVEY_OTHER_SOURCE: u32 = 12;
 pub const PTPM_SURVEY_OTHER_NUMBER: u32 = 14;
 pub const PTPM_SURVEY_OTHER_CONTENT: u32 = 15;
 pub const PTPM_SURVEY_TOO_SHORT: u32 = 16;

@@ -1,6 +1,6 @@
 //! A survey of PRIORITY1 among answers from outside.
 
-use super::{CLOCK, DONE, MANAGER_CLOCK, REPLY};
+use super::{CLOCK, DONE, MANAGER_CLOCK, REPLY, REQUEST};
 use crate::*;
 
 /// GET PRIORITY1, number 7, of the manager to every clock, at every port.
@@ -86,6 +86,47 @@ fn a_survey_of_priority1(rt: HostRuntime) {
         }
         Err(_) => assert!(rt; false, "it starts"),
     }
+}
+
+/// One clock is asked at every port, and another clock's answer is none.
+#[test]
+fn a_survey_of_one_clock(rt: HostRuntime) {
+    let mut octets = [0xee; 1472];
+    match HostedSurvey::start_at(rt.alloc(), &SURVEY, &CLOCK) {
+        Ok(mut survey) => {
+            assert!(rt; matches!(survey.send(&mut octets), Ok(54)));
+            assert!(rt; &octets[..54] == REQUEST.as_slice());
+            assert!(rt; surveys(&mut survey, NO_SUCH_ID) == 12);
+            assert!(rt; surveys(&mut survey, REPLY) == 0);
+            assert!(rt; survey.count() == 1);
+        }
+        Err(_) => assert!(rt; false, "it starts"),
+    }
+}
+
+/// The number of the refusal of a survey of one clock; 0 if it starts.
+fn refusal_at(rt: &HostRuntime, settings: &SurveySettings, target: &[u8; 8]) -> u32 {
+    match HostedSurvey::start_at(rt.alloc(), settings, target) {
+        Ok(_) => 0,
+        Err(refusal) => session_number(refusal),
+    }
+}
+
+#[test]
+fn survey_of_one_clock_refused(rt: HostRuntime) {
+    let every = [0xff; 8];
+    let of_every = SurveySettings {
+        clock: every,
+        ..SURVEY
+    };
+    let of_zeros = SurveySettings {
+        clock: [0; 8],
+        ..SURVEY
+    };
+    assert!(rt; refusal_at(&rt, &of_every, &every) == 53);
+    assert!(rt; refusal_at(&rt, &SURVEY, &every) == 54);
+    assert!(rt; refusal_at(&rt, &of_zeros, &[0; 8]) == 55);
+    assert!(rt; refusal_at(&rt, &SURVEY, &[0; 8]) == 57);
 }
 
 #[test]

@@ -1,4 +1,4 @@
-use Rattle.ptpm_host.proofs.AnswersNamed.{verdict_named, reason_named, begin_named, send_named, restore_named, image_named, member_named, error_named}
+use Rattle.ptpm_host.proofs.AnswersNamed.{verdict_named, reason_named, begin_named, send_named, give_up_named, restore_named, image_named, member_named, error_named}
 use Rattle.ptpm_host.proofs.NameSizes.{id_size, answer_size, error_size}
 use Rattle.ptpm_host.proofs.laws.names_law.Goals as goal
 
@@ -8,6 +8,7 @@ returns c = record {
   reason = reason_named;
   begin = begin_named;
   send = send_named;
+  give_up = give_up_named;
   restore = restore_named;
   image = image_named;
   member = member_named;
