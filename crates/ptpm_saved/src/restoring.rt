@@ -143,10 +143,13 @@ fn read_body(image: &[u8]) -> Option<DataSets>
     ensures found { (c : SavedClock) → IsImageOf c image.now
         → IsSomeAnd result (λ sets. sets ≡ c.sets) }
 {
-    let sets = read_sets(image)?;
-    let entries = entries_behind(&sets, image)?;
-    judge_entries(&sets, &entries)?;
-    Some(sets)
+    let read = read_sets(image);
+    let Some(sets) = &read else {
+        return None;
+    };
+    let entries = entries_behind(sets, image)?;
+    judge_entries(sets, &entries)?;
+    read
 }
 
 /// How many entries stand where an image has its entries, and nothing else; they are read, and none is kept, by a clock of these
@@ -173,8 +176,11 @@ fn find_entries(image: &[u8]) -> Option<SavedEntries<'_>>
     ensures found { (c : SavedClock) → IsImageOf c image.now
         → IsSomeAnd result (λ o. OpensAs c c.sets o.count o.octets.now) }
 {
-    let sets = read_sets(image)?;
-    let entries = entries_behind(&sets, image)?;
+    let read = read_sets(image);
+    let Some(sets) = &read else {
+        return None;
+    };
+    let entries = entries_behind(sets, image)?;
     Some(entries)
 }
 
