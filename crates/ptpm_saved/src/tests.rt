@@ -137,9 +137,6 @@ fn room_for_an_image(rt: HostRuntime) {
     assert!(rt; image_size(&clock) == 119 && image_into(&clock, &mut place[..118]).is_none());
     assert!(rt; place == [7; 130]);
     assert!(rt; image_into(&clock, &mut place) == Some(119) && place[119..] == [7; 11]);
-    let mut large = [7; CLOCK_OCTETS];
-    assert!(rt; image_into(&clock, &mut large) == Some(119) && large[..119] == place[..119]);
-    assert!(rt; large[119] == 7);
 }
 
 fn table(rt: &impl Abort, manager: &PortIdentity) -> SlotTable<2>
