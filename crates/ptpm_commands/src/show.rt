@@ -22,6 +22,8 @@ pub fn show<O: Write>(alloc: Global, text: &str, out: &mut O) -> Result<(), Faul
     ensures shown { OnOk result
         (IsShown (message_of text.now) (O.contents out.old) (O.contents out.new)) }
     ensures fault { IfErr result (λ e. is_outside e ≡ false → message_of text.now ≡ Err e) }
+    ensures unprinted { IfErr result
+        (λ e. e ≢ Fault.WriteFault → O.contents out.new ≡ O.contents out.old) }
 {
     let datagram = hex::decode(alloc, text)?;
     show_datagram(datagram.as_slice(), out)
