@@ -1,5 +1,5 @@
 -- A request that was under way when its session or others crashed is answered along a way by sending it again.
-use Rattle.ptpm_network.proofs.Common.{by_test, arith, ◌≡◌, ℕ, ◌+◌, ◌<◌, ◌≤◌, ◌==◌, Bool, true, false, List, [], ◌∷◌, ◌++◌, map, length, length-append, length-map, append-nil, Option, Some, None, option_map, option_or, refl, sym, ◌∙◌, ap, subst, ⊎_elim, eqb-true, eq-eqb, true≢false, cond-true, option_or-none, is_some, Ok, result_err, slice_get-map, slice_get_within, slice_get, all_weaker, all_append, AllByRecursion, Contains, PortIdentity, State, StandsAt, SessionValue, Report, is_waiting, send_refusal, Event, Deliver, Send, SendRefused, no_session, Refusal, IsInRange, frame_at, frames_limit, no_room, refusal, step, step_by, run, is_late_delivery, is_late_at, sends_in, unanswered, at_place, happens, is_late_frame, initial_state, End, AtPort, AtSession, IsNetwork, Network, Held, Happened, RunningNetwork, held, network_event, reaches, StandsAfter, AreFirsts, Stands, Frame, Neither, Origin, ReplyTo, RequestOf, NetworkState, history, is_idle, is_late, issued, session_value, IsFrame, IsOfOrigin, IsReached, ComeIn, ComesIn, handed_in, Hop, IsAnswerable, IsWay, LinksHaveAtMost, made_each_way, with_place-other, with_place-same}
+use Rattle.ptpm_network.proofs.Common.{by_test, arith, ◌≡◌, ℕ, ◌+◌, ◌<◌, ◌≤◌, ◌==◌, Bool, true, false, List, [], ◌∷◌, ◌++◌, map, length, length-append, length-map, append-nil, Option, Some, None, option_map, option_or, refl, sym, ◌∙◌, ap, subst, ⊎_elim, eqb-true, eq-eqb, true≢false, cond-true, cond-false, option_or-none, is_some, Ok, result_err, slice_get-map, slice_get_within, slice_get, all_weaker, all_append, AllByRecursion, Contains, PortIdentity, State, StandsAt, SessionValue, Report, is_waiting, send_refusal, Event, Deliver, Send, SendRefused, no_session, Refusal, IsInRange, frame_at, frames_limit, no_room, refusal, step, step_by, run, is_late_delivery, is_late_at, sends_in, unanswered, at_place, happens, is_late_frame, initial_state, End, AtPort, AtSession, IsNetwork, Network, Held, Happened, RunningNetwork, held, network_event, reaches, StandsAfter, AreFirsts, Stands, Frame, Neither, Origin, ReplyTo, RequestOf, NetworkState, history, is_idle, is_late, issued, session_value, IsFrame, IsOfOrigin, IsReached, ComeIn, ComesIn, handed_in, Hop, IsAnswerable, IsWay, LinksHaveAtMost, made_each_way, with_place-other, with_place-same}
 use Rattle.std.proofs.Common.{get_or}
 use Rattle.std.proofs.lemmas.Option.{slice_get-get_or, get_or_from_slice_get}
 use Rattle.std.proofs.lemmas.List.Elements.{Contains-append_cases, Contains-get_or, Contains-push_cases}
@@ -109,19 +109,11 @@ record Saves (N : Network) (P : Held → Type 0) (k : RestartingNetwork) (ws : L
 
 parted : (c : ℕ) (ws : List (ℕ × Held)) → length (waiting_at c ws) + length (waiting_elsewhere c ws) ≡ length ws
 parted c [] = refl
-parted c (w ∷ ws) = by_test (w.0 == c)
-    (λ y. rw y (omega (arith, parted c ws)))
-    (λ n. rw n (omega (arith, parted c ws)))
+parted c (w ∷ ws) = let rest = parted c ws in grind (arith, cond-true, cond-false)
 
 -- who waits at another clock than the first is still there
 still-there : (v : ℕ × Held) (ws : List (ℕ × Held)) (w : ℕ × Held) → w.0 == v.0 ≡ false → Contains (v ∷ ws) w → Contains ws w
-still-there v ws w n has = ⊎_elim
-    (λ (first : Contains (v ∷ []) w). ⊎_elim
-    (λ (none : Contains [] w). absurd (no_one w none))
-    (λ (same : v ≡ w). absurd (true≢false (sym (eq-eqb w.0 v.0 (ap (λ (x : ℕ × Held). x.0) (sym same))) ∙ n)))
-    (Contains-push_cases [] v w first))
-    (λ (rest : Contains ws w). rest)
-    (Contains-append_cases (v ∷ []) ws w has)
+still-there v ws w n has = grind (arith, eq-eqb, true≢false, Contains-append_cases, Contains-push_cases, no_one)
 
 none-left : (xs : List (ℕ × Held)) → AllByRecursion (Contains []) xs → xs ≡ []
 none-left [] all = refl
@@ -186,11 +178,7 @@ sends-ok : (N : Network) (r : RunningNetwork) (s : ℕ)
     → result_err (network_event N r (Send s)) ≡ None
     → network_event N r (Send s) ≡ Ok (record { deed = Done; network = sends_in N r s })
 unfolding network_event
-sends-ok N r s e =
-    let one = clear (no_session N s) _ e in
-    let two = clear (no_room r.frames) _ one.1 in
-    let three = clear (option_map SendRefused (send_refusal (r.session s))) _ two.1 in
-    passes (no_session N s) _ one.0 ∙ passes (no_room r.frames) _ two.0 ∙ passes (option_map SendRefused (send_refusal (r.session s))) _ three.0
+sends-ok N r s e = grind (arith, clear, passes)
 
 record Handed (N : Network) (k : RestartingNetwork) (u : NetworkState) (ds : List (ℕ × End)) : Type 0 where
   pub timely : AreTimely N k (handed_in_saved ds)

@@ -72,7 +72,7 @@ at-own : (c : ℕ) (made : List Held) → waiting_at c (map (λ m. (c, m)) made)
 at-own c [] = refl
 at-own c (m ∷ made) = rw (eq-eqb c c refl) (ap (λ (fs : List Held). m ∷ fs) (at-own c made))
 
-elsewhere-own : (c : ℕ) (made : List Held) → waiting_elsewhere c (map (λ m. (c, m)) made) ≡ []
+pub elsewhere-own : (c : ℕ) (made : List Held) → waiting_elsewhere c (map (λ m. (c, m)) made) ≡ []
 elsewhere-own c [] = refl
 elsewhere-own c (m ∷ made) = rw (eq-eqb c c refl) (elsewhere-own c made)
 
@@ -142,9 +142,7 @@ module _ (N : Network) (k : RestartingNetwork) (calm : k.waiting ≡ []) where
   }
     where
       noted-live : (t : ℕ) → (with_place k.session s (noted (k.session s) y) t).live ≡ with_place (λ l. (k.session l).live) s y t
-      noted-live t = by_test (t == s)
-          (λ y'. ap (λ (z : Stored SessionLog). z.live) (with_place-same k.session s (noted (k.session s) y) t y') ∙ sym (with_place-same (λ l. (k.session l).live) s y t y'))
-          (λ n. ap (λ (z : Stored SessionLog). z.live) (with_place-other k.session s (noted (k.session s) y) t n) ∙ sym (with_place-other (λ l. (k.session l).live) s y t n))
+      noted-live t = grind (arith, eqb-true)
 
   -- in a network that runs, where a session is another with the reports that it has, or with more
   log-other : (s : ℕ) (v : SessionValue) (t : ℕ) → with_place (λ l. (k.session l).live) s (log_with k s v) t ≡ log_of (with_session_value (running k) s v) t

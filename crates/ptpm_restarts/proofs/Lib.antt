@@ -8,4 +8,5 @@ pub mod Shapes
 pub mod Runs
 pub mod AtOnce
 pub mod Again
+pub mod Undone
 pub mod Laws

@@ -76,16 +76,12 @@ going-made lost c (h ∷ made) = let rest = going-made lost c made in grind (ari
 going-saved : (lost : ℕ → Bool) (c : ℕ) (ws : List (ℕ × Held))
     → going (with_place lost c false) ws ≤ length (waiting_at c ws) + going lost (waiting_elsewhere c ws)
 going-saved lost c [] = omega arith
-going-saved lost c (w ∷ ws) = by_test (w.0 == c)
-    (λ y. rw y (omega (arith, going-saved lost c ws)))
-    (λ n. rw n (omega (arith, going-saved lost c ws)))
+going-saved lost c (w ∷ ws) = let rest = going-saved lost c ws in grind (arith, cond-true, cond-false)
 
 going-crashed : (lost : ℕ → Bool) (c : ℕ) (ws : List (ℕ × Held))
     → going (with_place lost c true) ws ≤ going lost (waiting_elsewhere c ws)
 going-crashed lost c [] = omega arith
-going-crashed lost c (w ∷ ws) = by_test (w.0 == c)
-    (λ y. rw y (omega (arith, going-crashed lost c ws)))
-    (λ n. rw n (omega (arith, going-crashed lost c ws)))
+going-crashed lost c (w ∷ ws) = let rest = going-crashed lost c ws in grind (arith, cond-true, cond-false)
 
 pub going-all : (lost : ℕ → Bool) (ws : List (ℕ × Held)) → going lost ws ≤ length ws
 going-all lost [] = omega arith

@@ -21,7 +21,7 @@ pub record ByShape (N : Network) (k : RestartingNetwork) (P : RestartingNetwork 
   pub hears : (n s : ℕ) (x : Held) (report : Report) → frame_at k.frames n ≡ Some x → x.end ≡ AtSession s → is_late_in k x.origin ≡ false
       → no_room (held_frames k) ≡ None → received_of (k.session s).live.session x.octets ≡ received.Answered report → P (restarting.hears k s (received.Answered report))
 
-unless-each : (P : RestartingNetwork → Type 0) (o : Option Refusal) (k next : RestartingNetwork)
+pub unless-each : (P : RestartingNetwork → Type 0) (o : Option Refusal) (k next : RestartingNetwork)
     → P k → (o ≡ None → P next)
     → P (unless o k next)
 unless-each P None k next a b = b refl

@@ -163,8 +163,7 @@ module _ (lc ls : ℕ → Bool) (N : Network) (past : List Event) (k : Restartin
       let own = takes-own N s live x.octets x.origin report n place (order s).live takes
       (heard-true N state x.octets x.origin n known (heard-frame N state x.octets x.origin origin) takes.message takes.read).1 in
       let says = says_reply N state s own.0 x.octets n known (subst (IsOfOrigin N state x.octets) own.1 origin) in
-      let number : takes.message.number ≡ number_of (N.session s).setup.first own.0 =
-      ap (λ (v : Message). v.number) (same_read x.octets takes.message (reply_at (N.session s).setup.target says.heard says.entry.reply says.ingress says.hops says.answer) says.message takes.read) ∙ says.number in
+      let number : takes.message.number ≡ number_of (N.session s).setup.first own.0 = grind (arith, same_read) in
       let time : live.issued ≤ own.0 + 32768 = ltb-false (own.0 + 32768) live.issued (subst (λ (q : Origin). is_late_in k q ≡ false) own.1 timely) in
       let stored : issued state s ≡ (k.session s).stored.session.issued =
       begun-there s place ∙ ap (λ (l : SessionLog). l.session.issued) ((h.sessions s).at ∙ cond-true _ _ _ lost) in
@@ -307,13 +306,8 @@ module _ (lc ls : ℕ → Bool) (N : Network) (past : List Event) (k : Restartin
       → Goal e (happens N k e)
   unfolding network_event
   event-step (Begin s a) range timely none =
-      let live : SessionValue = (k.session s).live.session in
-      let one = clear (no_session N s) _ (option_or-none _ None none).0 in
-      let two = clear (option_map BeginRefused (begin_refusal live a)) _ one.1 in
-      acts (Begin s a) s (begun live (ask.request_of a)) _ (changed-act (ls s) (k.session s) (log_of r s) _ (h.sessions s))
-      (λ same. passes (no_session N s) _ one.0 ∙ passes (option_map BeginRefused (begin_refusal (r.session s) a)) _ (ap (λ (v : SessionValue). option_map BeginRefused (begin_refusal v a)) same ∙ two.0)
-      ∙ ap (λ (v : SessionValue). Ok (record { deed = Done; network = with_session_value r s (begun v (ask.request_of a)) })) same)
-      range refl refl
+      acts (Begin s a) s (begun (k.session s).live.session (ask.request_of a)) _ (changed-act (ls s) (k.session s) (log_of r s) _ (h.sessions s))
+      (λ same. grind (arith, clear, passes, option_or-none)) range refl refl
   event-step (Send s) range timely none =
       let all = option_or-none _ (no_room (held_frames k)) none in
       let one = clear (no_session N s) _ all.0 in
@@ -321,19 +315,11 @@ module _ (lc ls : ℕ → Bool) (N : Network) (past : List Event) (k : Restartin
       let three = clear (option_map SendRefused (send_refusal (k.session s).live.session)) _ two.1 in
       sends-on s (k.session s).is_unsaved refl one.0 (room-there all.1) three.0
   event-step (Resume s attempts) range timely none =
-      let live : SessionValue = (k.session s).live.session in
-      let one = clear (no_session N s) _ (option_or-none _ None none).0 in
-      let two = clear (nothing_to_resume live) _ one.1 in
-      acts (Resume s attempts) s (resumed live attempts) _ (noted-act (ls s) (k.session s) (log_of r s) _ (h.sessions s))
-      (λ same. passes (no_session N s) _ one.0 ∙ passes (nothing_to_resume (r.session s)) _ (ap (λ (v : SessionValue). nothing_to_resume v) same ∙ two.0)
-      ∙ ap (λ (v : SessionValue). Ok (record { deed = Done; network = with_session_value r s (resumed v attempts) })) same)
-      range refl refl
+      acts (Resume s attempts) s (resumed (k.session s).live.session attempts) _ (noted-act (ls s) (k.session s) (log_of r s) _ (h.sessions s))
+      (λ same. grind (arith, clear, passes, option_or-none)) range refl refl
   event-step (Retune s domain) range timely none =
-      let live : SessionValue = (k.session s).live.session in
-      let one = clear (no_session N s) _ (option_or-none _ None none).0 in
-      acts (Retune s domain) s (retuned live domain) _ (noted-act (ls s) (k.session s) (log_of r s) _ (h.sessions s))
-      (λ same. passes (no_session N s) _ one.0 ∙ ap (λ (v : SessionValue). Ok (record { deed = Done; network = with_session_value r s (retuned v domain) })) same)
-      range refl refl
+      acts (Retune s domain) s (retuned (k.session s).live.session domain) _ (noted-act (ls s) (k.session s) (log_of r s) _ (h.sessions s))
+      (λ same. grind (arith, clear, passes, option_or-none)) range refl refl
   event-step (Deliver n) range timely none = came n (frame_at k.frames n) refl (room-there (option_or-none _ (no_room (held_frames k)) none).1) timely
   event-step (Stranger c port datagram) range timely none =
       let all = option_or-none _ (no_room (held_frames k)) none in

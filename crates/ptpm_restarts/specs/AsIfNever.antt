@@ -1,6 +1,6 @@
 -- What restarts change, on one page: nothing but which messages come. However often its clocks and sessions crash, a network that saves
--- in time is at last as one that never crashed and went through some of the same events, in their order; so what `Headline` promises of
--- that one holds of it. What a manager was told, in whatever life of its session, is what a report is worth there.
+-- in time is as one that never crashed and went through some of the same events, in the same order. So what `Headline` promises of
+-- that one holds of it. Whatever a session reported, before a crash too, is worth a report there.
 use Rattle.std.specs.Prelude.{◌≡◌, ℕ, ◌<◌, false, Bool, List, [], ◌∷◌, Option, Some, None}
 use Rattle.std.specs.List.{AllByRecursion, Contains}
 use Rattle.ptpm_network.specs.Events.{Event, Deliver, IsInRange, frame_at}
@@ -68,15 +68,15 @@ abbrev pub never_crashed : Network → List Event → RunningNetwork
 never_crashed N events = network_run N (initial_network N) events
 
 pub record IsAsIfNever (N : Network) (is : List Incident) (k : RestartingNetwork) : Type 0 where
-  -- It went through these events: some of what happened here, none of them refused there, and none a late delivery.
+  -- That one went through these events: some of those here, in their order. None is refused there, and none delivers a frame late.
   pub events : List Event
   pub some : AreSomeOf k.frames (never_crashed N events).frames events is
   pub none_refused : taken N (initial_state N) events ≡ events
   pub stands : StandsAfter N events (never_crashed N events)
-  -- Each clock has the data sets and entries that it has there, each session is as there, and so are the reports that it has.
+  -- Each clock has the same data sets and entries, each session the same request under way and the same reports.
   pub same : record (running k) { frames = (never_crashed N events).frames } ≡ never_crashed N events
-  -- All frames that were sent here, or wait, were sent there, to the same end and with the same octets.
+  -- Every frame that was sent here, or waits, was sent there, to the same end and with the same octets.
   pub frames : AllByRecursion (Contains (never_crashed N events).frames) (held_frames k)
-  -- What is reported there was told here, once or more; and each time that anything was told here, it is worth a report there.
+  -- What is reported there was reported here, once or more. Whatever was reported here is worth a report there.
   pub reported : (s : ℕ) → AllByRecursion (Contains (k.told s)) ((never_crashed N events).reports s)
   pub worth : (s : ℕ) → s < N.sessions → AllByRecursion (IsWorth N (state_after N events) s) (k.told s)

@@ -1,4 +1,4 @@
--- What may happen in a network whose clocks and sessions can be restarted, and what it makes of it.
+-- What may happen in a network whose clocks and sessions save and crash, and what it makes of it.
 use Rattle.std.specs.Prelude.{ℕ, List, [], ◌∷◌, ◌++◌, Option, Some, None}
 use Rattle.std.specs.Option.{option_or}
 use Rattle.std.specs.Result.{result_err}
@@ -17,13 +17,13 @@ pub data Incident : Type 0 where
   Happens : (event : Event) → Incident
   SaveClock : (clock : ℕ) → Incident
   SaveSession : (session : ℕ) → Incident
-  -- it loses what is unsaved, and goes on from what it saved
+  -- it loses what is unsaved, and goes on from its last save
   CrashClock : (clock : ℕ) → Incident
   CrashSession : (session : ℕ) → Incident
 
 -- ---- saves and crashes
 
--- what waited for the save is sent then
+-- what waited for the save is sent
 abbrev pub saves_clock : RestartingNetwork → ℕ → RestartingNetwork
 saves_clock k c = record k {
   clock = with_place k.clock c (saved (k.clock c));
@@ -31,7 +31,7 @@ saves_clock k c = record k {
   waiting = waiting_elsewhere c k.waiting;
 }
 
--- and is never sent where the clock crashes first
+-- what waits for a save is lost in a crash
 abbrev pub crashes_clock : RestartingNetwork → ℕ → RestartingNetwork
 crashes_clock k c = record k {
   clock = with_place k.clock c (restored (k.clock c));

@@ -1,6 +1,6 @@
--- A network whose clocks and sessions save what they have, so that they can be restarted: what it keeps, and what each of them does.
--- No message of a clock leaves before the state in which it was made is saved. A session sends nothing while a change of it is
--- unsaved. Of an answer it tells its owner, and saves then.
+-- A network whose clocks and sessions save what they have, so that a restart goes on from it. No message of a clock leaves before the
+-- state in which it was made is saved. A session sends nothing while a change of it is unsaved. It reports an answer to its owner
+-- first, and saves then.
 use Rattle.std.specs.Prelude.{ℕ, ◌==◌, not, Bool, true, false, List, [], ◌∷◌, ◌++◌, map}
 use Rattle.std.specs.List.{filter}
 use Rattle.ptpm_agent.specs.declared.verdict.Verdict.{Verdict}
@@ -28,7 +28,7 @@ pub record RestartingNetwork : Type 0 where
   pub frames : List Held
   -- what clocks made and may not send before they save, each frame with its clock
   pub waiting : List (ℕ × Held)
-  -- all that a session ever told its owner, also what it knows no more after a crash
+  -- all that a session ever reported to its owner, also what it forgot in a crash
   pub told : ℕ → List Report
 
 abbrev pub log_of : RunningNetwork → ℕ → SessionLog
@@ -65,7 +65,7 @@ held_frames k = k.frames ++ map (λ w. w.1) k.waiting
 
 -- ---- clocks
 
--- A request that was answered for the first time, a GET or a refused one too, has to be saved. No other turn changes a clock.
+-- A request that is answered for the first time has to be saved, a GET and a refused one too. No other turn changes a clock.
 abbrev pub after_verdict : Verdict → Stored State → State → Stored State
 after_verdict verdicts.AnsweredNew x next = changed x next
 after_verdict _ x next = x

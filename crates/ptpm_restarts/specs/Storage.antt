@@ -1,4 +1,4 @@
--- What a clock or a session has while it runs, and what non-volatile storage has of it: what it saved last, and no older copy.
+-- What a clock or a session has while it runs, and what non-volatile storage has of it: its last save, and nothing older.
 use Rattle.std.specs.Prelude.{Bool, true, false, if◌then◌else◌}
 
 pub record Stored (A : Type 0) : Type 0 where
@@ -22,6 +22,6 @@ noted x a = record x { live = a; stored = if x.is_unsaved then x.stored else a }
 abbrev pub saved : {A : Type 0} → Stored A → Stored A
 saved x = saved_as x.live
 
--- a crash loses what is not saved; it goes on from what is
+-- a crash loses what is not saved, and a restart goes on from what is
 abbrev pub restored : {A : Type 0} → Stored A → Stored A
 restored x = saved_as x.stored

@@ -1,23 +1,27 @@
 //! How a network goes on that was restarted. Each law is the contract of a function that does nothing, and speaks of the definitions alone.
 
-ghost use Rattle.std.specs.Prelude.{◌≡◌, ◌+◌, ◌<◌, ◌≤◌, [], ◌∷◌, ℕ, length, List, Ok, true};
+ghost use Rattle.std.specs.Prelude.{◌≡◌, ◌+◌, ◌<◌, ◌≤◌, [], ◌∷◌, ℕ, length, List, Ok, Some, true};
 ghost use Rattle.std.specs.Result.{result_err};
+ghost use Rattle.ptpm_agent.specs.Turn.{turn};
+ghost use Rattle.ptpm_agent.specs.declared.verdict.Verdict.TheVariants as verdicts;
+ghost use Rattle.ptpm_manager.specs.declared.ask.Ask.{Ask};
 ghost use Rattle.ptpm_manager.specs.Session.{is_waiting, resumed, retuned};
-ghost use Rattle.ptpm_network.specs.Events.{Event, Resume, Retune, frames_limit};
+ghost use Rattle.ptpm_network.specs.Events.{Begin, Deliver, Event, Resume, Retune, frame_at, frames_limit};
 ghost use Rattle.ptpm_network.specs.Machine.{state_after};
-ghost use Rattle.ptpm_network.specs.Network.{Network};
-ghost use Rattle.ptpm_network.specs.RunningNetwork.{Happened, network_event};
+ghost use Rattle.ptpm_network.specs.Network.{AtPort, Network};
+ghost use Rattle.ptpm_network.specs.RunningNetwork.{Happened, Held, network_event};
 ghost use Rattle.ptpm_network.specs.Way.{Hop, IsWay, LinksHaveAtMost, made_each_way};
 ghost use Rattle.ptpm_restarts.specs.AsIfNever.{IsAsIfNever};
 ghost use Rattle.ptpm_restarts.specs.GoingOn.{IsAnsweredAgain, IsCalm, StandsWithFewer, save_due};
-ghost use Rattle.ptpm_restarts.specs.Incidents.{CrashSession, Happens, Incident, after_incidents, refused};
+ghost use Rattle.ptpm_restarts.specs.Incidents.{CrashClock, CrashSession, Happens, Incident, after_incidents, refused};
 ghost use Rattle.ptpm_restarts.specs.Restarting.{RestartingNetwork, held_frames, running};
 ghost use Rattle.ptpm_restarts.specs.Storage.{saved_as};
 
-/// A request that was under way is answered by sending it again. A network that is as one that never crashed stands, as it runs, where
-/// the events of that one lead, with fewer frames. Where a session of it waits for an answer and may send, a way leads to its target,
-/// and there is room for the frames: the session saves, and each clock at which a frame waits; the session sends its request; one copy
-/// each way comes in at the ends of the way, each of which saves then; and the answer is reported. None of these deliveries is late.
+/// A request that was under way is answered by sending it again. A network that is as one that never crashed stands where the events of
+/// that one lead the machine, with fewer frames. Let a session of it wait for an answer and be allowed to send, let a way lead to its
+/// target, and let there be room for the frames. Then the session saves, and each clock at which a frame waits. The session sends its
+/// request. One copy each way comes in at the ends of the way, and each end saves then. At last the session reports the answer, and
+/// waits for nothing. None of these deliveries is late.
 pub fn answered_after_restarts()
     ensures stands { (N : Network) (is : List Incident) (k : RestartingNetwork)
         (a : IsAsIfNever N is k) → StandsWithFewer N (state_after N a.events) (running k) }
@@ -30,8 +34,8 @@ pub fn answered_after_restarts()
         IsAnsweredAgain N k s hops port }
 {}
 
-/// Where nothing waits and each change is saved at once, all is as in a network that runs: an event is refused for the same reason, or
-/// makes the same of it, and nothing waits after the save that it makes due.
+/// If no frame waits, no session has an unsaved change, and each change is saved at once, all is as in a network that runs. An event is
+/// refused for the same reason, or makes the same of the network; and after the save that it makes due this is so again.
 pub fn saved_at_once()
     ensures refused { (N : Network) (k : RestartingNetwork) (e : Event) →
         IsCalm k → refused N k e ≡ result_err (network_event N (running k) e) }
@@ -41,8 +45,8 @@ pub fn saved_at_once()
         × IsCalm (after_incidents N k (Happens e ∷ save_due k e)) }
 {}
 
-/// A session that is started again goes on with what it saved, in whatever domain and with whatever attempts it is given: it is one
-/// that crashed, was retuned and was resumed.
+/// A session that starts again goes on with what it saved, in any domain and with as many attempts as it is given: it is one that
+/// crashed, was retuned and was resumed.
 pub fn started_again()
     ensures domain { (N : Network) (k : RestartingNetwork) (s domain : ℕ) →
         s < N.sessions →
@@ -52,4 +56,17 @@ pub fn started_again()
         s < N.sessions → is_waiting (k.session s).stored.session ≡ true →
         (after_incidents N k (CrashSession s ∷ Happens (Retune s domain) ∷ Happens (Resume s attempts) ∷ [])).session s
         ≡ saved_as (record ((k.session s).stored) { session = resumed (retuned (k.session s).stored.session domain) attempts }) }
+{}
+
+/// What is not saved has not happened. Let a clock answer a request for the first time, and crash before it saves; or let a session begin a
+/// request, and crash before it saves. If nothing was unsaved before, the network is then as it was: no frame has left.
+pub fn undone_before_the_save()
+    ensures clock { (N : Network) (k : RestartingNetwork) (n c port : ℕ) (h : Held) →
+        frame_at k.frames n ≡ Some h → h.end ≡ AtPort c port →
+        (turn (N.clock c) (k.clock c).live port h.octets).verdict ≡ verdicts.AnsweredNew →
+        k.waiting ≡ [] → k.clock c ≡ saved_as (k.clock c).live →
+        after_incidents N k (Happens (Deliver n) ∷ CrashClock c ∷ []) ≡ k }
+    ensures session { (N : Network) (k : RestartingNetwork) (s : ℕ) (a : Ask) →
+        k.session s ≡ saved_as (k.session s).live →
+        after_incidents N k (Happens (Begin s a) ∷ CrashSession s ∷ []) ≡ k }
 {}
