@@ -1,6 +1,7 @@
 //! Worked exchanges through the structs of a host, with octets from outside, and each kind of refusal by its number.
 
 mod observing;
+mod passing;
 mod places;
 mod surveys;
 
