@@ -25,7 +25,7 @@ use Rattle.ptpm_restarts.proofs.Sent.{all-appended, all-at, all-elsewhere, all-s
 use Rattle.ptpm_restarts.proofs.Steps.{clear, contains-at, passes, some-of}
 use Rattle.ptpm_restarts.proofs.Worth.{delivers-to}
 
--- ---- where a network that was restarted stands
+-- ---- at which state a network that was restarted is
 
 record Chosen (P : Frame → Type 0) (ws : List Frame) (hs : List Held) : Type 0 where
   pub frames : List Frame
@@ -56,7 +56,7 @@ record GoesOn (N : Network) (w : NetworkState) (k : RestartingNetwork) : Type 0 
   pub reached : IsReached N (record w { frames = frames })
   pub stands : (first : PortIdentity → ℕ) → AreFirsts N first → Stands N first (running k) (record w { frames = frames })
 
--- it stands at the state of a network that never crashes where it is as that one, and its frames are some of those
+-- it is at the state of a network that never crashes if it is as that one, and its frames are some of those
 goes-on : (N : Network) (events : List Event) (r : RunningNetwork) (k : RestartingNetwork)
     → StandsAfter N events r → record (running k) { frames = r.frames } ≡ r → AllByRecursion (Contains r.frames) k.frames
     → GoesOn N (run N (initial_state N) events) k
@@ -142,7 +142,7 @@ saves-all N P k (v ∷ ws) sent waits all =
 
 -- ---- one copy each way
 
--- it stands at this state, and no frame waits
+-- it is at this state, and no frame waits
 record IsAt (N : Network) (k : RestartingNetwork) (u : NetworkState) : Type 0 where
   pub reached : IsReached N u
   pub waiting : k.waiting ≡ []
@@ -173,7 +173,7 @@ module _ (N : Network) (n : IsNetwork N) (k : RestartingNetwork) (u : NetworkSta
         ((follows N (first_of_sessions N N.sessions) (running k) u n at.reached at.stands e).next h ok (firsts N n) range late));
   }
 
--- a session sends where nothing refuses that
+-- a session sends if nothing refuses that
 sends-ok : (N : Network) (r : RunningNetwork) (s : ℕ)
     → result_err (network_event N r (Send s)) ≡ None
     → network_event N r (Send s) ≡ Ok (record { deed = Done; network = sends_in N r s })

@@ -91,7 +91,7 @@ saved-closed : {A : Type 0} (f : ℕ → Stored A) (i : ℕ) (x : Stored A) (j :
     → (with_place (with_place f i x) i (saved (with_place f i x i)) j).is_unsaved ≡ false
 saved-closed f i x j all = grind (arith, eqb-true, eq-eqb)
 
--- it runs as this network, no frame waits, and where no session had a change that was unsaved none has
+-- it runs as this network, no frame waits, and if no session had a change that was unsaved none has
 pub record Is (k next : RestartingNetwork) (r : RunningNetwork) : Type 0 where
   pub running : running next ≡ r
   pub waiting : next.waiting ≡ []
@@ -144,7 +144,7 @@ module _ (N : Network) (k : RestartingNetwork) (calm : k.waiting ≡ []) where
       noted-live : (t : ℕ) → (with_place k.session s (noted (k.session s) y) t).live ≡ with_place (λ l. (k.session l).live) s y t
       noted-live t = grind (arith, eqb-true)
 
-  -- in a network that runs, where a session is another with the reports that it has, or with more
+  -- in a network that runs, if a session is another with the reports that it has, or with more
   log-other : (s : ℕ) (v : SessionValue) (t : ℕ) → with_place (λ l. (k.session l).live) s (log_with k s v) t ≡ log_of (with_session_value (running k) s v) t
   log-other s v t = grind (arith, eqb-true)
 
@@ -170,7 +170,7 @@ module _ (N : Network) (k : RestartingNetwork) (calm : k.waiting ≡ []) where
 
 -- ---- any event, and the save that it makes due
 
--- what happened where no reason to refuse holds
+-- what happened if no reason to refuse holds
 cleared : (o : Option Refusal) (x : Result Happened Refusal) (h : Happened) → unless_refused o x ≡ Ok h → x ≡ Ok h
 cleared None x h e = e
 cleared (Some reason) x h e = absurd (cc)
@@ -238,7 +238,7 @@ starts-in N k s domain place =
     ap (λ (j : RestartingNetwork). j.session s) (unless-none (refused N one (Retune s domain)) one _ none) ∙ here one.session s _
     ∙ ap (λ (x : Stored SessionLog). noted x (record (x.live) { session = retuned x.live.session domain })) (here k.session s (restored (k.session s)))
 
--- and, where a request is under way, may send it so often
+-- and, if a request is under way, may send it as often
 pub starts-with : (N : Network) (k : RestartingNetwork) (s domain attempts : ℕ)
     → s < N.sessions → is_waiting (k.session s).stored.session ≡ true
     → (after_incidents N k (CrashSession s ∷ Happens (Retune s domain) ∷ Happens (Resume s attempts) ∷ [])).session s

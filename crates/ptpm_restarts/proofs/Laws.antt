@@ -1,4 +1,4 @@
--- What follows where a network is as one that never crashed: the headline, and that a report which is told again is the same.
+-- What follows if a network is as one that never crashed: the headline, and that a report that is made again is the same.
 use Rattle.ptpm_network.proofs.Common.{arith, ◌≡◌, ℕ, ◌<◌, List, [], ◌∷◌, refl, sym, ◌∙◌, ap, subst, Contains, Accepted, Answer, Report, answer_body, outcome_in, Headline, IsWorth, entries_of, Network, manager, NetworkState, RunningNetwork, accepted_at_target, initial_state, run}
 use Rattle.ptpm_network.proofs.Promise.{stands-headline}
 use Rattle.ptpm_restarts.specs.AsIfNever.{IsAsIfNever, never_crashed}

@@ -16,9 +16,9 @@ use Rattle.ptpm_restarts.proofs.Shapes.{AreSound, ByShape, by-shape, incident-so
 use Rattle.ptpm_restarts.proofs.Steps.{Goes, Stay, Stays, Step, among, event-step, heard-live, in_time-there, numbered, room-there}
 use Rattle.ptpm_restarts.proofs.Worth.{worth-heard, worth-step}
 
--- ---- all that was told
+-- ---- all that was reported
 
--- each report that was told is worth what a report is in this state
+-- each report that was made is worth what a report is in this state
 abbrev pub AreWorth : Network → NetworkState → RestartingNetwork → Type 0
 AreWorth N w k = (s : ℕ) → s < N.sessions → AllByRecursion (IsWorth N w s) (k.told s)
 
@@ -147,7 +147,7 @@ step-unless : (lc ls : ℕ → Bool) (N : Network) (past : List Event) (k : Rest
 step-unless lc ls N past k r e None h is go = go is
 step-unless lc ls N past k r e (Some reason) h is go = Stays h
 
--- by one event, and whatever comes behind it
+-- by one event, and whatever comes after it
 went-by : (N : Network) (past : List Event) (k : RestartingNetwork) (r : RunningNetwork) (e : Event) (is : List Incident)
     → StandsAfter N past r → IsTimely N k (Happens e) → AreWorth N (run N (initial_state N) past) (incident N k (Happens e))
     → ((p : List Event) (x : RunningNetwork) → StandsAfter N p x → IsBeside (clocks_lost is) (sessions_lost is) (incident N k (Happens e)) x

@@ -1,4 +1,4 @@
--- What a network that never crashes has where this one has something stored: as it is live, or, where a crash will lose the changes
+-- What a network that never crashes has in place of what this one has stored: it as it is live, or, if a crash will lose the changes
 -- that are not saved, as it is stored.
 use Rattle.ptpm_network.proofs.Common.{arith, ◌≡◌, ℕ, ◌&&◌, List, Result, Ok, Err, Clock, Message, DecodeError, judged, reading, turn, turn_by, Bool, true, false, if◌then◌else◌, refl, sym, ◌∙◌, subst, true≢false, cond-true, cond-false}
 use Rattle.ptpm_agent.specs.declared.verdict.Verdict.{Verdict}
@@ -11,7 +11,7 @@ pub record IsSettled {A : Type 0} (lost : Bool) (x : Stored A) (a : A) : Type 0 
   pub at : a ≡ (if lost then x.stored else x.live)
   pub clean : x.is_unsaved ≡ false → x.stored ≡ x.live
 
--- An act makes y of what is live, and x' of what is stored. It is lost where it is unsaved and a crash comes first. Else it stands.
+-- An act makes y of what is live, and x' of what is stored. It is lost if it is unsaved and a crash comes first. Else it stays.
 pub record IsAct {A : Type 0} (lost : Bool) (x : Stored A) (a : A) (x' : Stored A) (y : A) : Type 0 where
   pub stays : lost && x'.is_unsaved ≡ true → IsSettled lost x' a
   pub goes : lost && x'.is_unsaved ≡ false → (a ≡ x.live) × IsSettled lost x' y

@@ -13,7 +13,7 @@ use Rattle.ptpm_network.proofs.Reporting.{worth-after}
 use Rattle.ptpm_network.proofs.Taking.{run-append}
 use Rattle.ptpm_network.proofs.Worth.{at_most_once}
 
--- ---- where nothing that was begun, came in or was accepted is lost
+-- ---- if nothing that was begun, came in or was accepted is lost
 
 once-more : (m : PortIdentity) (k : ℕ) (begun : List RequestValue) (new old : List Accepted) (e : Accepted)
     → StaysOrGains m begun new old → length (entries_of m k new) ≤ 1 → entries_of m k old ≡ e ∷ []

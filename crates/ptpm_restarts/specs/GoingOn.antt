@@ -1,5 +1,5 @@
 -- How a network goes on that was restarted: as any network does. A request that was under way is answered along a way by sending it
--- again, and where each saves at once all is as in a network that runs.
+-- again, and if each saves at once all is as in a network that runs.
 use Rattle.std.specs.Prelude.{◌≡◌, ℕ, false, List, [], ◌∷◌, ◌++◌, map, Option, Some, None}
 use Rattle.std.specs.List.{AllByRecursion, Contains}
 use Rattle.ptpm_codec.specs.declared.identity.PortIdentity.{PortIdentity}
@@ -15,7 +15,7 @@ use Rattle.ptpm_restarts.specs.AsIfNever.{AreTimely}
 use Rattle.ptpm_restarts.specs.Incidents.{Happens, Incident, SaveClock, SaveSession, after_incidents}
 use Rattle.ptpm_restarts.specs.Restarting.{RestartingNetwork}
 
--- a running network stands at this state of the machine, without some of its frames
+-- a running network is at this state of the machine, without some of its frames
 pub record StandsWithFewer (N : Network) (w : NetworkState) (r : RunningNetwork) : Type 0 where
   pub frames : List Frame
   pub fewer : AllByRecursion (Contains w.frames) frames
@@ -48,7 +48,7 @@ pub record IsAnsweredAgain (N : Network) (k : RestartingNetwork) (s : ℕ) (hops
   pub reports : (end.session s).live.reports ≡ (k.session s).live.reports ++ report ∷ []
   pub idle : is_waiting (end.session s).live.session ≡ false
 
--- ---- where each saves at once
+-- ---- if each saves at once
 
 abbrev pub save_of_frame : Option Held → List Incident
 save_of_frame None = []

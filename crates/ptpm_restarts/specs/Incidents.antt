@@ -40,7 +40,7 @@ crashes_clock k c = record k {
 
 -- ---- events
 
--- frames that wait need room too, where an event makes more
+-- frames that wait need room too, if an event makes more
 abbrev pub no_room_for : RestartingNetwork → Event → Option Refusal
 no_room_for k (Begin s ask) = None
 no_room_for k (Resume s attempts) = None

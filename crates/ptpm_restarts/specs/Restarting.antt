@@ -24,7 +24,7 @@ pub record SessionLog : Type 0 where
 pub record RestartingNetwork : Type 0 where
   pub clock : ℕ → Stored State
   pub session : ℕ → Stored SessionLog
-  -- every frame that was sent; frame n stands at place n - 1
+  -- every frame that was sent; frame n is at place n - 1
   pub frames : List Held
   -- what clocks made and may not send before they save, each frame with its clock
   pub waiting : List (ℕ × Held)

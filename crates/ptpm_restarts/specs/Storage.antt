@@ -15,7 +15,7 @@ saved_as a = record { live = a; stored = a; is_unsaved = false }
 abbrev pub changed : {A : Type 0} → Stored A → A → Stored A
 changed x a = record x { live = a; is_unsaved = true }
 
--- A note, for which nothing has to be saved. It is lost only where a change before it is unsaved and is lost.
+-- A note, for which nothing has to be saved. It is lost only if a change before it is unsaved and is lost.
 abbrev pub noted : {A : Type 0} → Stored A → A → Stored A
 noted x a = record x { live = a; stored = if x.is_unsaved then x.stored else a }
 

@@ -17,8 +17,8 @@ ghost use Rattle.ptpm_restarts.specs.Incidents.{CrashClock, CrashSession, Happen
 ghost use Rattle.ptpm_restarts.specs.Restarting.{RestartingNetwork, held_frames, running};
 ghost use Rattle.ptpm_restarts.specs.Storage.{saved_as};
 
-/// A request that was under way is answered by sending it again. A network that is as one that never crashed stands where the events of
-/// that one lead the machine, with fewer frames. Let a session of it wait for an answer and be allowed to send, let a way lead to its
+/// A request that was under way is answered by sending it again. A network that is as one that never crashed is at the state to
+/// which the events of that one lead the machine, with fewer frames. Let a session of it wait for an answer and be allowed to send, let a way lead to its
 /// target, and let there be room for the frames. Then the session saves, and each clock at which a frame waits. The session sends its
 /// request. One copy each way comes in at the ends of the way, and each end saves then. At last the session reports the answer, and
 /// waits for nothing. None of these deliveries is late.
