@@ -122,7 +122,7 @@ pub(crate) fn add_fault<'a>(
 ) -> Result<(), AllocError>
     ensures { OnOk result
         (marks_in faults.new.items
-        ≡ marks_in faults.old.items ++ marked class (spot_of place) (part_of found) ∷ []) }
+        ≡ marks_in faults.old.items ++ marked class (spot_of place.entry) (part_of found.entry) ∷ []) }
 {
     faults.push(Fault {
         class,
@@ -145,7 +145,7 @@ pub(crate) fn add_at_key<'a>(
 ) -> Result<(), AllocError>
     ensures { OnOk result
         (marks_in faults.new.items
-        ≡ marks_in faults.old.items ++ value_mark class (spot_of place) key.now (table_view table.now)) }
+        ≡ marks_in faults.old.items ++ value_mark class (spot_of place.entry) key.now (table_view table.now)) }
 {
     match value_at(table, key) {
         Some(value) => add_fault(faults, class, place, Found::Value(key, value), wanted),

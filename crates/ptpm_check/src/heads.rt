@@ -197,7 +197,7 @@ fn add_ends<'a>(
 ) -> Result<(), AllocError>
     ensures { OnOk result
         (map end_value ends.new.items
-        ≡ map end_value ends.old.items ++ each (end_head (spot_of place)) 1 (map view values.now)) }
+        ≡ map end_value ends.old.items ++ each (end_head (spot_of place.entry)) 1 (map view values.now)) }
 {
     for index in 0..values.len() {
         if let Some(end) = end_of(place, index + 1, &values[index]) {
@@ -208,7 +208,7 @@ fn add_ends<'a>(
 }
 
 fn end_of<'a>(place: Place<'a>, number: usize, value: &'a Value) -> Option<EndHead<'a>>
-    ensures { if_any (option_map end_value result) ≡ end_head (spot_of place) number (view value.now) }
+    ensures { if_any (option_map end_value result) ≡ end_head (spot_of place.entry) number (view value.now) }
 {
     let (name, port) = end_spelling(text_of(value)?)?;
     Some(EndHead {

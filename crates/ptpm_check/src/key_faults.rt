@@ -23,7 +23,7 @@ pub(crate) fn add_shape<'a>(
 ) -> Result<(), AllocError>
     ensures { OnOk result
         (marks_in faults.new.items
-        ≡ marks_in faults.old.items ++ shape_mark (spot_of place) (part_of found) ∷ []) }
+        ≡ marks_in faults.old.items ++ shape_mark (spot_of place.entry) (part_of found.entry) ∷ []) }
 {
     add_fault(faults, NetError::BadShape, place, found, wanted)
 }
@@ -39,7 +39,7 @@ pub(crate) fn add_table_faults<'a>(
 ) -> Result<(), AllocError>
     ensures { OnOk result
         (marks_in faults.new.items
-        ≡ marks_in faults.old.items ++ table_marks (spot_of place) (map key_rule rules.now) (view value.now)) }
+        ≡ marks_in faults.old.items ++ table_marks (spot_of place.entry) (map key_rule rules.now) (view value.now)) }
 {
     match table_of(value) {
         Some(table) => add_key_faults(alloc, faults, place, table, rules),
@@ -64,7 +64,7 @@ pub(crate) fn add_key_faults<'a>(
     ensures { OnOk result
         (marks_in faults.new.items
         ≡ marks_in faults.old.items
-        ++ key_marks (spot_of place) (map key_rule rules.now) (table_view table.now)) }
+        ++ key_marks (spot_of place.entry) (map key_rule rules.now) (table_view table.now)) }
 {
     add_missing(faults, place, table, rules)?;
     add_wrong(alloc, faults, place, table, rules)
@@ -80,7 +80,7 @@ fn add_missing<'a>(
     ensures { OnOk result
         (marks_in faults.new.items
         ≡ marks_in faults.old.items
-        ++ missing_marks (spot_of place) (map key_rule rules.now) (table_view table.now)) }
+        ++ missing_marks (spot_of place.entry) (map key_rule rules.now) (table_view table.now)) }
 {
     for rule in rules {
         if rule.is_required && value_at(table, rule.key).is_none() {
@@ -106,7 +106,7 @@ fn add_wrong<'a>(
     ensures { OnOk result
         (marks_in faults.new.items
         ≡ marks_in faults.old.items
-        ++ wrong_marks (spot_of place) (map key_rule rules.now) (table_view table.now)) }
+        ++ wrong_marks (spot_of place.entry) (map key_rule rules.now) (table_view table.now)) }
 {
     for (key, value) in table {
         if let Some(wanted) = wrong(alloc, key.as_str(), value, rules)? {

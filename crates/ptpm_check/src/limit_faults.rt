@@ -94,7 +94,7 @@ fn add_size<'a>(
 ) -> Result<(), AllocError>
     ensures { OnOk result
         (marks_in faults.new.items
-        ≡ marks_in faults.old.items ++ size_marks (spot_of place) (Some (table_view link.now))) }
+        ≡ marks_in faults.old.items ++ size_marks (spot_of place.entry) (Some (table_view link.now))) }
 {
     match bad_size(link) {
         Some(count) => {

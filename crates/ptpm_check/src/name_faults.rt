@@ -102,7 +102,7 @@ fn add_past_port<'a>(
 ) -> Result<(), AllocError>
     ensures { OnOk result
         (marks_in faults.new.items
-        ≡ marks_in faults.old.items ++ past_members (spot_of place) count (as_table (view port.now))) }
+        ≡ marks_in faults.old.items ++ past_members (spot_of place.entry) count (as_table (view port.now))) }
 {
     let Some(table) = table_of(port) else {
         return Ok(());

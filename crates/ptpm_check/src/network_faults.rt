@@ -1,6 +1,6 @@
 //! Every fault of a network file.
 
-ghost use Rattle.std.specs.Prelude.{◌≡◌, ◌++◌, ◌∷◌, ◌<◌, All, IfOk, MatchOption, OnOk, Some, [], vec_len};
+ghost use Rattle.std.specs.Prelude.{◌≡◌, ◌++◌, ◌∷◌, ◌<◌, All, IfOk, MatchBool, MatchOption, OnOk, Some, [], vec_len};
 ghost use Rattle.toml.specs.View.{table_view};
 ghost use Rattle.ptpm_script.specs.NetworkText.{network_of};
 ghost use Rattle.ptpm_check.specs.Faults.{AreReported, IsFirstOf, IsLedBy, IsMoved, IsOtherFault, content_marks, document_marks, file_marks, first_class, refusal_of, text_marks};
@@ -138,7 +138,7 @@ fn add_text<'a>(
 ) -> Result<(), AllocError>
     ensures { OnOk result
         (marks_in faults.new.items
-        ≡ marks_in faults.old.items ++ marked class (spot_of place) whole ∷ []) }
+        ≡ marks_in faults.old.items ++ marked class (spot_of place.entry) whole ∷ []) }
 {
     add_fault(faults, class, place, Found::Untold, Wanted::Need(need))
 }
@@ -164,7 +164,7 @@ fn add_file_faults<'a>(
 /// The faults with one of this refusal first: the first of them that is, or one that gives the refusal alone.
 fn with_first<'a>(faults: Vec<Fault<'a>>, refusal: NetError) -> Result<Vec<Fault<'a>>, AllocError>
     ensures first { IfOk result (λ led. first_class led.items ≡ Some refusal) }
-    ensures all { IfOk result (λ led. IsLedBy refusal (marks_in faults.items) (marks_in led.items)) }
+    ensures all { IfOk result (λ led. IsLedBy refusal (marks_in faults.entry.items) (marks_in led.items)) }
 {
     match index_of(faults.as_slice(), refusal) {
         Some(index) => moved(faults, index),
@@ -179,17 +179,25 @@ fn index_of(faults: &[Fault<'_>], refusal: NetError) -> Option<usize>
         (IsFirstOf refusal faults.now) }
 {
     for index in 0..faults.len() {
-        if faults[index].class == refusal {
+        if is_of(&faults[index], refusal) {
             return Some(index);
         }
     }
     None
 }
 
+fn is_of(fault: &Fault<'_>, refusal: NetError) -> bool
+    ensures { MatchBool result
+        (fault.now.class ≡ refusal)
+        (IsOtherFault refusal fault.now) }
+{
+    fault.class == refusal
+}
+
 /// Faults with the one at an index first.
 fn moved<'a>(mut faults: Vec<Fault<'a>>, index: usize) -> Result<Vec<Fault<'a>>, AllocError>
     requires { index < vec_len faults }
-    ensures { IfOk result (λ led. IsMoved faults.items index led.items) }
+    ensures { IfOk result (λ led. IsMoved faults.entry.items index led.items) }
 {
     let first = faults.remove(index);
     led_by(faults, first)
@@ -197,7 +205,7 @@ fn moved<'a>(mut faults: Vec<Fault<'a>>, index: usize) -> Result<Vec<Fault<'a>>,
 
 /// Faults with another one first.
 fn led_by<'a>(mut faults: Vec<Fault<'a>>, first: Fault<'a>) -> Result<Vec<Fault<'a>>, AllocError>
-    ensures { IfOk result (λ led. led.items ≡ first ∷ faults.items) }
+    ensures { IfOk result (λ led. led.items ≡ first.entry ∷ faults.entry.items) }
 {
     faults.insert(0, first)?;
     Ok(faults)

@@ -50,7 +50,7 @@ fn add_once<'a>(
     ensures { OnOk result
         (marks_in faults.new.items
         ≡ marks_in faults.old.items
-        ++ twice_if (is_some other) (spot_of place) key.now (table_view table.now)) }
+        ++ twice_if (is_some other.entry) (spot_of place.entry) key.now (table_view table.now)) }
 {
     match other {
         Some(other) => {
@@ -136,9 +136,9 @@ fn add_port<'a>(
 fn port_before(ports: &[Value], number: Option<u16>) -> Option<usize>
     ensures { is_some result ≡ passes (is_number_of (map view ports.now)) number }
 {
-    let number = number?;
+    let wanted = number?;
     for index in 0..ports.len() {
-        if has_number(&ports[index], number) {
+        if has_number(&ports[index], wanted) {
             return Some(index + 1);
         }
     }
@@ -157,11 +157,11 @@ fn has_number(port: &Value, number: u16) -> bool
 /// The place of the first clock of a name.
 fn clock_named<'a>(clocks: &[ClockHead<'a>], name: Option<&str>) -> Option<Place<'a>>
     ensures { is_some result
-        ≡ passes (is_clock_name (map clock_value clocks.now)) (option_map (λ n. n.now) name) }
+        ≡ passes (is_clock_name (map clock_value clocks.now)) (option_map (λ n. n.now) name.entry) }
 {
-    let name = name?;
+    let wanted = name?;
     for clock in clocks {
-        if is_name_of(clock.name, name) {
+        if is_name_of(clock.name, wanted) {
             return Some(clock.place);
         }
     }
@@ -172,9 +172,9 @@ fn clock_named<'a>(clocks: &[ClockHead<'a>], name: Option<&str>) -> Option<Place
 fn clock_of<'a>(clocks: &[ClockHead<'a>], identity: Option<ClockIdentity>) -> Option<Place<'a>>
     ensures { is_some result ≡ passes (is_clock_identity (map clock_value clocks.now)) identity }
 {
-    let identity = identity?;
+    let wanted = identity?;
     for clock in clocks {
-        if is_clock(clock.identity, identity) {
+        if is_clock(clock.identity, wanted) {
             return Some(clock.place);
         }
     }
@@ -241,7 +241,7 @@ fn add_clock_identity<'a>(
     ensures { OnOk result
         (marks_in faults.new.items
         ≡ marks_in faults.old.items
-        ++ twice_if (is_some clock) (spot_of place) (codes "identity") (table_view table.now)) }
+        ++ twice_if (is_some clock.entry) (spot_of place.entry) (codes "identity") (table_view table.now)) }
 {
     match clock {
         Some(clock) => {
@@ -255,11 +255,11 @@ fn add_clock_identity<'a>(
 /// The place of the first session of a name.
 fn session_named<'a>(sessions: &[SessionHead<'a>], name: Option<&str>) -> Option<Place<'a>>
     ensures { is_some result
-        ≡ passes (is_session_name (map session_value sessions.now)) (option_map (λ n. n.now) name) }
+        ≡ passes (is_session_name (map session_value sessions.now)) (option_map (λ n. n.now) name.entry) }
 {
-    let name = name?;
+    let wanted = name?;
     for session in sessions {
-        if is_name_of(session.name, name) {
+        if is_name_of(session.name, wanted) {
             return Some(session.place);
         }
     }
@@ -280,9 +280,9 @@ fn session_of<'a>(sessions: &[SessionHead<'a>], identity: Option<PortIdentity>) 
     ensures { is_some result
         ≡ passes (is_session_identity (map session_value sessions.now)) identity }
 {
-    let identity = identity?;
+    let wanted = identity?;
     for session in sessions {
-        if is_identity(session.identity, identity) {
+        if is_identity(session.identity, wanted) {
             return Some(session.place);
         }
     }

@@ -5,7 +5,9 @@ ghost use Rattle.std.specs.List.{list_any};
 ghost use Rattle.toml.specs.Data.{as_str, get_member};
 ghost use Rattle.toml.specs.View.{view, table_view};
 ghost use Rattle.ptpm_script.specs.Document.{end_of, passes};
-ghost use Rattle.ptpm_check.specs.Marks.{each, each_after, marks_in, spot_of};
+ghost use Rattle.ptpm_script.specs.NetworkFile.{clock_rules, file_rules, port_rules, session_rules};
+ghost use Rattle.ptpm_check.specs.KeyFaults.{key_marks, table_marks};
+ghost use Rattle.ptpm_check.specs.Marks.{each, each_after, in_file, marks_in, spot_of};
 ghost use Rattle.ptpm_check.specs.ShapeFaults.{clock_marks, end_marks, link_marks, ports_marks, right_in, right_marks, rights_marks, session_marks, shape_marks, version_marks};
 
 use crate::fault::{Fault, Found, Need, Wanted};
@@ -31,11 +33,66 @@ pub(crate) fn add_shape_faults<'a>(
         (marks_in faults.new.items
         ≡ marks_in faults.old.items ++ shape_marks (table_view file.now)) }
 {
-    add_key_faults(alloc, faults, Place::File, file, &FILE_RULES)?;
+    add_file_keys(alloc, faults, file)?;
     add_clocks(alloc, faults, items_at(file, "clock"))?;
     let version = whole_at(file, "version");
     add_sessions(alloc, faults, version, items_at(file, "session"))?;
     add_links(alloc, faults, items_at(file, "link"))
+}
+
+/// Adds the faults of the file's own keys.
+fn add_file_keys<'a>(
+    alloc: Global,
+    faults: &mut Vec<Fault<'a>>,
+    file: &'a Table,
+) -> Result<(), AllocError>
+    ensures { OnOk result
+        (marks_in faults.new.items
+        ≡ marks_in faults.old.items ++ key_marks in_file file_rules (table_view file.now)) }
+{
+    add_key_faults(alloc, faults, Place::File, file, &FILE_RULES)
+}
+
+/// Adds the faults of a clock's own table.
+fn add_clock_table<'a>(
+    alloc: Global,
+    faults: &mut Vec<Fault<'a>>,
+    place: Place<'a>,
+    value: &'a Value,
+) -> Result<(), AllocError>
+    ensures { OnOk result
+        (marks_in faults.new.items
+        ≡ marks_in faults.old.items ++ table_marks (spot_of place.entry) clock_rules (view value.now)) }
+{
+    add_table_faults(alloc, faults, place, value, &CLOCK_RULES)
+}
+
+/// Adds the faults of a port's table.
+fn add_port_table<'a>(
+    alloc: Global,
+    faults: &mut Vec<Fault<'a>>,
+    place: Place<'a>,
+    value: &'a Value,
+) -> Result<(), AllocError>
+    ensures { OnOk result
+        (marks_in faults.new.items
+        ≡ marks_in faults.old.items ++ table_marks (spot_of place.entry) port_rules (view value.now)) }
+{
+    add_table_faults(alloc, faults, place, value, &PORT_RULES)
+}
+
+/// Adds the faults of a session's table.
+fn add_session_table<'a>(
+    alloc: Global,
+    faults: &mut Vec<Fault<'a>>,
+    place: Place<'a>,
+    value: &'a Value,
+) -> Result<(), AllocError>
+    ensures { OnOk result
+        (marks_in faults.new.items
+        ≡ marks_in faults.old.items ++ table_marks (spot_of place.entry) session_rules (view value.now)) }
+{
+    add_table_faults(alloc, faults, place, value, &SESSION_RULES)
 }
 
 fn add_clocks<'a>(
@@ -65,7 +122,7 @@ fn add_clock<'a>(
         ≡ marks_in faults.old.items ++ clock_marks number (view clock.now)) }
 {
     let place = Place::Table(Array::Clock, number, name_in(clock));
-    add_table_faults(alloc, faults, place, clock, &CLOCK_RULES)?;
+    add_clock_table(alloc, faults, place, clock)?;
     add_ports(alloc, faults, number, clock)
 }
 
@@ -84,7 +141,7 @@ fn add_ports<'a>(
     let ports = items_in(clock, "port");
     for index in 0..ports.len() {
         let place = Place::Port(number, name, index + 1);
-        add_table_faults(alloc, faults, place, &ports[index], &PORT_RULES)?;
+        add_port_table(alloc, faults, place, &ports[index])?;
     }
     Ok(())
 }
@@ -118,7 +175,7 @@ fn add_session<'a>(
         ≡ marks_in faults.old.items ++ session_marks version number (view session.now)) }
 {
     let place = Place::Table(Array::Session, number, name_in(session));
-    add_table_faults(alloc, faults, place, session, &SESSION_RULES)?;
+    add_session_table(alloc, faults, place, session)?;
     add_rights(faults, place, version, table_of(session))
 }
 
@@ -132,7 +189,7 @@ fn add_rights<'a>(
     ensures { OnOk result
         (marks_in faults.new.items
         ≡ marks_in faults.old.items
-        ++ rights_marks (spot_of place) version (option_map (λ t. table_view t.now) session)) }
+        ++ rights_marks (spot_of place.entry) version (option_map (λ t. table_view t.now) session.entry)) }
 {
     match session {
         Some(session) => {
@@ -154,7 +211,7 @@ fn add_version<'a>(
     ensures { OnOk result
         (marks_in faults.new.items
         ≡ marks_in faults.old.items
-        ++ version_marks (spot_of place) version (get_member (codes "rights") (table_view session.now))) }
+        ++ version_marks (spot_of place.entry) version (get_member (codes "rights") (table_view session.now))) }
 {
     match (version, value_at(session, "rights")) {
         (Some(2), None) => {
@@ -177,7 +234,7 @@ fn add_bad_rights<'a>(
 ) -> Result<(), AllocError>
     ensures { OnOk result
         (marks_in faults.new.items
-        ≡ marks_in faults.old.items ++ each_after (right_marks (spot_of place)) [] (map view items.now)) }
+        ≡ marks_in faults.old.items ++ each_after (right_marks (spot_of place.entry)) [] (map view items.now)) }
 {
     for index in 0..items.len() {
         add_right(faults, place, &items[..index], &items[index])?;
@@ -194,7 +251,7 @@ fn add_right<'a>(
 ) -> Result<(), AllocError>
     ensures { OnOk result
         (marks_in faults.new.items
-        ≡ marks_in faults.old.items ++ right_marks (spot_of place) (map view before.now) (view item.now)) }
+        ≡ marks_in faults.old.items ++ right_marks (spot_of place.entry) (map view before.now) (view item.now)) }
 {
     let found = Found::Item("rights", before.len() + 1, item);
     match right_of(item) {
@@ -266,7 +323,7 @@ fn add_ends<'a>(
 ) -> Result<(), AllocError>
     ensures { OnOk result
         (marks_in faults.new.items
-        ≡ marks_in faults.old.items ++ each (end_marks (spot_of place)) 1 (map view items.now)) }
+        ≡ marks_in faults.old.items ++ each (end_marks (spot_of place.entry)) 1 (map view items.now)) }
 {
     for index in 0..items.len() {
         add_end(faults, place, index + 1, &items[index])?;
@@ -282,7 +339,7 @@ fn add_end<'a>(
 ) -> Result<(), AllocError>
     ensures { OnOk result
         (marks_in faults.new.items
-        ≡ marks_in faults.old.items ++ end_marks (spot_of place) number (view item.now)) }
+        ≡ marks_in faults.old.items ++ end_marks (spot_of place.entry) number (view item.now)) }
 {
     if is_end(item) {
         return Ok(());

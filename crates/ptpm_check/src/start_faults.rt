@@ -66,7 +66,7 @@ fn add_start_if<'a>(
     ensures { OnOk result
         (marks_in faults.new.items
         ≡ marks_in faults.old.items
-        ++ start_mark_if test fault (spot_of place) key.now (table_view table.now)) }
+        ++ start_mark_if test fault (spot_of place.entry) key.now (table_view table.now)) }
 {
     if test {
         let class = NetError::BadClock(fault);
@@ -117,7 +117,7 @@ fn add_member_if<'a>(
 ) -> Result<(), AllocError>
     ensures { OnOk result
         (marks_in faults.new.items
-        ≡ marks_in faults.old.items ++ member_mark_if test member (spot_of place) (table_view table.now)) }
+        ≡ marks_in faults.old.items ++ member_mark_if test member (spot_of place.entry) (table_view table.now)) }
 {
     let fault = StartError::BadValue(member);
     add_start_if(
@@ -140,7 +140,7 @@ fn add_members<'a>(
 ) -> Result<(), AllocError>
     ensures { OnOk result
         (marks_in faults.new.items
-        ≡ marks_in faults.old.items ++ member_marks (spot_of place) (table_view table.now)) }
+        ≡ marks_in faults.old.items ++ member_marks (spot_of place.entry) (table_view table.now)) }
 {
     let start = clock_start(SOME_CLOCK, 0, table);
     let (accuracy, leaps) = (fails_by_accuracy(&start), fails_by_leaps(&start));
@@ -210,7 +210,7 @@ fn add_port<'a>(
 ) -> Result<(), AllocError>
     ensures { OnOk result
         (marks_in faults.new.items
-        ≡ marks_in faults.old.items ++ port_start_members (spot_of place) (as_table (view port.now))) }
+        ≡ marks_in faults.old.items ++ port_start_members (spot_of place.entry) (as_table (view port.now))) }
 {
     match table_of(port) {
         Some(table) => add_port_members(faults, place, table),
@@ -226,7 +226,7 @@ fn add_port_members<'a>(
 ) -> Result<(), AllocError>
     ensures { OnOk result
         (marks_in faults.new.items
-        ≡ marks_in faults.old.items ++ port_member_marks (spot_of place) (table_view table.now)) }
+        ≡ marks_in faults.old.items ++ port_member_marks (spot_of place.entry) (table_view table.now)) }
 {
     let start = port_start(table);
     let default = PortStart::new();
@@ -317,7 +317,7 @@ fn add_own<'a>(
 ) -> Result<(), AllocError>
     ensures { OnOk result
         (marks_in faults.new.items
-        ≡ marks_in faults.old.items ++ own_marks (spot_of place) (table_view table.now) start.now) }
+        ≡ marks_in faults.old.items ++ own_marks (spot_of place.entry) (table_view table.now) start.now) }
 {
     let is_own = has_octet(start.priority1, start.grandmaster_priority1);
     add_own_if(faults, is_own, place, table, "grandmaster_priority1")?;
@@ -340,7 +340,7 @@ fn add_own_if<'a>(
 ) -> Result<(), AllocError>
     ensures { OnOk result
         (marks_in faults.new.items
-        ≡ marks_in faults.old.items ++ own_mark_if is_own (spot_of place) key.now (table_view table.now)) }
+        ≡ marks_in faults.old.items ++ own_mark_if is_own (spot_of place.entry) key.now (table_view table.now)) }
 {
     let fault = StartError::GrandmasterDiffers;
     add_start_if(

@@ -125,7 +125,7 @@ pub(crate) fn whole_at(table: &Table, key: &str) -> Option<u16>
 
 /// Whether a name is there, and is this one.
 pub(crate) fn is_name_of(name: Option<&str>, wanted: &str) -> bool
-    ensures { result ≡ passes (λ n. bytes_eq n wanted.now) (option_map (λ n. n.now) name) }
+    ensures { result ≡ passes (λ n. bytes_eq n wanted.now) (option_map (λ n. n.now) name.entry) }
 {
     match name {
         Some(name) => name == wanted,
