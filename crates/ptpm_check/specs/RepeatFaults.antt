@@ -36,6 +36,9 @@ port_members_repeats spot before (Some ms) =
 unfoldable pub port_repeats : ℕ → List Data → Data → List Mark
 port_repeats clock before d = port_members_repeats (in_port clock (length before + 1)) before (as_table d)
 
+unfoldable pub first_ports : ClockHeadValue → List Data
+first_ports c = take 64 (items_at (codes "port") c.table)
+
 -- ---- clocks
 
 abbrev pub is_clock_name : List ClockHeadValue → List ℕ → Bool
@@ -46,7 +49,7 @@ is_clock_identity cs identity = list_any (λ c. passes (λ other. same_clock oth
 
 unfoldable pub clock_repeats : List ClockHeadValue → ClockHeadValue → List Mark
 clock_repeats before c =
-    each_after (port_repeats c.number) [] (take 64 (items_at (codes "port") c.table))
+    each_after (port_repeats c.number) [] (first_ports c)
     ++ twice_if (passes (is_clock_name before) c.name) c.spot (codes "name") c.table
     ++ twice_if (passes (is_clock_identity before) c.identity) c.spot (codes "identity") c.table
 

@@ -8,7 +8,7 @@ ghost use Rattle.ptpm_script.specs.NetworkText.{same_port};
 ghost use Rattle.ptpm_codec.specs.Identity.{same_identity};
 ghost use Rattle.ptpm_check.specs.Heads.{clock_value, end_value, session_value};
 ghost use Rattle.ptpm_check.specs.Marks.{each_after, marks_in, spot_of};
-ghost use Rattle.ptpm_check.specs.RepeatFaults.{clock_repeats, end_repeats, has_number, is_clock_identity, is_clock_name, is_number_of, is_same_end, is_session_identity, is_session_name, port_repeats, repeat_marks, session_repeats, twice_if};
+ghost use Rattle.ptpm_check.specs.RepeatFaults.{clock_repeats, end_repeats, first_ports, has_number, is_clock_identity, is_clock_name, is_number_of, is_same_end, is_session_identity, is_session_name, port_repeats, repeat_marks, session_repeats, twice_if};
 
 use crate::fault::{Fault, Found, Wanted, add_at_key, add_fault};
 use crate::heads::{ClockHead, EndHead, Heads, SessionHead};
@@ -84,12 +84,18 @@ fn add_clock<'a>(
         ++ clock_repeats (map clock_value before.now) (clock_value clock.now)) }
 {
     let (place, table) = (clock.place, clock.table);
-    let ports = first_values(items_at(table, "port"), PORT_TABLES);
-    add_ports(faults, clock.number, clock.name, ports)?;
+    add_ports(faults, clock.number, clock.name, first_ports(clock))?;
     let named = clock_named(before, clock.name);
     add_once(faults, place, table, "name", named)?;
     let same = clock_of(before, clock.identity);
     add_once(faults, place, table, "identity", same)
+}
+
+/// The tables of a clock's ports that are held beside each other.
+fn first_ports<'a>(clock: &ClockHead<'a>) -> &'a [Value]
+    ensures { map view result.now ≡ first_ports (clock_value clock.now) }
+{
+    first_values(items_at(clock.table, "port"), PORT_TABLES)
 }
 
 /// Adds a fault for each table of a port of this clock whose number is that of one before.

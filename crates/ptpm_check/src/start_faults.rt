@@ -229,49 +229,40 @@ fn add_port_members<'a>(
         ≡ marks_in faults.old.items ++ port_member_marks (spot_of place.entry) (table_view table.now)) }
 {
     let start = port_start(table);
-    let default = PortStart::new();
-    let port = PortStart {
-        state: start.state,
-        ..default
-    };
-    add_member_if(faults, port_fails(port), place, table, Member::State)?;
-    let port = PortStart {
-        log_announce: start.log_announce,
-        ..default
-    };
-    add_member_if(faults, port_fails(port), place, table, Member::LogAnnounce)?;
-    let port = PortStart {
-        receipt_timeout: start.receipt_timeout,
-        ..default
-    };
-    add_member_if(
-        faults,
-        port_fails(port),
-        place,
-        table,
-        Member::ReceiptTimeout,
-    )?;
-    let port = PortStart {
-        log_sync: start.log_sync,
-        ..default
-    };
-    add_member_if(faults, port_fails(port), place, table, Member::LogSync)?;
-    let port = PortStart {
-        delay_mechanism: start.delay_mechanism,
-        ..default
-    };
-    add_member_if(
-        faults,
-        port_fails(port),
-        place,
-        table,
-        Member::DelayMechanism,
-    )?;
-    let port = PortStart {
-        log_min_pdelay: start.log_min_pdelay,
-        ..default
-    };
-    add_member_if(faults, port_fails(port), place, table, Member::LogMinPdelay)
+    let mut port = PortStart::new();
+    port.state = start.state;
+    add_port_member(faults, place, table, Member::State, port)?;
+    let mut port = PortStart::new();
+    port.log_announce = start.log_announce;
+    add_port_member(faults, place, table, Member::LogAnnounce, port)?;
+    let mut port = PortStart::new();
+    port.receipt_timeout = start.receipt_timeout;
+    add_port_member(faults, place, table, Member::ReceiptTimeout, port)?;
+    let mut port = PortStart::new();
+    port.log_sync = start.log_sync;
+    add_port_member(faults, place, table, Member::LogSync, port)?;
+    let mut port = PortStart::new();
+    port.delay_mechanism = start.delay_mechanism;
+    add_port_member(faults, place, table, Member::DelayMechanism, port)?;
+    let mut port = PortStart::new();
+    port.log_min_pdelay = start.log_min_pdelay;
+    add_port_member(faults, place, table, Member::LogMinPdelay, port)
+}
+
+/// Adds a fault of a member of a port, if a port that starts so can't.
+fn add_port_member<'a>(
+    faults: &mut Vec<Fault<'a>>,
+    place: Place<'a>,
+    table: &'a Table,
+    member: Member,
+    port: PortStart,
+) -> Result<(), AllocError>
+    ensures { OnOk result
+        (marks_in faults.new.items
+        ≡ marks_in faults.old.items
+        ++ member_mark_if (port_fails port) member (spot_of place.entry) (table_view table.now)) }
+{
+    add_member_if(faults, port_fails(port), place, table, member)
 }
 
 fn port_fails(port: PortStart) -> bool
