@@ -1,6 +1,7 @@
 -- Some faults with one of a refusal first.
-use Rattle.std.proofs.Common.{arith, ◌≡◌, ◌≢◌, ℕ, ◌<◌, All, List, [], ◌∷◌, ◌++◌, Option, Some, None, Result, Ok, Err, IfOk, IfSome, AllocError, Global, Vec, refl, ap, sym, subst, ◌∙◌, drop, inl, inr, length, map, option_map, suc, take, slice_get}
+use Rattle.std.proofs.Common.{arith, ◌≡◌, ℕ, ◌<◌, All, List, ◌∷◌, ◌++◌, Option, Some, None, Result, Ok, Err, IfOk, IfSome, Global, Vec, refl, ap, sym, subst, ◌∙◌, drop, inl, inr, length, map, option_map, suc, take, slice_get}
 use Rattle.std.specs.List.{remove}
+use Rattle.std.specs.declared.alloc.AllocError.{AllocError}
 use Rattle.std.proofs.lemmas.List.{drop-map, map-append, take-map}
 use Rattle.std.proofs.lemmas.List.Elements.{All-map, All-same}
 use Rattle.std.proofs.lemmas.Option.{slice_get-map}
@@ -8,7 +9,7 @@ use Rattle.std.proofs.lemmas.Grind.{common_steps}
 use Rattle.std.proofs.lemmas.Option.{gets}
 use Rattle.ptpm_check.specs.declared.fault.Fault.{Fault}
 use Rattle.ptpm_check.specs.Faults.{IsFirstOf, IsLedBy, IsMoved, IsOther, IsOtherFault, Leads, LeadsAlone, first_class}
-use Rattle.ptpm_check.specs.Marks.{Mark, in_file, mark_of, marked, marks_in, whole}
+use Rattle.ptpm_check.specs.Marks.{in_file, mark_of, marked, marks_in, whole}
 use Rattle.ptpm_script.specs.declared.net_error.NetError.{NetError}
 
 marks-remove : (fs : List Fault) (n : ℕ) → marks_in (remove fs n) ≡ remove (marks_in fs) n
