@@ -1,1 +1,3 @@
+pub mod ItemLemmas
 pub mod KeyLemmas
+pub mod LedLemmas

@@ -1,10 +1,25 @@
--- How faults answer to the refusals of a network file and of an event line.
-use Rattle.std.specs.Prelude.{List, [], ◌∷◌, Option, Some, None, Result, Ok, Err}
+-- The faults of a network file, and how they answer to its refusal; and why a line is no event.
+use Rattle.std.specs.Prelude.{◌≡◌, ◌≢◌, ◌⊎◌, ℕ, ◌<◌, nat_lt, if◌then◌else◌, All, IfSome, List, [], ◌∷◌, ◌++◌, length, Option, Some, None, Result, Ok, Err, slice_get, take}
+use Rattle.std.specs.List.{remove}
+use Rattle.toml.specs.Data.{Members}
+use Rattle.toml.specs.Parse.{parse_document}
+use Rattle.toml.specs.View.{table_view}
 use Rattle.ptpm_check.specs.declared.fault.Fault.{Fault}
+use Rattle.ptpm_check.specs.declared.network_faults.Content.{Content}
+use Rattle.ptpm_check.specs.declared.network_faults.Content.TheVariants as contents
+use Rattle.ptpm_check.specs.declared.network_faults.Document.{Document}
 use Rattle.ptpm_script.specs.declared.event.Event.{Event}
 use Rattle.ptpm_script.specs.declared.event.EventError.{EventError}
 use Rattle.ptpm_script.specs.declared.net_error.NetError.{NetError}
+use Rattle.ptpm_script.specs.declared.net_error.NetError.TheVariants.{TooLong, NotToml}
 use Rattle.ptpm_script.specs.NetworkValue.{NetworkValue}
+use Rattle.ptpm_check.specs.Heads.{clocks_of, ends_of, sessions_of}
+use Rattle.ptpm_check.specs.LimitFaults.{limit_marks}
+use Rattle.ptpm_check.specs.Marks.{Mark, in_file, in_line, marked, whole}
+use Rattle.ptpm_check.specs.NameFaults.{name_marks}
+use Rattle.ptpm_check.specs.RepeatFaults.{repeat_marks}
+use Rattle.ptpm_check.specs.ShapeFaults.{shape_marks}
+use Rattle.ptpm_check.specs.StartFaults.{start_marks}
 
 -- why a text is no network; none if it is one
 abbrev pub refusal_of : Result NetworkValue NetError → Option NetError
@@ -20,3 +35,78 @@ error_of (Err e) = Some e
 abbrev pub first_class : List Fault → Option NetError
 first_class [] = None
 first_class (fault ∷ faults) = Some fault.class
+
+-- ---- what is to be found, in the order of the refusals
+
+-- of a document: each part is of one refusal
+unfoldable pub file_marks : Members → List Mark
+file_marks ms =
+    shape_marks ms
+    ++ limit_marks ms (sessions_of ms)
+    ++ repeat_marks (clocks_of ms) (sessions_of ms) (ends_of ms)
+    ++ name_marks (clocks_of ms) (sessions_of ms) (ends_of ms)
+    ++ start_marks (clocks_of ms)
+
+abbrev pub long_marks : List Mark
+long_marks = marked TooLong in_file whole ∷ []
+
+abbrev pub broken_marks : List Mark
+broken_marks = marked NotToml in_line whole ∷ []
+
+abbrev pub marks_of_document : Option Members → List Mark
+marks_of_document None = broken_marks
+marks_of_document (Some ms) = file_marks ms
+
+unfoldable pub text_marks : List ℕ → List Mark
+text_marks text = if nat_lt 262144 (length text) then long_marks else marks_of_document (parse_document text)
+
+-- ---- what is reported of it
+
+abbrev pub IsOther : NetError → Mark → Type 0
+IsOther refusal m = m.class ≢ refusal
+
+-- one of a refusal is first, the first of those that are found, and the others are in their order
+pub record Leads (refusal : NetError) (found reported : List Mark) : Type 0 where
+  pub place : ℕ
+  pub mark : Mark
+  pub there : slice_get found place ≡ Some mark
+  pub class : mark.class ≡ refusal
+  pub first : All (IsOther refusal) (take place found)
+  pub moved : reported ≡ mark ∷ remove found place
+
+-- none of those that are found is of the refusal, and one that gives the refusal alone is first
+pub record LeadsAlone (refusal : NetError) (found reported : List Mark) : Type 0 where
+  pub lacks : All (IsOther refusal) found
+  pub added : reported ≡ marked refusal in_file whole ∷ found
+
+abbrev pub IsLedBy : NetError → List Mark → List Mark → Type 0
+IsLedBy refusal found reported = Leads refusal found reported ⊎ LeadsAlone refusal found reported
+
+-- nothing, if there is no refusal
+abbrev pub AreReported : Option NetError → List Mark → List Mark → Type 0
+AreReported None found reported = reported ≡ []
+AreReported (Some refusal) found reported = IsLedBy refusal found reported
+
+-- ---- as the program has them
+
+abbrev pub IsOtherFault : NetError → Fault → Type 0
+IsOtherFault refusal f = f.class ≢ refusal
+
+-- the first fault of a refusal is at this index
+pub record IsFirstOf (refusal : NetError) (faults : List Fault) (index : ℕ) : Type 0 where
+  pub inside : index < length faults
+  pub class : IfSome (slice_get faults index) (λ f. f.class ≡ refusal)
+  pub first : All (IsOtherFault refusal) (take index faults)
+
+-- the fault at an index is first, and the others are in their order
+abbrev pub IsMoved : List Fault → ℕ → List Fault → Type 0
+IsMoved faults index reported = IfSome (slice_get faults index) (λ f. reported ≡ f ∷ remove faults index)
+
+abbrev pub content_marks : Content → List Mark
+content_marks contents.Long = long_marks
+content_marks (contents.Broken line error) = broken_marks
+content_marks (contents.Table t) = file_marks (table_view t)
+
+-- what is to be found in the text that was judged
+abbrev pub document_marks : Document → List Mark
+document_marks d = content_marks d.content

@@ -1,10 +1,9 @@
 -- The keys of a table that are faults by its rules.
-use Rattle.std.specs.Prelude.{ℕ, Bool, true, false, ◌&&◌, if◌then◌else◌, List, [], ◌∷◌, map, is_none}
-use Rattle.toml.specs.Data.{Data, Members, no_members, member, get_member}
+use Rattle.std.specs.Prelude.{ℕ, Bool, true, false, ◌&&◌, if◌then◌else◌, List, [], ◌∷◌, ◌++◌, map, Option, Some, None, is_none}
+use Rattle.toml.specs.Data.{Data, as_table, Members, no_members, member, get_member}
 use Rattle.ptpm_script.specs.Document.{KeyRule, fits, kind_of, passes}
-use Rattle.ptpm_check.specs.declared.fault.Fault.{Fault}
-use Rattle.ptpm_check.specs.declared.fault.Found.{Found}
-use Rattle.ptpm_check.specs.declared.fault.Found.TheVariants as founds
+use Rattle.ptpm_script.specs.declared.net_error.NetError.TheVariants.{BadShape}
+use Rattle.ptpm_check.specs.Marks.{Mark, Spot, Part, absent, at_key, marked, whole}
 
 -- a key is one of the rules, and its value is of that rule's kind
 abbrev pub holds : List KeyRule → List ℕ → Data → Bool
@@ -25,12 +24,24 @@ abbrev pub has_none : List (List ℕ) → Bool
 has_none [] = true
 has_none (key ∷ keys) = false
 
--- ---- as faults report them
+-- ---- their marks
 
-abbrev pub key_in : Found → List ℕ
-key_in (founds.Missing key) = key.now
-key_in (founds.Value key value) = key.now
-key_in _ = []
+abbrev pub shape_mark : Spot → Part → Mark
+shape_mark spot part = marked BadShape spot part
 
-abbrev pub keys_in : List Fault → List (List ℕ)
-keys_in faults = map (λ f. key_in f.found) faults
+abbrev pub missing_marks : Spot → List KeyRule → Members → List Mark
+missing_marks spot rules ms = map (λ key. shape_mark spot (absent key)) (missing_keys rules ms)
+
+abbrev pub wrong_marks : Spot → List KeyRule → Members → List Mark
+wrong_marks spot rules ms = map (λ key. shape_mark spot (at_key key)) (wrong_keys rules ms)
+
+unfoldable pub key_marks : Spot → List KeyRule → Members → List Mark
+key_marks spot rules ms = missing_marks spot rules ms ++ wrong_marks spot rules ms
+
+-- of a value that is to be a table: of its keys, or that it is none
+abbrev pub members_marks : Spot → List KeyRule → Option Members → List Mark
+members_marks spot rules None = shape_mark spot whole ∷ []
+members_marks spot rules (Some ms) = key_marks spot rules ms
+
+unfoldable pub table_marks : Spot → List KeyRule → Data → List Mark
+table_marks spot rules d = members_marks spot rules (as_table d)

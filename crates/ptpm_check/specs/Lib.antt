@@ -1,3 +1,10 @@
 pub mod Faults
+pub mod Heads
 pub mod KeyFaults
+pub mod LimitFaults
+pub mod Marks
+pub mod NameFaults
 pub mod Place
+pub mod RepeatFaults
+pub mod ShapeFaults
+pub mod StartFaults

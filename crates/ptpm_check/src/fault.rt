@@ -1,5 +1,9 @@
 //! A fault of a network file.
 
+ghost use Rattle.std.specs.Prelude.{◌≡◌, ◌++◌, ◌∷◌, OnOk, []};
+ghost use Rattle.toml.specs.View.{table_view};
+ghost use Rattle.ptpm_check.specs.Marks.{marked, marks_in, part_of, spot_of, value_mark};
+
 use crate::place::Place;
 use crate::value_text::{Quoted, ValueText};
 use ptpm_data::Member;
@@ -115,7 +119,11 @@ pub(crate) fn add_fault<'a>(
     place: Place<'a>,
     found: Found<'a>,
     wanted: Wanted<'a>,
-) -> Result<(), AllocError> {
+) -> Result<(), AllocError>
+    ensures { OnOk result
+        (marks_in faults.new.items
+        ≡ marks_in faults.old.items ++ marked class (spot_of place.entry) (part_of found.entry) ∷ []) }
+{
     faults.push(Fault {
         class,
         place,
@@ -126,6 +134,7 @@ pub(crate) fn add_fault<'a>(
 }
 
 /// Adds a fault of the value at a key; none if there is no value.
+#[tactic(auto, unfolding(crate::specs::Marks::value_mark))]
 pub(crate) fn add_at_key<'a>(
     faults: &mut Vec<Fault<'a>>,
     class: NetError,
@@ -133,7 +142,11 @@ pub(crate) fn add_at_key<'a>(
     table: &'a Table,
     key: &'static str,
     wanted: Wanted<'a>,
-) -> Result<(), AllocError> {
+) -> Result<(), AllocError>
+    ensures { OnOk result
+        (marks_in faults.new.items
+        ≡ marks_in faults.old.items ++ value_mark class (spot_of place.entry) key.now (table_view table.now)) }
+{
     match value_at(table, key) {
         Some(value) => add_fault(faults, class, place, Found::Value(key, value), wanted),
         None => Ok(()),

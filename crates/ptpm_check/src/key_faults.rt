@@ -3,35 +3,57 @@
 ghost use Rattle.std.specs.Prelude.{[], ◌≡◌, ◌++◌, ◌∷◌, IfOk, OnOk, is_none, map};
 ghost use Rattle.toml.specs.View.{view, table_view};
 ghost use Rattle.ptpm_script.specs.Document.{key_rule};
-ghost use Rattle.ptpm_check.specs.KeyFaults.{holds, key_in, keys_in, missing_keys, wrong_keys};
+ghost use Rattle.ptpm_check.specs.KeyFaults.{holds, key_marks, missing_marks, shape_mark, table_marks, wrong_marks};
+ghost use Rattle.ptpm_check.specs.Marks.{marks_in, part_of, spot_of};
 
-use crate::fault::{Fault, Found, Names, Need, Wanted};
+use crate::fault::{Fault, Found, Names, Need, Wanted, add_fault};
 use crate::nearest::nearest;
 use crate::place::Place;
+use crate::values::table_of;
 use ptpm_script::{NetError, Rule, kind_of, value_at};
 use std::alloc::{AllocError, Global};
 use toml::{Table, Value};
 
-/// Adds a fault of a key.
-fn add_key<'a>(
+/// Adds a fault of shape.
+pub(crate) fn add_shape<'a>(
     faults: &mut Vec<Fault<'a>>,
     place: Place<'a>,
     found: Found<'a>,
     wanted: Wanted<'a>,
 ) -> Result<(), AllocError>
     ensures { OnOk result
-        (keys_in faults.new.items ≡ keys_in faults.old.items ++ key_in found.entry ∷ []) }
+        (marks_in faults.new.items
+        ≡ marks_in faults.old.items ++ shape_mark (spot_of place.entry) (part_of found.entry) ∷ []) }
 {
-    faults.push(Fault {
-        class: NetError::BadShape,
-        place,
-        found,
-        wanted,
-    })?;
-    Ok(())
+    add_fault(faults, NetError::BadShape, place, found, wanted)
+}
+
+/// Adds the faults of a value that is to be a table: those of its keys, or one if it is none.
+#[tactic(auto, unfolding(crate::specs::KeyFaults::table_marks))]
+pub(crate) fn add_table_faults<'a>(
+    alloc: Global,
+    faults: &mut Vec<Fault<'a>>,
+    place: Place<'a>,
+    value: &'a Value,
+    rules: &'static [Rule],
+) -> Result<(), AllocError>
+    ensures { OnOk result
+        (marks_in faults.new.items
+        ≡ marks_in faults.old.items ++ table_marks (spot_of place.entry) (map key_rule rules.now) (view value.now)) }
+{
+    match table_of(value) {
+        Some(table) => add_key_faults(alloc, faults, place, table, rules),
+        None => add_shape(
+            faults,
+            place,
+            Found::Whole(value),
+            Wanted::Need(Need::Table),
+        ),
+    }
 }
 
 /// Adds a fault for each key that is missing, unknown, or holds what it may not.
+#[tactic(auto, unfolding(crate::specs::KeyFaults::key_marks))]
 pub(crate) fn add_key_faults<'a>(
     alloc: Global,
     faults: &mut Vec<Fault<'a>>,
@@ -40,10 +62,9 @@ pub(crate) fn add_key_faults<'a>(
     rules: &'static [Rule],
 ) -> Result<(), AllocError>
     ensures { OnOk result
-        (keys_in faults.new.items
-        ≡ (keys_in faults.old.items
-        ++ missing_keys (map key_rule rules.now) (table_view table.now))
-        ++ wrong_keys (map key_rule rules.now) (table_view table.now)) }
+        (marks_in faults.new.items
+        ≡ marks_in faults.old.items
+        ++ key_marks (spot_of place.entry) (map key_rule rules.now) (table_view table.now)) }
 {
     add_missing(faults, place, table, rules)?;
     add_wrong(alloc, faults, place, table, rules)
@@ -57,13 +78,13 @@ fn add_missing<'a>(
     rules: &'static [Rule],
 ) -> Result<(), AllocError>
     ensures { OnOk result
-        (keys_in faults.new.items
-        ≡ keys_in faults.old.items
-        ++ missing_keys (map key_rule rules.now) (table_view table.now)) }
+        (marks_in faults.new.items
+        ≡ marks_in faults.old.items
+        ++ missing_marks (spot_of place.entry) (map key_rule rules.now) (table_view table.now)) }
 {
     for rule in rules {
         if rule.is_required && value_at(table, rule.key).is_none() {
-            add_key(
+            add_shape(
                 faults,
                 place,
                 Found::Missing(rule.key),
@@ -83,13 +104,13 @@ fn add_wrong<'a>(
     rules: &'static [Rule],
 ) -> Result<(), AllocError>
     ensures { OnOk result
-        (keys_in faults.new.items
-        ≡ keys_in faults.old.items
-        ++ wrong_keys (map key_rule rules.now) (table_view table.now)) }
+        (marks_in faults.new.items
+        ≡ marks_in faults.old.items
+        ++ wrong_marks (spot_of place.entry) (map key_rule rules.now) (table_view table.now)) }
 {
     for (key, value) in table {
         if let Some(wanted) = wrong(alloc, key.as_str(), value, rules)? {
-            add_key(faults, place, Found::Value(key.as_str(), value), wanted)?;
+            add_shape(faults, place, Found::Value(key.as_str(), value), wanted)?;
         }
     }
     Ok(())

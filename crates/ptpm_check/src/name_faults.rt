@@ -1,5 +1,14 @@
 //! Targets, ends and ports that are not there.
 
+ghost use Rattle.std.specs.Prelude.{◌≡◌, ◌++◌, IfOk, OnOk, flat_map, is_some, map, option_map};
+ghost use Rattle.toml.specs.Data.{as_table};
+ghost use Rattle.toml.specs.View.{view};
+ghost use Rattle.ptpm_script.specs.Document.{passes};
+ghost use Rattle.ptpm_check.specs.Heads.{clock_value, end_value, session_value};
+ghost use Rattle.ptpm_check.specs.Marks.{each, marks_in, spot_of};
+ghost use Rattle.ptpm_check.specs.NameFaults.{clock_named, clock_past_ports, end_name_marks, is_no_end, is_past, lacks, name_marks, past_members, past_port, ports_of, target_marks};
+ghost use Rattle.ptpm_check.specs.RepeatFaults.{is_clock_name, is_session_name};
+
 use crate::fault::{Fault, Found, Names, Need, Wanted, add_at_key, add_fault};
 use crate::heads::{ClockHead, EndHead, Heads, SessionHead};
 use crate::nearest::nearest;
@@ -7,66 +16,58 @@ use crate::place::Place;
 use crate::values::{is_name_of, items_at, table_of, whole_at};
 use ptpm_script::NetError;
 use std::alloc::{AllocError, Global};
+use toml::Value;
 
 /// Adds a fault for each port's table, target and end that is not there.
+#[tactic(auto, unfolding(crate::specs::NameFaults::name_marks))]
 pub(crate) fn add_name_faults<'a>(
     alloc: Global,
     faults: &mut Vec<Fault<'a>>,
     heads: &Heads<'a>,
-) -> Result<(), AllocError> {
+) -> Result<(), AllocError>
+    ensures { OnOk result
+        (marks_in faults.new.items
+        ≡ marks_in faults.old.items
+        ++ name_marks (map clock_value heads.now.clocks.items) (map session_value heads.now.sessions.items) (map end_value heads.now.ends.items)) }
+{
     let clocks = heads.clocks.as_slice();
     let sessions = heads.sessions.as_slice();
-    let clock_names = clock_names(alloc, clocks)?;
-    let session_names = session_names(alloc, sessions)?;
+    add_clocks(faults, clocks)?;
+    add_sessions(alloc, faults, clocks, sessions)?;
+    add_ends(alloc, faults, clocks, sessions, heads.ends.as_slice())
+}
+
+/// Adds a fault for each port's table of a clock that is of no port of it.
+fn add_clocks<'a>(faults: &mut Vec<Fault<'a>>, clocks: &[ClockHead<'a>]) -> Result<(), AllocError>
+    ensures { OnOk result
+        (marks_in faults.new.items
+        ≡ marks_in faults.old.items ++ flat_map clock_past_ports (map clock_value clocks.now)) }
+{
     for clock in clocks {
         add_ports(faults, clock)?;
-    }
-    for session in sessions {
-        add_target(alloc, faults, session, clock_names.as_slice())?;
-    }
-    for end in heads.ends.as_slice() {
-        match end.port {
-            Some(port) => add_port_end(alloc, faults, end, port, clocks, clock_names.as_slice())?,
-            None => add_session_end(alloc, faults, end, session_names.as_slice())?,
-        }
     }
     Ok(())
 }
 
-fn clock_names<'a>(alloc: Global, clocks: &[ClockHead<'a>]) -> Result<Vec<&'a str>, AllocError> {
-    let mut names = Vec::new(alloc);
-    for clock in clocks {
-        if let Some(name) = clock.name {
-            names.push(name)?;
+#[tactic(auto, unfolding(crate::specs::NameFaults::clock_past_ports))]
+fn add_ports<'a>(faults: &mut Vec<Fault<'a>>, clock: &ClockHead<'a>) -> Result<(), AllocError>
+    ensures { OnOk result
+        (marks_in faults.new.items
+        ≡ marks_in faults.old.items ++ clock_past_ports (clock_value clock.now)) }
+{
+    match ports_of(clock) {
+        Some(count) => {
+            let ports = items_at(clock.table, "port");
+            add_past_ports(faults, clock.number, clock.name, count, ports)
         }
+        None => Ok(()),
     }
-    Ok(names)
-}
-
-fn session_names<'a>(
-    alloc: Global,
-    sessions: &[SessionHead<'a>],
-) -> Result<Vec<&'a str>, AllocError> {
-    let mut names = Vec::new(alloc);
-    for session in sessions {
-        if let Some(name) = session.name {
-            names.push(name)?;
-        }
-    }
-    Ok(names)
-}
-
-fn is_among(name: &str, names: &[&str]) -> bool {
-    for other in names {
-        if *other == name {
-            return true;
-        }
-    }
-    false
 }
 
 /// How many ports a clock has, if it can start with this many. The ports of another are not looked at.
-fn ports_of(clock: &ClockHead<'_>) -> Option<u16> {
+fn ports_of(clock: &ClockHead<'_>) -> Option<u16>
+    ensures { result ≡ ports_of (clock_value clock.now) }
+{
     let count = clock.count?;
     if 1 <= count && count <= 8 {
         Some(count)
@@ -75,79 +76,59 @@ fn ports_of(clock: &ClockHead<'_>) -> Option<u16> {
     }
 }
 
-fn add_ports<'a>(faults: &mut Vec<Fault<'a>>, clock: &ClockHead<'a>) -> Result<(), AllocError> {
-    let Some(count) = ports_of(clock) else {
-        return Ok(());
-    };
-    let ports = items_at(clock.table, "port");
+fn add_past_ports<'a>(
+    faults: &mut Vec<Fault<'a>>,
+    clock: usize,
+    name: Option<&'a str>,
+    count: u16,
+    ports: &'a [Value],
+) -> Result<(), AllocError>
+    ensures { OnOk result
+        (marks_in faults.new.items
+        ≡ marks_in faults.old.items ++ each (past_port clock count) 1 (map view ports.now)) }
+{
     for index in 0..ports.len() {
-        if let Some(table) = table_of(&ports[index]) {
-            if is_past(whole_at(table, "number"), count) {
-                let place = Place::Port(clock.number, clock.name, index + 1);
-                let wanted = Wanted::Need(Need::PortUpTo(count));
-                add_at_key(faults, NetError::NoSuchName, place, table, "number", wanted)?;
-            }
-        }
+        let place = Place::Port(clock, name, index + 1);
+        add_past_port(faults, place, count, &ports[index])?;
     }
     Ok(())
 }
 
+fn add_past_port<'a>(
+    faults: &mut Vec<Fault<'a>>,
+    place: Place<'a>,
+    count: u16,
+    port: &'a Value,
+) -> Result<(), AllocError>
+    ensures { OnOk result
+        (marks_in faults.new.items
+        ≡ marks_in faults.old.items ++ past_members (spot_of place.entry) count (as_table (view port.now))) }
+{
+    let Some(table) = table_of(port) else {
+        return Ok(());
+    };
+    if has_past(whole_at(table, "number"), count) {
+        let wanted = Wanted::Need(Need::PortUpTo(count));
+        add_at_key(faults, NetError::NoSuchName, place, table, "number", wanted)
+    } else {
+        Ok(())
+    }
+}
+
 /// Whether a port's number is none of a clock with this many ports.
-fn is_past(number: Option<u16>, count: u16) -> bool {
+fn has_past(number: Option<u16>, count: u16) -> bool
+    ensures { result ≡ passes (is_past count) number }
+{
     match number {
         Some(number) => number == 0 || count < number,
         None => false,
     }
 }
 
-fn add_target<'a>(
-    alloc: Global,
-    faults: &mut Vec<Fault<'a>>,
-    session: &SessionHead<'a>,
-    names: &[&'a str],
-) -> Result<(), AllocError> {
-    let Some(target) = session.target else {
-        return Ok(());
-    };
-    if is_among(target, names) {
-        return Ok(());
-    }
-    let wanted = Wanted::Known(Names::Clock, nearest(alloc, target, names)?);
-    add_at_key(
-        faults,
-        NetError::NoSuchName,
-        session.place,
-        session.table,
-        "target",
-        wanted,
-    )
-}
-
-/// Adds a fault if a port's end is not there.
-fn add_port_end<'a>(
-    alloc: Global,
-    faults: &mut Vec<Fault<'a>>,
-    end: &EndHead<'a>,
-    port: u16,
-    clocks: &[ClockHead<'a>],
-    names: &[&'a str],
-) -> Result<(), AllocError> {
-    let Some(clock) = clock_named(clocks, end.name) else {
-        let wanted = Wanted::Known(Names::Clock, nearest(alloc, end.name, names)?);
-        return add_end(faults, end, wanted);
-    };
-    match ports_of(&clock) {
-        Some(count) if is_past(Some(port), count) => add_end(
-            faults,
-            end,
-            Wanted::Need(Need::PortUpTo(count)),
-        ),
-        _ => Ok(()),
-    }
-}
-
 /// The first clock of a name.
-fn clock_named<'a>(clocks: &[ClockHead<'a>], name: &str) -> Option<ClockHead<'a>> {
+fn clock_named<'a>(clocks: &[ClockHead<'a>], name: &str) -> Option<ClockHead<'a>>
+    ensures { option_map clock_value result ≡ clock_named (map clock_value clocks.now) name.now }
+{
     for clock in clocks {
         if is_name_of(clock.name, name) {
             return Some(*clock);
@@ -156,25 +137,179 @@ fn clock_named<'a>(clocks: &[ClockHead<'a>], name: &str) -> Option<ClockHead<'a>
     None
 }
 
-/// Adds a fault if a session's end is not there.
-fn add_session_end<'a>(
-    alloc: Global,
-    faults: &mut Vec<Fault<'a>>,
-    end: &EndHead<'a>,
-    names: &[&'a str],
-) -> Result<(), AllocError> {
-    if is_among(end.name, names) {
-        return Ok(());
+fn is_clock_name(clocks: &[ClockHead<'_>], name: &str) -> bool
+    ensures { result ≡ is_clock_name (map clock_value clocks.now) name.now }
+{
+    for clock in clocks {
+        if is_name_of(clock.name, name) {
+            return true;
+        }
     }
-    let wanted = Wanted::Known(Names::Session, nearest(alloc, end.name, names)?);
-    add_end(faults, end, wanted)
+    false
 }
 
-fn add_end<'a>(
+fn is_session_name(sessions: &[SessionHead<'_>], name: &str) -> bool
+    ensures { result ≡ is_session_name (map session_value sessions.now) name.now }
+{
+    for session in sessions {
+        if is_name_of(session.name, name) {
+            return true;
+        }
+    }
+    false
+}
+
+/// The name of a clock that is nearest to one.
+fn nearest_clock<'a>(
+    alloc: Global,
+    name: &str,
+    clocks: &[ClockHead<'a>],
+) -> Result<Option<&'a str>, AllocError> {
+    let mut names = Vec::new(alloc);
+    for clock in clocks {
+        if let Some(other) = clock.name {
+            names.push(other)?;
+        }
+    }
+    nearest(alloc, name, names.as_slice())
+}
+
+/// The name of a session that is nearest to one.
+fn nearest_session<'a>(
+    alloc: Global,
+    name: &str,
+    sessions: &[SessionHead<'a>],
+) -> Result<Option<&'a str>, AllocError> {
+    let mut names = Vec::new(alloc);
+    for session in sessions {
+        if let Some(other) = session.name {
+            names.push(other)?;
+        }
+    }
+    nearest(alloc, name, names.as_slice())
+}
+
+/// Adds a fault for each target that is not there.
+fn add_sessions<'a>(
+    alloc: Global,
     faults: &mut Vec<Fault<'a>>,
+    clocks: &[ClockHead<'a>],
+    sessions: &[SessionHead<'a>],
+) -> Result<(), AllocError>
+    ensures { OnOk result
+        (marks_in faults.new.items
+        ≡ marks_in faults.old.items
+        ++ flat_map (target_marks (map clock_value clocks.now)) (map session_value sessions.now)) }
+{
+    for session in sessions {
+        add_target(alloc, faults, clocks, session)?;
+    }
+    Ok(())
+}
+
+#[tactic(auto, unfolding(crate::specs::NameFaults::target_marks))]
+fn add_target<'a>(
+    alloc: Global,
+    faults: &mut Vec<Fault<'a>>,
+    clocks: &[ClockHead<'a>],
+    session: &SessionHead<'a>,
+) -> Result<(), AllocError>
+    ensures { OnOk result
+        (marks_in faults.new.items
+        ≡ marks_in faults.old.items
+        ++ target_marks (map clock_value clocks.now) (session_value session.now)) }
+{
+    let Some(target) = session.target else {
+        return Ok(());
+    };
+    if is_clock_name(clocks, target) {
+        return Ok(());
+    }
+    let wanted = Wanted::Known(Names::Clock, nearest_clock(alloc, target, clocks)?);
+    let (place, table) = (session.place, session.table);
+    add_at_key(faults, NetError::NoSuchName, place, table, "target", wanted)
+}
+
+/// Adds a fault for each end that is not there.
+fn add_ends<'a>(
+    alloc: Global,
+    faults: &mut Vec<Fault<'a>>,
+    clocks: &[ClockHead<'a>],
+    sessions: &[SessionHead<'a>],
+    ends: &[EndHead<'a>],
+) -> Result<(), AllocError>
+    ensures { OnOk result
+        (marks_in faults.new.items
+        ≡ marks_in faults.old.items
+        ++ flat_map (end_name_marks (map clock_value clocks.now) (map session_value sessions.now)) (map end_value ends.now)) }
+{
+    for end in ends {
+        add_end(alloc, faults, clocks, sessions, end)?;
+    }
+    Ok(())
+}
+
+#[tactic(auto, unfolding(crate::specs::NameFaults::end_name_marks))]
+fn add_end<'a>(
+    alloc: Global,
+    faults: &mut Vec<Fault<'a>>,
+    clocks: &[ClockHead<'a>],
+    sessions: &[SessionHead<'a>],
     end: &EndHead<'a>,
-    wanted: Wanted<'a>,
-) -> Result<(), AllocError> {
-    let found = Found::Item("ends", end.number, end.value);
-    add_fault(faults, NetError::NoSuchName, end.place, found, wanted)
+) -> Result<(), AllocError>
+    ensures { OnOk result
+        (marks_in faults.new.items
+        ≡ marks_in faults.old.items
+        ++ end_name_marks (map clock_value clocks.now) (map session_value sessions.now) (end_value end.now)) }
+{
+    match wanted_end(alloc, clocks, sessions, end)? {
+        Some(wanted) => {
+            let found = Found::Item("ends", end.number, end.value);
+            add_fault(faults, NetError::NoSuchName, end.place, found, wanted)
+        }
+        None => Ok(()),
+    }
+}
+
+/// What an end that is not there may be instead; `None` if it is there.
+fn wanted_end<'a>(
+    alloc: Global,
+    clocks: &[ClockHead<'a>],
+    sessions: &[SessionHead<'a>],
+    end: &EndHead<'a>,
+) -> Result<Option<Wanted<'a>>, AllocError>
+    ensures { IfOk result
+        (λ wanted. is_some wanted
+        ≡ is_no_end (map clock_value clocks.now) (map session_value sessions.now) end.now.name.now end.now.port) }
+{
+    match end.port {
+        Some(port) => wanted_port(alloc, clocks, end.name, port),
+        None if is_session_name(sessions, end.name) => Ok(None),
+        None => {
+            let near = nearest_session(alloc, end.name, sessions)?;
+            Ok(Some(Wanted::Known(Names::Session, near)))
+        }
+    }
+}
+
+/// The same of a clock's port.
+fn wanted_port<'a>(
+    alloc: Global,
+    clocks: &[ClockHead<'a>],
+    name: &str,
+    port: u16,
+) -> Result<Option<Wanted<'a>>, AllocError>
+    ensures { IfOk result
+        (λ wanted. is_some wanted ≡ lacks (clock_named (map clock_value clocks.now) name.now) port) }
+{
+    let Some(clock) = clock_named(clocks, name) else {
+        let near = nearest_clock(alloc, name, clocks)?;
+        return Ok(Some(Wanted::Known(Names::Clock, near)));
+    };
+    match ports_of(&clock) {
+        Some(count) if has_past(Some(port), count) => {
+            Ok(Some(Wanted::Need(Need::PortUpTo(count))))
+        }
+        _ => Ok(None),
+    }
 }

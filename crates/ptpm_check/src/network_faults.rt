@@ -1,8 +1,10 @@
 //! Every fault of a network file.
 
-ghost use Rattle.std.specs.Prelude.{◌≡◌, IfOk, Some};
+ghost use Rattle.std.specs.Prelude.{◌≡◌, ◌++◌, ◌∷◌, ◌<◌, All, IfOk, MatchBool, MatchOption, OnOk, Some, [], vec_len};
+ghost use Rattle.toml.specs.View.{table_view};
 ghost use Rattle.ptpm_script.specs.NetworkText.{network_of};
-ghost use Rattle.ptpm_check.specs.Faults.{first_class, refusal_of};
+ghost use Rattle.ptpm_check.specs.Faults.{AreReported, IsFirstOf, IsLedBy, IsMoved, IsOtherFault, content_marks, document_marks, file_marks, first_class, refusal_of, text_marks};
+ghost use Rattle.ptpm_check.specs.Marks.{in_file, marked, mark_of, marks_in, spot_of, whole};
 
 use crate::fault::{Fault, Found, Need, Wanted, add_fault};
 use crate::heads::Heads;
@@ -37,7 +39,8 @@ enum Content {
 impl Document {
     /// Judges a text. Nothing is made if memory is refused.
     pub fn of(alloc: Global, text: &str) -> Result<Document, OutOfMemory>
-        ensures { IfOk result (λ d. d.refusal ≡ refusal_of (network_of text.now)) }
+        ensures refusal { IfOk result (λ d. d.refusal ≡ refusal_of (network_of text.now)) }
+        ensures found { IfOk result (λ d. document_marks d ≡ text_marks text.now) }
     {
         let refusal = match Network::from_toml(alloc, text) {
             Ok(_) => None,
@@ -49,13 +52,17 @@ impl Document {
     }
 
     /// Its faults: none exactly if the text is a network file, and first one of the refusal that `Network::from_toml` answers.
+    /// They are those of the text by the definitions, and none is left out.
     pub fn faults(&self, alloc: Global) -> Result<Vec<Fault<'_>>, OutOfMemory>
-        ensures { IfOk result (λ faults. first_class faults.items ≡ self.now.refusal) }
+        ensures first { IfOk result (λ faults. first_class faults.items ≡ self.now.refusal) }
+        ensures all { IfOk result
+            (λ faults.
+            AreReported self.now.refusal (document_marks self.now) (marks_in faults.items)) }
     {
         let Some(refusal) = self.refusal else {
             return Ok(Vec::new(alloc));
         };
-        match told_in(alloc, &self.content, refusal) {
+        match reported_of(alloc, &self.content, refusal) {
             Ok(faults) => Ok(faults),
             Err(_) => Err(OutOfMemory),
         }
@@ -63,7 +70,10 @@ impl Document {
 }
 
 /// What a text is, whether or not it is a network file.
-fn content_of(alloc: Global, text: &str) -> Result<Content, OutOfMemory> {
+#[tactic(auto, unfolding(crate::specs::Faults::text_marks))]
+fn content_of(alloc: Global, text: &str) -> Result<Content, OutOfMemory>
+    ensures { IfOk result (λ content. content_marks content ≡ text_marks text.now) }
+{
     if text.len() > TEXT_OCTETS {
         return Ok(Content::Long);
     }
@@ -91,18 +101,22 @@ fn line_of(text: &str, error: &toml::de::Error) -> usize {
 }
 
 /// The faults that are reported of a text that is refused.
-fn told_in<'a>(
+fn reported_of<'a>(
     alloc: Global,
     content: &'a Content,
     refusal: NetError,
 ) -> Result<Vec<Fault<'a>>, AllocError>
-    ensures { IfOk result (λ faults. first_class faults.items ≡ Some refusal) }
+    ensures first { IfOk result (λ faults. first_class faults.items ≡ Some refusal) }
+    ensures all { IfOk result
+        (λ faults. IsLedBy refusal (content_marks content.now) (marks_in faults.items)) }
 {
     with_first(found_in(alloc, content)?, refusal)
 }
 
 /// The faults that are found in a text, in the order of the refusals.
-fn found_in<'a>(alloc: Global, content: &'a Content) -> Result<Vec<Fault<'a>>, AllocError> {
+fn found_in<'a>(alloc: Global, content: &'a Content) -> Result<Vec<Fault<'a>>, AllocError>
+    ensures { IfOk result (λ faults. marks_in faults.items ≡ content_marks content.now) }
+{
     let mut faults = Vec::new(alloc);
     match content {
         Content::Long => add_text(&mut faults, NetError::TooLong, Place::File, Need::Size)?,
@@ -121,16 +135,24 @@ fn add_text<'a>(
     class: NetError,
     place: Place<'a>,
     need: Need,
-) -> Result<(), AllocError> {
+) -> Result<(), AllocError>
+    ensures { OnOk result
+        (marks_in faults.new.items
+        ≡ marks_in faults.old.items ++ marked class (spot_of place.entry) whole ∷ []) }
+{
     add_fault(faults, class, place, Found::Untold, Wanted::Need(need))
 }
 
 /// Adds the faults of a document.
+#[tactic(auto, unfolding(crate::specs::Faults::file_marks))]
 fn add_file_faults<'a>(
     alloc: Global,
     faults: &mut Vec<Fault<'a>>,
     file: &'a Table,
-) -> Result<(), AllocError> {
+) -> Result<(), AllocError>
+    ensures { OnOk result
+        (marks_in faults.new.items ≡ marks_in faults.old.items ++ file_marks (table_view file.now)) }
+{
     let heads = Heads::of(alloc, file)?;
     add_shape_faults(alloc, faults, file)?;
     add_limit_faults(faults, file, heads.sessions.as_slice())?;
@@ -140,46 +162,59 @@ fn add_file_faults<'a>(
 }
 
 /// The faults with one of this refusal first: the first of them that is, or one that gives the refusal alone.
-fn with_first<'a>(
-    mut faults: Vec<Fault<'a>>,
-    refusal: NetError,
-) -> Result<Vec<Fault<'a>>, AllocError>
-    ensures { IfOk result (λ faults. first_class faults.items ≡ Some refusal) }
+fn with_first<'a>(faults: Vec<Fault<'a>>, refusal: NetError) -> Result<Vec<Fault<'a>>, AllocError>
+    ensures first { IfOk result (λ led. first_class led.items ≡ Some refusal) }
+    ensures all { IfOk result (λ led. IsLedBy refusal (marks_in faults.entry.items) (marks_in led.items)) }
 {
-    let index = index_of(faults.as_slice(), refusal);
-    let first = if index < faults.len() {
-        faults.remove(index)
-    } else {
-        told_alone(refusal)
-    };
-    faults.insert(0, of_class(first, refusal))?;
+    match index_of(faults.as_slice(), refusal) {
+        Some(index) => moved(faults, index),
+        None => led_by(faults, alone(refusal)),
+    }
+}
+
+/// The index of the first fault of a refusal.
+fn index_of(faults: &[Fault<'_>], refusal: NetError) -> Option<usize>
+    ensures { MatchOption result
+        (All (IsOtherFault refusal) faults.now)
+        (IsFirstOf refusal faults.now) }
+{
+    for index in 0..faults.len() {
+        if is_of(&faults[index], refusal) {
+            return Some(index);
+        }
+    }
+    None
+}
+
+fn is_of(fault: &Fault<'_>, refusal: NetError) -> bool
+    ensures { MatchBool result
+        (fault.now.class ≡ refusal)
+        (IsOtherFault refusal fault.now) }
+{
+    fault.class == refusal
+}
+
+/// Faults with the one at an index first.
+fn moved<'a>(mut faults: Vec<Fault<'a>>, index: usize) -> Result<Vec<Fault<'a>>, AllocError>
+    requires { index < vec_len faults }
+    ensures { IfOk result (λ led. IsMoved faults.entry.items index led.items) }
+{
+    let first = faults.remove(index);
+    led_by(faults, first)
+}
+
+/// Faults with another one first.
+fn led_by<'a>(mut faults: Vec<Fault<'a>>, first: Fault<'a>) -> Result<Vec<Fault<'a>>, AllocError>
+    ensures { IfOk result (λ led. led.items ≡ first.entry ∷ faults.entry.items) }
+{
+    faults.insert(0, first)?;
     Ok(faults)
 }
 
-/// The index of the first fault of a refusal; past the last if there is none.
-fn index_of(faults: &[Fault<'_>], refusal: NetError) -> usize {
-    for index in 0..faults.len() {
-        if faults[index].class == refusal {
-            return index;
-        }
-    }
-    faults.len()
-}
-
-/// A fault, as one of this refusal.
-fn of_class<'a>(fault: Fault<'a>, refusal: NetError) -> Fault<'a>
-    ensures { result.class ≡ refusal }
-{
-    Fault {
-        class: refusal,
-        place: fault.place,
-        found: fault.found,
-        wanted: fault.wanted,
-    }
-}
-
 /// A fault that gives a refusal alone.
-fn told_alone<'a>(refusal: NetError) -> Fault<'a> {
+fn alone<'a>(refusal: NetError) -> Fault<'a>
+    ensures { mark_of result ≡ marked refusal in_file whole }
+{
     Fault {
         class: refusal,
         place: Place::File,

@@ -1,9 +1,19 @@
 //! What may be given only once in a network file.
 
+ghost use Rattle.std.specs.Prelude.{◌≡◌, ◌++◌, OnOk, [], codes, is_some, map, option_map};
+ghost use Rattle.std.specs.List.{list_any};
+ghost use Rattle.toml.specs.View.{view, table_view};
+ghost use Rattle.ptpm_script.specs.Document.{passes};
+ghost use Rattle.ptpm_script.specs.NetworkText.{same_port};
+ghost use Rattle.ptpm_codec.specs.Identity.{same_identity};
+ghost use Rattle.ptpm_check.specs.Heads.{clock_value, end_value, session_value};
+ghost use Rattle.ptpm_check.specs.Marks.{each_after, marks_in, spot_of};
+ghost use Rattle.ptpm_check.specs.RepeatFaults.{clock_repeats, end_repeats, first_ports, has_number, is_clock_identity, is_clock_name, is_number_of, is_same_end, is_session_identity, is_session_name, port_repeats, repeat_marks, session_repeats, twice_if};
+
 use crate::fault::{Fault, Found, Wanted, add_at_key, add_fault};
 use crate::heads::{ClockHead, EndHead, Heads, SessionHead};
 use crate::place::Place;
-use crate::values::{is_clock, is_name_of, is_number, items_at, table_of, whole_at};
+use crate::values::{first_values, is_clock, is_name_of, is_number, items_at, table_of, whole_at};
 use ptpm_codec::{ClockIdentity, PortIdentity};
 use ptpm_script::NetError;
 use std::alloc::AllocError;
@@ -13,10 +23,16 @@ use toml::{Table, Value};
 const PORT_TABLES: usize = 64;
 
 /// Adds a fault for each port's number, name, identity and end that was given before it.
+#[tactic(auto, unfolding(crate::specs::RepeatFaults::repeat_marks))]
 pub(crate) fn add_repeat_faults<'a>(
     faults: &mut Vec<Fault<'a>>,
     heads: &Heads<'a>,
-) -> Result<(), AllocError> {
+) -> Result<(), AllocError>
+    ensures { OnOk result
+        (marks_in faults.new.items
+        ≡ marks_in faults.old.items
+        ++ repeat_marks (map clock_value heads.now.clocks.items) (map session_value heads.now.sessions.items) (map end_value heads.now.ends.items)) }
+{
     let clocks = heads.clocks.as_slice();
     add_clocks(faults, clocks)?;
     add_sessions(faults, clocks, heads.sessions.as_slice())?;
@@ -30,7 +46,12 @@ fn add_once<'a>(
     table: &'a Table,
     key: &'static str,
     other: Option<Place<'a>>,
-) -> Result<(), AllocError> {
+) -> Result<(), AllocError>
+    ensures { OnOk result
+        (marks_in faults.new.items
+        ≡ marks_in faults.old.items
+        ++ twice_if (is_some other.entry) (spot_of place.entry) key.now (table_view table.now)) }
+{
     match other {
         Some(other) => {
             let wanted = Wanted::Once(other);
@@ -40,73 +61,113 @@ fn add_once<'a>(
     }
 }
 
-fn add_clocks<'a>(faults: &mut Vec<Fault<'a>>, clocks: &[ClockHead<'a>]) -> Result<(), AllocError> {
+fn add_clocks<'a>(faults: &mut Vec<Fault<'a>>, clocks: &[ClockHead<'a>]) -> Result<(), AllocError>
+    ensures { OnOk result
+        (marks_in faults.new.items
+        ≡ marks_in faults.old.items ++ each_after clock_repeats [] (map clock_value clocks.now)) }
+{
     for index in 0..clocks.len() {
-        add_ports(faults, &clocks[index])?;
         add_clock(faults, &clocks[..index], &clocks[index])?;
     }
     Ok(())
 }
 
-fn add_ports<'a>(faults: &mut Vec<Fault<'a>>, clock: &ClockHead<'a>) -> Result<(), AllocError> {
-    let ports = items_at(clock.table, "port");
-    for index in 0..ports.len().min(PORT_TABLES) {
-        if let Some(table) = table_of(&ports[index]) {
-            let place = Place::Port(clock.number, clock.name, index + 1);
-            let other = port_before(clock, &ports[..index], whole_at(table, "number"));
-            add_once(faults, place, table, "number", other)?;
-        }
+#[tactic(auto, unfolding(crate::specs::RepeatFaults::clock_repeats))]
+fn add_clock<'a>(
+    faults: &mut Vec<Fault<'a>>,
+    before: &[ClockHead<'a>],
+    clock: &ClockHead<'a>,
+) -> Result<(), AllocError>
+    ensures { OnOk result
+        (marks_in faults.new.items
+        ≡ marks_in faults.old.items
+        ++ clock_repeats (map clock_value before.now) (clock_value clock.now)) }
+{
+    let (place, table) = (clock.place, clock.table);
+    add_ports(faults, clock.number, clock.name, first_ports(clock))?;
+    let named = clock_named(before, clock.name);
+    add_once(faults, place, table, "name", named)?;
+    let same = clock_of(before, clock.identity);
+    add_once(faults, place, table, "identity", same)
+}
+
+/// The tables of a clock's ports that are held beside each other.
+fn first_ports<'a>(clock: &ClockHead<'a>) -> &'a [Value]
+    ensures { map view result.now ≡ first_ports (clock_value clock.now) }
+{
+    first_values(items_at(clock.table, "port"), PORT_TABLES)
+}
+
+/// Adds a fault for each table of a port of this clock whose number is that of one before.
+fn add_ports<'a>(
+    faults: &mut Vec<Fault<'a>>,
+    clock: usize,
+    name: Option<&'a str>,
+    ports: &'a [Value],
+) -> Result<(), AllocError>
+    ensures { OnOk result
+        (marks_in faults.new.items
+        ≡ marks_in faults.old.items ++ each_after (port_repeats clock) [] (map view ports.now)) }
+{
+    for index in 0..ports.len() {
+        add_port(faults, clock, name, &ports[..index], &ports[index])?;
     }
     Ok(())
 }
 
-/// The place of the first table of a port's number.
-fn port_before<'a>(
-    clock: &ClockHead<'a>,
-    ports: &[Value],
-    number: Option<u16>,
-) -> Option<Place<'a>> {
-    let number = number?;
+#[tactic(auto, unfolding(crate::specs::RepeatFaults::port_repeats))]
+fn add_port<'a>(
+    faults: &mut Vec<Fault<'a>>,
+    clock: usize,
+    name: Option<&'a str>,
+    before: &[Value],
+    port: &'a Value,
+) -> Result<(), AllocError>
+    ensures { OnOk result
+        (marks_in faults.new.items
+        ≡ marks_in faults.old.items ++ port_repeats clock (map view before.now) (view port.now)) }
+{
+    let Some(table) = table_of(port) else {
+        return Ok(());
+    };
+    let place = Place::Port(clock, name, before.len() + 1);
+    let other = match port_before(before, whole_at(table, "number")) {
+        Some(number) => Some(Place::Port(clock, name, number)),
+        None => None,
+    };
+    add_once(faults, place, table, "number", other)
+}
+
+/// The first table of a port's number, from 1.
+fn port_before(ports: &[Value], number: Option<u16>) -> Option<usize>
+    ensures { is_some result ≡ passes (is_number_of (map view ports.now)) number }
+{
+    let wanted = number?;
     for index in 0..ports.len() {
-        if has_number(&ports[index], number) {
-            return Some(Place::Port(clock.number, clock.name, index + 1));
+        if has_number(&ports[index], wanted) {
+            return Some(index + 1);
         }
     }
     None
 }
 
-fn has_number(port: &Value, number: u16) -> bool {
+fn has_number(port: &Value, number: u16) -> bool
+    ensures { result ≡ has_number number (view port.now) }
+{
     match table_of(port) {
         Some(table) => is_number(whole_at(table, "number"), number),
         None => false,
     }
 }
 
-fn add_clock<'a>(
-    faults: &mut Vec<Fault<'a>>,
-    before: &[ClockHead<'a>],
-    clock: &ClockHead<'a>,
-) -> Result<(), AllocError> {
-    let (place, table) = (clock.place, clock.table);
-    add_once(
-        faults,
-        place,
-        table,
-        "name",
-        clock_named(before, clock.name),
-    )?;
-    let same = match clock.identity {
-        Some(identity) => clock_of(before, identity),
-        None => None,
-    };
-    add_once(faults, place, table, "identity", same)
-}
-
 /// The place of the first clock of a name.
-fn clock_named<'a>(clocks: &[ClockHead<'a>], name: Option<&str>) -> Option<Place<'a>> {
-    let name = name?;
+fn clock_named<'a>(clocks: &[ClockHead<'a>], name: Option<&str>) -> Option<Place<'a>>
+    ensures { is_some result
+        ≡ passes (is_clock_name (map clock_value clocks.now)) (option_map (λ n. n.now) name.entry) }
+{
+    let wanted = name?;
     for clock in clocks {
-        if is_name_of(clock.name, name) {
+        if is_name_of(clock.name, wanted) {
             return Some(clock.place);
         }
     }
@@ -114,9 +175,12 @@ fn clock_named<'a>(clocks: &[ClockHead<'a>], name: Option<&str>) -> Option<Place
 }
 
 /// The place of the first clock of a clockIdentity.
-fn clock_of<'a>(clocks: &[ClockHead<'a>], identity: ClockIdentity) -> Option<Place<'a>> {
+fn clock_of<'a>(clocks: &[ClockHead<'a>], identity: Option<ClockIdentity>) -> Option<Place<'a>>
+    ensures { is_some result ≡ passes (is_clock_identity (map clock_value clocks.now)) identity }
+{
+    let wanted = identity?;
     for clock in clocks {
-        if is_clock(clock.identity, identity) {
+        if is_clock(clock.identity, wanted) {
             return Some(clock.place);
         }
     }
@@ -127,66 +191,90 @@ fn add_sessions<'a>(
     faults: &mut Vec<Fault<'a>>,
     clocks: &[ClockHead<'a>],
     sessions: &[SessionHead<'a>],
-) -> Result<(), AllocError> {
+) -> Result<(), AllocError>
+    ensures { OnOk result
+        (marks_in faults.new.items
+        ≡ marks_in faults.old.items
+        ++ each_after (session_repeats (map clock_value clocks.now)) [] (map session_value sessions.now)) }
+{
     for index in 0..sessions.len() {
-        let session = &sessions[index];
-        let before = &sessions[..index];
-        let (place, table) = (session.place, session.table);
-        add_once(
-            faults,
-            place,
-            table,
-            "name",
-            clock_named(clocks, session.name),
-        )?;
-        add_once(
-            faults,
-            place,
-            table,
-            "name",
-            session_named(before, session.name),
-        )?;
-        if let Some(identity) = session.identity {
-            add_identity(faults, clocks, before, session, identity)?;
-        }
+        add_session(faults, clocks, &sessions[..index], &sessions[index])?;
     }
     Ok(())
 }
 
-/// Adds a fault if a session's identity is that of a session before it, and one if it has a clock's.
-fn add_identity<'a>(
+/// Adds a fault for each of a session's name and identity that a clock or a session before it has too.
+#[tactic(auto, unfolding(crate::specs::RepeatFaults::session_repeats))]
+fn add_session<'a>(
     faults: &mut Vec<Fault<'a>>,
     clocks: &[ClockHead<'a>],
     before: &[SessionHead<'a>],
     session: &SessionHead<'a>,
-    identity: PortIdentity,
-) -> Result<(), AllocError> {
+) -> Result<(), AllocError>
+    ensures { OnOk result
+        (marks_in faults.new.items
+        ≡ marks_in faults.old.items
+        ++ session_repeats (map clock_value clocks.now) (map session_value before.now) (session_value session.now)) }
+{
     let (place, table) = (session.place, session.table);
-    if let Some(clock) = clock_of(clocks, identity.clock) {
-        let wanted = Wanted::OtherClock(clock);
-        add_at_key(faults, NetError::Twice, place, table, "identity", wanted)?;
+    let named = clock_named(clocks, session.name);
+    add_once(faults, place, table, "name", named)?;
+    let named = session_named(before, session.name);
+    add_once(faults, place, table, "name", named)?;
+    let clock = clock_of(clocks, clock_in(session.identity));
+    add_clock_identity(faults, place, table, clock)?;
+    let same = session_of(before, session.identity);
+    add_once(faults, place, table, "identity", same)
+}
+
+/// The clockIdentity in a portIdentity.
+fn clock_in(identity: Option<PortIdentity>) -> Option<ClockIdentity>
+    ensures { result ≡ option_map (λ i. i.clock) identity }
+{
+    match identity {
+        Some(identity) => Some(identity.clock),
+        None => None,
     }
-    add_once(
-        faults,
-        place,
-        table,
-        "identity",
-        session_of(before, identity),
-    )
+}
+
+/// Adds a fault if a session has a clock's clockIdentity.
+fn add_clock_identity<'a>(
+    faults: &mut Vec<Fault<'a>>,
+    place: Place<'a>,
+    table: &'a Table,
+    clock: Option<Place<'a>>,
+) -> Result<(), AllocError>
+    ensures { OnOk result
+        (marks_in faults.new.items
+        ≡ marks_in faults.old.items
+        ++ twice_if (is_some clock.entry) (spot_of place.entry) (codes "identity") (table_view table.now)) }
+{
+    match clock {
+        Some(clock) => {
+            let wanted = Wanted::OtherClock(clock);
+            add_at_key(faults, NetError::Twice, place, table, "identity", wanted)
+        }
+        None => Ok(()),
+    }
 }
 
 /// The place of the first session of a name.
-fn session_named<'a>(sessions: &[SessionHead<'a>], name: Option<&str>) -> Option<Place<'a>> {
-    let name = name?;
+fn session_named<'a>(sessions: &[SessionHead<'a>], name: Option<&str>) -> Option<Place<'a>>
+    ensures { is_some result
+        ≡ passes (is_session_name (map session_value sessions.now)) (option_map (λ n. n.now) name.entry) }
+{
+    let wanted = name?;
     for session in sessions {
-        if is_name_of(session.name, name) {
+        if is_name_of(session.name, wanted) {
             return Some(session.place);
         }
     }
     None
 }
 
-fn is_identity(identity: Option<PortIdentity>, wanted: PortIdentity) -> bool {
+fn is_identity(identity: Option<PortIdentity>, wanted: PortIdentity) -> bool
+    ensures { result ≡ passes (λ i. same_identity i wanted) identity }
+{
     match identity {
         Some(identity) => identity == wanted,
         None => false,
@@ -194,41 +282,64 @@ fn is_identity(identity: Option<PortIdentity>, wanted: PortIdentity) -> bool {
 }
 
 /// The place of the first session of a portIdentity.
-fn session_of<'a>(sessions: &[SessionHead<'a>], identity: PortIdentity) -> Option<Place<'a>> {
+fn session_of<'a>(sessions: &[SessionHead<'a>], identity: Option<PortIdentity>) -> Option<Place<'a>>
+    ensures { is_some result
+        ≡ passes (is_session_identity (map session_value sessions.now)) identity }
+{
+    let wanted = identity?;
     for session in sessions {
-        if is_identity(session.identity, identity) {
+        if is_identity(session.identity, wanted) {
             return Some(session.place);
         }
     }
     None
 }
 
-fn add_ends<'a>(faults: &mut Vec<Fault<'a>>, ends: &[EndHead<'a>]) -> Result<(), AllocError> {
+fn add_ends<'a>(faults: &mut Vec<Fault<'a>>, ends: &[EndHead<'a>]) -> Result<(), AllocError>
+    ensures { OnOk result
+        (marks_in faults.new.items
+        ≡ marks_in faults.old.items ++ each_after end_repeats [] (map end_value ends.now)) }
+{
     for index in 0..ends.len() {
-        let end = &ends[index];
-        if let Some(other) = same_end(&ends[..index], end) {
-            let found = Found::Item("ends", end.number, end.value);
-            add_fault(
-                faults,
-                NetError::Twice,
-                end.place,
-                found,
-                Wanted::Once(other),
-            )?;
-        }
+        add_end(faults, &ends[..index], &ends[index])?;
     }
     Ok(())
 }
 
-fn is_same_port(port: Option<u16>, other: Option<u16>) -> bool {
-    match port {
-        Some(port) => is_number(other, port),
-        None => other.is_none(),
+#[tactic(auto, unfolding(crate::specs::RepeatFaults::end_repeats))]
+fn add_end<'a>(
+    faults: &mut Vec<Fault<'a>>,
+    before: &[EndHead<'a>],
+    end: &EndHead<'a>,
+) -> Result<(), AllocError>
+    ensures { OnOk result
+        (marks_in faults.new.items
+        ≡ marks_in faults.old.items ++ end_repeats (map end_value before.now) (end_value end.now)) }
+{
+    match same_end(before, end) {
+        Some(other) => {
+            let found = Found::Item("ends", end.number, end.value);
+            let wanted = Wanted::Once(other);
+            add_fault(faults, NetError::Twice, end.place, found, wanted)
+        }
+        None => Ok(()),
+    }
+}
+
+fn is_same_port(port: Option<u16>, other: Option<u16>) -> bool
+    ensures { result ≡ same_port port other }
+{
+    match (port, other) {
+        (Some(port), Some(other)) => port == other,
+        (None, None) => true,
+        _ => false,
     }
 }
 
 /// The place of the first end that is the same as one.
-fn same_end<'a>(ends: &[EndHead<'a>], end: &EndHead<'a>) -> Option<Place<'a>> {
+fn same_end<'a>(ends: &[EndHead<'a>], end: &EndHead<'a>) -> Option<Place<'a>>
+    ensures { is_some result ≡ list_any (is_same_end (end_value end.now)) (map end_value ends.now) }
+{
     for other in ends {
         if other.name == end.name && is_same_port(other.port, end.port) {
             return Some(other.place);

@@ -1,199 +1,355 @@
-//! Members with which a clock can't start, each by the first fault of a start with the others as this profile has them.
+//! Members with which a clock can't start, each judged by itself: by a clock of one port that has all others as this profile has them.
+
+ghost use Rattle.std.specs.Prelude.{◌≡◌, ◌++◌, OnOk, map};
+ghost use Rattle.toml.specs.Data.{as_table};
+ghost use Rattle.toml.specs.View.{view, table_view};
+ghost use Rattle.ptpm_check.specs.Heads.{clock_value};
+ghost use Rattle.ptpm_check.specs.Marks.{each, marks_in, spot_of};
+ghost use Rattle.ptpm_check.specs.StartFaults.{clock_fails, clock_start_marks, count_start_marks, fails, grandmaster_marks, has_octet, is_own_grandmaster, member_mark_if, member_marks, only_accuracy, only_description, only_leaps, own_mark_if, own_marks, port_fails, port_member_marks, port_start_marks, port_start_members, start_mark_if, start_marks};
 
 use crate::fault::{Fault, Need, Wanted, add_at_key};
 use crate::heads::ClockHead;
 use crate::place::Place;
-use crate::values::{is_clock, is_number, items_at, table_of};
+use crate::values::{is_number, items_at, table_of};
 use ptpm_codec::ClockIdentity;
 use ptpm_data::{ClockStart, DataSets, Member, PortStart, StartError};
 use ptpm_script::{NetError, clock_start, port_start};
 use std::alloc::AllocError;
-use toml::Table;
+use toml::{Table, Value};
 
-/// A start has fewer members that can be out of range.
-const MEMBERS: usize = 8;
-
-/// The keys of the grandmaster's members.
-const GRANDMASTER_MEMBERS: [&str; 5] = [
-    "grandmaster_priority1",
-    "grandmaster_class",
-    "grandmaster_accuracy",
-    "grandmaster_variance",
-    "grandmaster_priority2",
-];
+/// An identity that a clock can have. It is judged by its shape.
+const SOME_CLOCK: ClockIdentity = ClockIdentity([0; 8]);
 
 /// Adds a fault for each number of ports, member of a clock and member of a port with which a clock can't start.
+#[tactic(auto, unfolding(crate::specs::StartFaults::start_marks))]
 pub(crate) fn add_start_faults<'a>(
     faults: &mut Vec<Fault<'a>>,
     clocks: &[ClockHead<'a>],
-) -> Result<(), AllocError> {
+) -> Result<(), AllocError>
+    ensures { OnOk result
+        (marks_in faults.new.items
+        ≡ marks_in faults.old.items ++ start_marks (map clock_value clocks.now)) }
+{
     for clock in clocks {
-        add_count(faults, clock)?;
-        add_members(faults, clock)?;
-        add_ports(faults, clock)?;
-        add_grandmaster(faults, clock)?;
+        add_clock(faults, clock)?;
     }
     Ok(())
 }
 
-/// Adds a fault of a start, at a key of a clock.
-fn add_clock<'a>(
+#[tactic(auto, unfolding(crate::specs::StartFaults::clock_start_marks))]
+fn add_clock<'a>(faults: &mut Vec<Fault<'a>>, clock: &ClockHead<'a>) -> Result<(), AllocError>
+    ensures { OnOk result
+        (marks_in faults.new.items
+        ≡ marks_in faults.old.items ++ clock_start_marks (clock_value clock.now)) }
+{
+    add_count(faults, clock)?;
+    add_members(faults, clock.place, clock.table)?;
+    add_ports(
+        faults,
+        clock.number,
+        clock.name,
+        items_at(clock.table, "port"),
+    )?;
+    add_grandmaster(faults, clock)
+}
+
+/// Adds a fault of a start at a key, if a test holds.
+fn add_start_if<'a>(
     faults: &mut Vec<Fault<'a>>,
+    test: bool,
     fault: StartError,
-    clock: &ClockHead<'a>,
+    place: Place<'a>,
+    table: &'a Table,
     key: &'static str,
     need: Need,
-) -> Result<(), AllocError> {
-    let class = NetError::BadClock(fault);
-    add_at_key(
+) -> Result<(), AllocError>
+    ensures { OnOk result
+        (marks_in faults.new.items
+        ≡ marks_in faults.old.items
+        ++ start_mark_if test fault (spot_of place.entry) key.now (table_view table.now)) }
+{
+    if test {
+        let class = NetError::BadClock(fault);
+        add_at_key(faults, class, place, table, key, Wanted::Need(need))
+    } else {
+        Ok(())
+    }
+}
+
+#[tactic(auto, unfolding(crate::specs::StartFaults::count_start_marks))]
+fn add_count<'a>(faults: &mut Vec<Fault<'a>>, clock: &ClockHead<'a>) -> Result<(), AllocError>
+    ensures { OnOk result
+        (marks_in faults.new.items
+        ≡ marks_in faults.old.items ++ count_start_marks (clock_value clock.now)) }
+{
+    let (place, table) = (clock.place, clock.table);
+    match clock.count {
+        Some(0) => {
+            let fault = StartError::NoPorts;
+            add_start_if(faults, true, fault, place, table, "ports", Need::Ports)
+        }
+        Some(count) => {
+            let fault = StartError::TooManyPorts;
+            add_start_if(faults, count > 8, fault, place, table, "ports", Need::Ports)
+        }
+        None => Ok(()),
+    }
+}
+
+/// Whether a clock of one port can't start.
+#[tactic(auto, unfolding(crate::specs::StartFaults::fails))]
+fn fails(clock: &ClockStart, port: PortStart) -> bool
+    ensures { result ≡ fails clock.now port }
+{
+    match DataSets::new(clock, &[port]) {
+        Ok(_) => false,
+        Err(_) => true,
+    }
+}
+
+/// Adds a fault of a member, if a test holds.
+fn add_member_if<'a>(
+    faults: &mut Vec<Fault<'a>>,
+    test: bool,
+    place: Place<'a>,
+    table: &'a Table,
+    member: Member,
+) -> Result<(), AllocError>
+    ensures { OnOk result
+        (marks_in faults.new.items
+        ≡ marks_in faults.old.items ++ member_mark_if test member (spot_of place.entry) (table_view table.now)) }
+{
+    let fault = StartError::BadValue(member);
+    add_start_if(
         faults,
-        class,
-        clock.place,
-        clock.table,
-        key,
-        Wanted::Need(need),
+        test,
+        fault,
+        place,
+        table,
+        member.name(),
+        Need::Start(member),
     )
 }
 
-fn add_count<'a>(faults: &mut Vec<Fault<'a>>, clock: &ClockHead<'a>) -> Result<(), AllocError> {
-    match clock.count {
-        Some(0) => add_clock(faults, StartError::NoPorts, clock, "ports", Need::Ports),
-        Some(count) if count > 8 => {
-            let fault = StartError::TooManyPorts;
-            add_clock(faults, fault, clock, "ports", Need::Ports)
-        }
-        _ => Ok(()),
-    }
+/// Adds a fault for each member of a clock that is out of its range.
+#[tactic(auto, unfolding(crate::specs::StartFaults::member_marks))]
+fn add_members<'a>(
+    faults: &mut Vec<Fault<'a>>,
+    place: Place<'a>,
+    table: &'a Table,
+) -> Result<(), AllocError>
+    ensures { OnOk result
+        (marks_in faults.new.items
+        ≡ marks_in faults.old.items ++ member_marks (spot_of place.entry) (table_view table.now)) }
+{
+    let start = clock_start(SOME_CLOCK, 0, table);
+    let (accuracy, leaps) = (fails_by_accuracy(&start), fails_by_leaps(&start));
+    add_member_if(
+        faults,
+        fails_by_description(start),
+        place,
+        table,
+        Member::UserDescription,
+    )?;
+    add_member_if(faults, accuracy, place, table, Member::ClockAccuracy)?;
+    add_member_if(faults, leaps, place, table, Member::Leap59)
 }
 
-/// The first fault of a start.
-fn fault_of(clock: &ClockStart, port: PortStart) -> Option<StartError> {
-    match DataSets::new(clock, &[port]) {
-        Ok(_) => None,
-        Err(fault) => Some(fault),
-    }
+fn clock_fails(clock: &ClockStart) -> bool
+    ensures { result ≡ clock_fails clock.now }
+{
+    fails(clock, PortStart::new())
 }
 
-/// The member that the first fault of a start names.
-fn bad_member(clock: &ClockStart, port: PortStart) -> Option<Member> {
-    match fault_of(clock, port)? {
-        StartError::BadValue(member) => Some(member),
-        _ => None,
-    }
+fn fails_by_description(start: ClockStart) -> bool
+    ensures { result ≡ clock_fails (only_description start) }
+{
+    let mut clock = ClockStart::new(SOME_CLOCK, 0);
+    clock.user_description = start.user_description;
+    clock_fails(&clock)
 }
 
-/// A clock's members, its identity and domain aside, which are judged by their shape; it is no grandmaster of its own.
-fn members_of(clock: &ClockHead<'_>) -> ClockStart {
-    let mut start = clock_start(ClockIdentity([0; 8]), 0, clock.table);
-    start.grandmaster = Some(ClockIdentity([1; 8]));
-    start
+fn fails_by_accuracy(start: &ClockStart) -> bool
+    ensures { result ≡ clock_fails (only_accuracy start.now) }
+{
+    let mut clock = ClockStart::new(SOME_CLOCK, 0);
+    clock.clock_accuracy = start.clock_accuracy;
+    clock_fails(&clock)
 }
 
-/// Adds a fault for each member that is out of its range. A member that is reported is set right, and the rest judged again.
-fn add_members<'a>(faults: &mut Vec<Fault<'a>>, clock: &ClockHead<'a>) -> Result<(), AllocError> {
-    let mut start = members_of(clock);
-    for _ in 0..MEMBERS {
-        let Some(member) = bad_member(&start, PortStart::new()) else {
-            break;
-        };
-        let fault = StartError::BadValue(member);
-        add_clock(faults, fault, clock, member.name(), Need::Start(member))?;
-        set_right(&mut start, member);
-    }
-    Ok(())
+fn fails_by_leaps(start: &ClockStart) -> bool
+    ensures { result ≡ clock_fails (only_leaps start.now) }
+{
+    let mut clock = ClockStart::new(SOME_CLOCK, 0);
+    clock.leap61 = start.leap61;
+    clock.leap59 = start.leap59;
+    clock_fails(&clock)
 }
 
-/// Gives a member its default, if it can be out of its range.
-fn set_right(start: &mut ClockStart, member: Member) {
-    match member {
-        Member::UserDescription => start.user_description.clear(),
-        Member::ClockAccuracy => start.clock_accuracy = 0xfe,
-        Member::Leap59 => start.leap59 = false,
-        _ => {}
-    }
-}
-
-fn add_ports<'a>(faults: &mut Vec<Fault<'a>>, clock: &ClockHead<'a>) -> Result<(), AllocError> {
-    let ports = items_at(clock.table, "port");
+/// Adds a fault for each member of a clock's ports that is out of its range.
+fn add_ports<'a>(
+    faults: &mut Vec<Fault<'a>>,
+    clock: usize,
+    name: Option<&'a str>,
+    ports: &'a [Value],
+) -> Result<(), AllocError>
+    ensures { OnOk result
+        (marks_in faults.new.items
+        ≡ marks_in faults.old.items ++ each (port_start_marks clock) 1 (map view ports.now)) }
+{
     for index in 0..ports.len() {
-        if let Some(table) = table_of(&ports[index]) {
-            let place = Place::Port(clock.number, clock.name, index + 1);
-            add_port_members(faults, place, table)?;
-        }
+        add_port(faults, Place::Port(clock, name, index + 1), &ports[index])?;
     }
     Ok(())
 }
 
-/// The same for the members of a port.
+fn add_port<'a>(
+    faults: &mut Vec<Fault<'a>>,
+    place: Place<'a>,
+    port: &'a Value,
+) -> Result<(), AllocError>
+    ensures { OnOk result
+        (marks_in faults.new.items
+        ≡ marks_in faults.old.items ++ port_start_members (spot_of place.entry) (as_table (view port.now))) }
+{
+    match table_of(port) {
+        Some(table) => add_port_members(faults, place, table),
+        None => Ok(()),
+    }
+}
+
+#[tactic(auto, unfolding(crate::specs::StartFaults::port_member_marks))]
 fn add_port_members<'a>(
     faults: &mut Vec<Fault<'a>>,
     place: Place<'a>,
     table: &'a Table,
-) -> Result<(), AllocError> {
-    let clock = ClockStart::new(ClockIdentity([0; 8]), 0);
-    let mut start = port_start(table);
-    for _ in 0..MEMBERS {
-        let Some(member) = bad_member(&clock, start) else {
-            break;
-        };
-        let class = NetError::BadClock(StartError::BadValue(member));
-        let wanted = Wanted::Need(Need::Start(member));
-        add_at_key(faults, class, place, table, member.name(), wanted)?;
-        set_port_right(&mut start, member);
-    }
-    Ok(())
+) -> Result<(), AllocError>
+    ensures { OnOk result
+        (marks_in faults.new.items
+        ≡ marks_in faults.old.items ++ port_member_marks (spot_of place.entry) (table_view table.now)) }
+{
+    let start = port_start(table);
+    let mut port = PortStart::new();
+    port.state = start.state;
+    add_port_member(faults, place, table, Member::State, port)?;
+    let mut port = PortStart::new();
+    port.log_announce = start.log_announce;
+    add_port_member(faults, place, table, Member::LogAnnounce, port)?;
+    let mut port = PortStart::new();
+    port.receipt_timeout = start.receipt_timeout;
+    add_port_member(faults, place, table, Member::ReceiptTimeout, port)?;
+    let mut port = PortStart::new();
+    port.log_sync = start.log_sync;
+    add_port_member(faults, place, table, Member::LogSync, port)?;
+    let mut port = PortStart::new();
+    port.delay_mechanism = start.delay_mechanism;
+    add_port_member(faults, place, table, Member::DelayMechanism, port)?;
+    let mut port = PortStart::new();
+    port.log_min_pdelay = start.log_min_pdelay;
+    add_port_member(faults, place, table, Member::LogMinPdelay, port)
 }
 
-fn set_port_right(start: &mut PortStart, member: Member) {
-    let default = PortStart::new();
-    match member {
-        Member::State => start.state = default.state,
-        Member::LogAnnounce => start.log_announce = default.log_announce,
-        Member::ReceiptTimeout => start.receipt_timeout = default.receipt_timeout,
-        Member::LogSync => start.log_sync = default.log_sync,
-        Member::DelayMechanism => start.delay_mechanism = default.delay_mechanism,
-        Member::LogMinPdelay => start.log_min_pdelay = default.log_min_pdelay,
-        _ => {}
-    }
+/// Adds a fault of a member of a port, if a port that starts so can't.
+fn add_port_member<'a>(
+    faults: &mut Vec<Fault<'a>>,
+    place: Place<'a>,
+    table: &'a Table,
+    member: Member,
+    port: PortStart,
+) -> Result<(), AllocError>
+    ensures { OnOk result
+        (marks_in faults.new.items
+        ≡ marks_in faults.old.items
+        ++ member_mark_if (port_fails port) member (spot_of place.entry) (table_view table.now)) }
+{
+    add_member_if(faults, port_fails(port), place, table, member)
+}
+
+fn port_fails(port: PortStart) -> bool
+    ensures { result ≡ port_fails port }
+{
+    fails(&ClockStart::new(SOME_CLOCK, 0), port)
 }
 
 /// Adds a fault for each member of the grandmaster that is not the clock's own, if the clock is its own grandmaster.
-fn add_grandmaster<'a>(
-    faults: &mut Vec<Fault<'a>>,
-    clock: &ClockHead<'a>,
-) -> Result<(), AllocError> {
+#[tactic(auto, unfolding(crate::specs::StartFaults::grandmaster_marks))]
+fn add_grandmaster<'a>(faults: &mut Vec<Fault<'a>>, clock: &ClockHead<'a>) -> Result<(), AllocError>
+    ensures { OnOk result
+        (marks_in faults.new.items
+        ≡ marks_in faults.old.items ++ grandmaster_marks (clock_value clock.now)) }
+{
     let Some(identity) = clock.identity else {
         return Ok(());
     };
     let start = clock_start(identity, 0, clock.table);
-    if start.grandmaster.is_some() && !is_clock(start.grandmaster, identity) {
-        return Ok(());
+    if is_own_grandmaster(identity, start.grandmaster) {
+        add_own(faults, clock.place, clock.table, &start)
+    } else {
+        Ok(())
     }
-    let owns = owns_of(&start);
-    for index in 0..owns.len() {
-        if !owns[index] {
-            let fault = StartError::GrandmasterDiffers;
-            let need = Need::OwnGrandmaster;
-            add_clock(faults, fault, clock, GRANDMASTER_MEMBERS[index], need)?;
-        }
-    }
-    Ok(())
 }
 
-/// Of each member of the grandmaster, whether it is the clock's own.
-fn owns_of(start: &ClockStart) -> [bool; 5] {
-    [
-        is_octet(start.grandmaster_priority1, start.priority1),
-        is_octet(start.grandmaster_class, start.clock_class),
-        is_octet(start.grandmaster_accuracy, start.clock_accuracy),
-        is_number(start.grandmaster_variance, start.variance),
-        is_octet(start.grandmaster_priority2, start.priority2),
-    ]
+/// Whether the grandmaster is this clock, also if none is named.
+fn is_own_grandmaster(identity: ClockIdentity, grandmaster: Option<ClockIdentity>) -> bool
+    ensures { result ≡ is_own_grandmaster identity grandmaster }
+{
+    match grandmaster {
+        Some(grandmaster) => grandmaster == identity,
+        None => true,
+    }
 }
 
-fn is_octet(octet: Option<u8>, wanted: u8) -> bool {
-    match octet {
-        Some(octet) => octet == wanted,
+#[tactic(auto, unfolding(crate::specs::StartFaults::own_marks))]
+fn add_own<'a>(
+    faults: &mut Vec<Fault<'a>>,
+    place: Place<'a>,
+    table: &'a Table,
+    start: &ClockStart,
+) -> Result<(), AllocError>
+    ensures { OnOk result
+        (marks_in faults.new.items
+        ≡ marks_in faults.old.items ++ own_marks (spot_of place.entry) (table_view table.now) start.now) }
+{
+    let is_own = has_octet(start.priority1, start.grandmaster_priority1);
+    add_own_if(faults, is_own, place, table, "grandmaster_priority1")?;
+    let is_own = has_octet(start.clock_class, start.grandmaster_class);
+    add_own_if(faults, is_own, place, table, "grandmaster_class")?;
+    let is_own = has_octet(start.clock_accuracy, start.grandmaster_accuracy);
+    add_own_if(faults, is_own, place, table, "grandmaster_accuracy")?;
+    let is_own = is_number(start.grandmaster_variance, start.variance);
+    add_own_if(faults, is_own, place, table, "grandmaster_variance")?;
+    let is_own = has_octet(start.priority2, start.grandmaster_priority2);
+    add_own_if(faults, is_own, place, table, "grandmaster_priority2")
+}
+
+fn add_own_if<'a>(
+    faults: &mut Vec<Fault<'a>>,
+    is_own: bool,
+    place: Place<'a>,
+    table: &'a Table,
+    key: &'static str,
+) -> Result<(), AllocError>
+    ensures { OnOk result
+        (marks_in faults.new.items
+        ≡ marks_in faults.old.items ++ own_mark_if is_own (spot_of place.entry) key.now (table_view table.now)) }
+{
+    let fault = StartError::GrandmasterDiffers;
+    add_start_if(
+        faults,
+        !is_own,
+        fault,
+        place,
+        table,
+        key,
+        Need::OwnGrandmaster,
+    )
+}
+
+fn has_octet(own: u8, shown: Option<u8>) -> bool
+    ensures { result ≡ has_octet own shown }
+{
+    match shown {
+        Some(octet) => octet == own,
         None => false,
     }
 }

@@ -1,39 +1,93 @@
-//! The content of the tables of a network file, whatever it is. Nothing is promised of it here. Which text is a network, and
-//! which table keeps to its rules, is said where it is judged.
+//! The content of the tables of a network file, whatever it is.
 
-use ptpm_codec::ClockIdentity;
-use ptpm_script::{is_name, value_at};
+ghost use Rattle.std.specs.Prelude.{◌≡◌, ◌==◌, bytes_eq, map, option_and_then, option_map, take};
+ghost use Rattle.ptpm_codec.specs.Identity.{same_clock};
+ghost use Rattle.ptpm_check.specs.Heads.{items_at, items_in, list_of, name_at};
+ghost use Rattle.ptpm_script.specs.Document.{passes};
+ghost use Rattle.ptpm_script.specs.Values.{clock_at, natural_at, port_at, text_at};
+ghost use Rattle.toml.specs.Data.{as_array, as_str, as_table, get_member};
+ghost use Rattle.toml.specs.View.{view, table_view};
+
+use ptpm_codec::{ClockIdentity, PortIdentity};
+use ptpm_script::{clock_identity, is_name, port_identity, value_at};
 use toml::{Table, Value};
 
 /// The table that a value is.
-pub(crate) fn table_of(value: &Value) -> Option<&Table> {
+pub(crate) fn table_of(value: &Value) -> Option<&Table>
+    ensures { option_map (λ t. table_view t.now) result ≡ as_table (view value.now) }
+{
     value.as_table()
 }
 
 /// The text that a value is.
-pub(crate) fn text_of(value: &Value) -> Option<&str> {
+pub(crate) fn text_of(value: &Value) -> Option<&str>
+    ensures { option_map (λ s. s.now) result ≡ as_str (view value.now) }
+{
     value.as_str()
 }
 
+/// The items of an array.
+fn items_of(value: &Value) -> Option<&[Value]>
+    ensures { option_map (λ s. map view s.now) result ≡ option_map list_of (as_array (view value.now)) }
+{
+    match value.as_array() {
+        Some(items) => Some(items.as_slice()),
+        None => None,
+    }
+}
+
+/// The items of the array at a key, if there is one.
+pub(crate) fn array_at<'a>(table: &'a Table, key: &str) -> Option<&'a [Value]>
+    ensures { option_map (λ s. map view s.now) result
+        ≡ option_map list_of (option_and_then as_array (get_member key.now (table_view table.now))) }
+{
+    items_of(value_at(table, key)?)
+}
+
 /// The items of the array at a key; none if there is no array.
-pub(crate) fn items_at<'a>(table: &'a Table, key: &str) -> &'a [Value] {
-    match value_at(table, key) {
-        Some(Value::Array(items)) => items.as_slice(),
-        _ => &[],
+#[tactic(auto, unfolding(crate::specs::Heads::items_at))]
+pub(crate) fn items_at<'a>(table: &'a Table, key: &str) -> &'a [Value]
+    ensures { map view result.now ≡ items_at key.now (table_view table.now) }
+{
+    match array_at(table, key) {
+        Some(items) => items,
+        None => &[],
     }
 }
 
-/// The text at a key; an empty one if there is none.
-pub(crate) fn text_at<'a>(table: &'a Table, key: &str) -> &'a str {
-    match value_at(table, key) {
-        Some(value) => text_of(value).unwrap_or(""),
-        None => "",
+/// The items of the array at a key of a value; none if it is no table, or there is no array.
+pub(crate) fn items_in<'a>(value: &'a Value, key: &str) -> &'a [Value]
+    ensures { map view result.now ≡ items_in key.now (view value.now) }
+{
+    match table_of(value) {
+        Some(table) => items_at(table, key),
+        None => &[],
     }
 }
 
-/// The name at a key, if it is short enough to be one.
-pub(crate) fn name_at<'a>(table: &'a Table, key: &str) -> Option<&'a str> {
-    let text = text_at(table, key);
+/// The first values, at most this number.
+pub(crate) fn first_values(values: &[Value], most: usize) -> &[Value]
+    ensures { result.now ≡ take most values.now }
+{
+    if values.len() <= most {
+        values
+    } else {
+        &values[..most]
+    }
+}
+
+/// The text at a key.
+fn text_at<'a>(table: &'a Table, key: &str) -> Option<&'a str>
+    ensures { option_map (λ s. s.now) result ≡ text_at key.now (table_view table.now) }
+{
+    text_of(value_at(table, key)?)
+}
+
+/// The text at a key, if it is a name.
+pub(crate) fn name_at<'a>(table: &'a Table, key: &str) -> Option<&'a str>
+    ensures { option_map (λ s. s.now) result ≡ name_at key.now (table_view table.now) }
+{
+    let text = text_at(table, key)?;
     if is_name(text) { Some(text) } else { None }
 }
 
@@ -42,9 +96,26 @@ pub(crate) fn name_in(value: &Value) -> Option<&str> {
     name_at(table_of(value)?, "name")
 }
 
+/// The clockIdentity at a key.
+pub(crate) fn clock_at(table: &Table, key: &str) -> Option<ClockIdentity>
+    ensures { result ≡ clock_at key.now (table_view table.now) }
+{
+    clock_identity(text_at(table, key)?)
+}
+
+/// The portIdentity at a key.
+pub(crate) fn port_at(table: &Table, key: &str) -> Option<PortIdentity>
+    ensures { result ≡ port_at key.now (table_view table.now) }
+{
+    port_identity(text_at(table, key)?)
+}
+
 /// The number at a key, if it is one from 0 to 65,535.
-pub(crate) fn whole_at(table: &Table, key: &str) -> Option<u16> {
-    let number = integer_at(table, key)?;
+#[tactic(auto, unfolding(ptpm_script::specs::Values::natural_at))]
+pub(crate) fn whole_at(table: &Table, key: &str) -> Option<u16>
+    ensures { result ≡ natural_at 65535 key.now (table_view table.now) }
+{
+    let number = value_at(table, key)?.as_integer()?;
     if 0 <= number && number <= 0xffff {
         Some(number as u16)
     } else {
@@ -52,13 +123,10 @@ pub(crate) fn whole_at(table: &Table, key: &str) -> Option<u16> {
     }
 }
 
-/// The integer at a key.
-pub(crate) fn integer_at(table: &Table, key: &str) -> Option<i64> {
-    value_at(table, key)?.as_integer()
-}
-
 /// Whether a name is there, and is this one.
-pub(crate) fn is_name_of(name: Option<&str>, wanted: &str) -> bool {
+pub(crate) fn is_name_of(name: Option<&str>, wanted: &str) -> bool
+    ensures { result ≡ passes (λ n. bytes_eq n wanted.now) (option_map (λ n. n.now) name.entry) }
+{
     match name {
         Some(name) => name == wanted,
         None => false,
@@ -66,7 +134,9 @@ pub(crate) fn is_name_of(name: Option<&str>, wanted: &str) -> bool {
 }
 
 /// Whether a number is there, and is this one.
-pub(crate) fn is_number(number: Option<u16>, wanted: u16) -> bool {
+pub(crate) fn is_number(number: Option<u16>, wanted: u16) -> bool
+    ensures { result ≡ passes (λ n. n == wanted) number }
+{
     match number {
         Some(number) => number == wanted,
         None => false,
@@ -74,7 +144,9 @@ pub(crate) fn is_number(number: Option<u16>, wanted: u16) -> bool {
 }
 
 /// Whether a clockIdentity is there, and is this one.
-pub(crate) fn is_clock(identity: Option<ClockIdentity>, wanted: ClockIdentity) -> bool {
+pub(crate) fn is_clock(identity: Option<ClockIdentity>, wanted: ClockIdentity) -> bool
+    ensures { result ≡ passes (λ i. same_clock i wanted) identity }
+{
     match identity {
         Some(identity) => identity == wanted,
         None => false,

@@ -1,0 +1,129 @@
+-- With what a clock of a network file can't start (this project's profile). Each member is judged by itself: by a clock of one port
+-- that has all others as this profile has them.
+use Rattle.std.specs.Prelude.{ℕ, ◌==◌, nat_lt, Bool, true, not, if◌then◌else◌, List, [], ◌∷◌, ◌++◌, codes, flat_map, Option, Some, None, is_err}
+use Rattle.toml.specs.Data.{Data, as_table, Members}
+use Rattle.ptpm_codec.specs.Identity.{same_clock}
+use Rattle.ptpm_codec.specs.declared.identity.ClockIdentity.{ClockIdentity}
+use Rattle.ptpm_data.specs.MemberNames.{member_name}
+use Rattle.ptpm_data.specs.Start.{default_clock, default_port, start_of}
+use Rattle.ptpm_data.specs.declared.members.Member.{Member}
+use Rattle.ptpm_data.specs.declared.members.Member.TheVariants as members
+use Rattle.ptpm_data.specs.declared.start.ClockStart.{ClockStart}
+use Rattle.ptpm_data.specs.declared.start.PortStart.{PortStart}
+use Rattle.ptpm_data.specs.declared.start.StartError.{StartError}
+use Rattle.ptpm_data.specs.declared.start.StartError.TheVariants.{NoPorts, TooManyPorts, BadValue, GrandmasterDiffers}
+use Rattle.ptpm_script.specs.Document.{passes}
+use Rattle.ptpm_script.specs.NetworkFile.{clock_start, port_start}
+use Rattle.ptpm_script.specs.declared.net_error.NetError.TheVariants.{BadClock}
+use Rattle.ptpm_check.specs.Heads.{ClockHeadValue, items_at}
+use Rattle.ptpm_check.specs.Marks.{Mark, Spot, each, in_port, value_mark_if}
+
+-- of the value at a key, if a test holds
+abbrev pub start_mark_if : Bool → StartError → Spot → List ℕ → Members → List Mark
+start_mark_if test fault spot key ms = value_mark_if test (BadClock fault) spot key ms
+
+abbrev pub member_mark_if : Bool → Member → Spot → Members → List Mark
+member_mark_if test member spot ms = start_mark_if test (BadValue member) spot (member_name member) ms
+
+-- ---- the number of ports
+
+unfoldable pub count_start_marks : ClockHeadValue → List Mark
+count_start_marks c =
+    start_mark_if (passes (λ n. n == 0) c.count) NoPorts c.spot (codes "ports") c.table
+    ++ start_mark_if (passes (λ n. nat_lt 8 n) c.count) TooManyPorts c.spot (codes "ports") c.table
+
+-- ---- a clock's members
+
+abbrev pub some_clock : ClockIdentity
+some_clock = record { 0 = 0 ∷ 0 ∷ 0 ∷ 0 ∷ 0 ∷ 0 ∷ 0 ∷ 0 ∷ [] }
+
+-- a clock of one port can't start
+unfoldable pub fails : ClockStart → PortStart → Bool
+fails c p = is_err (start_of c (p ∷ []))
+
+abbrev pub clock_fails : ClockStart → Bool
+clock_fails c = fails c default_port
+
+abbrev pub only_description : ClockStart → ClockStart
+only_description c = record (default_clock some_clock 0) { user_description = c.user_description }
+
+abbrev pub only_accuracy : ClockStart → ClockStart
+only_accuracy c = record (default_clock some_clock 0) { clock_accuracy = c.clock_accuracy }
+
+abbrev pub only_leaps : ClockStart → ClockStart
+only_leaps c = record (default_clock some_clock 0) { leap61 = c.leap61; leap59 = c.leap59 }
+
+abbrev pub clock_ranges : Spot → Members → ClockStart → List Mark
+clock_ranges spot ms c =
+    member_mark_if (clock_fails (only_description c)) members.UserDescription spot ms
+    ++ member_mark_if (clock_fails (only_accuracy c)) members.ClockAccuracy spot ms
+    ++ member_mark_if (clock_fails (only_leaps c)) members.Leap59 spot ms
+
+unfoldable pub member_marks : Spot → Members → List Mark
+member_marks spot ms = clock_ranges spot ms (clock_start some_clock 0 ms)
+
+-- ---- a port's members
+
+abbrev pub port_fails : PortStart → Bool
+port_fails p = fails (default_clock some_clock 0) p
+
+abbrev pub port_ranges : Spot → Members → PortStart → List Mark
+port_ranges spot ms p =
+    member_mark_if (port_fails (record default_port { state = p.state })) members.State spot ms
+    ++ member_mark_if (port_fails (record default_port { log_announce = p.log_announce })) members.LogAnnounce spot ms
+    ++ member_mark_if (port_fails (record default_port { receipt_timeout = p.receipt_timeout })) members.ReceiptTimeout spot ms
+    ++ member_mark_if (port_fails (record default_port { log_sync = p.log_sync })) members.LogSync spot ms
+    ++ member_mark_if (port_fails (record default_port { delay_mechanism = p.delay_mechanism })) members.DelayMechanism spot ms
+    ++ member_mark_if (port_fails (record default_port { log_min_pdelay = p.log_min_pdelay })) members.LogMinPdelay spot ms
+
+unfoldable pub port_member_marks : Spot → Members → List Mark
+port_member_marks spot ms = port_ranges spot ms (port_start ms)
+
+abbrev pub port_start_members : Spot → Option Members → List Mark
+port_start_members spot None = []
+port_start_members spot (Some ms) = port_member_marks spot ms
+
+abbrev pub port_start_marks : ℕ → ℕ → Data → List Mark
+port_start_marks clock n d = port_start_members (in_port clock n) (as_table d)
+
+-- ---- a clock that is its own grandmaster: a member of the grandmaster that is not its own
+
+abbrev pub own_mark_if : Bool → Spot → List ℕ → Members → List Mark
+own_mark_if is_own spot key ms = start_mark_if (not is_own) GrandmasterDiffers spot key ms
+
+abbrev pub has_octet : ℕ → Option ℕ → Bool
+has_octet own shown = passes (λ n. n == own) shown
+
+unfoldable pub own_marks : Spot → Members → ClockStart → List Mark
+own_marks spot ms c =
+    own_mark_if (has_octet c.priority1 c.grandmaster_priority1) spot (codes "grandmaster_priority1") ms
+    ++ own_mark_if (has_octet c.clock_class c.grandmaster_class) spot (codes "grandmaster_class") ms
+    ++ own_mark_if (has_octet c.clock_accuracy c.grandmaster_accuracy) spot (codes "grandmaster_accuracy") ms
+    ++ own_mark_if (has_octet c.variance c.grandmaster_variance) spot (codes "grandmaster_variance") ms
+    ++ own_mark_if (has_octet c.priority2 c.grandmaster_priority2) spot (codes "grandmaster_priority2") ms
+
+-- the grandmaster is this clock, also if none is named
+abbrev pub is_own_grandmaster : ClockIdentity → Option ClockIdentity → Bool
+is_own_grandmaster identity None = true
+is_own_grandmaster identity (Some grandmaster) = same_clock grandmaster identity
+
+abbrev pub own_marks_if : Spot → Members → Option ClockIdentity → List Mark
+own_marks_if spot ms None = []
+own_marks_if spot ms (Some identity) =
+    let c = clock_start identity 0 ms in
+    if is_own_grandmaster identity c.grandmaster then own_marks spot ms c else []
+
+unfoldable pub grandmaster_marks : ClockHeadValue → List Mark
+grandmaster_marks c = own_marks_if c.spot c.table c.identity
+
+-- ---- the clocks
+
+unfoldable pub clock_start_marks : ClockHeadValue → List Mark
+clock_start_marks c =
+    count_start_marks c
+    ++ member_marks c.spot c.table
+    ++ each (port_start_marks c.number) 1 (items_at (codes "port") c.table)
+    ++ grandmaster_marks c
+
+unfoldable pub start_marks : List ClockHeadValue → List Mark
+start_marks cs = flat_map clock_start_marks cs
