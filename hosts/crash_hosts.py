@@ -12,7 +12,7 @@ from ptpm.requests import Requests  # noqa: E402
 
 from crash_model import GET, Answer, Asked, ClockState, ManagerState, start  # noqa: E402
 
-SAVE_FAILS, SAVE_LIES = 0.12, 0.3
+SAVE_FAILS, SAVE_LIES = 0.2, 0.3
 ATTEMPTS = 3
 
 

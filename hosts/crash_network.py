@@ -8,7 +8,8 @@ from typing import NamedTuple, Optional
 from crash_hosts import ATTEMPTS, ClockHost, SessionHost, ptpm
 from crash_model import CLOCK_SET, GET, NEW, PORT_COMMAND, PORT_DATA_SET, PORT_SET, REPEAT, WHOLE_CLOCK, Answer, Asked, field_of
 
-READER = bytes([0x0A, 0x0B, 0x0C, 0xFF, 0xFE, 0x0D, 0x0E, 0x0F, 0, 1])
+READER = "reader"                               # an end of a link
+READER_IDENTITY = bytes([0x0A, 0x0B, 0x0C, 0xFF, 0xFE, 0x0D, 0x0E, 0x0F, 0, 1])
 HOPS = 3
 
 
@@ -44,15 +45,12 @@ class Wiring(NamedTuple):
         return [other for link in self.links if end in link for other in link if other != end]
 
 
-THE_READER = "reader"
-
-
 def draw_wiring(chance, ports, sessions):
     """Ports get more, where a row needs two at a clock."""
     if chance.random() < 0.6:
-        return Wiring([[(i, 1) for i in range(len(ports))] + list(range(sessions)) + [THE_READER]], False)
+        return Wiring([[(i, 1) for i in range(len(ports))] + list(range(sessions)) + [READER]], False)
     ports[:] = [max(count, 2) for count in ports]
-    links = [[THE_READER, (0, 1)]] + [[(i - 1, 2), (i, 1)] for i in range(1, len(ports))] + [[(len(ports) - 1, 2)]]
+    links = [[READER, (0, 1)]] + [[(i - 1, 2), (i, 1)] for i in range(1, len(ports))] + [[(len(ports) - 1, 2)]]
     for number in range(sessions):
         chance.choice(links).append(number)
     return Wiring(links, True)
@@ -67,7 +65,7 @@ def answer_in(octets):
 
 def reader_asks(identity, domain, number, id_, port):
     """A GET of somebody who is no manager (13.3, 15.4)."""
-    head = b"\x0d\x12" + struct.pack(">HB", 54, domain) + bytes(15) + READER + struct.pack(">HBB", number, 4, 0x7F)
+    head = b"\x0d\x12" + struct.pack(">HB", 54, domain) + bytes(15) + READER_IDENTITY + struct.pack(">HBB", number, 4, 0x7F)
     return head + identity + struct.pack(">HBBBBHHH", port, HOPS, HOPS, GET, 0, 1, 2, id_)
 
 
@@ -95,11 +93,12 @@ class World:
                                     target_ports=clock.ports)
 
     def note(self, holds, kind, what):
-        """What is wrong where it does not hold."""
+        """A promise that does not hold is wrong."""
         if not holds:
             self.wrong.append((kind, " ".join(map(str, what))))
 
     def need(self, holds, *what):
+        """Where the library is not as the model, the run ends."""
         if not holds:
             raise Broken(" ".join(map(str, what)))
 
@@ -120,8 +119,8 @@ class World:
 
     def name_of(self, end):
         """What the target of a message for this end begins with."""
-        if end == THE_READER:
-            return READER
+        if end == READER:
+            return READER_IDENTITY
         if isinstance(end, tuple):
             return self.clocks[end[0]].identity
         manager = self.sessions[end].settings.manager
@@ -132,8 +131,8 @@ class World:
         self.counts["deliveries"] += 1
         self.counts["copies of what had come in"] += place in self.came_in
         self.came_in.add(place)
-        if frame.end == THE_READER:
-            if frame.octets[34:44] == READER and frame.origin.is_reply:
+        if frame.end == READER:
+            if frame.octets[34:44] == READER_IDENTITY and frame.origin.is_reply:
                 self.read_by_reader(frame)
         elif isinstance(frame.end, int):
             self.hear(self.sessions[frame.end], frame)

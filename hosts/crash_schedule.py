@@ -6,7 +6,7 @@ from crash_hosts import ptpm
 from crash_model import (COMMAND, DISABLE_PORT, ENABLE_PORT, GET, MASTER, NULL_PTP_MANAGEMENT, OF_NO_PROFILE, OF_PORT, PORT_DATA_SET,
                          READ_OF_CLOCK, READ_OF_PORT, SET, SMALL, USER_DESCRIPTION, UTC_PROPERTIES, VERSION_NUMBER, WHOLE_CLOCK, ClockState,
                          Request, observed, text_field)
-from crash_network import THE_READER, Origin, reader_asks
+from crash_network import READER, Origin, reader_asks
 
 CRASH, CRASH_UNSAVED = 0.04, 0.15
 LATEST = 8
@@ -117,7 +117,7 @@ class Schedule:
         clock = self.world.clocks[number]
         id_ = self.chance.choice((*WHOLE_CLOCK, PORT_DATA_SET))
         message = reader_asks(clock.identity, clock.state.sets["domain"], self.chance.randrange(65536), id_, 1)
-        self.world.post(THE_READER, message, Origin(None, False))
+        self.world.post(READER, message, Origin(None, False))
 
     def observe(self, number):
         """Nothing is saved for an observation."""
@@ -128,7 +128,8 @@ class Schedule:
             members["clock_accuracy"] = of_library["clock_accuracy"] = chance.choice((0x20, 0x25, 0xFE))
         ports = {port: (chance.choice(ANY_STATE if port in self.free_ports(clock) else FORWARDING), chance.randint(-9, 9))
                  for port in range(1, chance.randint(0, clock.ports) + 1)}
-        clock.clock.observe(ptpm.ObservedClock(**of_library), [ptpm.ObservedPort(state=state, peer_delay=delay) for state, delay in ports.values()])
+        places = [ptpm.ObservedPort(state=state, peer_delay=delay) for state, delay in ports.values()]
+        clock.clock.observe(ptpm.ObservedClock(**of_library), places)
         clock.state = ClockState(observed(clock.state.sets, members, ports), clock.state.accepted)
         self.world.judge_sets(number)
         self.world.counts["observations"] += 1
