@@ -13,6 +13,7 @@ from ptpm.requests import Requests  # noqa: E402
 from crash_model import GET, Answer, Asked, ClockState, ManagerState, start  # noqa: E402
 
 SAVE_FAILS, SAVE_LIES = 0.2, 0.3
+GIVES_UP = hasattr(Requests, "give_up")         # if the library lets requests go
 ATTEMPTS = 3
 
 
@@ -145,7 +146,7 @@ class SessionHost:
     def begin(self, request):
         self.session.begin(request.action, request.id, request.field, request.port)
         asked = Asked(self.number, len(self.state.begun) + 1, request)
-        self.state, self.is_unsaved = ManagerState(self.state.begun + (asked,), True), True
+        self.state, self.is_unsaved = ManagerState(self.state.begun + (asked,), True, self.state.let_go), True
 
     def send(self):
         """The message, with all attempts anew once they are used up."""
@@ -162,7 +163,7 @@ class SessionHost:
             return False, None
         report = self.session.report()
         told = self.asked, Answer(None if report.is_done or report.error else report.octets, report.error)
-        self.state, self.is_unsaved = ManagerState(self.state.begun, False), True
+        self.state, self.is_unsaved = ManagerState(self.state.begun, False, self.state.let_go), True
         if self.planted is Planted.SAVES_BEFORE_IT_REPORTS:
             self.to_tell = told
             return True, None
@@ -171,6 +172,11 @@ class SessionHost:
     def save(self, chance):
         is_lying = self.planted is Planted.SESSION_SAVE_LIES
         self.is_unsaved = not self.storage.save((self.session.image(), self.state), chance, is_lying)
+
+    def give_up(self):
+        """Lets the request under way go. The save of the next one is enough for that."""
+        self.session.give_up()
+        self.state, self.is_unsaved = ManagerState(self.state.begun, False, self.state.let_go | {self.asked}), True
 
     def tell_late(self):
         """What a planted host kept back until it was saved."""

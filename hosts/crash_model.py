@@ -231,7 +231,8 @@ class ClockState(NamedTuple):
 
 
 class ManagerState(NamedTuple):
-    """All requests that were begun, in their order, and whether the last has no answer yet."""
+    """All requests that were begun, in their order, whether the last has no answer yet, and those that were let go without one."""
 
     begun: tuple = ()
     is_under_way: bool = False
+    let_go: frozenset = frozenset()

@@ -196,6 +196,7 @@ class World:
         self.counts["saves of clocks"] += 1
         before = host.state
         self.leave(number, host.save(chance))
+        self.counts["saves that failed"] += host.is_unsaved
         if host.state is not before:
             self.judge_restart(number)
 
@@ -254,9 +255,15 @@ class World:
         self.need(int.from_bytes(octets[30:32], "big") == number, session.asked, "has another number than", number)
         self.post(session.number, octets, Origin(session.asked, False))
 
+    def give_up(self, session):
+        session.give_up()
+        self.judge_session(session)
+        self.counts["requests that were let go"] += 1
+
     def save_session(self, session, chance):
         self.counts["saves of sessions"] += 1
         session.save(chance)
+        self.counts["saves that failed"] += session.is_unsaved
 
     def crash_session(self, session):
         self.counts["crashes of sessions"] += 1
@@ -266,7 +273,7 @@ class World:
     # ---- after all
 
     def judge_end(self):
-        """Each request that stands was answered, and carried out once, in the order of its manager."""
+        """Each request that stands was answered, and carried out once, in the order of its manager. One that was let go may have been."""
         for number in range(len(self.clocks)):
             self.judge_restart(number)
         for session in self.sessions:
@@ -274,6 +281,7 @@ class World:
             own = tuple(one.asked for one in accepted if one.asked.manager == session.number)
             told = {asked for asked, _ in session.told}
             self.note(not session.state.is_under_way, "a request is never answered", (session.asked,))
-            silent = [asked for asked in own if asked not in told and asked is not session.asked]
+            silent = [asked for asked in own if asked not in told | session.state.let_go and asked is not session.asked]
             self.note(not silent, "a request is never reported", silent)
-            self.note(own == session.state.begun, "other requests are carried out than were asked", (own, "and not", session.state.begun))
+            wanted = tuple(asked for asked in session.state.begun if asked in own or asked not in session.state.let_go)
+            self.note(own == wanted, "other requests are carried out than were asked", (own, "and not", wanted))

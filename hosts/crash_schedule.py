@@ -2,7 +2,7 @@
 in which nothing is lost any more."""
 import struct
 
-from crash_hosts import ptpm
+from crash_hosts import GIVES_UP, ptpm
 from crash_model import (COMMAND, DISABLE_PORT, ENABLE_PORT, GET, MASTER, NULL_PTP_MANAGEMENT, OF_NO_PROFILE, OF_PORT, PORT_DATA_SET,
                          READ_OF_CLOCK, READ_OF_PORT, SET, SMALL, USER_DESCRIPTION, UTC_PROPERTIES, VERSION_NUMBER, WHOLE_CLOCK, ClockState,
                          Request, observed, text_field)
@@ -93,6 +93,8 @@ class Schedule:
             self.world.tell(session, session.tell_late())
         elif kind < 0.05:
             session.retune(self.chance.choice((self.domain_of(session), 0, 4)))
+        elif GIVES_UP and session.asked is not None and kind < 0.08:
+            self.world.give_up(session)
         elif session.domain != self.domain_of(session) and kind < 0.4:
             session.retune(self.domain_of(session))
         elif session.may_send and kind < 0.7:
