@@ -95,7 +95,7 @@ static unsigned long send_out(const struct ptpm_sent *message, const struct hear
 /* What is to go out goes once all that it says is saved, or does not; how many messages were not taken. */
 static unsigned long send_saved(void) { return !is_unsaved || save_changes(&clock_held) ? send_round() : drop_round(); }
 
-/* The same for one turn, with a line of what became of it. */
+/* The same for one turn, with a line of what became of it; how many of its messages were not taken. */
 static unsigned long send_told(uint16_t ingress, const struct heard *heard, uint32_t answer, unsigned long lost, size_t left,
                                size_t count, const struct ptpm_changed *changed) {
     int is_done = save_changes(&clock_held);
@@ -105,36 +105,42 @@ static unsigned long send_told(uint16_t ingress, const struct heard *heard, uint
     return lost;
 }
 
-/* What becomes of a datagram; port is NULL at the Unix socket. */
-static void take_turn(struct heard *heard, const struct port *port) {
+/* The library's turn. What it changed is asked for a line of it alone, since to find that costs more than the turn does. */
+static enum ptpm_handled judge(const struct heard *heard, uint16_t ingress, struct ptpm_sent *places, size_t *count,
+                               struct ptpm_changed *changed) {
+    if (!options->is_told) return ptpm_clock_handle(&clock_held, ingress, heard->octets, heard->size, places, PTPM_MOST_SENT, count);
+    return ptpm_clock_handle_changed(&clock_held, ingress, heard->octets, heard->size, places, PTPM_MOST_SENT, count, changed);
+}
+
+/* What becomes of a datagram; port is NULL at the Unix socket. How many messages were not taken. */
+static unsigned long take_turn(struct heard *heard, const struct port *port) {
     const struct ptpm_sent *kept[PTPM_MOST_SENT];
     struct ptpm_changed changed;
-    size_t room, count;
+    size_t count;
+    unsigned long lost = 0;
     uint16_t ingress = port == NULL ? 1 : (uint16_t)(port - ports + 1);
-    if (port != NULL && !is_heard(heard, port)) return;
+    if (port != NULL && !is_heard(heard, port)) return 0;
     lower_hops(heard);
-    struct ptpm_sent *places = places_to_send(&room);
+    struct ptpm_sent *places = places_to_send();
     if (places == NULL) {
         count_dropped(send_saved());
-        places = places_to_send(&room);
+        places = places_to_send();
     }
-    enum ptpm_handled answer = ptpm_clock_handle_changed(&clock_held, ingress, heard->octets, heard->size, places, room, &count,
-                                                         &changed);
+    enum ptpm_handled answer = judge(heard, ingress, places, &count, &changed);
     count_answer(answer);
     if (answer == PTPM_ANSWERED_NEW) note_change();
     size_t left = keep_back(heard, port, ingress, answer, places, count, kept);
-    unsigned long lost = 0;
     for (size_t i = 0; i < left; i++) lost += send_out(kept[i], heard, port, ingress);
     use_places(count);
-    if (options->is_told) lost = send_told(ingress, heard, answer, lost, left, count, &changed);
-    count_dropped(lost);
+    return options->is_told ? send_told(ingress, heard, answer, lost, left, count, &changed) : lost;
 }
 
 void take_round(const struct port *port, int at) {
     static struct heard heard[ROUND];
+    unsigned long lost = 0;
     size_t count = hear_round(port, at, heard);
-    for (size_t i = 0; i < count; i++) take_turn(&heard[i], port);
-    count_dropped(send_saved());
+    for (size_t i = 0; i < count; i++) lost += take_turn(&heard[i], port);
+    count_dropped(lost + send_saved());
 }
 
 static void tell_left(uint8_t left) {

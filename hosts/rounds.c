@@ -12,11 +12,11 @@ enum { PLACES = ROUND + PTPM_MOST_SENT, LEAST_JOINED = 8, MOST_JOINED = 64, MOST
 /* What the kernel reports of, or gets for, a datagram's addresses. */
 struct control { _Alignas(struct cmsghdr) char octets[CMSG_SPACE(sizeof(struct in6_pktinfo))]; };
 
-/* A message that is to go out: at its port, or to a peer. */
-struct outgoing { const struct ptpm_sent *message; const struct heard *answered; int is_to_peer; };
+/* A message that is to go out. */
+struct outgoing { const struct ptpm_sent *message; const struct heard *answered; };
 
 static struct ptpm_sent sent[PLACES];
-static struct outgoing waiting[PLACES];
+static struct outgoing waiting[PLACES], waiting_for_peers[PLACES];
 static size_t used, waiting_count, peer_count;
 
 static void take_control(struct heard *heard, struct msghdr *head) {
@@ -82,18 +82,14 @@ size_t hear_round(const struct port *port, int at, struct heard heard[ROUND]) {
     return count;
 }
 
-struct ptpm_sent *places_to_send(size_t *room) {
-    *room = PLACES - used;
-    return *room >= PTPM_MOST_SENT ? sent + used : NULL;
-}
+struct ptpm_sent *places_to_send(void) { return PLACES - used >= PTPM_MOST_SENT ? sent + used : NULL; }
 
 void send_later(const struct ptpm_sent *message, const struct heard *answered) {
-    waiting[waiting_count++] = (struct outgoing){ message, answered, 0 };
+    waiting[waiting_count++] = (struct outgoing){ message, answered };
 }
 
 void answer_later(const struct ptpm_sent *message, const struct heard *answered) {
-    waiting[waiting_count++] = (struct outgoing){ message, answered, 1 };
-    peer_count++;
+    waiting_for_peers[peer_count++] = (struct outgoing){ message, answered };
 }
 
 void use_places(size_t count) { used += count; }
@@ -227,7 +223,7 @@ static unsigned long send_at(size_t place) {
     const struct outgoing *outs[PLACES];
     size_t count = 0;
     for (size_t i = 0; i < waiting_count; i++) {
-        if (waiting[i].message->port == place + 1 && !waiting[i].is_to_peer) outs[count++] = &waiting[i];
+        if (waiting[i].message->port == place + 1) outs[count++] = &waiting[i];
     }
     if (ports[place].socket < 0) return count;
     fill_batch(&batch, &ports[place], outs, count);
@@ -236,21 +232,22 @@ static unsigned long send_at(size_t place) {
 
 static unsigned long send_to_peers(void) {
     unsigned long lost = 0;
-    for (size_t i = 0; i < waiting_count; i++) {
-        if (waiting[i].is_to_peer) lost += !answer_peer(waiting[i].message, waiting[i].answered);
+    for (size_t i = 0; i < peer_count; i++) {
+        lost += !answer_peer(waiting_for_peers[i].message, waiting_for_peers[i].answered);
     }
+    peer_count = 0;
     return lost;
 }
 
 unsigned long send_round(void) {
     unsigned long lost = peer_count > 0 ? send_to_peers() : 0;
-    for (size_t place = 0; place < port_count && waiting_count > peer_count; place++) lost += send_at(place);
-    used = waiting_count = peer_count = 0;
+    for (size_t place = 0; place < port_count && waiting_count > 0; place++) lost += send_at(place);
+    used = waiting_count = 0;
     return lost;
 }
 
 unsigned long drop_round(void) {
-    unsigned long lost = waiting_count;
+    unsigned long lost = waiting_count + peer_count;
     used = waiting_count = peer_count = 0;
     return lost;
 }

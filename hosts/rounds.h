@@ -37,9 +37,8 @@ struct heard {
    round. */
 size_t hear_round(const struct port *port, int at, struct heard heard[ROUND]);
 
-/* The place of the next messages that are to go out, and how many there are; NULL if there are too few for a turn, so that what is
-   to go out has to go first. */
-struct ptpm_sent *places_to_send(size_t *room);
+/* The places of a turn's messages, PTPM_MOST_SENT of them; NULL if there are fewer, so that what is to go out has to go first. */
+struct ptpm_sent *places_to_send(void);
 
 /* A message that is in the next place, or after others, is to go out at its port: to who sent what is answered, where that
    came by unicast, or to the group. */
