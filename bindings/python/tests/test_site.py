@@ -90,7 +90,7 @@ class Programs(Folder):
     def setUp(self) -> None:
         super().setUp()
         self.patched(mock.patch.dict(os.environ, PTPM_PROGRAMS=self.folder))
-        self.patched(mock.patch("ptpm.site._BEFORE_SECOND_LOOK", 0))
+        self.patched(mock.patch.object(sys.modules["ptpm.site"], "_BEFORE_SECOND_LOOK", 0))
         self.write("ptpm", f'exec {TOP}/ptpm "$@"')
 
     def patched(self, patch: Any) -> None:
