@@ -103,8 +103,7 @@ class Network(Folder):
         self.assertEqual(([str(clock.identity) for clock in domain.grandmasters], site.findings), ([PTP4L], ()))
         camera = domain.roots[0].followers[0]
         self.assertEqual((str(camera.follows), camera.current and camera.current.steps_removed), (f"{PTP4L}/1", 1))
-        [finding] = ptpm.site(lines=site.lines, max_delay=0).findings
-        self.assertEqual((finding.name, finding.clock, list(finding.values)), ("delay", camera.identity, ["meanDelay"]))
+        self.assertEqual(ptpm.site(lines=site.lines).domains, site.domains)
 
     def test_a_site_over_udp(self) -> None:
         self.start_ptp4l()
