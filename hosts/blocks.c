@@ -1,6 +1,6 @@
 /* blocks: clocks, sessions and surveys in a block of the host's own (ptpm_memory.h). Each has the room that the header says, in any
-   order of calls, and one octet less is refused by PTPM_NO_MEMORY and changes nothing. What is stopped is given back whole. Prints what does not
-   hold and `blocks: N passed, M failed`; its status is 1 if one failed. */
+   order of calls. One octet less is refused by PTPM_NO_MEMORY, and changes nothing. What is stopped is given back whole. Prints what
+   does not hold and `blocks: N passed, M failed`; its status is 1 if one failed. */
 #include "checking.h"
 #include "ptpm.h"
 #include "ptpm_memory.h"

@@ -23,9 +23,10 @@ extern "C" {
    moment. */
 #define PTPM_SESSION_MEMORY 5968
 
-/* The most that a survey takes that has kept so many answers, 1 to 512, of so many octets of dataField each. It takes less, mostly. */
+/* The most that a survey takes that has kept so many answers, 1 to 512, of so many octets of dataField each. Its tables have room for
+   a power of two of answers, and move as they grow; how much of the gaps is used again depends on the answers. */
 #define PTPM_SURVEY_MEMORY(answers, octets) \
-    (1088 + 130 * PTPM_SURVEY_PLACES(answers) + (size_t)(answers) * (((size_t)(octets) + ((octets) < 1)  + 31) / 16 * 16))
+    (1088 + 130 * PTPM_SURVEY_PLACES(answers) + (size_t)(answers) * (((size_t)(octets) + ((octets) < 1) + 31) / 16 * 16))
 #define PTPM_SURVEY_PLACES(answers) \
     ((answers) > 256 ? (size_t)512 : (answers) > 128 ? (size_t)256 : (answers) > 64 ? (size_t)128 : (answers) > 32 ? (size_t)64 : \
      (answers) > 16 ? (size_t)32 : (answers) > 8 ? (size_t)16 : (size_t)8)

@@ -20,6 +20,11 @@ SITES = TOP / "crates/ptpm_site_report/data"
 Found = Set[Tuple[str, ...]]
 
 
+def setUpModule() -> None:
+    """The first call of a fresh checkout puts the program together, and says so."""
+    subprocess.run([str(TOP / "ptpm"), "--version"], capture_output=True, check=True)
+
+
 def recorded() -> Iterator[Tuple[str, Dict[str, Any], Found]]:
     """Of each recorded site its name, its limits, and its findings by domain, name and clock."""
     for paragraph in (SITES / "sites.txt").read_text(encoding="utf-8").split("\n\n"):
