@@ -2,7 +2,8 @@
    management message that comes in at its ports. And a session of a manager: one request at a time to one clock. Such an agent
    carries it out once, however often it is sent. And a survey: one GET to every clock, or to one, and the first answer of each
    port. The library opens no socket, reads no clock and starts no thread. Link libptpm.a or libptpm.so. Either needs the C library
-   alone, and calls malloc, realloc and free of the host. This file is C99, C11, C17 and C++17, of gcc or clang.
+   alone, and calls malloc, realloc and free of the host; libptpm_memory.a calls none (ptpm_memory.h). This file is C99, C11, C17
+   and C++17, of gcc or clang.
 
    What is proved of a call is proved of callers that keep to this:
 

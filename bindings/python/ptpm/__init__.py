@@ -18,6 +18,7 @@ from .answers import Error, HandleAnswer, SessionAnswer, SurveyAnswer, answer_na
 from .asking import NoAnswer
 from .changed import Changed, ClockMembers, PortMembers
 from .clock import Clock, Handled
+from .data_sets import ClockQuality, CurrentDataSet, DefaultDataSet, ParentDataSet, PortDataSet, TimePropertiesDataSet
 from .identity import Identity, PortIdentity
 from .ids import Action, ManagementId, error_name, id_name, id_of
 from .members import data_field, members
@@ -29,14 +30,18 @@ from .requests import Requests, SessionSettings
 from .session import Session
 from .session_file import SessionFile, SessionFileError, usual_path
 from .settings import ClockSettings, DelayMechanism, Manager, PortSettings, PortState, Rights, time_interval
+from .site import SiteError, site
+from .site_tree import Domain, Finding, Site, SiteClock, read_site
 from .survey import Survey, SurveySettings, survey
 from .transport import Transport, UdpTransport, UnixTransport
 
 __all__ = [
-    "__version__", "Action", "answer_name", "ask_as_nobody", "Changed", "Clock", "ClockMembers", "ClockSettings", "data_field",
-    "DelayMechanism", "Error", "error_name", "get", "HandleAnswer", "Handled", "id_name", "id_of", "Identity", "ManagementId",
-    "Manager", "members", "NoAnswer", "ObservedClock", "ObservedGrandmaster", "ObservedPort", "PassedOn", "PortIdentity",
-    "PortMembers", "PortSettings", "PortState", "Rate", "Report", "Requests", "Rights", "Session", "SessionAnswer",
-    "SessionFile", "SessionFileError", "SessionSettings", "Survey", "survey", "SurveyAnswer", "SurveySettings", "time_interval",
-    "Transport", "UdpTransport", "UnixTransport", "usual_path",
+    "__version__", "Action", "answer_name", "ask_as_nobody", "Changed", "Clock", "ClockMembers", "ClockQuality",
+    "ClockSettings", "CurrentDataSet", "data_field", "DefaultDataSet", "DelayMechanism", "Domain", "Error", "error_name",
+    "Finding", "get", "HandleAnswer", "Handled", "id_name", "id_of", "Identity", "ManagementId", "Manager", "members",
+    "NoAnswer", "ObservedClock", "ObservedGrandmaster", "ObservedPort", "ParentDataSet", "PassedOn", "PortDataSet",
+    "PortIdentity", "PortMembers", "PortSettings", "PortState", "Rate", "read_site", "Report", "Requests", "Rights",
+    "Session", "SessionAnswer", "SessionFile", "SessionFileError", "SessionSettings", "Site", "site", "SiteClock",
+    "SiteError", "Survey", "survey", "SurveyAnswer", "SurveySettings", "time_interval", "TimePropertiesDataSet", "Transport",
+    "UdpTransport", "UnixTransport", "usual_path",
 ]

@@ -17,6 +17,7 @@ from .report import Report
 from .requests import Requests, SessionSettings, begin_request
 from .session import Session
 from .session_file import SessionFile, SessionFileError
+from .site_command import main as show_site
 from .survey import survey
 from .transport import Transport, UdpTransport, UnixTransport
 
@@ -39,7 +40,7 @@ def _parser() -> argparse.ArgumentParser:
     parser = argparse.ArgumentParser(
         prog="python -m ptpm",
         description="Reads and changes the settings of PTP clocks (IEEE 1588-2019, clause 15).",
-        epilog="ptpm-manage has the same options, and more of them.",
+        epilog="ptpm-manage has the same options, and more of them. `python -m ptpm site` shows a whole site.",
     )
     add = parser.add_argument
     add("verb", choices=["get", "set", "command", "survey"])
@@ -196,7 +197,10 @@ def _print(reports: List[Report], is_hexadecimal: bool) -> int:
 
 def main(arguments: Optional[List[str]] = None) -> int:
     """Asks what a command line says; its status."""
-    words = _parser().parse_intermixed_args(arguments)
+    given = sys.argv[1:] if arguments is None else arguments
+    if given[:1] == ["site"]:
+        return show_site(given[1:])
+    words = _parser().parse_intermixed_args(given)
     try:
         return Task(words).ask()
     except NoAnswer as error:

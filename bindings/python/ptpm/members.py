@@ -144,7 +144,7 @@ _FIELDS: Dict[int, Tuple[int, Tuple[_Place, ...]]] = {
 _WITHOUT_MEMBERS = (ManagementId.NULL_PTP_MANAGEMENT, ManagementId.ENABLE_PORT, ManagementId.DISABLE_PORT)
 
 
-def _interval(scaled: int) -> Decimal:
+def interval(scaled: int) -> Decimal:
     """A TimeInterval (5.3.2), in nanoseconds times 2^16, as nanoseconds with all digits of their fraction."""
     whole, fraction = divmod(abs(scaled), 65536)
     digits = str(whole) + f"{fraction * 5**16:016d}"  # a part of 2^16 has sixteen digits after the point
@@ -167,7 +167,7 @@ def _value(place: _Place, octets: bytes) -> Member:
     if place.kind is _Kind.VERSION:
         return number & 15
     if place.kind is _Kind.INTERVAL:
-        return _interval(number)
+        return interval(number)
     if place.kind is _Kind.CLOCK:
         return Identity(part)
     if place.kind is _Kind.PORT:

@@ -7,6 +7,7 @@ import os
 import shutil
 import subprocess
 import sys
+import time
 import unittest
 from typing import List
 
@@ -50,12 +51,12 @@ class Network(Folder):
         path = f"{self.folder}/clock.socket"
         self.run_until(path, [*self.inside(self.far), str(TOP / "hosts/clock"), "-n", "60", "-u", path, *words, CLOCK, "far0"])
 
-    def start_ptp4l(self) -> str:
-        path, settings = f"{self.folder}/ptp4l", f"{self.folder}/ptp4l.conf"
+    def start_ptp4l(self, name: str = "", interface: str = "far0", more: str = "") -> str:
+        path, settings = f"{self.folder}/ptp4l-{interface}", f"{self.folder}/ptp4l-{interface}.conf"
         with open(settings, "w", encoding="ascii") as file:
-            file.write("[global]\nfree_running 1\n")
-        words = ["ptp4l", "-f", settings, "-S", "-4", "-i", "far0", f"--uds_address={path}"]
-        self.run_until(path, [*self.inside(self.far), *words])
+            file.write(f"[global]\nfree_running 1\n{more}")
+        words = ["ptp4l", "-f", settings, "-S", "-4", "-i", interface, f"--uds_address={path}"]
+        self.run_until(path, [*self.inside(name or self.far), *words])
         return path
 
     def test_a_clock_over_udp(self) -> None:
@@ -87,6 +88,27 @@ class Network(Folder):
             self.assertEqual(str(ptpm.get(way, PTP4L, "2ffe")), "refused NO_SUCH_ID")
         self.assertEqual(self.asked("-i", "near0", "get", "PRIORITY2", "--target", PTP4L), "priority2 128\n")
         self.assertIn("refused NOT_SUPPORTED\n", self.asked("-i", "near0", "-w", "0", "set", "PRIORITY1", "9", "-T", PTP4L))
+
+    def test_a_site_of_two_ptp4l(self) -> None:
+        often = "logAnnounceInterval -2\nuserDescription {}\n"
+        self.start_ptp4l(more=f"priority1 100\n{often.format('grandmaster')}")
+        path = self.start_ptp4l(self.near, "near0", f"slaveOnly 1\n{often.format('camera')}")
+        for _ in range(60):     # until the slave has chosen its master
+            site = ptpm.site(unix=path, timeout=0.1, limit=30)
+            if len(site.clocks) == 2 and not site.findings:
+                break
+            time.sleep(0.5)
+        [domain] = site.domains
+        self.assertEqual([(depth, clock.description) for depth, clock in domain.rows()], [(0, "grandmaster"), (1, "camera")])
+        self.assertEqual(([str(clock.identity) for clock in domain.grandmasters], site.findings), ([PTP4L], ()))
+        camera = domain.roots[0].followers[0]
+        self.assertEqual((str(camera.follows), camera.current and camera.current.steps_removed), (f"{PTP4L}/1", 1))
+        self.assertEqual(ptpm.site(lines=site.lines).domains, site.domains)
+
+    def test_a_site_over_udp(self) -> None:
+        self.start_ptp4l()
+        said = self.asked("site", "-i", "near0", "-d", "0-1", "-t", "50")
+        self.assertRegex(said, rf'^domain 0: 1 clocks\n  {PTP4L} ".*" 1 [A-Z]+\n\nfindings: ')
 
 
 if __name__ == "__main__":

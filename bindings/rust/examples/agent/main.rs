@@ -1,13 +1,17 @@
 //! An agent of a clock with two UDP ports, which answers linuxptp's `pmc`:
 //!
-//!     sudo agent IDENTITY INTERFACE INTERFACE [MANAGER]
+//!     sudo agent [-s FILE] IDENTITY INTERFACE INTERFACE [MANAGER]
 //!     sudo pmc -4 -b 0 -i eth0 'TARGET aabbcc.fffe.ddee01-1' 'GET CURRENT_DATA_SET'
 //!
 //! A thread for each port hands in what it hears; the clock belongs to one thread, which observes what a servo finds in between. The
 //! servo of this agent is made up: each time it halves its offset. A `pmc` has its interface's MAC with `fffe` in the middle as its
 //! identity, at port 1: with that as MANAGER its SETs are carried out.
+//!
+//! With a FILE the clock outlasts its power: it is saved before what it answers is sent, and the next run goes on from it. A save that
+//! fails ends the agent, as a loss of power would.
 
 mod port;
+mod store;
 
 use ptpm::{
     Clock, ClockMembers, ClockSettings, Handled, ManagementId, Manager, ObservedClock, ObservedPort, Outbox, PortMembers,
@@ -15,9 +19,11 @@ use ptpm::{
 };
 use std::error::Error;
 use std::net::UdpSocket;
+use std::path::Path;
 use std::sync::mpsc::{self, RecvTimeoutError};
 use std::thread;
 use std::time::{Duration, Instant};
+use store::Store;
 
 const TICK: Duration = Duration::from_millis(125);
 
@@ -37,28 +43,54 @@ impl Servo {
     }
 }
 
-/// The clock, its ports' sockets, and the servo.
+/// The clock, where it is kept, its ports' sockets, and the servo.
 struct Agent {
     clock: Clock,
+    store: Option<Store>,
     sockets: Vec<UdpSocket>,
     servo: Servo,
     outbox: Box<Outbox>,
 }
 
+/// The clock of the store, or a new one if none was ever saved there. What is refused there is no reason for a new one: that would
+/// take requests for new ones that were carried out before.
+fn clock_of(
+    store: Option<&mut Store>,
+    settings: &ClockSettings,
+    ports: &[PortSettings],
+    managers: &[Manager],
+) -> Result<Clock, Box<dyn Error>> {
+    let Some(store) = store else { return Ok(Clock::start(settings, ports, managers)?) };
+    let Some(image) = store.load()? else {
+        let clock = Clock::start(settings, ports, managers)?;
+        store.save(&clock)?;
+        return Ok(clock);
+    };
+    let (clock, gone) = Clock::restore(settings.identity, ports.len(), managers, &image)?;
+    println!("it goes on where it was saved; requests of {gone} managers are let go");
+    Ok(clock)
+}
+
 impl Agent {
-    fn start(identity: &str, interfaces: &[String], manager: Option<&String>) -> Result<Self, Box<dyn Error>> {
+    fn start(
+        mut store: Option<Store>,
+        identity: &str,
+        interfaces: &[String],
+        manager: Option<&String>,
+    ) -> Result<Self, Box<dyn Error>> {
         let managers = match manager {
             Some(manager) => vec![Manager::new(manager.parse()?, Rights::ALL)],
             None => Vec::new(),
         };
         let settings = ClockSettings { user_description: "an agent in Rust".into(), ..ClockSettings::new(identity.parse()?) };
         let ports = vec![PortSettings { state: PortState::Slave, ..PortSettings::new() }; interfaces.len()];
+        let clock = clock_of(store.as_mut(), &settings, &ports, &managers)?;
         let mut sockets = Vec::new();
         for interface in interfaces {
             sockets.push(port::open(interface).map_err(|error| format!("{interface}: {error}"))?);
         }
         let servo = Servo { offset: TimeInterval::of_nanoseconds(1 << 20) };
-        Ok(Self { clock: Clock::start(&settings, &ports, &managers)?, sockets, servo, outbox: Outbox::boxed() })
+        Ok(Self { clock, store, sockets, servo, outbox: Outbox::boxed() })
     }
 
     /// Tells the clock what was found since.
@@ -68,11 +100,13 @@ impl Agent {
         Ok(())
     }
 
-    /// Hands a datagram in, sends what is to be sent, and acts on what changed.
-    fn come_in(&mut self, port: u16, datagram: &[u8]) -> Result<(), ptpm::Error> {
+    /// Hands a datagram in, saves what is new, sends what is to be sent, and acts on what changed.
+    fn come_in(&mut self, port: u16, datagram: &[u8]) -> Result<(), Box<dyn Error>> {
         let (turn, changed) = self.clock.handle_changed(port, datagram, &mut self.outbox)?;
-        if let handled @ (Handled::DroppedOld | Handled::DroppedConflict) = turn.handled() {
-            eprintln!("port {port}: {handled}");
+        match (turn.handled(), &mut self.store) {
+            (Handled::AnsweredNew, Some(store)) => store.save(&self.clock)?,
+            (handled @ (Handled::DroppedOld | Handled::DroppedConflict), _) => eprintln!("port {port}: {handled}"),
+            _ => {}
         }
         for (port, octets) in turn.messages {
             port::send(&self.sockets[usize::from(port) - 1], octets);
@@ -82,9 +116,23 @@ impl Agent {
             println!("priority1 is {}", self.clock.read(ManagementId::PRIORITY1, 0, &mut room)?[0]);
         }
         for port in changed.ports_with(PortMembers::STATE) {
-            let mut room = [0; MOST_READ];
-            let state = self.clock.read(ManagementId::PORT_DATA_SET, port, &mut room)?[10];
-            println!("port {port} is {:?}", PortState::of_number(state));
+            println!("port {port} is {:?}", self.state(port)?);
+        }
+        Ok(())
+    }
+
+    /// The state of a port.
+    fn state(&self, port: u16) -> Result<Option<PortState>, ptpm::Error> {
+        let mut room = [0; MOST_READ];
+        Ok(PortState::of_number(self.clock.read(ManagementId::PORT_DATA_SET, port, &mut room)?[10]))
+    }
+
+    /// Takes over what a clock that was saved has, before it observes anything: a port that a manager disabled stays so.
+    fn take_over(&self) -> Result<(), ptpm::Error> {
+        for (port, _) in (1..).zip(&self.sockets) {
+            if self.state(port)? == Some(PortState::Disabled) {
+                println!("port {port} stays disabled");
+            }
         }
         Ok(())
     }
@@ -123,12 +171,18 @@ impl Agent {
 
 fn main() -> Result<(), Box<dyn Error>> {
     let words: Vec<_> = std::env::args().skip(1).collect();
-    let (identity, interfaces, manager) = match &*words {
+    let (file, words) = match &*words {
+        [option, file, words @ ..] if option == "-s" => (Some(Path::new(file)), words),
+        words => (None, words),
+    };
+    let (identity, interfaces, manager) = match words {
         [identity, interfaces @ ..] if interfaces.len() == 2 => (identity, interfaces, None),
         [identity, interfaces @ .., manager] if interfaces.len() == 2 => (identity, interfaces, Some(manager)),
-        _ => return Err("usage: agent IDENTITY INTERFACE INTERFACE [MANAGER]".into()),
+        _ => return Err("usage: agent [-s FILE] IDENTITY INTERFACE INTERFACE [MANAGER]".into()),
     };
-    let mut agent = Agent::start(identity, interfaces, manager)?;
+    let store = file.map(Store::open).transpose()?;
+    let mut agent = Agent::start(store, identity, interfaces, manager)?;
+    agent.take_over()?;
     println!("{identity} hears {}", interfaces.join(" and "));
     agent.run()
 }

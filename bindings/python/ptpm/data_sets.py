@@ -1,0 +1,162 @@
+"""The data sets of a clock (IEEE 1588-2019, 8.2 and 15.5.3), as `ptpm site --json` has them. TimeIntervals are nanoseconds."""
+
+from __future__ import annotations
+
+import re
+from dataclasses import dataclass, fields
+from decimal import Decimal
+from typing import Any, Callable, Dict, Mapping, Optional, Type, TypeVar
+
+from .identity import Identity, PortIdentity
+from .members import interval
+from .settings import PortState
+
+_Read = TypeVar("_Read")
+
+
+@dataclass(frozen=True)
+class ClockQuality:
+    clock_class: int
+    clock_accuracy: int
+    offset_scaled_log_variance: int
+
+    def __str__(self) -> str:
+        return f"{self.clock_class}/{self.clock_accuracy:#04x}/{self.offset_scaled_log_variance:#06x}"
+
+
+@dataclass(frozen=True)
+class DefaultDataSet:
+    two_step_flag: bool
+    slave_only: bool
+    number_ports: int
+    priority1: int
+    clock_quality: ClockQuality
+    priority2: int
+    clock_identity: Identity
+    domain_number: int
+
+
+@dataclass(frozen=True)
+class CurrentDataSet:
+    steps_removed: int
+    offset_from_master: Decimal
+    mean_delay: Decimal
+
+
+@dataclass(frozen=True)
+class ParentDataSet:
+    parent_port_identity: PortIdentity
+    parent_stats: bool
+    observed_parent_offset_scaled_log_variance: int
+    observed_parent_clock_phase_change_rate: int
+    grandmaster_priority1: int
+    grandmaster_clock_quality: ClockQuality
+    grandmaster_priority2: int
+    grandmaster_identity: Identity
+
+
+@dataclass(frozen=True)
+class TimePropertiesDataSet:
+    current_utc_offset: int
+    leap61: bool
+    leap59: bool
+    current_utc_offset_valid: bool
+    ptp_timescale: bool
+    time_traceable: bool
+    frequency_traceable: bool
+    time_source: int
+
+
+@dataclass(frozen=True)
+class PortDataSet:
+    """`port_state` is None for a number that the standard reserves. `delay_mechanism` is the standard's name, or `reserved`."""
+
+    port_identity: PortIdentity
+    port_state: Optional[PortState]
+    log_min_delay_req_interval: int
+    mean_link_delay: Decimal
+    log_announce_interval: int
+    announce_receipt_timeout: int
+    log_sync_interval: int
+    delay_mechanism: str
+    log_min_pdelay_req_interval: int
+    version_number: int
+
+
+def number_of(value: Any) -> int:
+    """A whole number of JSON, which is no flag."""
+    if not isinstance(value, int) or isinstance(value, bool):
+        raise ValueError(f"{value!r} is no whole number")
+    return value
+
+
+def flag_of(value: Any) -> bool:
+    """A flag of JSON."""
+    if not isinstance(value, bool):
+        raise ValueError(f"{value!r} is no flag")
+    return value
+
+
+def text_of(value: Any) -> str:
+    """A text of JSON."""
+    if not isinstance(value, str):
+        raise ValueError(f"{value!r} is no text")
+    return value
+
+
+def nanoseconds_of(value: Any) -> Decimal:
+    """A TimeInterval of JSON, in nanoseconds times 2^16."""
+    return interval(number_of(value))
+
+
+def identity_of(value: Any) -> Identity:
+    """An identity of JSON, which is a text."""
+    return Identity.of(text_of(value))
+
+
+def port_identity_of(value: Any) -> PortIdentity:
+    """A portIdentity of JSON, which is an object."""
+    return PortIdentity(identity_of(value["clockIdentity"]), number_of(value["portNumber"]))
+
+
+def port_state_of(value: Any) -> Optional[PortState]:
+    """A portState of JSON, by its name."""
+    return None if value == "reserved" else PortState[text_of(value)]
+
+
+# How a member is read that has such a type.
+_READERS: Dict[str, Callable[[Any], Any]] = {
+    "int": number_of,
+    "bool": flag_of,
+    "str": text_of,
+    "Decimal": nanoseconds_of,
+    "Identity": identity_of,
+    "PortIdentity": port_identity_of,
+    "Optional[PortState]": port_state_of,
+    "ClockQuality": lambda value: read(ClockQuality, value),
+}
+
+
+def _name_in_json(name: str) -> str:
+    """A member's name by the standard, such as stepsRemoved for steps_removed."""
+    return re.sub("_([a-z])", lambda found: found[1].upper(), name)
+
+
+def read(kind: Type[_Read], value: Mapping[str, Any]) -> _Read:
+    """A data set out of an object of JSON. Members that are not known here are passed over."""
+    members = {}
+    for member in fields(kind):
+        members[member.name] = _READERS[str(member.type)](value[_name_in_json(member.name)])
+    return kind(**members)
+
+
+# How a member of a data set is read, by its name.
+_OF_MEMBERS = {
+    _name_in_json(member.name): _READERS[str(member.type)]
+    for kind in (DefaultDataSet, CurrentDataSet, ParentDataSet, TimePropertiesDataSet, PortDataSet) for member in fields(kind)
+}
+
+
+def member_of(name: str, value: Any) -> Any:
+    """The value of a member in JSON, as its data set has it; what is no member of one, or not there, as it is."""
+    return value if value is None else _OF_MEMBERS.get(name, lambda same: same)(value)

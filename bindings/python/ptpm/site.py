@@ -1,0 +1,140 @@
+"""A whole site at a glance, by the programs `ptpm-manage collect` and `ptpm site`: who is grandmaster, who follows whom, and what is
+wrong."""
+
+from __future__ import annotations
+
+import dataclasses
+import os
+import shutil
+import subprocess
+import time
+from pathlib import Path
+from typing import Iterable, List, Optional, Sequence, Tuple, Union
+
+from .site_tree import Site, read_site
+
+_FOUND, _NO_CLOCK = 1, 3
+_BEFORE_SECOND_LOOK = 2.0
+
+# Findings that may pass while a change goes from clock to clock. They count if two looks have them.
+PASSING = frozenset(
+    ("steps", "grandmaster_differs", "parent_not_master", "parent_not_seen", "grandmaster_not_seen", "no_master", "two_grandmasters")
+)
+
+
+class SiteError(Exception):
+    """A program did not show a site: what it said, and its exit status, which is None if it did not run to its end. Status 3 is that
+    no clock answered."""
+
+    def __init__(self, what: str, status: Optional[int] = None) -> None:
+        super().__init__(what)
+        self.status = status
+
+
+def _program(name: str, built: str) -> str:
+    """A program: in the folder that PTPM_PROGRAMS names, in the repository that this file is of, or in the PATH."""
+    folder = os.environ.get("PTPM_PROGRAMS")
+    if folder:
+        return os.path.join(folder, name)
+    here = Path(__file__).resolve().parents[3] / built
+    found = str(here) if os.access(here, os.X_OK) and here.is_file() else shutil.which(name)
+    if found is None:
+        raise SiteError(f"the program {name} is not in the PATH, and PTPM_PROGRAMS names no folder")
+    return found
+
+
+def _run(words: Sequence[str], given: str, allowed: Sequence[int], limit: Optional[float]) -> Tuple[str, int, List[str]]:
+    """What a program prints, its status, and the lines that it says beside that."""
+    try:
+        ran = subprocess.run(words, input=given, capture_output=True, encoding="utf-8", errors="replace", timeout=limit, check=False)
+    except subprocess.TimeoutExpired as error:
+        raise SiteError(f"{words[0]} took over {limit} s") from error
+    except OSError as error:
+        raise SiteError(f"{words[0]}: {error.strerror}") from error
+    said = ran.stderr.strip()
+    if ran.returncode not in allowed:
+        raise SiteError(said or f"{words[0]} ended with status {ran.returncode}", ran.returncode)
+    return ran.stdout, ran.returncode, said.splitlines()
+
+
+def _collected(words: Sequence[str], limit: Optional[float]) -> Tuple[List[str], List[str]]:
+    """The answers of all clocks to six GETs, each a line, and what the program says beside them."""
+    printed, _, said = _run([_program("ptpm-manage", "hosts/manage"), *words, "collect"], "", (0,), limit)
+    return printed.split(), said
+
+
+def _shown(lines: Iterable[str], notes: Sequence[str], limits: Sequence[str]) -> Site:
+    """The site of these answers."""
+    kept = tuple(line.strip() for line in lines)
+    words = [_program("ptpm", "ptpm"), "site", "--json", *limits]
+    printed, status, said = _run(words, "".join(f"{line}\n" for line in kept), (0, _FOUND, _NO_CLOCK), None)
+    if status == _NO_CLOCK or not printed:
+        raise SiteError("\n".join(said) or ("no clock answered" if printed else f"{words[0]} printed nothing"), status)
+    try:
+        site = read_site(printed)
+    except ValueError as error:
+        raise SiteError(f"{words[0]} printed no site: {error}", status) from error
+    return dataclasses.replace(site, lines=kept, notes=(*notes, *said))
+
+
+def _looked(words: Sequence[str], limits: Sequence[str], once: bool, limit: Optional[float]) -> Site:
+    """A look at the site, and if something may pass, another: then only what holds twice is left of such findings."""
+    first = _shown(*_collected(words, limit), limits)
+    before = {(finding.domain, finding.clock, finding.name) for finding in first.findings if finding.name in PASSING}
+    if once or not before:
+        return first
+    time.sleep(_BEFORE_SECOND_LOOK)
+    second = _shown(*_collected(words, limit), limits)
+    held = (
+        finding for finding in second.findings
+        if finding.name not in PASSING or (finding.domain, finding.clock, finding.name) in before
+    )
+    return dataclasses.replace(second, findings=tuple(held))
+
+
+def _words(options: Iterable[Tuple[str, Union[str, int, float, None]]]) -> List[str]:
+    """The options that are given, as words of a command line."""
+    return [word for name, value in options if value is not None for word in (name, str(value))]
+
+
+def site(
+    interfaces: Union[str, Sequence[str], None] = None,
+    *,
+    unix: Union[str, "os.PathLike[str]", None] = None,
+    udp: Optional[str] = None,
+    ipv6: bool = False,
+    ethernet: bool = False,
+    lines: Optional[Iterable[str]] = None,
+    domains: Union[int, str] = 0,
+    hops: Optional[int] = None,
+    attempts: Optional[int] = None,
+    timeout: Optional[float] = None,
+    listen: Optional[int] = None,
+    limit: Optional[float] = None,
+    max_offset: Optional[int] = None,
+    max_delay: Optional[int] = None,
+    once: bool = False,
+) -> Site:
+    """Looks at a whole site: asks every clock by `ptpm-manage collect`, and has the answers shown by `ptpm site`.
+
+    The way is one or up to eight `interfaces` (UDP over IPv4, or `ipv6`, or `ethernet`), an address (`udp`), or a socket (`unix`). Or
+    `lines` are answers that were collected before, a datagram in hexadecimal each. `domains` is one, a range such as "0-7", or "all".
+    `timeout` is how many seconds a clock has for an answer, `listen` how many are listened for Announce messages, and `limit` how
+    many a collection may take. An offset or a delay above so many nanoseconds is a finding (`max_offset`, `max_delay`). What is None
+    is the programs'. Like `ptpm-manage status` it looks again after two seconds if a finding may pass, unless `once` is set.
+
+    A SiteError has the program's words; its status is 3 if no clock answered."""
+    limits = _words((("--max-offset", max_offset), ("--max-delay", max_delay)))
+    named = [interfaces] if isinstance(interfaces, str) else list(interfaces or ())
+    ways = [way for way in (*named, unix, udp) if way is not None]
+    if lines is not None:
+        if ways:
+            raise ValueError("lines that were collected before take no way to the clocks")
+        return _shown(lines, (), limits)
+    if not ways:
+        raise ValueError("the way to the clocks is missing: interfaces, udp, unix, or lines that were collected before")
+    words = _words([("--interface", name) for name in named])
+    words += _words((("--unix", None if unix is None else os.fspath(unix)), ("--udp", udp), ("--domain", domains), ("--hops", hops)))
+    words += _words((("--attempts", attempts), ("--timeout", None if timeout is None else round(1000 * timeout)), ("--listen", listen)))
+    words += [word for word, is_set in (("--ipv6", ipv6), ("--ethernet", ethernet)) if is_set]
+    return _looked(words, limits, once, limit)

@@ -1,0 +1,202 @@
+"""A site out of what `ptpm site --json` prints: its clocks as a tree, and what is wrong."""
+
+from __future__ import annotations
+
+import json
+from dataclasses import dataclass, field
+from typing import Any, Dict, Iterator, List, Mapping, Optional, Set, Tuple
+
+from .data_sets import (
+    CurrentDataSet, DefaultDataSet, ParentDataSet, PortDataSet, TimePropertiesDataSet, identity_of, member_of, number_of, read, text_of,
+)
+from .identity import Identity, PortIdentity
+from .settings import PortState
+
+_HEAD = ("domainNumber", "clockIdentity", "finding")
+
+# The values of a finding that are of the member which its `member` names.
+_OF_MEMBER = ("value", "expected", "before", "after")
+
+
+@dataclass(frozen=True)
+class Finding:
+    """What is wrong with a clock: the name of the finding, and its values by their names (docs/ptpm-site.md)."""
+
+    domain: int
+    clock: Identity
+    name: str
+    values: Mapping[str, Any]
+
+    def __str__(self) -> str:
+        return " ".join([f"{self.domain} {self.clock} {self.name}", *(f"{name}={_text(value)}" for name, value in self.values.items())])
+
+
+@dataclass(frozen=True)
+class SiteClock:
+    """A clock in a domain, with what it answered: None, and of its ports none, is what it did not answer. `followers` are the clocks
+    that follow it, by its port, and then by identity."""
+
+    domain: int
+    identity: Identity
+    default: Optional[DefaultDataSet] = None
+    current: Optional[CurrentDataSet] = None
+    parent: Optional[ParentDataSet] = None
+    time_properties: Optional[TimePropertiesDataSet] = None
+    ports: Tuple[PortDataSet, ...] = ()
+    description: Optional[str] = None
+    followers: List[SiteClock] = field(default_factory=list, repr=False, compare=False)
+
+    @property
+    def is_own_grandmaster(self) -> bool:
+        """Whether it names itself as its grandmaster."""
+        return self.parent is not None and self.parent.grandmaster_identity == self.identity
+
+    @property
+    def follows(self) -> Optional[PortIdentity]:
+        """The port that it follows, unless it is its own grandmaster or did not say."""
+        return None if self.parent is None or self.is_own_grandmaster else self.parent.parent_port_identity
+
+    def __str__(self) -> str:
+        said = "-" if self.description is None else json.dumps(self.description)
+        ports = ", ".join(f"{port.port_identity.port} {_text(port.port_state)}" for port in self.ports)
+        return f"{self.identity} {said} {ports}".rstrip()
+
+
+@dataclass(frozen=True)
+class Domain:
+    """A domain: its clocks by identity, and the same as a tree. `roots` are the clocks at its left: those that are their own
+    grandmasters, the least of each loop, and those that did not say whom they follow. `lost` are those that follow a port of a
+    clock that did not answer."""
+
+    number: int
+    clocks: Tuple[SiteClock, ...]
+    roots: Tuple[SiteClock, ...]
+    lost: Mapping[PortIdentity, Tuple[SiteClock, ...]]
+
+    @property
+    def grandmasters(self) -> Tuple[SiteClock, ...]:
+        """The clocks that are their own grandmasters and have a port in MASTER."""
+        return tuple(
+            clock for clock in self.clocks
+            if clock.is_own_grandmaster and any(port.port_state == PortState.MASTER for port in clock.ports)
+        )
+
+    def rows(self) -> Iterator[Tuple[int, SiteClock]]:
+        """Each clock once, below the one that it follows, with the number of those above it. One that follows a port which is not
+        seen has that above it."""
+        stack = [(0, root) for root in self.roots] + [(1, clock) for clocks in self.lost.values() for clock in clocks]
+        stack.reverse()
+        while stack:
+            depth, clock = stack.pop()
+            yield depth, clock
+            stack.extend((depth + 1, follower) for follower in reversed(clock.followers))
+
+    def __str__(self) -> str:
+        head = f"domain {self.number}: {len(self.clocks)} clocks"
+        return "\n".join([head, *(f"{'  ' * (depth + 1)}{clock}" for depth, clock in self.rows())])
+
+
+@dataclass(frozen=True)
+class Site:
+    """A site at a glance. `left_out` is how many clocks and ports are not shown, since there are too many. `lines` are the answers
+    that it was made of, in hexadecimal, and `notes` what the programs said beside it."""
+
+    domains: Tuple[Domain, ...]
+    findings: Tuple[Finding, ...]
+    left_out: Tuple[int, int] = (0, 0)
+    lines: Tuple[str, ...] = field(default=(), repr=False)
+    notes: Tuple[str, ...] = ()
+
+    @property
+    def clocks(self) -> Tuple[SiteClock, ...]:
+        """All clocks, by domain and identity."""
+        return tuple(clock for domain in self.domains for clock in domain.clocks)
+
+    def __str__(self) -> str:
+        head = f"findings: {len(self.findings) or 'none'}"
+        return "\n".join([*map(str, self.domains), "", head, *map(str, self.findings)])
+
+
+def _text(value: object) -> str:
+    """A value as a finding's line has it."""
+    if value is None:
+        return "-"
+    if isinstance(value, PortState):
+        return value.name
+    if isinstance(value, bool):
+        return str(value).lower()
+    return ",".join(map(_text, value)) if isinstance(value, tuple) else str(value)
+
+
+def _value(told: Mapping[str, Any], name: str) -> Any:
+    if name == "clocks":
+        return tuple(map(identity_of, told[name]))
+    if isinstance(told[name], list):
+        return tuple(tuple(part) if isinstance(part, list) else part for part in told[name])
+    return member_of(told["member"] if name in _OF_MEMBER else name, told[name])
+
+
+def _finding(told: Mapping[str, Any]) -> Finding:
+    values = {name: _value(told, name) for name in told if name not in _HEAD}
+    return Finding(number_of(told["domainNumber"]), identity_of(told["clockIdentity"]), text_of(told["finding"]), values)
+
+
+def _clock(domain: int, told: Mapping[str, Any]) -> SiteClock:
+    def answered(named: str, kind: Any) -> Any:
+        return read(kind, told[named]) if named in told else None
+
+    description = told.get("USER_DESCRIPTION")
+    return SiteClock(
+        domain, identity_of(told["clockIdentity"]), answered("DEFAULT_DATA_SET", DefaultDataSet),
+        answered("CURRENT_DATA_SET", CurrentDataSet), answered("PARENT_DATA_SET", ParentDataSet),
+        answered("TIME_PROPERTIES_DATA_SET", TimePropertiesDataSet),
+        tuple(read(PortDataSet, port) for port in told["PORT_DATA_SET"]),
+        None if description is None else text_of(description["userDescription"]),
+    )
+
+
+def _loops(parents: Mapping[Identity, Identity]) -> List[Identity]:
+    """The least clock of each circle of clocks that follow each other, in ascending order."""
+    least: List[Identity] = []
+    done: Set[Identity] = set()
+    for first in sorted(parents):
+        walked: Dict[Identity, None] = {}
+        clock: Optional[Identity] = first
+        while clock is not None and clock not in done and clock not in walked:
+            walked[clock] = None
+            clock = parents.get(clock)
+        if clock is not None and clock in walked:
+            circle = list(walked)
+            least.append(min(circle[circle.index(clock) :]))
+        done.update(walked)
+    return sorted(least)
+
+
+def _domain(told: Mapping[str, Any]) -> Domain:
+    number = number_of(told["domainNumber"])
+    clocks = sorted((_clock(number, clock) for clock in told["clocks"]), key=lambda clock: clock.identity)
+    seen = {clock.identity: clock for clock in clocks}
+    follows = {clock.identity: clock.follows for clock in clocks}
+    parents = {clock: port.clock for clock, port in follows.items() if port is not None and port.clock in seen}
+    loops = _loops(parents)
+    lost: Dict[PortIdentity, List[SiteClock]] = {}
+    for identity, port in sorted((entry for entry in follows.items() if entry[1] is not None), key=lambda entry: (entry[1], entry[0])):
+        if port is not None and identity not in loops:
+            (seen[port.clock].followers if port.clock in seen else lost.setdefault(port, [])).append(seen[identity])
+    own = [clock for clock in clocks if clock.is_own_grandmaster]
+    silent = [clock for clock in clocks if clock.parent is None]
+    roots = (*own, *(seen[identity] for identity in loops), *silent)
+    return Domain(number, tuple(clocks), roots, {port: tuple(clocks) for port, clocks in lost.items()})
+
+
+def read_site(text: str) -> Site:
+    """The site of an object that `ptpm site --json` printed; a ValueError if it is of another form."""
+    try:
+        told = json.loads(text)
+        left_out = told["leftOut"]
+        return Site(
+            tuple(map(_domain, told["domains"])), tuple(map(_finding, told["findings"])),
+            (number_of(left_out["clocks"]), number_of(left_out["ports"])),
+        )
+    except (KeyError, TypeError, AttributeError) as error:
+        raise ValueError(f"it lacks or has another form of {error}") from error

@@ -1,0 +1,162 @@
+"""What the binding makes of a site: over the recorded sites of the repository, and over programs that are in the way. It takes the program
+ptpm of the repository."""
+
+from __future__ import annotations
+
+import os
+import subprocess
+import sys
+import unittest
+from decimal import Decimal
+from pathlib import Path
+from typing import Any, Dict, Iterator, List, Optional, Set, Tuple
+from unittest import mock
+
+import ptpm
+
+from . import TOP, Folder
+
+SITES = TOP / "crates/ptpm_site_report/data"
+Found = Set[Tuple[str, ...]]
+
+
+def setUpModule() -> None:
+    """The first call of a fresh checkout puts the program together, and says so."""
+    subprocess.run([str(TOP / "ptpm"), "--version"], capture_output=True, check=True)
+
+
+def recorded() -> Iterator[Tuple[str, Dict[str, Any], Found]]:
+    """Of each recorded site its name, its limits, and its findings by domain, name and clock."""
+    for paragraph in (SITES / "sites.txt").read_text(encoding="utf-8").split("\n\n"):
+        rows = [line for line in paragraph.splitlines() if not line.startswith("#")]
+        if not rows:
+            continue
+        options = [word for line in rows[2:] if line.startswith("options ") for word in line.split()[1:]]
+        limits = {name[2:].replace("-", "_"): int(limit) for name, limit in zip(options[::2], options[1::2])}
+        yield rows[0], limits, {tuple(line.split()) for line in rows[2:] if not line.startswith("options ")}
+
+
+def lines(name: str) -> List[str]:
+    return (SITES / f"sites/{name}.lines").read_text(encoding="ascii").splitlines()
+
+
+def rows_of_text(name: str) -> List[Tuple[int, str]]:
+    """The clocks of the tree that ptpm prints, each with the number of rows above it up to its root."""
+    words = [str(TOP / "ptpm"), "site"]
+    printed = subprocess.run(words, input="\n".join(lines(name)) + "\n", capture_output=True, text=True, check=False).stdout
+    tree = printed[: printed.index("findings:")].splitlines()
+    clocks = [line for line in tree if line.startswith("  ") and not line.startswith("  not seen:")]
+    return [((len(line) - len(line.lstrip())) // 2 - 1, line.split()[0]) for line in clocks]
+
+
+class Recorded(unittest.TestCase):
+    def test_findings_and_trees(self) -> None:
+        for name, limits, wanted in recorded():
+            with self.subTest(name):
+                site = ptpm.site(lines=lines(name), **limits)
+                self.assertEqual({(str(found.domain), found.name, str(found.clock)) for found in site.findings}, wanted)
+                tree = [(depth, str(clock.identity)) for domain in site.domains for depth, clock in domain.rows()]
+                self.assertEqual(tree, rows_of_text(name))
+
+    def test_members(self) -> None:
+        [domain] = ptpm.site(lines=lines("a_changing")).domains
+        self.assertEqual([str(clock.identity) for clock in domain.grandmasters], ["0200a1fffe000201"])
+        clock = domain.roots[0].followers[0]
+        assert clock.current is not None and clock.parent is not None and clock.default is not None
+        self.assertEqual((clock.description, clock.default.number_ports), ("bc2;rack 161", 2))
+        # 278069248 of 2^-16 ns
+        self.assertEqual((clock.current.steps_removed, clock.current.offset_from_master), (2, Decimal("4243")))
+        self.assertEqual(clock.parent.parent_port_identity, ptpm.PortIdentity.of("0200a1fffe000201/2"))
+        self.assertEqual(clock.parent.grandmaster_clock_quality, ptpm.ClockQuality(6, 0xFE, 0xFFFF))
+        self.assertEqual([port.port_state for port in clock.ports], [ptpm.PortState.SLAVE, ptpm.PortState.MASTER])
+        self.assertEqual(list(map(str, domain.lost)), ["0200a1fffe000101/1"])
+
+    def test_values_of_findings(self) -> None:
+        found = {(found.name, str(found.clock)): found for found in ptpm.site(lines=lines("g_loop")).findings}
+        differs = found["grandmaster_differs", "020091fffe000901"].values
+        self.assertEqual((differs["value"], differs["expected"]), (ptpm.ClockQuality(6, 254, 65535), ptpm.ClockQuality(248, 254, 65535)))
+        loop = found["loop", "020091fffe000d01"]
+        self.assertEqual(loop.values, {"clocks": (ptpm.Identity.of("020091fffe000d01"), ptpm.Identity.of("020091fffe000e01"))})
+        self.assertEqual(str(loop), "0 020091fffe000d01 loop clocks=020091fffe000d01,020091fffe000e01")
+        absent = found["parent_not_master", "020091fffe000801"].values
+        self.assertEqual(absent, {"parentPortIdentity": ptpm.PortIdentity.of("020091fffe000101/7"), "portState": None})
+
+    def test_the_command_line(self) -> None:
+        for name, status in (("a_chain", 0), ("b_two", 1)):
+            words = [sys.executable, "-m", "ptpm", "site", "--lines", str(SITES / f"sites/{name}.lines")]
+            ran = subprocess.run(words, capture_output=True, text=True, check=False)
+            self.assertEqual((ran.stdout.split("\n")[0], ran.stderr), (str(ptpm.site(lines=lines(name))).split("\n")[0], ""))
+            self.assertEqual(ran.returncode, status)
+
+
+class Programs(Folder):
+    """Programs in a folder that PTPM_PROGRAMS names."""
+
+    def setUp(self) -> None:
+        super().setUp()
+        self.patched(mock.patch.dict(os.environ, PTPM_PROGRAMS=self.folder))
+        self.patched(mock.patch.object(sys.modules["ptpm.site"], "_BEFORE_SECOND_LOOK", 0))
+        self.write("ptpm", f'exec {TOP}/ptpm "$@"')
+
+    def patched(self, patch: Any) -> None:
+        patch.start()
+        self.addCleanup(patch.stop)
+
+    def write(self, name: str, script: str) -> None:
+        path = Path(self.folder, name)
+        path.write_text(f"#!/bin/sh\n{script}\n", encoding="utf-8")
+        path.chmod(0o755)
+
+    def collects(self, *names: str) -> None:
+        """ptpm-manage prints these recorded sites, one after the other, and notes its words."""
+        for place, name in enumerate(names):
+            os.symlink(SITES / f"sites/{name}.lines", f"{self.folder}/{place}")
+        self.write("ptpm-manage", f'cd {self.folder}; echo "$*" >> words; cat $(($(wc -l < words) - 1)); echo noted >&2')
+
+    def refused(self, what: str, status: Optional[int], **words: Any) -> None:
+        with self.assertRaises(ptpm.SiteError) as caught:
+            ptpm.site(**words)
+        self.assertRegex(str(caught.exception), what)
+        self.assertEqual(caught.exception.status, status)
+
+    def test_what_is_asked(self) -> None:
+        self.collects("a_chain")
+        site = ptpm.site(
+            ["eth0", "eth1"], domains="all", hops=3, attempts=5, timeout=0.25, listen=2, ipv6=True, limit=20
+        )
+        self.assertEqual((list(site.lines), site.notes, site.findings), (lines("a_chain"), ("noted",), ()))
+        told = Path(self.folder, "words").read_text(encoding="ascii")
+        options = "--domain all --hops 3 --attempts 5 --timeout 250 --listen 2 --ipv6"
+        self.assertEqual(told, f"--interface eth0 --interface eth1 {options} collect\n")
+
+    def test_a_second_look(self) -> None:
+        self.collects("a_changing", "a_chain", "a_chain", "a_changing", "a_changing", "b_lonely")
+        self.assertEqual(ptpm.site("eth0").findings, ())
+        self.assertEqual(ptpm.site("eth0").findings, ())
+        self.assertEqual(len(ptpm.site("eth0", once=True).findings), 11)
+        # what comes with the second look has not held twice
+        self.assertEqual(ptpm.site("eth0").findings, ())
+
+    def test_what_does_not_pass_needs_no_second_look(self) -> None:
+        self.collects("d_falls")
+        self.assertEqual([found.name for found in ptpm.site(unix="/run/ptp4l").findings], ["port_state", "changed"])
+
+    def test_refusals(self) -> None:
+        self.refused("BadLine 1 BadHex", 1, lines=["zz"])
+        self.refused("no clock answered", 3, lines=[])
+        self.refused(f"{self.folder}/ptpm-manage: No such file", None, unix="/run/ptp4l")
+        self.write("ptpm-manage", "echo ptpm-manage: no answer >&2; exit 3")
+        self.refused("^ptpm-manage: no answer$", 3, unix="/run/ptp4l")
+        self.write("ptpm-manage", "exec sleep 60")
+        self.refused("took over 0.2 s", None, unix="/run/ptp4l", limit=0.2)
+        for printed in ("", "[]", "{}", '{"domains":[{}],"findings":[],"leftOut":{"clocks":0,"ports":0}}'):
+            self.write("ptpm", f"echo '{printed}'")
+            self.refused("printed no site", 0, lines=lines("a_chain"))
+        self.write("ptpm", "echo broken >&2; exit 1")
+        self.refused("^broken$", 1, lines=[])
+        self.assertRaises(ValueError, ptpm.site)
+        self.assertRaises(ValueError, ptpm.site, "eth0", lines=[])
+
+
+if __name__ == "__main__":
+    unittest.main()

@@ -1,0 +1,74 @@
+//! Where the agent keeps its clock across a loss of power: a file that is replaced whole, and which one process has at a time.
+
+use ptpm::{Clock, Error, CLOCK_IMAGE_OCTETS};
+use std::ffi::{c_int, OsString};
+use std::fs::{self, File, OpenOptions};
+use std::io::{self, ErrorKind, Write};
+use std::os::fd::AsRawFd;
+use std::path::{Path, PathBuf};
+
+// Of Linux.
+const LOCK_EX: c_int = 2;
+const LOCK_NB: c_int = 4;
+
+extern "C" {
+    fn flock(file: c_int, operation: c_int) -> c_int;
+}
+
+/// The file of a clock's image.
+pub struct Store {
+    path: PathBuf,
+    folder: File,
+    room: Box<[u8; CLOCK_IMAGE_OCTETS]>,
+    /// Locked as long as it is open.
+    _lock: File,
+}
+
+/// The path of a file beside this one, with more at the end of its name.
+fn beside(path: &Path, more: &str) -> PathBuf {
+    let mut name = OsString::from(path);
+    name.push(more);
+    name.into()
+}
+
+fn locked(path: &Path) -> io::Result<File> {
+    let lock = OpenOptions::new().create(true).truncate(false).write(true).open(beside(path, ".lock"))?;
+    // SAFETY: the file is open.
+    if unsafe { flock(lock.as_raw_fd(), LOCK_EX | LOCK_NB) } != 0 {
+        return Err(io::Error::last_os_error());
+    }
+    Ok(lock)
+}
+
+impl Store {
+    /// The file at a path, which no other process may have until this one ends. It need not be there yet.
+    pub fn open(path: &Path) -> io::Result<Self> {
+        let lock = locked(path)?;
+        let folder = match path.parent() {
+            Some(folder) if !folder.as_os_str().is_empty() => File::open(folder)?,
+            _ => File::open(".")?,
+        };
+        Ok(Self { path: path.into(), folder, room: Box::new([0; CLOCK_IMAGE_OCTETS]), _lock: lock })
+    }
+
+    /// The image that was saved last, or none if there never was one.
+    pub fn load(&self) -> io::Result<Option<Vec<u8>>> {
+        match fs::read(&self.path) {
+            Ok(image) => Ok(Some(image)),
+            Err(error) if error.kind() == ErrorKind::NotFound => Ok(None),
+            Err(error) => Err(error),
+        }
+    }
+
+    /// Saves the clock. Once this has returned its file has it, whatever happens to the power; before, it has this clock or the one
+    /// before. After an error it may have either.
+    pub fn save(&mut self, clock: &Clock) -> io::Result<()> {
+        let image = clock.image(&mut self.room).map_err(|error: Error| io::Error::other(error.to_string()))?;
+        let new = beside(&self.path, ".new");
+        let mut file = File::create(&new)?;
+        file.write_all(image)?;
+        file.sync_all()?;
+        fs::rename(&new, &self.path)?;
+        self.folder.sync_all()
+    }
+}

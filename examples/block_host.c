@@ -1,0 +1,87 @@
+/* An agent with a port at each of two interfaces (UDP over IPv4, annex C), for a device without malloc: its clock lives in a static
+   block. What a manager changes is not acted on here, and nothing is kept across a restart. It is C, and C++ too:
+       cc block_host.c -Wl,-Bstatic -lptpm_memory -Wl,-Bdynamic && sudo ./a.out eth0 eth1 */
+#define _DEFAULT_SOURCE
+#include <arpa/inet.h>
+#include <net/if.h>
+#include <poll.h>
+#include <ptpm.h>
+#include <ptpm_memory.h>
+#include <string.h>
+#include <sys/socket.h>
+#include <unistd.h>
+
+enum { PORTS = 2 };
+
+static const uint8_t identity[8] = { 0xaa, 0xbb, 0xcc, 0xff, 0xfe, 0xdd, 0xee, 0x01 };
+static const struct ptpm_manager_settings manager = {
+    { 0x02, 0x00, 0x00, 0xff, 0xfe, 0x00, 0x00, 0x10 }, 1, PTPM_CLOCK_SET | PTPM_PORT_SET | PTPM_PORT_COMMAND
+};
+static __attribute__((aligned(16))) unsigned char block[PTPM_CLOCK_MEMORY];
+static struct ptpm_clock device;                /* all zeros: no clock is held yet */
+static struct ptpm_sent sent[PTPM_MOST_SENT];
+static uint8_t datagram[65536];
+static struct sockaddr_in group;
+static struct pollfd sockets[PORTS];
+
+/* Says why the agent does not start, by the name of the library's answer. */
+static int refused(enum ptpm_started answer) {
+    char name[PTPM_MOST_NAME + 1];
+    size_t size = ptpm_answer_name(answer, name, PTPM_MOST_NAME);
+    name[size++] = '\n';
+    return write(2, name, size) < 0 ? 2 : 1;
+}
+
+static int open_port(const char *interface) {
+    const int none = 0;
+    struct sockaddr_in any = group;
+    struct ip_mreqn join;
+    int at = socket(AF_INET, SOCK_DGRAM, 0);
+    any.sin_addr.s_addr = htonl(INADDR_ANY);
+    memset(&join, 0, sizeof join);
+    join.imr_multiaddr = group.sin_addr;
+    join.imr_ifindex = (int)if_nametoindex(interface);
+    return at >= 0 && setsockopt(at, SOL_SOCKET, SO_BINDTODEVICE, interface, (socklen_t)strlen(interface) + 1) == 0
+           && bind(at, (const struct sockaddr *)&any, sizeof any) == 0
+           && setsockopt(at, IPPROTO_IP, IP_ADD_MEMBERSHIP, &join, sizeof join) == 0
+           && setsockopt(at, IPPROTO_IP, IP_MULTICAST_IF, &join, sizeof join) == 0
+           && setsockopt(at, IPPROTO_IP, IP_MULTICAST_LOOP, &none, sizeof none) == 0 ? at : -1;
+}
+
+/* The block is given before the first call that takes memory. */
+static enum ptpm_started start(void) {
+    struct ptpm_clock_settings settings;
+    struct ptpm_port_settings ports[PORTS];
+    if (!ptpm_memory_give(block, sizeof block)) return PTPM_START_NO_MEMORY;
+    ptpm_clock_defaults(&settings);
+    memcpy(settings.identity, identity, sizeof identity);
+    for (int i = 0; i < PORTS; i++) ptpm_port_defaults(&ports[i]);
+    return ptpm_clock_start(&device, &settings, ports, PORTS, &manager, 1);
+}
+
+static void come_in(int port) {
+    size_t count;
+    ssize_t size = recv(sockets[port - 1].fd, datagram, sizeof datagram, MSG_DONTWAIT);
+    if (size < 0) return;
+    ptpm_clock_handle(&device, (uint16_t)port, datagram, (size_t)size, sent, PTPM_MOST_SENT, &count);
+    for (size_t i = 0; i < count; i++)
+        sendto(sockets[sent[i].port - 1].fd, sent[i].octets, sent[i].size, MSG_DONTWAIT, (const struct sockaddr *)&group, sizeof group);
+}
+
+int main(int count_of_words, char **words) {
+    enum ptpm_started answer = start();
+    if (answer != PTPM_STARTED) return refused(answer);
+    if (count_of_words != PORTS + 1) return 2;
+    group.sin_family = AF_INET;
+    group.sin_port = htons(320);
+    group.sin_addr.s_addr = inet_addr("224.0.1.129");
+    for (int i = 0; i < PORTS; i++) {
+        sockets[i].fd = open_port(words[i + 1]);
+        sockets[i].events = POLLIN;
+        if (sockets[i].fd < 0) return 1;
+    }
+    while (poll(sockets, PORTS, -1) > 0)
+        for (int i = 0; i < PORTS; i++)
+            if (sockets[i].revents != 0) come_in(i + 1);
+    return 1;
+}
