@@ -80,7 +80,7 @@ class Scene:
     """One network after another, with the programs that run in it."""
 
     def __init__(self, home):
-        self.home, self.clocks, self.running, self.place = home, None, [], "manager"
+        self.home, self.clocks, self.running, self.programs, self.place = home, None, [], [], "manager"
         self.environment = {**os.environ, "PATH": f"/usr/local/bin:{os.environ['PATH']}:/usr/sbin:/sbin", "LC_ALL": "C.UTF-8", "HOME": "/run",
                             "CARGO_HOME": os.environ.get("CARGO_HOME", os.path.expanduser("~/.cargo")),
                             "RUSTUP_HOME": os.environ.get("RUSTUP_HOME", os.path.expanduser("~/.rustup"))}
@@ -93,14 +93,24 @@ class Scene:
         self.running.append(process)
         return process, said
 
+    def start_program(self, host, text):
+        """The program of a page, in place of the one before."""
+        self.stop(self.programs)
+        started = self.start(host, text)
+        self.programs = [started[0]]
+        return started
+
+    def stop(self, processes):
+        for process in processes:
+            shell(f"kill -- -{process.pid}")
+        for process in processes:
+            process.wait()
+
     def end(self):
         """Ends what runs, so that the next page finds none of it."""
-        for process in self.running:
-            shell(f"kill -- -{process.pid}")
-        for process in self.running:
-            process.wait()
+        self.stop(self.running)
         shell("rm -rf /var/lib/ptpm /run/ptp4l*")
-        self.clocks, self.running = None, []
+        self.clocks, self.running, self.programs = None, [], []
 
     def show(self, page, is_site):
         """The network for a command of a page: the site of four clocks, or the neighbour and the page's agents."""
