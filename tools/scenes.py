@@ -50,15 +50,15 @@ def enter(script, arguments):
 
 def cover(home):
     """Covers each folder that commands write to; whether that is done."""
-    above = tempfile.mkdtemp()
-    shell(f"mount -t tmpfs none {above}")
+    if shell("mount -t tmpfs none /run && mkdir /run/netns && ip link set lo up").returncode != 0:
+        return False
     for place, folder in enumerate([*COVERED, home]):
         for part in ("new", "work"):
-            os.makedirs(f"{above}/{place}/{part}")
-        options = f"lowerdir={folder},upperdir={above}/{place}/new,workdir={above}/{place}/work"
+            os.makedirs(f"/run/above/{place}/{part}")
+        options = f"lowerdir={folder},upperdir=/run/above/{place}/new,workdir=/run/above/{place}/work"
         if shell(f"mount -t overlay overlay -o {options} {folder}").returncode != 0:
             return False
-    return shell("mount -t tmpfs none /run && mkdir /run/netns && ip link set lo up").returncode == 0
+    return True
 
 
 def connect():
