@@ -81,7 +81,7 @@ class Scene:
 
     def __init__(self, home):
         self.home, self.clocks, self.running, self.programs, self.place = home, None, [], [], "manager"
-        self.environment = {**os.environ, "PATH": f"/usr/local/bin:{os.environ['PATH']}:/usr/sbin:/sbin", "LC_ALL": "C.UTF-8", "HOME": "/run",
+        self.environment = {**os.environ, "PATH": f"{home}/out/commands/bin:/usr/local/bin:{os.environ['PATH']}:/usr/sbin:/sbin", "LC_ALL": "C.UTF-8", "HOME": "/run",
                             "CARGO_HOME": os.environ.get("CARGO_HOME", os.path.expanduser("~/.cargo")),
                             "RUSTUP_HOME": os.environ.get("RUSTUP_HOME", os.path.expanduser("~/.rustup"))}
 
