@@ -12,8 +12,9 @@ import time
 COVERED = ["/usr/local", "/etc", "/var/lib"]
 
 # In all networks: a bridge for each segment, and hosts, each with its MACs, one for each segment that it is in.
-HOSTS = {"manager": {0: "02:00:00:00:00:10"}, "neighbour": {0: "02:00:00:00:00:20"}, "device": {0: "02:00:00:00:00:30", 1: "02:00:00:00:00:31"},
-         "visitor": {0: "02:00:00:00:00:01"}, "receiver": {0: "02:00:00:00:00:50"}, "hall": {0: "02:00:00:00:00:51", 1: "02:00:00:00:00:52"},
+HOSTS = {"manager": {0: "02:00:00:00:00:10"}, "neighbour": {0: "02:00:00:00:00:20"},
+         "device": {0: "02:00:00:00:00:30", 1: "02:00:00:00:00:31"}, "visitor": {0: "02:00:00:00:00:01"},
+         "receiver": {0: "02:00:00:00:00:50"}, "hall": {0: "02:00:00:00:00:51", 1: "02:00:00:00:00:52"},
          "left": {1: "02:00:00:00:00:53"}, "right": {1: "02:00:00:00:00:54"}}
 
 # A ptp4l that moves no clock of the machine, and that announces itself at once.
@@ -26,18 +27,22 @@ clockIdentity {identity}
 userDescription {name}
 priority1 {priority}
 """
-SITE = [("receiver", ["eth0"], "020000.fffe.000010", "GPS receiver", 100), ("hall", ["eth0", "eth1"], "020000.fffe.000021", "switch, hall 2", 120),
+SITE = [("receiver", ["eth0"], "020000.fffe.000010", "GPS receiver", 100),
+        ("hall", ["eth0", "eth1"], "020000.fffe.000021", "switch, hall 2", 120),
         ("left", ["eth0"], "020000.fffe.000031", "camera 7", 128), ("right", ["eth0"], "020000.fffe.000032", "camera 8", 128)]
 NEIGHBOUR = [("neighbour", ["eth0"], "020000.fffe.000020", "", 128)]
 
 # The clocks of a page that begins none itself: at the device, with the manager.
 AGENT = "ptpm-clock -m 020000fffe000010/1"
-AGENTS = {"docs/ptpm-manage.md": [f"{AGENT} aabbccfffeddee01 eth0 eth1", f"{AGENT} -d 4 aabbccfffeddee01 eth0", f"{AGENT} -2 aabbccfffeddee01 eth0"],
+AGENTS = {"docs/ptpm-manage.md": [f"{AGENT} aabbccfffeddee01 eth0 eth1", f"{AGENT} -d 4 aabbccfffeddee01 eth0",
+                                  f"{AGENT} -2 aabbccfffeddee01 eth0"],
           "docs/bindings.md": [f"{AGENT} aabbccfffeddee01 eth0"]}
 
 
-def shell(text, **words):
-    return subprocess.run(["sh", "-c", text], stdout=subprocess.PIPE, stderr=subprocess.STDOUT, text=True, check=False, **words)
+def shell(text, host=None, **words):
+    """Runs a text of the shell, in the network of a host if one is named."""
+    there = ["ip", "netns", "exec", host] if host else []
+    return subprocess.run([*there, "sh", "-c", text], stdout=subprocess.PIPE, stderr=subprocess.STDOUT, text=True, check=False, **words)
 
 
 def enter(script, arguments):
@@ -67,11 +72,13 @@ def connect():
     for segment in (0, 1):
         lines.append(f"ip link add segment{segment} type bridge mcast_snooping 0 && ip link set segment{segment} up")
     for number, (host, places) in enumerate(HOSTS.items(), 1):
-        lines.append(f"ip netns add {host} && ip -n {host} link set lo up && ip netns exec {host} sysctl -qw net.ipv6.conf.default.accept_dad=0")
+        lines += [f"ip netns add {host} && ip -n {host} link set lo up",
+                  f"ip netns exec {host} sysctl -qw net.ipv6.conf.default.accept_dad=0"]
         for place, (segment, mac) in enumerate(places.items()):
-            lines.append(f"ip link add {host}{place} type veth peer name eth{place} netns {host} && ip -n {host} link set eth{place} address {mac}"
-                         f" && ip link set {host}{place} master segment{segment} up && ip -n {host} link set eth{place} up"
-                         f" && ip -n {host} addr add 10.0.{segment}.{number}/24 dev eth{place}")
+            lines += [f"ip link add {host}{place} type veth peer name eth{place} netns {host}",
+                      f"ip link set {host}{place} master segment{segment} up",
+                      f"ip -n {host} link set eth{place} address {mac} up",
+                      f"ip -n {host} addr add 10.0.{segment}.{number}/24 dev eth{place}"]
     done = shell("\n".join(lines))
     return done.returncode == 0 or sys.exit(f"tools/commands: no network: {done.stdout}")
 
@@ -81,15 +88,16 @@ class Scene:
 
     def __init__(self, home):
         self.home, self.clocks, self.running, self.programs, self.place = home, None, [], [], "manager"
-        self.environment = {**os.environ, "PATH": f"{home}/out/commands/bin:/usr/local/bin:{os.environ['PATH']}:/usr/sbin:/sbin", "LC_ALL": "C.UTF-8", "HOME": "/run",
+        path = f"{home}/out/commands/bin:/usr/local/bin:{os.environ['PATH']}:/usr/sbin:/sbin"
+        self.environment = {**os.environ, "PATH": path, "LC_ALL": "C.UTF-8", "HOME": "/run",
                             "CARGO_HOME": os.environ.get("CARGO_HOME", os.path.expanduser("~/.cargo")),
                             "RUSTUP_HOME": os.environ.get("RUSTUP_HOME", os.path.expanduser("~/.rustup"))}
 
     def start(self, host, text):
         """A program that goes on, and the file of what it prints."""
         said = tempfile.TemporaryFile("w+")
-        process = subprocess.Popen(["ip", "netns", "exec", host, "sh", "-c", f"exec {text}" if " && " not in text else text], cwd=self.home,
-                                   env=self.environment, stdout=said, stderr=subprocess.STDOUT, stdin=subprocess.DEVNULL, start_new_session=True)
+        process = subprocess.Popen(["ip", "netns", "exec", host, "sh", "-c", text], cwd=self.home, env=self.environment, stdout=said,
+                                   stderr=subprocess.STDOUT, stdin=subprocess.DEVNULL, start_new_session=True)
         self.running.append(process)
         return process, said
 
@@ -135,8 +143,7 @@ class Scene:
             printed = self.run("ptpm-manage -i eth0 status --once").stdout
 
     def run(self, text):
-        return subprocess.run(["ip", "netns", "exec", self.place, "sh", "-c", text], cwd=self.home, env=self.environment, stdout=subprocess.PIPE,
-                              stderr=subprocess.STDOUT, stdin=subprocess.DEVNULL, text=True, timeout=300, check=False)
+        return shell(text, host=self.place, cwd=self.home, env=self.environment, stdin=subprocess.DEVNULL, timeout=300)
 
     def leave_pending(self, text):
         """Ends a run of `set PRIORITY1 100` before its answer, so that the next run finds its request."""
