@@ -243,6 +243,7 @@ static int end_of_collection(const struct task *task, const struct domains *doma
     if (stopped) return BY_SIGNAL + stopped;
     if (seen_count() > 0) return ANSWERED;
     complain("no answer at %s in %s to %ld message%s", way_name(), domains_text(domains), sent, sent == 1 ? "" : "s");
+    if (!task->site.is_every_domain) complain("--domain all asks in each domain in which a clock is heard");
     return NOT_ANSWERED;
 }
 

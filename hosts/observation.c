@@ -158,10 +158,10 @@ static int has_whole_grandmaster(struct observation *observation) {
     if (observation->grandmaster == 0) return 1;
     for (int k = 0; members_of_grandmaster[k].name != NULL; k++) {
         if ((observation->grandmaster >> k & 1) == 0) {
-            return wrong("a grandmaster is told whole: %s is missing", members_of_grandmaster[k].name);
+            return wrong("a grandmaster is given whole: %s is missing", members_of_grandmaster[k].name);
         }
     }
-    if (observation->clock.is_grandmaster) return wrong("is_grandmaster stands beside the members of another grandmaster");
+    if (observation->clock.is_grandmaster) return wrong("is_grandmaster excludes the members of another grandmaster");
     observation->clock.has_grandmaster = 1;
     return 1;
 }

@@ -174,7 +174,7 @@ static void judge(const struct options *options, int has_two_ways) {
     if (options->interface_count == 0 && options->meeting.path == NULL) {
         refuse("an interface is missing, or a Unix socket: -u PATH");
     }
-    if (has_two_ways) refuse("-2 and -6 do not stand together");
+    if (has_two_ways) refuse("-2 and -6 exclude each other");
     refuse_twice(options->interfaces, options->interface_count);
 }
 

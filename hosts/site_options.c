@@ -52,8 +52,8 @@ void read_domains(struct site_options *options, const char *text) {
 }
 
 void judge_site_options(const struct site_options *options) {
-    if (options->given != NULL && !options->is_shown) refuse("%s: it stands with status", options->given);
-    if (options->listen >= 0 && !options->is_every_domain) refuse("--listen: it stands with --domain all of collect and status");
-    if (options->is_drawn && options->is_json) refuse("--draw and --json do not stand together");
-    if (options->is_drawn && options->watch > 0) refuse("--draw and --watch do not stand together");
+    if (options->given != NULL && !options->is_shown) refuse("%s: it is of status alone", options->given);
+    if (options->listen >= 0 && !options->is_every_domain) refuse("--listen: it is of --domain all of collect and status");
+    if (options->is_drawn && options->is_json) refuse("--draw and --json exclude each other");
+    if (options->is_drawn && options->watch > 0) refuse("--draw and --watch exclude each other");
 }

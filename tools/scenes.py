@@ -1,0 +1,166 @@
+"""The networks in which tools/commands runs the commands of the documents: of network namespaces, over a file system of its own.
+
+Nothing that is done in them leaves a trace on the machine. The folders that an installation writes to, and the repository itself,
+are covered by an overlay, and the processes end with the scene."""
+import os
+import subprocess
+import sys
+import tempfile
+import time
+
+# Folders that commands write to. What they write is in memory, and seen by these commands alone.
+COVERED = ["/usr/local", "/etc", "/var/lib"]
+
+# In all networks: a bridge for each segment, and hosts, each with its MACs, one for each segment that it is in.
+HOSTS = {"manager": {0: "02:00:00:00:00:10"}, "neighbour": {0: "02:00:00:00:00:20"},
+         "device": {0: "02:00:00:00:00:30", 1: "02:00:00:00:00:31"}, "visitor": {0: "02:00:00:00:00:01"},
+         "receiver": {0: "02:00:00:00:00:50"}, "hall": {0: "02:00:00:00:00:51", 1: "02:00:00:00:00:52"},
+         "left": {1: "02:00:00:00:00:53"}, "right": {1: "02:00:00:00:00:54"}}
+
+# A ptp4l that moves no clock of the machine, and that announces itself at once.
+PTP4L = """[global]
+free_running 1
+time_stamping software
+logAnnounceInterval -3
+uds_address {socket}
+clockIdentity {identity}
+userDescription {name}
+priority1 {priority}
+"""
+SITE = [("receiver", ["eth0"], "020000.fffe.000010", "GPS receiver", 100),
+        ("hall", ["eth0", "eth1"], "020000.fffe.000021", "switch, hall 2", 120),
+        ("left", ["eth0"], "020000.fffe.000031", "camera 7", 128), ("right", ["eth0"], "020000.fffe.000032", "camera 8", 128)]
+NEIGHBOUR = [("neighbour", ["eth0"], "020000.fffe.000020", "", 128)]
+
+# The clocks of a page that begins none itself: at the device, with the manager.
+AGENT = "ptpm-clock -m 020000fffe000010/1"
+AGENTS = {"docs/ptpm-manage.md": [f"{AGENT} aabbccfffeddee01 eth0 eth1", f"{AGENT} -d 4 aabbccfffeddee01 eth0",
+                                  f"{AGENT} -2 aabbccfffeddee01 eth0"],
+          "docs/bindings.md": [f"{AGENT} aabbccfffeddee01 eth0"]}
+
+
+def shell(text, host=None, **words):
+    """Runs a text of the shell, in the network of a host if one is named."""
+    there = ["ip", "netns", "exec", host] if host else []
+    return subprocess.run([*there, "sh", "-c", text], stdout=subprocess.PIPE, stderr=subprocess.STDOUT, text=True, check=False, **words)
+
+
+def enter(script, arguments):
+    """Goes on as a process whose mounts, network and processes are its own, if this one may make such; returns if it may not."""
+    new = ["unshare", "--mount", "--net", "--pid", "--fork", "--kill-child", "--mount-proc"]
+    if os.geteuid() != 0 or shell(" ".join(new) + " true").returncode != 0:
+        return
+    os.execvp(new[0], new + [sys.executable, script, "--inside", *arguments])
+
+
+def cover(home):
+    """Covers each folder that commands write to; whether that is done."""
+    if shell("mount -t tmpfs none /run && mkdir /run/netns && ip link set lo up").returncode != 0:
+        return False
+    for place, folder in enumerate([*COVERED, home]):
+        for part in ("new", "work"):
+            os.makedirs(f"/run/above/{place}/{part}")
+        options = f"lowerdir={folder},upperdir=/run/above/{place}/new,workdir=/run/above/{place}/work"
+        if shell(f"mount -t overlay overlay -o {options} {folder}").returncode != 0:
+            return False
+    return True
+
+
+def connect():
+    """The segments, and the hosts in them, as HOSTS has them."""
+    lines = ["set -e"]
+    for segment in (0, 1):
+        lines.append(f"ip link add segment{segment} type bridge mcast_snooping 0 && ip link set segment{segment} up")
+    for number, (host, places) in enumerate(HOSTS.items(), 1):
+        lines += [f"ip netns add {host} && ip -n {host} link set lo up",
+                  f"ip netns exec {host} sysctl -qw net.ipv6.conf.default.accept_dad=0"]
+        for place, (segment, mac) in enumerate(places.items()):
+            lines += [f"ip link add {host}{place} type veth peer name eth{place} netns {host}",
+                      f"ip link set {host}{place} master segment{segment} up",
+                      f"ip -n {host} link set eth{place} address {mac} up",
+                      f"ip -n {host} addr add 10.0.{segment}.{number}/24 dev eth{place}"]
+    done = shell("\n".join(lines))
+    return done.returncode == 0 or sys.exit(f"tools/commands: no network: {done.stdout}")
+
+
+class Scene:
+    """One network after another, with the programs that run in it."""
+
+    def __init__(self, home):
+        self.home, self.clocks, self.running, self.programs, self.place = home, None, [], [], "manager"
+        path = f"{home}/out/commands/bin:/usr/local/bin:{os.environ['PATH']}:/usr/sbin:/sbin"
+        self.environment = {**os.environ, "PATH": path, "LC_ALL": "C.UTF-8", "HOME": "/run",
+                            "CARGO_HOME": os.environ.get("CARGO_HOME", os.path.expanduser("~/.cargo")),
+                            "RUSTUP_HOME": os.environ.get("RUSTUP_HOME", os.path.expanduser("~/.rustup"))}
+
+    def start(self, host, text):
+        """A program that goes on, and the file of what it prints."""
+        said = tempfile.TemporaryFile("w+")
+        process = subprocess.Popen(["ip", "netns", "exec", host, "sh", "-c", text], cwd=self.home, env=self.environment, stdout=said,
+                                   stderr=subprocess.STDOUT, stdin=subprocess.DEVNULL, start_new_session=True)
+        self.running.append(process)
+        return process, said
+
+    def start_program(self, host, text):
+        """The program of a page, in place of the one before."""
+        self.stop(self.programs)
+        started = self.start(host, text)
+        self.programs = [started[0]]
+        return started
+
+    def stop(self, processes):
+        for process in processes:
+            shell(f"kill -- -{process.pid}")
+        for process in processes:
+            process.wait()
+
+    def end(self):
+        """Ends what runs, so that the next page finds none of it."""
+        self.stop(self.running)
+        shell("rm -rf /var/lib/ptpm /run/ptp4l*")
+        self.clocks, self.running, self.programs = None, [], []
+
+    def show(self, page, is_site):
+        """The network for a command of a page: the site of four clocks, or the neighbour and the page's agents."""
+        if self.clocks == (page, is_site):
+            return
+        self.end()
+        self.clocks, self.place = (page, is_site), "visitor" if is_site else "manager"
+        for host, interfaces, identity, name, priority in SITE if is_site else NEIGHBOUR:
+            socket = f"/run/ptp4l.{host}" if is_site else "/run/ptp4l"
+            with open(f"/run/{host}.conf", "w", encoding="utf-8") as file:
+                file.write(PTP4L.format(socket=socket, identity=identity, name=name or "clock", priority=priority))
+            self.start(host, " ".join(["ptp4l", "-m", "-f", f"/run/{host}.conf", *(f"-i {interface}" for interface in interfaces)]))
+        for text in [] if is_site else AGENTS.get(page, []):
+            self.start("device", text)
+        self.settle(["camera 7", "camera 8", "findings: none"] if is_site else ["020000fffe000020"])
+
+    def settle(self, wanted):
+        """Waits until the network is what the pages show of it."""
+        end, printed = time.monotonic() + 30, ""
+        while time.monotonic() < end and ("LISTENING" in printed or not all(word in printed for word in wanted)):
+            time.sleep(0.2)
+            printed = self.run("ptpm-manage -i eth0 status --once").stdout
+
+    def run(self, text):
+        return shell(text, host=self.place, cwd=self.home, env=self.environment, stdin=subprocess.DEVNULL, timeout=300)
+
+    def leave_pending(self, text):
+        """Ends a run of `set PRIORITY1 100` before its answer, so that the next run finds its request."""
+        before = text.split(" set ")[0].replace("sudo ", "")
+        for _ in range(200):
+            self.run(f"timeout -s KILL 0.02 {before} -q -n 4000 set PRIORITY1 100")
+            images = [os.path.getsize(f"/var/lib/ptpm/{name}") for name in os.listdir("/var/lib/ptpm") if name.endswith("aabbccfffeddee01")]
+            if any(53 < size < 75 for size in images):      # a GET's 20 octets would make it longer
+                return
+
+
+def make(home):
+    """The scene, over what is built and installed; None if it can't be made."""
+    if not cover(home) or not connect():
+        return None
+    with open("/usr/local/bin/sudo", "w", encoding="utf-8") as file:
+        file.write('#!/bin/sh\nexec "$@"\n')
+    os.chmod("/usr/local/bin/sudo", 0o755)
+    done = shell("make -s -C hosts install PREFIX=/usr/local", cwd=home)
+    return Scene(home) if done.returncode == 0 else sys.exit(f"tools/commands: {done.stdout}")
