@@ -365,7 +365,7 @@ enum { PTPM_MOST_ANSWERS = 512 };
 
 /* The starts. A session is refused by PTPM_MANAGER_IS_EVERY, PTPM_TARGET_IS_EVERY, PTPM_SAME_CLOCK, PTPM_NO_PORTS,
    PTPM_TOO_MANY_PORTS, PTPM_TARGET_IS_ZERO or PTPM_NO_MEMORY, in this order. A survey of every clock is refused by the first or the
-   last of these, and one of one clock by all except the two of ports. A clock is refused by all others, PTPM_IDENTITY_IS_ZERO last,
+   last of these. A survey of one clock is refused by all of them, except the two of ports. A clock is refused by all others, PTPM_IDENTITY_IS_ZERO last,
    and by PTPM_NO_PORTS, PTPM_TOO_MANY_PORTS and PTPM_NO_MEMORY. PTPM_OTHER_SIZES comes before all of them, of
    ptpm_clock_start_sized and its like alone. */
 __extension__ enum PTPM_FOUR_OCTETS(ptpm_started) {
@@ -757,8 +757,8 @@ enum ptpm_resumed ptpm_session_resume(struct ptpm_session *session, uint8_t atte
    one is answered, the one that was given up was carried out before it, or never will be.
    Answers: PTPM_GIVEN_UP; or PTPM_IDLE or PTPM_OUT_OF_REACH, and then nothing changes. The clock might take a number further ahead
             for an old one; so send the request until it is answered.
-   Owed:    the caller begins the next request before it ends, or saves the session's image: else a restart goes on with the
-            request that was given up. */
+   Owed:    the caller begins the next request before it ends, or saves the session's image. Otherwise a restart goes on with
+            the request that was given up. */
 enum ptpm_given_up ptpm_session_give_up(struct ptpm_session *session);
 
 /* Has requests sent, and replies expected, in this domain from now on, the unanswered request among them.
@@ -819,7 +819,7 @@ static inline enum ptpm_started ptpm_survey_start_sized(struct ptpm_survey *hand
 
 /* Starts a survey of one clock, without answers, in place of what the handle holds, which is freed first. Every port of the clock
    is asked, and another clock's answer is ignored (PTPM_OTHER_SOURCE). A clock takes such a GET of one of its managers for a
-   numbered request, as of a session. So the manager here is none of them, for example another port of the same identity.
+   numbered request of a session. So the manager here is none of them, for example another port of the same identity.
    Takes:   the identity of the clock: another one than the manager's, and neither all ones nor all zeros.
    Answers: PTPM_STARTED; or why not, and then the handle holds nothing.
    Memory:  the survey, until it is stopped.
