@@ -8,7 +8,7 @@ use crate::changes::{Change, first_change, first_contradiction, is_said_otherwis
 use crate::clock::{Clock, Heard};
 use crate::completeness::missing_answers;
 use crate::finding::{Finding, What};
-use crate::finds::{find, tell};
+use crate::finds::tell;
 use crate::member::{DataSet, Member};
 use crate::site::Site;
 use crate::source::Source;
@@ -151,7 +151,6 @@ fn change_of<'a, T: DataSet>(
     }
 }
 
-#[tactic(auto, unfolding(crate::specs::Findings::told))]
 fn find_change<'a>(
     findings: &mut Vec<Finding<'a>>,
     source: Source,
@@ -162,7 +161,7 @@ fn find_change<'a>(
     ensures { OnOk result (told findings.new.items ≡ told findings.old.items) }
 {
     match sort {
-        Sort::Changed => find(findings, source, What::Changed(port, change)),
-        Sort::Twice => find(findings, source, What::IdentityTwice(port, change)),
+        Sort::Changed => tell(findings, source, What::Changed(port, change)),
+        Sort::Twice => tell(findings, source, What::IdentityTwice(port, change)),
     }
 }
