@@ -14,7 +14,7 @@ use Rattle.ptpm_site.specs.declared.site.Site.{Site}
 use Rattle.ptpm_site.specs.declared.source.Source.{Source}
 use Rattle.ptpm_site.specs.declared.told.Told.{Told}
 use Rattle.ptpm_site.specs.declared.told.Told.TheVariants as told
-use Rattle.ptpm_site.specs.Answers.{all_heard, answers_of, counting, heard, heard_now, is_refused, is_seen, place_clock, place_number, port_number, ports_of, refusal_told, refuses, same_source}
+use Rattle.ptpm_site.specs.Answers.{all_heard, answers_of, counting, heard, heard_now, is_seen, place_clock, place_number, port_number, ports_of, refusal_told, refuses, same_source}
 use Rattle.ptpm_site.specs.Ids.{same_id}
 use Rattle.ptpm_site.specs.Keeping.{Keeps, Takes, added}
 use Rattle.std.specs.BTreeMap.{get}
