@@ -97,6 +97,8 @@ placed old new source fresh silent absent updates there entries =
       currents = λ s. placed_field (λ c. c.currents.items) fresh (get source_cmp old s) (get source_cmp new s) (at s) (updates s) (gone s) silent.currents;
       parents = λ s. placed_field (λ c. c.parents.items) fresh (get source_cmp old s) (get source_cmp new s) (at s) (updates s) (gone s) silent.parents;
       times = λ s. placed_field (λ c. c.times.items) fresh (get source_cmp old s) (get source_cmp new s) (at s) (updates s) (gone s) silent.times;
+      descriptions = λ s. placed_field (λ c. c.descriptions.items) fresh (get source_cmp old s) (get source_cmp new s) (at s) (updates s) (gone s) silent.descriptions;
+      refused = λ s. placed_field (λ c. c.refused.items) fresh (get source_cmp old s) (get source_cmp new s) (at s) (updates s) (gone s) silent.refused;
       numbers = λ s. placed_field (λ c. keys c.ports) fresh (get source_cmp old s) (get source_cmp new s) (at s) (updates s) (gone s) silent.numbers;
       ports = λ s n. placed_field (λ c. port_heard c n) fresh (get source_cmp old s) (get source_cmp new s) (at s) (updates s) (gone s) (silent.ports n);
     }
@@ -118,6 +120,8 @@ known old source there is_there = record {
   currents = λ s. refl;
   parents = λ s. refl;
   times = λ s. refl;
+  descriptions = λ s. refl;
+  refused = λ s. refl;
   numbers = λ s. refl;
   ports = λ s n. refl;
 }
@@ -144,6 +148,10 @@ told old new source request t before after was updates same grows =
           ∙ ap (λ l. option_map_or (λ c. c.parents.items) (get source_cmp old s) [] ++ l) (tie_cond source s _ []);
       times = λ s. told_field (λ c. c.times.items) before after _ (get source_cmp old s) (get source_cmp new s) (at s) (updates s) (there s) grows.times
           ∙ ap (λ l. option_map_or (λ c. c.times.items) (get source_cmp old s) [] ++ l) (tie_cond source s _ []);
+      descriptions = λ s. told_field (λ c. c.descriptions.items) before after _ (get source_cmp old s) (get source_cmp new s) (at s) (updates s) (there s) grows.descriptions
+          ∙ ap (λ l. option_map_or (λ c. c.descriptions.items) (get source_cmp old s) [] ++ l) (tie_cond source s _ []);
+      refused = λ s. told_field (λ c. c.refused.items) before after _ (get source_cmp old s) (get source_cmp new s) (at s) (updates s) (there s) grows.refused
+          ∙ ap (λ l. option_map_or (λ c. c.refused.items) (get source_cmp old s) [] ++ l) (tie_cond source s _ []);
       numbers = λ s. told_numbers (λ c. keys c.ports) (λ ns. place_number ns (port_number t)) before after (get source_cmp old s) (get source_cmp new s) (at s) (updates s) (there s) grows.numbers
           ∙ tie_cond source s _ _;
       ports = λ s n. told_field (λ c. port_heard c n) before after _ (get source_cmp old s) (get source_cmp new s) (at s) (updates s) (there s) (grows.ports n)

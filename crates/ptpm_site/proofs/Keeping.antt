@@ -1,21 +1,25 @@
 -- Each answer that is taken is kept, and what counts is what the answers tell.
 use Rattle.std.proofs.Common.{◌≡◌, ℕ, ◌||◌, Bool, true, false, cond, List, [], ◌∷◌, ◌++◌, Option, Some, None, refl, sym, ◌∙◌, ap, append-nil}
-use Rattle.std.specs.List.{filter, filter_map, fold, cons_option}
-use Rattle.std.specs.Option.{option_map_or, option_and_then, option_to_list}
+use Rattle.std.specs.List.{filter, filter_map, fold, cons_option, list_any}
+use Rattle.std.specs.Option.{option_map, option_map_or, option_and_then, option_to_list}
 use Rattle.std.proofs.lemmas.Grind.{fold-append}
 use Rattle.std.proofs.lemmas.List.Elements.{filter-append, filter_map-append}
 use Rattle.std.proofs.lemmas.List.Folds.{list_any-append}
+use Rattle.ptpm_site.specs.declared.asked.Asked.{Asked}
 use Rattle.ptpm_site.specs.declared.answer.Answer.{Answer}
+use Rattle.ptpm_site.specs.declared.answer.Request.{Request}
 use Rattle.ptpm_site.specs.declared.clock.Clock.{Clock}
 use Rattle.ptpm_site.specs.declared.clock.Heard.{Heard}
 use Rattle.ptpm_site.specs.declared.site.Site.{Site}
 use Rattle.ptpm_site.specs.declared.source.Source.{Source}
 use Rattle.ptpm_site.specs.declared.told.Told.{Told}
-use Rattle.ptpm_site.specs.Answers.{all_heard, answers_of, counting, heard, heard_now, is_seen, place_clock, place_number, port_number, ports_of, same_source}
+use Rattle.ptpm_site.specs.declared.told.Told.TheVariants as told
+use Rattle.ptpm_site.specs.Answers.{all_heard, answers_of, counting, heard, heard_now, is_seen, place_clock, place_number, port_number, ports_of, refusal_told, refuses, same_source}
+use Rattle.ptpm_site.specs.Ids.{same_id}
 use Rattle.ptpm_site.specs.Keeping.{Keeps, Takes, added}
 use Rattle.std.specs.BTreeMap.{get}
 use Rattle.std.specs.Ordering.{nat_cmp}
-use Rattle.ptpm_site.specs.Kept.{clock_at, kept, port_heard, port_kept}
+use Rattle.ptpm_site.specs.Kept.{clock_at, is_among, kept, port_heard, port_kept}
 use Rattle.ptpm_site.specs.Telling.{told_by}
 
 one_or_none : {A : Type 0} → (o : Option A) → cons_option o [] ≡ option_to_list o
@@ -73,6 +77,8 @@ Keeps-more old new answers a t k = record {
   currents = λ s. kept_more _ s answers a _ _ (t.currents s) (k.currents s);
   parents = λ s. kept_more _ s answers a _ _ (t.parents s) (k.parents s);
   times = λ s. kept_more _ s answers a _ _ (t.times s) (k.times s);
+  descriptions = λ s. kept_more _ s answers a _ _ (t.descriptions s) (k.descriptions s);
+  refused = λ s. kept_more _ s answers a _ _ (t.refused s) (k.refused s);
   numbers = λ s. t.numbers s ∙ ap (λ ns. cond (same_source a.source s) (place_number ns (port_number a.told)) ns) (k.numbers s) ∙ sym (ports_of-more s answers a);
   ports = λ s n. kept_more _ s answers a _ _ (t.ports s n) (k.ports s n);
 }
@@ -90,6 +96,22 @@ port_of_clock : (n : ℕ) (o : Option Clock) → option_and_then (λ c. port_kep
 port_of_clock n None = refl
 port_of_clock n (Some c) = port_counting c n
 
+-- what is refused is among what was heard of refusals
+among_one : (id : Asked) (request : Request) (t : Told) (others : List (Heard Asked)) (b : Bool)
+    → is_among id others ≡ b
+    → is_among id (cons_option (option_map (λ set. record { request = request; set = set }) (refusal_told t)) others) ≡ (refuses id t || b)
+among_one id request (told.Refused asked) others b h = ap (λ x. same_id asked id || x) h
+among_one id request _ others b h = h
+
+among_heard : (id : Asked) (answers : List Answer) → is_among id (filter_map (heard refusal_told) answers) ≡ list_any (λ a. refuses id a.told) answers
+among_heard id [] = refl
+among_heard id (a ∷ answers) = among_one id a.request a.told (filter_map (heard refusal_told) answers) (list_any (λ x. refuses id x.told) answers) (among_heard id answers)
+
+refused_of_clock : (id : Asked) (o : Option Clock)
+    → option_map_or (λ c. is_among id c.refused.items) o false ≡ is_among id (option_map_or (λ c. c.refused.items) o [])
+refused_of_clock id None = refl
+refused_of_clock id (Some c) = refl
+
 -- what counts of what is kept is what counts of the answers
 pub kept_is_told : (site : Site) (answers : List Answer) → Keeps site answers → kept site ≡ told_by answers
 unfolding kept
@@ -99,6 +121,7 @@ kept_is_told site answers k =
     let parent = λ (s : Source). counting_of (λ c. c.parents.items) (clock_at site s) ∙ ap counting (k.parents s) in
     let time = λ (s : Source). counting_of (λ c. c.times.items) (clock_at site s) ∙ ap counting (k.times s) in
     let port = λ (s : Source) (n : ℕ). port_of_clock n (clock_at site s) ∙ ap counting (k.ports s n) in
+    let refused = λ (s : Source) (id : Asked). refused_of_clock id (clock_at site s) ∙ ap (is_among id) (k.refused s) ∙ among_heard id (answers_of s answers) in
     λ i. record {
       clocks = k.clocks i;
       seen = λ s. k.seen s i;
@@ -106,6 +129,12 @@ kept_is_told site answers k =
       current = λ s. current s i;
       parent = λ s. parent s i;
       time = λ s. time s i;
+      defaults = λ s. k.defaults s i;
+      currents = λ s. k.currents s i;
+      parents = λ s. k.parents s i;
+      times = λ s. k.times s i;
+      descriptions = λ s. k.descriptions s i;
+      refused = λ s id. refused s id i;
       ports = λ s. k.numbers s i;
       heard = λ s n. k.ports s n i;
       port = λ s n. port s n i;

@@ -1,9 +1,10 @@
 pub mod Alike
+pub mod Circles
 pub mod Clocks
-pub mod Defined
 pub mod Keeping
 pub mod Places
 pub mod Ports
+pub mod Reports
 pub mod Rows
 pub mod Sources
 pub mod Swapping

@@ -14,12 +14,13 @@ use Rattle.std.specs.Option.{option_map}
 use Rattle.std.specs.Ordering.{eq_by_cmp, is_eq, match_ordering, nat_cmp, ordering_reverse}
 use Rattle.std.specs.declared.cmp.Ordering.{Ordering}
 use Rattle.std.specs.declared.cmp.Ordering.TheVariants.{Less, Equal, Greater}
+use Rattle.ptpm_site.specs.declared.asked.Asked.{Asked}
 use Rattle.ptpm_site.specs.declared.answer.Answer.{Answer}
 use Rattle.ptpm_site.specs.declared.clock.Heard.{Heard}
 use Rattle.ptpm_site.specs.declared.source.Source.{Source}
 use Rattle.ptpm_site.specs.declared.told.Told.{Told}
 use Rattle.ptpm_site.specs.declared.told.Told.TheVariants as told
-use Rattle.ptpm_site.specs.Answers.{all_heard, answers_of, clocks_of, current_told, default_told, heard, is_seen, parent_told, place, place_clock, place_number, port_number, port_told, ports_of, same_source, source_cmp, time_told}
+use Rattle.ptpm_site.specs.Answers.{all_heard, answers_of, clocks_of, current_told, default_told, description_told, heard, is_refused, is_seen, parent_told, place, place_clock, place_number, port_number, port_told, ports_of, refuses, same_source, source_cmp, time_told}
 use Rattle.ptpm_site.specs.Swapping.{AreApart, tells_of_one}
 use Rattle.ptpm_site.specs.Telling.{IsToldAlike}
 use Rattle.ptpm_site.proofs.Sources.{exact_sources, sources_total, tied_sources}
@@ -209,12 +210,35 @@ time_apart (told.Time x) (told.Time y) h = absurd (true≢false h)
 time_apart (told.Time x) _ h = inr refl
 time_apart _ u h = inl refl
 
+description_apart : (t u : Told) → tells_of_one t u ≡ false → (description_told t ≡ None) ⊎ (description_told u ≡ None)
+description_apart (told.Description x) (told.Description y) h = absurd (true≢false h)
+description_apart (told.Description x) _ h = inr refl
+description_apart _ u h = inl refl
+
 port_apart : (n : ℕ) (t u : Told) → tells_of_one t u ≡ false → (port_told n t ≡ None) ⊎ (port_told n u ≡ None)
 port_apart n (told.Port m x) (told.Port k y) h =
     ⊎_elim (λ e. ⊎_elim (λ f. absurd (eqb-false m k h (eqb-true m n e ∙ sym (eqb-true k n f)))) (λ f. inr (ap (λ t. cond t (Some y) None) f)) (cases_Bool (k == n)))
     (λ e. inl (ap (λ t. cond t (Some x) None) e)) (cases_Bool (m == n))
 port_apart n (told.Port m x) _ h = inr refl
 port_apart n _ u h = inl refl
+
+-- ---- what is refused
+
+refused_here : (id : Asked) (a b : Answer) (others : List Answer) (p q : Bool)
+    → list_any (λ x. refuses id x.told) (cond p (a ∷ cond q (b ∷ others) others) (cond q (b ∷ others) others))
+    ≡ list_any (λ x. refuses id x.told) (cond q (b ∷ cond p (a ∷ others) others) (cond p (a ∷ others) others))
+refused_here id a b others true true = or_swapped (refuses id a.told) (refuses id b.told) (list_any (λ x. refuses id x.told) others)
+refused_here id a b others true false = refl
+refused_here id a b others false true = refl
+refused_here id a b others false false = refl
+
+refused_swapped : (s : Source) (id : Asked) (xs ys : List Answer) (a b : Answer) → is_refused s id (xs ++ a ∷ b ∷ ys) ≡ is_refused s id (xs ++ b ∷ a ∷ ys)
+refused_swapped s id xs ys a b =
+    let split = λ (l : List Answer). ap (list_any (λ x. refuses id x.told)) (filter-append (λ x. same_source x.source s) xs l)
+    ∙ list_any-append (λ x. refuses id x.told) (answers_of s xs) (answers_of s l) in
+    split (a ∷ b ∷ ys)
+    ∙ ap (λ t. is_refused s id xs || t) (refused_here id a b (answers_of s ys) (same_source a.source s) (same_source b.source s))
+    ∙ sym (split (b ∷ a ∷ ys))
 
 -- ---- clocks and ports
 
@@ -258,6 +282,8 @@ told_alike_swapped xs ys a b apart = record {
   currents = λ s. all_heard_swapped current_told current_apart s xs ys a b apart;
   parents = λ s. all_heard_swapped parent_told parent_apart s xs ys a b apart;
   times = λ s. all_heard_swapped time_told time_apart s xs ys a b apart;
+  descriptions = λ s. all_heard_swapped description_told description_apart s xs ys a b apart;
+  refused = λ s id. refused_swapped s id xs ys a b;
   numbers = λ s. numbers_swapped s xs ys a b;
   ports = λ s n. all_heard_swapped (port_told n) (port_apart n) s xs ys a b apart;
 }

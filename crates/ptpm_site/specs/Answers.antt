@@ -1,5 +1,5 @@
 -- What the answers among the lines tell, whatever program reads them (IEEE 1588-2019, 15.4.1 and 15.5.3).
-use Rattle.std.specs.Prelude.{ℕ, ◌==◌, ◌&&◌, ◌-◌, Bool, List, [], Option, Some, None, length, slice_get, if◌then◌else◌}
+use Rattle.std.specs.Prelude.{ℕ, ◌==◌, ◌&&◌, ◌-◌, Bool, false, List, [], Option, Some, None, length, slice_get, if◌then◌else◌}
 use Rattle.std.specs.declared.cmp.Ordering.{Ordering}
 use Rattle.std.specs.BTreeSet.{insert_key}
 use Rattle.std.specs.Cmp.Lexicographic.{slice_cmp}
@@ -7,6 +7,7 @@ use Rattle.std.specs.List.{filter, filter_map, fold, list_any}
 use Rattle.std.specs.Option.{option_map, option_to_list}
 use Rattle.std.specs.Ordering.{eq_by_cmp, nat_cmp, ordering_then}
 use Rattle.ptpm_codec.specs.Identity.{same_clock}
+use Rattle.ptpm_site.specs.declared.asked.Asked.{Asked}
 use Rattle.ptpm_site.specs.declared.answer.Answer.{Answer}
 use Rattle.ptpm_site.specs.declared.answer.Request.{Request}
 use Rattle.ptpm_site.specs.declared.clock.Heard.{Heard}
@@ -15,9 +16,11 @@ use Rattle.ptpm_site.specs.declared.data_sets.DefaultDataSet.{DefaultDataSet}
 use Rattle.ptpm_site.specs.declared.data_sets.ParentDataSet.{ParentDataSet}
 use Rattle.ptpm_site.specs.declared.data_sets.PortDataSet.{PortDataSet}
 use Rattle.ptpm_site.specs.declared.data_sets.TimePropertiesDataSet.{TimePropertiesDataSet}
+use Rattle.ptpm_site.specs.declared.description.Description.{Description}
 use Rattle.ptpm_site.specs.declared.source.Source.{Source}
 use Rattle.ptpm_site.specs.declared.told.Told.{Told}
 use Rattle.ptpm_site.specs.declared.told.Told.TheVariants as told
+use Rattle.ptpm_site.specs.Ids.{same_id}
 
 -- a key goes to its place in the order, unless it is there
 unfoldable pub place : {K : Type 0} → (K → K → Ordering) → List K → K → List K
@@ -66,6 +69,20 @@ abbrev pub time_told : Told → Option TimePropertiesDataSet
 time_told (told.Time set) = Some set
 time_told _ = None
 
+abbrev pub description_told : Told → Option Description
+description_told (told.Description set) = Some set
+description_told _ = None
+
+-- the id that a clock refuses to tell
+abbrev pub refusal_told : Told → Option Asked
+refusal_told (told.Refused asked) = Some asked
+refusal_told _ = None
+
+-- it refuses to tell this id
+abbrev pub refuses : Asked → Told → Bool
+refuses id (told.Refused asked) = same_id asked id
+refuses id _ = false
+
 -- of the port of this number
 abbrev pub port_told : ℕ → Told → Option PortDataSet
 port_told n (told.Port m set) = if m == n then Some set else None
@@ -86,6 +103,10 @@ heard_now says request t = option_to_list (option_map (λ set. record { request 
 -- of all answers of a clock, those that tell this, in the order of their lines
 abbrev pub all_heard : {A : Type 0} → (Told → Option A) → Source → List Answer → List (Heard A)
 all_heard says s answers = filter_map (heard says) (answers_of s answers)
+
+-- a clock refused an id
+abbrev pub is_refused : Source → Asked → List Answer → Bool
+is_refused s id answers = list_any (λ a. refuses id a.told) (answers_of s answers)
 
 -- the numbers of the ports of a clock that answered, each once, ascending
 abbrev pub place_number : List ℕ → Option ℕ → List ℕ

@@ -1,8 +1,10 @@
 -- The findings of a site, finding by finding, in their order: by clock, by the table of findings, by port.
-use Rattle.std.specs.Prelude.{ℕ, ◌++◌, Bool, true, false, List, [], ◌∷◌, Option, if◌then◌else◌, option_and_then, is_some}
-use Rattle.std.specs.List.{filter, flat_map}
+use Rattle.std.specs.Prelude.{ℕ, ◌++◌, List, [], ◌∷◌, Option, Some, None, if◌then◌else◌, option_and_then, is_some}
+use Rattle.std.specs.List.{filter_map, flat_map}
 use Rattle.std.specs.Option.{option_map, option_map_or, option_to_list}
 use Rattle.ptpm_codec.specs.Identity.{same_clock}
+use Rattle.ptpm_codec.specs.declared.identity.ClockIdentity.{ClockIdentity}
+use Rattle.ptpm_site.specs.declared.asked.Asked.{Asked}
 use Rattle.ptpm_site.specs.declared.comparing.Compared.{Compared}
 use Rattle.ptpm_site.specs.declared.comparing.Compared.TheVariants as compared
 use Rattle.ptpm_site.specs.declared.data_sets.ParentDataSet.{ParentDataSet}
@@ -12,10 +14,12 @@ use Rattle.ptpm_site.specs.declared.finding.What.{What}
 use Rattle.ptpm_site.specs.declared.finding.What.TheVariants as what
 use Rattle.ptpm_site.specs.declared.limits.Limits.{Limits}
 use Rattle.ptpm_site.specs.declared.source.Source.{Source}
+use Rattle.ptpm_site.specs.Completeness.{lacking}
 use Rattle.ptpm_site.specs.Amounts.{large_delay, large_link_delay, large_offset}
 use Rattle.ptpm_site.specs.Differences.{grandmaster_differs, intervals_differ, other_grandmaster, utc_differs, what_differs}
 use Rattle.ptpm_site.specs.Following.{beside, followed}
 use Rattle.ptpm_site.specs.Grandmasters.{is_one_of_two, masterless_reason, unseen_grandmaster}
+use Rattle.ptpm_site.specs.Loops.{loop_of}
 use Rattle.ptpm_site.specs.Parents.{no_master_port, unseen_parent, wrong_steps}
 use Rattle.ptpm_site.specs.PortStates.{bad_state}
 use Rattle.ptpm_site.specs.Telling.{Telling}
@@ -70,7 +74,7 @@ interval_found t s n = found_each (compared.Port n) s (option_map_or (λ own. op
     option_map_or (λ parent. intervals_differ set parent) (t.port (beside s own.parent.clock) own.parent.port) [])
     (t.port s n) []) (t.parent s) [])
 
--- ---- of a clock, all whose condition is defined here, in the order of the table
+-- ---- of a clock, in the order of the table
 
 unfoldable pub grandmaster_found : Telling → Source → List Finding
 grandmaster_found t s = two_found t s ++ found what.NoMaster s (masterless_reason t s) ++ found what.GrandmasterNotSeen s (unseen_grandmaster t s)
@@ -98,21 +102,45 @@ found_here t limits s =
     ++ found_each compared.Time s (utc_said t s)
     ++ flat_map (interval_found t s) (t.ports s)
 
-unfoldable pub found_of : Telling → Limits → Source → List Finding
-found_of t limits s = found_above t s ++ found_here t limits s
+-- ---- what a finding says, with lists for its vectors
+
+-- `changed` and `identity_twice` are not defined here
+pub data Says : Type 0 where
+  Plain : (what : What) → Says
+  Loop : (clocks : List ClockIdentity) → Says
+  Lacks : (ids : List Asked) → (ports : List (ℕ × ℕ)) → Says
+
+pub record Said : Type 0 where
+  pub source : Source
+  pub says : Says
+
+abbrev pub said : Source → Says → Said
+said s w = record { source = s; says = w }
+
+abbrev pub says : What → Option Says
+says (what.Loop clocks) = Some (Loop clocks.items)
+says (what.Incomplete missing) = Some (Lacks missing.asked.items missing.ports.items)
+says (what.Changed port change) = None
+says (what.IdentityTwice port change) = None
+says w = Some (Plain w)
+
+abbrev pub told_of : Source → What → Option Said
+told_of s w = option_map (said s) (says w)
+
+unfoldable pub told : List Finding → List Said
+told findings = filter_map (λ f. told_of f.source f.what) findings
+
+unfoldable pub loop_told : Telling → Source → List Said
+loop_told t s = option_to_list (option_map (λ clocks. said s (Loop clocks)) (loop_of t s))
+
+unfoldable pub incomplete_told : Telling → Source → List Said
+incomplete_told t s = option_to_list (option_map (λ m. said s (Lacks m.0 m.1)) (lacking t s))
+
+-- ---- all findings
+
+unfoldable pub found_of : Telling → Limits → Source → List Said
+found_of t limits s = told (found_above t s) ++ loop_told t s ++ told (found_here t limits s) ++ incomplete_told t s
 
 -- the findings of all clocks
-abbrev pub findings_of : Telling → Limits → List Finding
+abbrev pub findings_of : Telling → Limits → List Said
 findings_of t limits = flat_map (found_of t limits) t.clocks
-
--- ---- the conditions of `loop`, `incomplete`, `changed` and `identity_twice` are not defined here
-
-abbrev pub is_defined : What → Bool
-is_defined (what.Loop clocks) = false
-is_defined (what.Incomplete missing) = false
-is_defined (what.Changed port change) = false
-is_defined (what.IdentityTwice port change) = false
-is_defined _ = true
-
-unfoldable pub defined : List Finding → List Finding
-defined findings = filter (λ f. is_defined f.what) findings

@@ -3,6 +3,7 @@ use Rattle.std.specs.Prelude.{◌≡◌, ℕ, ◌||◌, ◌++◌, List, [], Opti
 use Rattle.std.specs.BTreeMap.{keys}
 use Rattle.std.specs.Option.{option_map_or}
 use Rattle.ptpm_site.specs.declared.answer.Answer.{Answer}
+use Rattle.ptpm_site.specs.declared.asked.Asked.{Asked}
 use Rattle.ptpm_site.specs.declared.answer.Request.{Request}
 use Rattle.ptpm_site.specs.declared.clock.Clock.{Clock}
 use Rattle.ptpm_site.specs.declared.clock.Heard.{Heard}
@@ -11,10 +12,11 @@ use Rattle.ptpm_site.specs.declared.data_sets.DefaultDataSet.{DefaultDataSet}
 use Rattle.ptpm_site.specs.declared.data_sets.ParentDataSet.{ParentDataSet}
 use Rattle.ptpm_site.specs.declared.data_sets.PortDataSet.{PortDataSet}
 use Rattle.ptpm_site.specs.declared.data_sets.TimePropertiesDataSet.{TimePropertiesDataSet}
+use Rattle.ptpm_site.specs.declared.description.Description.{Description}
 use Rattle.ptpm_site.specs.declared.site.Site.{Site}
 use Rattle.ptpm_site.specs.declared.source.Source.{Source}
 use Rattle.ptpm_site.specs.declared.told.Told.{Told}
-use Rattle.ptpm_site.specs.Answers.{all_heard, clocks_of, current_told, default_told, heard_now, is_seen, parent_told, place, place_clock, place_number, port_number, port_told, ports_of, same_source, source_cmp, time_told}
+use Rattle.ptpm_site.specs.Answers.{all_heard, clocks_of, current_told, default_told, description_told, heard_now, is_seen, parent_told, place, place_clock, place_number, port_number, port_told, ports_of, refusal_told, same_source, source_cmp, time_told}
 use Rattle.ptpm_site.specs.Kept.{clock_at, port_heard}
 
 -- ---- what is kept of a clock, nothing of one that is not seen
@@ -31,6 +33,12 @@ parents_at site s = option_map_or (λ c. c.parents.items) (clock_at site s) []
 abbrev pub times_at : Site → Source → List (Heard TimePropertiesDataSet)
 times_at site s = option_map_or (λ c. c.times.items) (clock_at site s) []
 
+abbrev pub descriptions_at : Site → Source → List (Heard Description)
+descriptions_at site s = option_map_or (λ c. c.descriptions.items) (clock_at site s) []
+
+abbrev pub refused_at : Site → Source → List (Heard Asked)
+refused_at site s = option_map_or (λ c. c.refused.items) (clock_at site s) []
+
 abbrev pub ports_at : Site → Source → ℕ → List (Heard PortDataSet)
 ports_at site s n = option_map_or (λ c. port_heard c n) (clock_at site s) []
 
@@ -45,6 +53,8 @@ pub record Keeps (site : Site) (answers : List Answer) : Type 0 where
   pub currents : (s : Source) → currents_at site s ≡ all_heard current_told s answers
   pub parents : (s : Source) → parents_at site s ≡ all_heard parent_told s answers
   pub times : (s : Source) → times_at site s ≡ all_heard time_told s answers
+  pub descriptions : (s : Source) → descriptions_at site s ≡ all_heard description_told s answers
+  pub refused : (s : Source) → refused_at site s ≡ all_heard refusal_told s answers
   pub numbers : (s : Source) → numbers_at site s ≡ ports_of s answers
   pub ports : (s : Source) (n : ℕ) → ports_at site s n ≡ all_heard (port_told n) s answers
 
@@ -62,6 +72,8 @@ pub record IsSilent (c : Clock) : Type 0 where
   pub currents : c.currents.items ≡ []
   pub parents : c.parents.items ≡ []
   pub times : c.times.items ≡ []
+  pub descriptions : c.descriptions.items ≡ []
+  pub refused : c.refused.items ≡ []
   pub numbers : keys c.ports ≡ []
   pub ports : (n : ℕ) → port_heard c n ≡ []
 
@@ -71,6 +83,8 @@ pub record Grows (before after : Clock) (request : Request) (t : Told) : Type 0 
   pub currents : after.currents.items ≡ before.currents.items ++ heard_now current_told request t
   pub parents : after.parents.items ≡ before.parents.items ++ heard_now parent_told request t
   pub times : after.times.items ≡ before.times.items ++ heard_now time_told request t
+  pub descriptions : after.descriptions.items ≡ before.descriptions.items ++ heard_now description_told request t
+  pub refused : after.refused.items ≡ before.refused.items ++ heard_now refusal_told request t
   pub numbers : keys after.ports ≡ place_number (keys before.ports) (port_number t)
   pub ports : (n : ℕ) → port_heard after n ≡ port_heard before n ++ heard_now (port_told n) request t
 
@@ -83,6 +97,8 @@ pub record Places (old new : Site) (source : Source) : Type 0 where
   pub currents : (s : Source) → currents_at new s ≡ currents_at old s
   pub parents : (s : Source) → parents_at new s ≡ parents_at old s
   pub times : (s : Source) → times_at new s ≡ times_at old s
+  pub descriptions : (s : Source) → descriptions_at new s ≡ descriptions_at old s
+  pub refused : (s : Source) → refused_at new s ≡ refused_at old s
   pub numbers : (s : Source) → numbers_at new s ≡ numbers_at old s
   pub ports : (s : Source) (n : ℕ) → ports_at new s n ≡ ports_at old s n
 
@@ -94,6 +110,8 @@ pub record Tells (old new : Site) (source : Source) (request : Request) (t : Tol
   pub currents : (s : Source) → currents_at new s ≡ currents_at old s ++ told_now current_told source s request t
   pub parents : (s : Source) → parents_at new s ≡ parents_at old s ++ told_now parent_told source s request t
   pub times : (s : Source) → times_at new s ≡ times_at old s ++ told_now time_told source s request t
+  pub descriptions : (s : Source) → descriptions_at new s ≡ descriptions_at old s ++ told_now description_told source s request t
+  pub refused : (s : Source) → refused_at new s ≡ refused_at old s ++ told_now refusal_told source s request t
   pub numbers : (s : Source) → numbers_at new s ≡ (if same_source source s then place_number (numbers_at old s) (port_number t) else numbers_at old s)
   pub ports : (s : Source) (n : ℕ) → ports_at new s n ≡ ports_at old s n ++ told_now (port_told n) source s request t
 
@@ -105,5 +123,7 @@ pub record Takes (old new : Site) (a : Answer) : Type 0 where
   pub currents : (s : Source) → currents_at new s ≡ currents_at old s ++ added current_told s a
   pub parents : (s : Source) → parents_at new s ≡ parents_at old s ++ added parent_told s a
   pub times : (s : Source) → times_at new s ≡ times_at old s ++ added time_told s a
+  pub descriptions : (s : Source) → descriptions_at new s ≡ descriptions_at old s ++ added description_told s a
+  pub refused : (s : Source) → refused_at new s ≡ refused_at old s ++ added refusal_told s a
   pub numbers : (s : Source) → numbers_at new s ≡ (if same_source a.source s then place_number (numbers_at old s) (port_number a.told) else numbers_at old s)
   pub ports : (s : Source) (n : ℕ) → ports_at new s n ≡ ports_at old s n ++ added (port_told n) s a

@@ -1,15 +1,18 @@
 -- What the program keeps of a site, as what counts of it.
-use Rattle.std.specs.Prelude.{ℕ, List, [], Option, Vec, is_some, option_and_then}
+use Rattle.std.specs.Prelude.{ℕ, Bool, false, List, [], Option, Vec, is_some, option_and_then}
 use Rattle.std.specs.declared.alloc.Global.{Global}
 use Rattle.std.specs.BTreeMap.{BTreeMap, get, keys}
+use Rattle.std.specs.List.{list_any}
 use Rattle.std.specs.Option.{option_map_or}
 use Rattle.std.specs.Ordering.{nat_cmp}
+use Rattle.ptpm_site.specs.declared.asked.Asked.{Asked}
 use Rattle.ptpm_site.specs.declared.clock.Clock.{Clock}
 use Rattle.ptpm_site.specs.declared.clock.Heard.{Heard}
 use Rattle.ptpm_site.specs.declared.data_sets.PortDataSet.{PortDataSet}
 use Rattle.ptpm_site.specs.declared.site.Site.{Site}
 use Rattle.ptpm_site.specs.declared.source.Source.{Source}
 use Rattle.ptpm_site.specs.Answers.{counting, source_cmp}
+use Rattle.ptpm_site.specs.Ids.{same_id}
 use Rattle.ptpm_site.specs.Telling.{Telling}
 
 abbrev pub clock_at : Site → Source → Option Clock
@@ -25,6 +28,10 @@ heard_of ports n = option_map_or (λ heard. heard.items) (get nat_cmp ports n) [
 abbrev pub port_heard : Clock → ℕ → List (Heard PortDataSet)
 port_heard c n = heard_of c.ports n
 
+-- an id is among those that were refused
+abbrev pub is_among : Asked → List (Heard Asked) → Bool
+is_among id heard = list_any (λ h. same_id h.set id) heard
+
 unfoldable pub kept : Site → Telling
 kept site = record {
   clocks = keys site.clocks;
@@ -33,6 +40,12 @@ kept site = record {
   current = λ s. option_and_then (λ c. counting c.currents.items) (clock_at site s);
   parent = λ s. option_and_then (λ c. counting c.parents.items) (clock_at site s);
   time = λ s. option_and_then (λ c. counting c.times.items) (clock_at site s);
+  defaults = λ s. option_map_or (λ c. c.defaults.items) (clock_at site s) [];
+  currents = λ s. option_map_or (λ c. c.currents.items) (clock_at site s) [];
+  parents = λ s. option_map_or (λ c. c.parents.items) (clock_at site s) [];
+  times = λ s. option_map_or (λ c. c.times.items) (clock_at site s) [];
+  descriptions = λ s. option_map_or (λ c. c.descriptions.items) (clock_at site s) [];
+  refused = λ s id. option_map_or (λ c. is_among id c.refused.items) (clock_at site s) false;
   ports = λ s. option_map_or (λ c. keys c.ports) (clock_at site s) [];
   heard = λ s n. option_map_or (λ c. port_heard c n) (clock_at site s) [];
   port = λ s n. option_and_then (λ c. port_kept c n) (clock_at site s);

@@ -1,11 +1,14 @@
 pub mod Amounts
 pub mod Answers
+pub mod Completeness
 pub mod Differences
 pub mod Findings
 pub mod Following
 pub mod Grandmasters
+pub mod Ids
 pub mod Keeping
 pub mod Kept
+pub mod Loops
 pub mod Parents
 pub mod PortStates
 pub mod Showing

@@ -2,15 +2,17 @@
 use Rattle.std.specs.Prelude.{◌≡◌, ℕ, Bool, List, Option, is_some}
 use Rattle.std.specs.List.{list_any}
 use Rattle.ptpm_site.specs.declared.answer.Answer.{Answer}
+use Rattle.ptpm_site.specs.declared.asked.Asked.{Asked}
 use Rattle.ptpm_site.specs.declared.clock.Heard.{Heard}
 use Rattle.ptpm_site.specs.declared.data_sets.CurrentDataSet.{CurrentDataSet}
 use Rattle.ptpm_site.specs.declared.data_sets.DefaultDataSet.{DefaultDataSet}
 use Rattle.ptpm_site.specs.declared.data_sets.ParentDataSet.{ParentDataSet}
 use Rattle.ptpm_site.specs.declared.data_sets.PortDataSet.{PortDataSet}
 use Rattle.ptpm_site.specs.declared.data_sets.TimePropertiesDataSet.{TimePropertiesDataSet}
+use Rattle.ptpm_site.specs.declared.description.Description.{Description}
 use Rattle.ptpm_site.specs.declared.port_groups.PortGroup.{PortGroup}
 use Rattle.ptpm_site.specs.declared.source.Source.{Source}
-use Rattle.ptpm_site.specs.Answers.{all_heard, clocks_of, current_of, current_told, default_of, default_told, is_seen, parent_of, parent_told, port_of, port_told, ports_of, time_of, time_told}
+use Rattle.ptpm_site.specs.Answers.{all_heard, clocks_of, current_of, current_told, default_of, default_told, description_told, is_refused, is_seen, parent_of, parent_told, port_of, port_told, ports_of, time_of, time_told}
 use Rattle.ptpm_site.specs.PortStates.{holds_to, is_port_of}
 
 pub record Telling : Type 0 where
@@ -21,6 +23,14 @@ pub record Telling : Type 0 where
   pub current : Source → Option CurrentDataSet
   pub parent : Source → Option ParentDataSet
   pub time : Source → Option TimePropertiesDataSet
+  -- all that was heard of each, in the order of the lines
+  pub defaults : Source → List (Heard DefaultDataSet)
+  pub currents : Source → List (Heard CurrentDataSet)
+  pub parents : Source → List (Heard ParentDataSet)
+  pub times : Source → List (Heard TimePropertiesDataSet)
+  pub descriptions : Source → List (Heard Description)
+  -- whether an id was refused
+  pub refused : Source → Asked → Bool
   -- the numbers of the ports that answered, ascending
   pub ports : Source → List ℕ
   -- of a port all that was heard, in the order of the lines
@@ -44,6 +54,12 @@ told_by answers = record {
   current = λ s. current_of s answers;
   parent = λ s. parent_of s answers;
   time = λ s. time_of s answers;
+  defaults = λ s. all_heard default_told s answers;
+  currents = λ s. all_heard current_told s answers;
+  parents = λ s. all_heard parent_told s answers;
+  times = λ s. all_heard time_told s answers;
+  descriptions = λ s. all_heard description_told s answers;
+  refused = λ s id. is_refused s id answers;
   ports = λ s. ports_of s answers;
   heard = λ s n. all_heard (port_told n) s answers;
   port = λ s n. port_of s n answers;
@@ -57,5 +73,7 @@ pub record IsToldAlike (xs ys : List Answer) : Type 0 where
   pub currents : (s : Source) → all_heard current_told s xs ≡ all_heard current_told s ys
   pub parents : (s : Source) → all_heard parent_told s xs ≡ all_heard parent_told s ys
   pub times : (s : Source) → all_heard time_told s xs ≡ all_heard time_told s ys
+  pub descriptions : (s : Source) → all_heard description_told s xs ≡ all_heard description_told s ys
+  pub refused : (s : Source) (id : Asked) → is_refused s id xs ≡ is_refused s id ys
   pub numbers : (s : Source) → ports_of s xs ≡ ports_of s ys
   pub ports : (s : Source) (n : ℕ) → all_heard (port_told n) s xs ≡ all_heard (port_told n) s ys

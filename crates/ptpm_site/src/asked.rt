@@ -1,5 +1,8 @@
 //! The six management ids whose answers make the picture.
 
+ghost use Rattle.std.specs.Prelude.{◌≡◌};
+ghost use Rattle.ptpm_site.specs.Ids.{number_of, same_id, six};
+
 /// A management id of the six, in the standard's order (table 59).
 #[derive(Clone, Copy, PartialEq, Eq)]
 pub enum Asked {
@@ -11,15 +14,19 @@ pub enum Asked {
     PortDataSet,
 }
 
-/// The six.
-pub static ASKED: [Asked; 6] = [
-    Asked::DefaultDataSet,
-    Asked::CurrentDataSet,
-    Asked::ParentDataSet,
-    Asked::TimePropertiesDataSet,
-    Asked::PortDataSet,
-    Asked::UserDescription,
-];
+/// The six, in the order in which they are told.
+pub fn six() -> [Asked; 6]
+    ensures { result ≡ six }
+{
+    [
+        Asked::DefaultDataSet,
+        Asked::CurrentDataSet,
+        Asked::ParentDataSet,
+        Asked::TimePropertiesDataSet,
+        Asked::PortDataSet,
+        Asked::UserDescription,
+    ]
+}
 
 impl Asked {
     /// That of a managementId; none where it is none of the six.
@@ -33,6 +40,27 @@ impl Asked {
             0x2004 => Some(Asked::PortDataSet),
             _ => None,
         }
+    }
+
+    /// Its managementId.
+    pub fn number(self) -> u16
+        ensures { result ≡ number_of self }
+    {
+        match self {
+            Asked::UserDescription => 0x0002,
+            Asked::DefaultDataSet => 0x2000,
+            Asked::CurrentDataSet => 0x2001,
+            Asked::ParentDataSet => 0x2002,
+            Asked::TimePropertiesDataSet => 0x2003,
+            Asked::PortDataSet => 0x2004,
+        }
+    }
+
+    /// Whether it is another.
+    pub fn is(self, other: Asked) -> bool
+        ensures { result ≡ same_id self other }
+    {
+        self.number() == other.number()
     }
 
     /// The standard's name.

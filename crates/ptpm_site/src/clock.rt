@@ -4,9 +4,9 @@ ghost use Rattle.std.specs.Prelude.{◌≡◌, ℕ, ◌==◌, ◌++◌, [], ◌�
 ghost use Rattle.std.specs.BTreeMap.{get, keys};
 ghost use Rattle.std.specs.List.{list_any};
 ghost use Rattle.std.specs.Ordering.{nat_cmp};
-ghost use Rattle.ptpm_site.specs.Answers.{counting, current_told, default_told, heard_now, parent_told, place, place_number, port_number, port_told, time_told};
+ghost use Rattle.ptpm_site.specs.Answers.{counting, current_told, default_told, description_told, heard_now, parent_told, place, place_number, port_number, port_told, refusal_told, time_told};
 ghost use Rattle.ptpm_site.specs.Keeping.{IsSilent};
-ghost use Rattle.ptpm_site.specs.Kept.{heard_of, port_heard, port_kept};
+ghost use Rattle.ptpm_site.specs.Kept.{heard_of, is_among, port_heard, port_kept};
 ghost use Rattle.ptpm_site.specs.PortStates.{is_port_of};
 
 use crate::answer::Request;
@@ -37,7 +37,8 @@ pub struct Clock {
     pub descriptions: Vec<Heard<Description>>,
     /// By portNumber.
     pub ports: BTreeMap<u16, Vec<Heard<PortDataSet>>>,
-    pub refused: Vec<Asked>,
+    /// Of the ids for which an error came.
+    pub refused: Vec<Heard<Asked>>,
 }
 
 impl Clock {
@@ -66,6 +67,10 @@ impl Clock {
             ≡ self.old.parents.items ++ heard_now parent_told request told) }
         ensures times { OnOk result (self.new.times.items
             ≡ self.old.times.items ++ heard_now time_told request told) }
+        ensures descriptions { OnOk result (self.new.descriptions.items
+            ≡ self.old.descriptions.items ++ heard_now description_told request told) }
+        ensures refused { OnOk result (self.new.refused.items
+            ≡ self.old.refused.items ++ heard_now refusal_told request told) }
         ensures numbers { OnOk result (keys self.new.ports ≡ place_number (keys self.old.ports) (port_number told)) }
         ensures ports { OnOk result ((n : ℕ) → port_heard self.new n
             ≡ port_heard self.old n ++ heard_now (port_told n) request told) }
@@ -79,7 +84,7 @@ impl Clock {
             Told::Port(number, set) => {
                 put_port(alloc, &mut self.ports, number, Heard { request, set })?;
             }
-            Told::Refused(asked) => put_refused(&mut self.refused, asked)?,
+            Told::Refused(set) => self.refused.push(Heard { request, set })?,
         }
         Ok(())
     }
@@ -157,17 +162,11 @@ impl Clock {
     }
 
     /// Whether an error came for an id.
-    pub fn refuses(&self, asked: Asked) -> bool {
-        self.refused.contains(&asked)
+    pub fn refuses(&self, asked: Asked) -> bool
+        ensures { result ≡ is_among asked self.now.refused.items }
+    {
+        self.refused.iter().any(|heard| heard.set.is(asked))
     }
-}
-
-/// An id that is refused stands among those that are, once.
-fn put_refused(refused: &mut Vec<Asked>, asked: Asked) -> Result<(), AllocError> {
-    if !refused.contains(&asked) {
-        refused.push(asked)?;
-    }
-    Ok(())
 }
 
 /// What was heard of a port stands behind all that was heard of it.

@@ -1,31 +1,48 @@
 //! What of a clock was not answered.
 
-use crate::asked::{ASKED, Asked};
-use crate::clock::Clock;
+ghost use Rattle.std.specs.Prelude.{◌≡◌, ◌++◌, IfOk, OnOk, filter};
+ghost use Rattle.std.specs.Option.{option_map};
+ghost use Rattle.ptpm_site.specs.Completeness.{answers_to, gap, gaps, lacking, lacking_ids, lacking_ports, lacks, last_port};
+ghost use Rattle.ptpm_site.specs.Kept.{kept};
+
+use crate::asked::{Asked, six};
+use crate::site::Site;
+use crate::source::Source;
 use std::alloc::{AllocError, Global};
 
-impl Clock {
+impl Site {
+    /// How many answers came to an id; of PORT_DATA_SET, how many ports answered.
+    fn answers_to(&self, source: Source, asked: Asked) -> usize
+        ensures { result ≡ answers_to (kept self.now) source asked }
+    {
+        match asked {
+            Asked::UserDescription => self.descriptions(source).len(),
+            Asked::DefaultDataSet => self.defaults(source).len(),
+            Asked::CurrentDataSet => self.currents(source).len(),
+            Asked::ParentDataSet => self.parents(source).len(),
+            Asked::TimePropertiesDataSet => self.times(source).len(),
+            Asked::PortDataSet => self.count_ports(source),
+        }
+    }
+
     /// Whether an id was neither answered nor refused.
-    pub fn lacks(&self, asked: Asked) -> bool {
-        let silent = match asked {
-            Asked::UserDescription => self.descriptions.is_empty(),
-            Asked::DefaultDataSet => self.defaults.is_empty(),
-            Asked::CurrentDataSet => self.currents.is_empty(),
-            Asked::ParentDataSet => self.parents.is_empty(),
-            Asked::TimePropertiesDataSet => self.times.is_empty(),
-            Asked::PortDataSet => self.ports.is_empty(),
-        };
-        silent && !self.refuses(asked)
+    pub fn lacks(&self, source: Source, asked: Asked) -> bool
+        ensures { result ≡ lacks (kept self.now) source asked }
+    {
+        self.answers_to(source, asked) == 0 && !self.refuses(source, asked)
     }
 
     /// The highest port that has to answer: numberPorts, of a clock that answered some port and refused none; else none has
     /// to.
-    fn last_port(&self) -> u16 {
-        match self.default() {
-            Some(default) if !self.ports.is_empty() && !self.refuses(Asked::PortDataSet) => {
-                default.number_of_ports
-            }
-            _ => 0,
+    fn last_port(&self, source: Source) -> u16
+        ensures { result ≡ last_port (kept self.now) source }
+    {
+        if self.count_ports(source) == 0 || self.refuses(source, Asked::PortDataSet) {
+            return 0;
+        }
+        match self.default(source) {
+            Some(default) => default.number_of_ports,
+            None => 0,
         }
     }
 }
@@ -38,35 +55,63 @@ pub struct Missing {
     pub ports: Vec<(u16, u16)>,
 }
 
-/// What a clock neither answered nor refused, where that is anything.
-pub fn missing_answers(alloc: Global, clock: &Clock) -> Result<Option<Missing>, AllocError> {
-    let mut asked = Vec::new(alloc);
-    for id in &ASKED {
-        if clock.lacks(*id) {
-            asked.push(*id)?;
-        }
-    }
-    let ports = missing_ports(alloc, clock)?;
-    if asked.is_empty() && ports.is_empty() {
+/// What a clock neither answered nor refused, where that is anything. Given are its ports that answered.
+#[tactic(auto, unfolding(crate::specs::Completeness::lacking))]
+pub fn missing_answers(
+    alloc: Global,
+    site: &Site,
+    source: Source,
+    ports: &[u16],
+) -> Result<Option<Missing>, AllocError>
+    requires { ports.now ≡ (kept site.now).ports source }
+    ensures { IfOk result (λ missing. option_map (λ m. (m.asked.items, m.ports.items)) missing ≡ lacking (kept site.now) source) }
+{
+    let asked = missing_ids(alloc, site, source, &six())?;
+    let ports = missing_ports(alloc, ports, site.last_port(source))?;
+    if asked.as_slice().is_empty() && ports.as_slice().is_empty() {
         return Ok(None);
     }
     Ok(Some(Missing { asked, ports }))
 }
 
-/// The ports that lack.
-fn missing_ports(alloc: Global, clock: &Clock) -> Result<Vec<(u16, u16)>, AllocError> {
-    let mut runs = Vec::new(alloc);
-    let last = clock.last_port();
-    let mut before: u16 = 0;
-    for port in clock.ports.keys() {
-        let next = before.saturating_add(1);
-        if next < *port && next <= last {
-            runs.push((next, (*port - 1).min(last)))?;
+/// Which of these ids lack.
+fn missing_ids(
+    alloc: Global,
+    site: &Site,
+    source: Source,
+    ids: &[Asked],
+) -> Result<Vec<Asked>, AllocError>
+    ensures { IfOk result (λ missing. missing.items ≡ filter (lacks (kept site.now) source) ids.now) }
+{
+    let mut missing = Vec::new(alloc);
+    for id in ids {
+        if site.lacks(source, *id) {
+            missing.push(*id)?;
         }
+    }
+    Ok(missing)
+}
+
+/// The gaps that these ports leave, up to the last that has to answer.
+fn missing_ports(alloc: Global, ports: &[u16], last: u16) -> Result<Vec<(u16, u16)>, AllocError>
+    ensures { IfOk result (λ runs. runs.items ≡ gaps 0 last ports.now) }
+{
+    let mut runs = Vec::new(alloc);
+    let mut before: u16 = 0;
+    for port in ports {
+        put_gap(&mut runs, before, port.saturating_sub(1).min(last))?;
         before = *port;
     }
-    if before < last {
-        runs.push((before + 1, last))?;
-    }
+    put_gap(&mut runs, before, last)?;
     Ok(runs)
+}
+
+/// The ports above one and up to another are a gap, where there are any.
+fn put_gap(runs: &mut Vec<(u16, u16)>, low: u16, high: u16) -> Result<(), AllocError>
+    ensures { OnOk result (runs.new.items ≡ runs.old.items ++ gap low high) }
+{
+    if low < high {
+        runs.push((low + 1, high))?;
+    }
+    Ok(())
 }

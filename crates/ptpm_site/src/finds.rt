@@ -2,7 +2,7 @@
 
 ghost use Rattle.std.specs.Prelude.{◌≡◌, ◌++◌, [], ◌∷◌, OnOk};
 ghost use Rattle.std.specs.Option.{option_to_list, option_map};
-ghost use Rattle.ptpm_site.specs.Findings.{finding};
+ghost use Rattle.ptpm_site.specs.Findings.{finding, told, told_of};
 
 use crate::finding::{Finding, What};
 use crate::source::Source;
@@ -18,6 +18,18 @@ pub fn find<'a>(
 {
     findings.push(Finding { source, what })?;
     Ok(())
+}
+
+/// The same, of a finding that is told by what it says.
+#[tactic(auto, using(crate::proofs::Reports::told_more))]
+pub fn tell<'a>(
+    findings: &mut Vec<Finding<'a>>,
+    source: Source,
+    what: What<'a>,
+) -> Result<(), AllocError>
+    ensures { OnOk result (told findings.new.items ≡ told findings.old.items ++ option_to_list (told_of source what.entry)) }
+{
+    find(findings, source, what)
 }
 
 /// A finding, where there is one, behind all earlier ones.

@@ -1,7 +1,7 @@
 //! Who follows whom.
 
 ghost use Rattle.std.specs.Prelude.{◌≡◌};
-ghost use Rattle.ptpm_site.specs.Following.{followed, is_own_grandmaster};
+ghost use Rattle.ptpm_site.specs.Following.{followed, is_own_grandmaster, parent_clock};
 ghost use Rattle.ptpm_site.specs.Kept.{kept};
 
 use crate::site::Site;
@@ -28,6 +28,18 @@ impl Site {
             None
         } else {
             Some(set.parent)
+        }
+    }
+
+    /// The clock that a clock follows, where that is seen.
+    pub fn parent_clock(&self, source: Source) -> Option<Source>
+        ensures { result ≡ parent_clock (kept self.now) source }
+    {
+        let parent = source.beside(self.followed(source)?.clock);
+        if self.sees(parent) {
+            Some(parent)
+        } else {
+            None
         }
     }
 }

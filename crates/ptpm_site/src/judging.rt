@@ -1,8 +1,8 @@
 //! What is wrong, finding by finding, in their order: by domain, by clock, by the table of findings, by port.
 
-ghost use Rattle.std.specs.Prelude.{◌≡◌, ◌++◌, OnOk, IfOk};
+ghost use Rattle.std.specs.Prelude.{◌≡◌, ◌++◌, OnOk, IfOk, length};
 ghost use Rattle.std.specs.List.{flat_map};
-ghost use Rattle.ptpm_site.specs.Findings.{defined, findings_of, found_above, found_here, found_of};
+ghost use Rattle.ptpm_site.specs.Findings.{findings_of, found_above, found_here, found_of, told};
 ghost use Rattle.ptpm_site.specs.Grandmasters.{leading_clocks};
 ghost use Rattle.ptpm_site.specs.Kept.{kept};
 
@@ -18,23 +18,21 @@ use crate::site::Site;
 use crate::source::Source;
 use std::alloc::{AllocError, Global};
 
-/// All findings. Each loop is told at its least clock; the loops are in the order of these.
-#[tactic(auto, unfolding(crate::specs::Findings::defined))]
+/// All findings. Each loop is told at its least clock.
+#[tactic(auto, unfolding(crate::specs::Findings::told))]
 pub fn findings_of<'a>(
     alloc: Global,
     site: &'a Site,
-    loops: &[Vec<usize>],
     limits: Limits,
 ) -> Result<Vec<Finding<'a>>, AllocError>
-    ensures { IfOk result (λ found. defined found.items ≡ findings_of (kept site.now) limits) }
+    ensures { IfOk result (λ found. told found.items ≡ findings_of (kept site.now) limits) }
 {
     let sources = site.sources(alloc)?;
     let leading = leading(alloc, site, sources.as_slice())?;
     let given = Given {
         alloc,
         leading: leading.as_slice(),
-        sources: sources.as_slice(),
-        loops,
+        count: sources.len(),
         limits,
     };
     let mut findings = Vec::new(alloc);
@@ -48,10 +46,8 @@ struct Given<'a> {
     alloc: Global,
     /// The clocks that lead.
     leading: &'a [Source],
-    /// All clocks.
-    sources: &'a [Source],
-    /// The loops, by places among all clocks.
-    loops: &'a [Vec<usize>],
+    /// How many clocks there are.
+    count: usize,
     limits: Limits,
 }
 
@@ -62,9 +58,10 @@ fn judge_all<'a>(
     given: &Given<'_>,
     findings: &mut Vec<Finding<'a>>,
 ) -> Result<(), AllocError>
-    requires { given.now.leading.now ≡ leading_clocks (kept site.now) }
-    ensures { OnOk result (defined findings.new.items
-        ≡ defined findings.old.items ++ flat_map (found_of (kept site.now) given.now.limits) sources.now) }
+    requires leading { given.now.leading.now ≡ leading_clocks (kept site.now) }
+    requires count { given.now.count ≡ length (kept site.now).clocks }
+    ensures { OnOk result (told findings.new.items
+        ≡ told findings.old.items ++ flat_map (found_of (kept site.now) given.now.limits) sources.now) }
 {
     for source in sources {
         judge(site, *source, given, findings)?;
@@ -79,15 +76,16 @@ fn judge<'a>(
     given: &Given<'_>,
     findings: &mut Vec<Finding<'a>>,
 ) -> Result<(), AllocError>
-    requires { given.now.leading.now ≡ leading_clocks (kept site.now) }
-    ensures { OnOk result (defined findings.new.items
-        ≡ defined findings.old.items ++ found_of (kept site.now) given.now.limits source) }
+    requires leading { given.now.leading.now ≡ leading_clocks (kept site.now) }
+    requires count { given.now.count ≡ length (kept site.now).clocks }
+    ensures { OnOk result (told findings.new.items
+        ≡ told findings.old.items ++ found_of (kept site.now) given.now.limits source) }
 {
     let ports = site.ports(given.alloc, source)?;
     judge_above(site, source, given.leading, findings)?;
-    judge_loop(given.alloc, source, given.sources, given.loops, findings)?;
+    judge_loop(given.alloc, site, source, given.count, findings)?;
     judge_here(site, source, ports.as_slice(), given.limits, findings)?;
-    judge_answers(given.alloc, site, source, findings)?;
+    judge_answers(given.alloc, site, source, ports.as_slice(), findings)?;
     Ok(())
 }
 

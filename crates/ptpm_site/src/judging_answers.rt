@@ -1,29 +1,51 @@
 //! What a clock did not answer, and what its answers say otherwise.
 
-ghost use Rattle.std.specs.Prelude.{◌≡◌, OnOk};
-ghost use Rattle.ptpm_site.specs.Findings.{defined};
+ghost use Rattle.std.specs.Prelude.{◌≡◌, ◌++◌, OnOk};
+ghost use Rattle.ptpm_site.specs.Findings.{incomplete_told, told};
+ghost use Rattle.ptpm_site.specs.Kept.{kept};
 
 use crate::changes::{Change, first_change, first_contradiction, is_said_otherwise};
 use crate::clock::{Clock, Heard};
 use crate::completeness::missing_answers;
 use crate::finding::{Finding, What};
-use crate::finds::find;
+use crate::finds::tell;
 use crate::member::{DataSet, Member};
 use crate::site::Site;
 use crate::source::Source;
 use std::alloc::{AllocError, Global};
 
-/// `incomplete`, `changed` and `identity_twice`.
+/// `incomplete`, `changed` and `identity_twice`, of a clock of which these ports answered.
 pub fn judge_answers<'a>(
     alloc: Global,
     site: &'a Site,
     source: Source,
+    ports: &[u16],
     findings: &mut Vec<Finding<'a>>,
 ) -> Result<(), AllocError>
-    ensures { OnOk result (defined findings.new.items ≡ defined findings.old.items) }
+    requires { ports.now ≡ (kept site.now).ports source }
+    ensures { OnOk result (told findings.new.items ≡ told findings.old.items ++ incomplete_told (kept site.now) source) }
 {
+    judge_missing(alloc, site, source, ports, findings)?;
     match site.clocks.get(&source) {
         Some(clock) => judge_clock(alloc, source, clock, findings),
+        None => Ok(()),
+    }
+}
+
+/// `incomplete`.
+#[tactic(auto, unfolding(crate::specs::Findings::incomplete_told))]
+fn judge_missing(
+    alloc: Global,
+    site: &Site,
+    source: Source,
+    ports: &[u16],
+    findings: &mut Vec<Finding<'_>>,
+) -> Result<(), AllocError>
+    requires { ports.now ≡ (kept site.now).ports source }
+    ensures { OnOk result (told findings.new.items ≡ told findings.old.items ++ incomplete_told (kept site.now) source) }
+{
+    match missing_answers(alloc, site, source, ports)? {
+        Some(missing) => tell(findings, source, What::Incomplete(missing)),
         None => Ok(()),
     }
 }
@@ -34,27 +56,10 @@ fn judge_clock<'a>(
     clock: &'a Clock,
     findings: &mut Vec<Finding<'a>>,
 ) -> Result<(), AllocError>
-    ensures { OnOk result (defined findings.new.items ≡ defined findings.old.items) }
+    ensures { OnOk result (told findings.new.items ≡ told findings.old.items) }
 {
-    judge_missing(alloc, source, clock, findings)?;
     judge_changes(alloc, source, clock, Sort::Changed, findings)?;
     judge_changes(alloc, source, clock, Sort::Twice, findings)
-}
-
-/// `incomplete`.
-#[tactic(auto, unfolding(crate::specs::Findings::defined))]
-fn judge_missing(
-    alloc: Global,
-    source: Source,
-    clock: &Clock,
-    findings: &mut Vec<Finding<'_>>,
-) -> Result<(), AllocError>
-    ensures { OnOk result (defined findings.new.items ≡ defined findings.old.items) }
-{
-    match missing_answers(alloc, clock)? {
-        Some(missing) => find(findings, source, What::Incomplete(missing)),
-        None => Ok(()),
-    }
 }
 
 /// Whether answers to different requests or to one are held against each other.
@@ -72,7 +77,7 @@ fn judge_changes<'a>(
     sort: Sort,
     findings: &mut Vec<Finding<'a>>,
 ) -> Result<(), AllocError>
-    ensures { OnOk result (defined findings.new.items ≡ defined findings.old.items) }
+    ensures { OnOk result (told findings.new.items ≡ told findings.old.items) }
 {
     judge_set(
         alloc,
@@ -121,7 +126,7 @@ fn judge_set<'a, T: DataSet>(
     sort: Sort,
     findings: &mut Vec<Finding<'a>>,
 ) -> Result<(), AllocError>
-    ensures { OnOk result (defined findings.new.items ≡ defined findings.old.items) }
+    ensures { OnOk result (told findings.new.items ≡ told findings.old.items) }
 {
     for member in T::members() {
         if member.is_moving() || !is_said_otherwise(heard, *member) {
@@ -146,7 +151,6 @@ fn change_of<'a, T: DataSet>(
     }
 }
 
-#[tactic(auto, unfolding(crate::specs::Findings::defined))]
 fn find_change<'a>(
     findings: &mut Vec<Finding<'a>>,
     source: Source,
@@ -154,10 +158,10 @@ fn find_change<'a>(
     change: Change<'a>,
     sort: Sort,
 ) -> Result<(), AllocError>
-    ensures { OnOk result (defined findings.new.items ≡ defined findings.old.items) }
+    ensures { OnOk result (told findings.new.items ≡ told findings.old.items) }
 {
     match sort {
-        Sort::Changed => find(findings, source, What::Changed(port, change)),
-        Sort::Twice => find(findings, source, What::IdentityTwice(port, change)),
+        Sort::Changed => tell(findings, source, What::Changed(port, change)),
+        Sort::Twice => tell(findings, source, What::IdentityTwice(port, change)),
     }
 }

@@ -1,62 +1,59 @@
 //! Loops, each told at its least clock.
 
-ghost use Rattle.std.specs.Prelude.{◌≡◌, OnOk};
-ghost use Rattle.ptpm_site.specs.Findings.{defined};
+ghost use Rattle.std.specs.Prelude.{◌≡◌, ◌++◌, IfOk, OnOk, length};
+ghost use Rattle.std.specs.Option.{option_map};
+ghost use Rattle.ptpm_site.specs.Findings.{loop_told, told};
+ghost use Rattle.ptpm_site.specs.Kept.{kept};
+ghost use Rattle.ptpm_site.specs.Loops.{circle};
 
 use crate::finding::{Finding, What};
-use crate::finds::find;
+use crate::finds::tell;
+use crate::site::Site;
 use crate::source::Source;
 use ptpm_codec::ClockIdentity;
 use std::alloc::{AllocError, Global};
+use std::cmp::Ordering;
 
-/// `loop`, where a clock is the least of one of these loops.
-#[tactic(auto, unfolding(crate::specs::Findings::defined))]
+/// `loop`, where a clock is the least of one. The site has so many clocks.
+#[tactic(auto, unfolding(crate::specs::Findings::loop_told))]
 pub fn judge_loop(
     alloc: Global,
+    site: &Site,
     source: Source,
-    sources: &[Source],
-    loops: &[Vec<usize>],
+    count: usize,
     findings: &mut Vec<Finding<'_>>,
 ) -> Result<(), AllocError>
-    ensures { OnOk result (defined findings.new.items ≡ defined findings.old.items) }
+    requires { count ≡ length (kept site.now).clocks }
+    ensures { OnOk result (told findings.new.items ≡ told findings.old.items ++ loop_told (kept site.now) source) }
 {
-    match loop_at(source, sources, loops) {
-        Some(places) => {
-            let clocks = clocks_at(alloc, sources, places)?;
-            find(findings, source, What::Loop(clocks))
-        }
+    match loop_from(alloc, site, source, count)? {
+        Some(clocks) => tell(findings, source, What::Loop(clocks)),
         None => Ok(()),
     }
 }
 
-/// The loop whose least clock is this; the loops are in the order of their least clocks.
-fn loop_at<'a>(source: Source, sources: &[Source], loops: &'a [Vec<usize>]) -> Option<&'a [usize]> {
-    let at = loops.partition_point(|places| least_of(sources, places.as_slice()) < Some(source));
-    let places = loops.get(at)?.as_slice();
-    if least_of(sources, places) == Some(source) {
-        Some(places)
-    } else {
-        None
-    }
-}
-
-/// The first clock of a loop.
-fn least_of(sources: &[Source], places: &[usize]) -> Option<Source> {
-    let place = places.first()?;
-    sources.get(*place).copied()
-}
-
-/// The clocks at these places.
-fn clocks_at(
+/// The clocks from one on, each followed by the one that it follows, up to the one that follows the first; none where a lesser
+/// clock than the first comes, or so many clocks do not lead back to it.
+fn loop_from(
     alloc: Global,
-    sources: &[Source],
-    places: &[usize],
-) -> Result<Vec<ClockIdentity>, AllocError> {
+    site: &Site,
+    first: Source,
+    count: usize,
+) -> Result<Option<Vec<ClockIdentity>>, AllocError>
+    ensures { IfOk result (λ found. option_map (λ clocks. clocks.items) found ≡ circle (kept site.now) first count first) }
+{
     let mut clocks = Vec::new(alloc);
-    for place in places {
-        if let Some(source) = sources.get(*place) {
-            clocks.push(source.clock)?;
+    let mut here = first;
+    for walked in 0..count {
+        let Some(parent) = site.parent_clock(here) else {
+            return Ok(None);
+        };
+        clocks.push(here.clock)?;
+        match parent.cmp(&first) {
+            Ordering::Less => return Ok(None),
+            Ordering::Equal => return Ok(Some(clocks)),
+            Ordering::Greater => here = parent,
         }
     }
-    Ok(clocks)
+    Ok(None)
 }

@@ -16,6 +16,7 @@ mod finds;
 mod following;
 pub mod forest;
 pub mod grandmasters;
+mod hearing;
 pub mod judging;
 mod judging_amounts;
 mod judging_answers;

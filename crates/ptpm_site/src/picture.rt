@@ -1,7 +1,7 @@
 //! A site, judged.
 
 ghost use Rattle.std.specs.Prelude.{◌≡◌, IfOk, length};
-ghost use Rattle.ptpm_site.specs.Findings.{defined, findings_of};
+ghost use Rattle.ptpm_site.specs.Findings.{findings_of, told};
 ghost use Rattle.ptpm_site.specs.Kept.{kept};
 ghost use Rattle.ptpm_site.specs.Tree.{StandsOnce};
 
@@ -33,12 +33,12 @@ impl<'a> Picture<'a> {
     ) -> Result<Picture<'a>, AllocError>
         ensures clocks { IfOk result (λ picture. picture.forest.sources.items ≡ (kept site.now).clocks) }
         ensures rows { IfOk result (λ picture. StandsOnce (length (kept site.now).clocks) picture.rows.items) }
-        ensures findings { IfOk result (λ picture. defined picture.findings.items ≡ findings_of (kept site.now) limits) }
+        ensures findings { IfOk result (λ picture. told picture.findings.items ≡ findings_of (kept site.now) limits) }
     {
         let forest = Forest::of(alloc, site)?;
         let loops = loops(alloc, forest.followed.as_slice())?;
         let rows = rows(alloc, site, &forest, loops.as_slice())?;
-        let findings = findings_of(alloc, site, loops.as_slice(), limits)?;
+        let findings = findings_of(alloc, site, limits)?;
         Ok(Picture {
             site,
             forest,

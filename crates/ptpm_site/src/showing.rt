@@ -59,7 +59,7 @@ impl Site {
 
     /// How many ports of a clock answered.
     #[tactic(auto, unfolding(crate::specs::Kept::kept))]
-    fn count_ports(&self, source: Source) -> usize
+    pub fn count_ports(&self, source: Source) -> usize
         ensures { result ≡ length ((kept self.now).ports source) }
     {
         match self.clocks.get(&source) {

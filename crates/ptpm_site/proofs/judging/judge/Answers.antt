@@ -1,6 +1,6 @@
--- Those that are defined are told of a clock, and no others.
+-- What is told of a clock, part by part.
 use Rattle.ptpm_site.specs.Kept.{kept}
-use Rattle.ptpm_site.proofs.Defined.{one_clock}
+use Rattle.ptpm_site.proofs.Reports.{one_clock}
 use Rattle.ptpm_site.proofs.judging.judge.Goals as goal
 
 pub returns : goal.returns

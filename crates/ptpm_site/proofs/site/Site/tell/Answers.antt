@@ -14,6 +14,8 @@ returns-in_ok-take c =
       currents = grown.currents;
       parents = grown.parents;
       times = grown.times;
+      descriptions = grown.descriptions;
+      refused = grown.refused;
       numbers = grown.numbers;
       ports = grown.ports;
     })

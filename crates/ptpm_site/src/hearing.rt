@@ -1,0 +1,79 @@
+//! All that was heard of the data sets of a clock, of which the last counts.
+
+ghost use Rattle.std.specs.Prelude.{◌≡◌};
+ghost use Rattle.ptpm_site.specs.Kept.{kept};
+
+use crate::asked::Asked;
+use crate::clock::Heard;
+use crate::data_sets::{CurrentDataSet, DefaultDataSet, ParentDataSet, TimePropertiesDataSet};
+use crate::description::Description;
+use crate::site::Site;
+use crate::source::Source;
+
+impl Site {
+    /// What was heard of a clock's DEFAULT_DATA_SET, in the order of the lines.
+    #[tactic(auto, unfolding(crate::specs::Kept::kept))]
+    pub fn defaults(&self, source: Source) -> &[Heard<DefaultDataSet>]
+        ensures { result.now ≡ (kept self.now).defaults source }
+    {
+        match self.clocks.get(&source) {
+            Some(clock) => clock.defaults.as_slice(),
+            None => &[],
+        }
+    }
+
+    /// What was heard of a clock's CURRENT_DATA_SET, in the order of the lines.
+    #[tactic(auto, unfolding(crate::specs::Kept::kept))]
+    pub fn currents(&self, source: Source) -> &[Heard<CurrentDataSet>]
+        ensures { result.now ≡ (kept self.now).currents source }
+    {
+        match self.clocks.get(&source) {
+            Some(clock) => clock.currents.as_slice(),
+            None => &[],
+        }
+    }
+
+    /// What was heard of a clock's PARENT_DATA_SET, in the order of the lines.
+    #[tactic(auto, unfolding(crate::specs::Kept::kept))]
+    pub fn parents(&self, source: Source) -> &[Heard<ParentDataSet>]
+        ensures { result.now ≡ (kept self.now).parents source }
+    {
+        match self.clocks.get(&source) {
+            Some(clock) => clock.parents.as_slice(),
+            None => &[],
+        }
+    }
+
+    /// What was heard of a clock's TIME_PROPERTIES_DATA_SET, in the order of the lines.
+    #[tactic(auto, unfolding(crate::specs::Kept::kept))]
+    pub fn times(&self, source: Source) -> &[Heard<TimePropertiesDataSet>]
+        ensures { result.now ≡ (kept self.now).times source }
+    {
+        match self.clocks.get(&source) {
+            Some(clock) => clock.times.as_slice(),
+            None => &[],
+        }
+    }
+
+    /// What was heard of a clock's USER_DESCRIPTION, in the order of the lines.
+    #[tactic(auto, unfolding(crate::specs::Kept::kept))]
+    pub fn descriptions(&self, source: Source) -> &[Heard<Description>]
+        ensures { result.now ≡ (kept self.now).descriptions source }
+    {
+        match self.clocks.get(&source) {
+            Some(clock) => clock.descriptions.as_slice(),
+            None => &[],
+        }
+    }
+
+    /// Whether a clock refused an id.
+    #[tactic(auto, unfolding(crate::specs::Kept::kept))]
+    pub fn refuses(&self, source: Source, asked: Asked) -> bool
+        ensures { result ≡ (kept self.now).refused source asked }
+    {
+        match self.clocks.get(&source) {
+            Some(clock) => clock.refuses(asked),
+            None => false,
+        }
+    }
+}
