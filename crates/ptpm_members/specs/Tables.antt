@@ -1,11 +1,12 @@
 -- Which members the dataField of each id has, and what its octets say of each (IEEE 1588-2019, 15.5.3). The tables are those
 -- of the program.
-use Rattle.std.specs.Prelude.{◌≡◌, ℕ, ◌+◌, ◌%◌, ◌==◌, Bool, if◌then◌else◌, bit_and, pos, List, [], ◌∷◌, length, take, drop, Option, Some, None}
+use Rattle.std.specs.Prelude.{◌≡◌, ℕ, ◌+◌, ◌-◌, ◌%◌, ◌==◌, Bool, if◌then◌else◌, bit_and, pos, List, [], length, slice_get, take, drop, Option, Some, None}
 use Rattle.byteorder.specs.Endian.{big_number, twos_complement}
 use Rattle.ptpm_codec.specs.Layout.{even_up, octet}
 use Rattle.ptpm_codec.specs.PtpText.{is_ptp_text, ptp_text}
 use Rattle.ptpm_data.specs.declared.management_id.Layout.{Layout}
 use Rattle.ptpm_data.specs.declared.management_id.Layout.TheVariants as layouts
+use Rattle.ptpm_data.specs.declared.members.Member.TheVariants as sets
 use Rattle.ptpm_data.specs.ManagementId.{RowValue, row_of}
 use Rattle.ptpm_data.specs.MemberMap.{MemberValue, Number, OfClock, OfPort, Octets, PortOf, natural, value_of}
 use Rattle.ptpm_data.specs.Members.{DataSetsValue}
@@ -57,6 +58,7 @@ form_size (forms.Unsigned n) = n
 form_size (forms.Hexadecimal n) = n
 form_size (forms.Signed n) = n
 form_size (forms.Flag mask) = 1
+form_size forms.EitherFlag = 1
 form_size forms.LowNibble = 1
 form_size forms.TimeInterval = 8
 form_size forms.ClockIdentity = 8
@@ -66,10 +68,12 @@ form_size forms.DelayMechanism = 1
 form_size forms.Text = 0
 
 -- where the last of the members ends
+abbrev pub end_of : Option Field → ℕ
+end_of None = 0
+end_of (Some f) = f.1 + form_size f.2
+
 abbrev pub fields_end : List Field → ℕ
-fields_end [] = 0
-fields_end (f ∷ []) = f.1 + form_size f.2
-fields_end (f ∷ fs) = fields_end fs
+fields_end fs = end_of (slice_get fs (length fs - 1))
 
 -- a dataField has an even number of octets
 abbrev pub field_size : Layout → ℕ
@@ -95,6 +99,7 @@ form_value (forms.Unsigned n) octets = Number (pos (big_number n octets))
 form_value (forms.Hexadecimal n) octets = Number (pos (big_number n octets))
 form_value (forms.Signed n) octets = Number (twos_complement n (big_number n octets))
 form_value (forms.Flag mask) octets = Number (pos (if bit_and (octet 0 octets) mask == 0 then 0 else 1))
+form_value forms.EitherFlag octets = Number (pos (if octet 0 octets % 4 == 0 then 0 else 1))
 form_value forms.LowNibble octets = Number (pos (octet 0 octets % 16))
 form_value forms.TimeInterval octets = Number (twos_complement 8 (big_number 8 octets))
 form_value forms.ClockIdentity octets = Octets (take 8 octets)
@@ -118,6 +123,7 @@ member_value members.SlaveOnly port d = natural 0
 member_value members.PortIdentity None d = None
 member_value members.PortIdentity (Some port) d = Some (PortOf d.default.identity.0 port)
 member_value members.VersionNumber port d = natural 2
+member_value members.ClockAccuracy port d = value_of (OfClock sets.ClockAccuracy) d
 
 -- the octets at the place of a member are its value
 abbrev pub IsSaid : Option ℕ → DataSetsValue → List ℕ → Field → Type 0

@@ -18,6 +18,8 @@ pub enum Member {
     PortIdentity,
     /// versionNumber: 2.
     VersionNumber,
+    /// clockQuality.clockAccuracy, by the name that it has in CLOCK_ACCURACY.
+    ClockAccuracy,
 }
 
 impl Member {
@@ -32,6 +34,7 @@ impl Member {
             Member::SlaveOnly => "slaveOnly",
             Member::PortIdentity => "portIdentity",
             Member::VersionNumber => "versionNumber",
+            Member::ClockAccuracy => "clockAccuracy",
         }
     }
 }

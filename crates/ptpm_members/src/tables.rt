@@ -1,15 +1,16 @@
 //! Which members the dataField of each id has (15.5.3), each at its place.
 
 ghost use Rattle.std.specs.Prelude.{◌≡◌};
-ghost use Rattle.ptpm_members.specs.Tables.{fields_of};
+ghost use Rattle.ptpm_members.specs.Tables.{field_size, fields_of, is_whole};
 
 use crate::forms::Form::{
-    ClockIdentity, Flag, Hexadecimal, LowNibble, PortIdentity, PortState, Signed, Text,
+    ClockIdentity, EitherFlag, Flag, Hexadecimal, LowNibble, PortIdentity, PortState, Signed, Text,
     TimeInterval, Unsigned,
 };
 use crate::forms::{Field, Form};
 use crate::names::Member;
 use crate::names::Member::DataSet;
+use ptpm_codec::is_ptp_text;
 use ptpm_data::Layout;
 use ptpm_data::Member::*;
 
@@ -86,8 +87,7 @@ static PRIORITY2: [Field; 1] = [Field(DataSet(Priority2), 0, Unsigned(1))];
 
 static DOMAIN: [Field; 1] = [Field(DataSet(Domain), 0, Unsigned(1))];
 
-/// The flag is bit 0. Some clocks have it in bit 1, which is reserved, so that either is read.
-static SLAVE_ONLY: [Field; 1] = [Field(Member::SlaveOnly, 0, Flag(3))];
+static SLAVE_ONLY: [Field; 1] = [Field(Member::SlaveOnly, 0, EitherFlag)];
 
 static LOG_ANNOUNCE_INTERVAL: [Field; 1] = [Field(DataSet(LogAnnounce), 0, Signed(1))];
 
@@ -97,7 +97,7 @@ static LOG_SYNC_INTERVAL: [Field; 1] = [Field(DataSet(LogSync), 0, Signed(1))];
 
 static VERSION_NUMBER: [Field; 1] = [Field(Member::VersionNumber, 0, LowNibble)];
 
-static CLOCK_ACCURACY: [Field; 1] = [Field(DataSet(ClockAccuracy), 0, Hexadecimal(1))];
+static CLOCK_ACCURACY: [Field; 1] = [Field(Member::ClockAccuracy, 0, Hexadecimal(1))];
 
 static DELAY_MECHANISM: [Field; 1] = [Field(DataSet(DelayMechanism), 0, Form::DelayMechanism)];
 
@@ -127,5 +127,27 @@ pub fn fields(layout: Layout) -> &'static [Field]
         Layout::DelayMechanism => &DELAY_MECHANISM,
         Layout::LogMinPdelayReqInterval => &LOG_MIN_PDELAY_REQ_INTERVAL,
         Layout::NullPtpManagement | Layout::EnablePort | Layout::DisablePort => &[],
+    }
+}
+
+/// How many octets the dataField of this layout has, if it is no text: an even number, in which its members end.
+fn size(layout: Layout) -> usize
+    ensures { result ≡ field_size layout }
+{
+    let end = match fields(layout).last() {
+        None => 0,
+        Some(field) => usize::from(field.1) + field.2.size(),
+    };
+    end + end % 2
+}
+
+/// Whether the octets are as many as a dataField of this layout has.
+#[tactic(auto, unfolding(crate::specs::Tables::is_whole))]
+pub(crate) fn is_whole(layout: Layout, octets: &[u8]) -> bool
+    ensures { result ≡ is_whole layout octets.now }
+{
+    match layout {
+        Layout::UserDescription => is_ptp_text(octets),
+        _ => octets.len() == size(layout),
     }
 }
