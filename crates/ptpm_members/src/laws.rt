@@ -12,7 +12,7 @@ ghost use Rattle.ptpm_members.specs.Tables.{IsSaid, fields_of_id, is_whole_of_id
 /// What a GET of an id is answered has a member at each of its places: the octets there are the member's value in the data
 /// sets, whatever these are. And it has as many octets as its members take, and a reserved one if that number is odd.
 ///
-/// For an id of a port, the port is one of the clock's; of a clock, its members are numbers of their types.
+/// For an id of a port, the port is one of the clock's; and the clock's members are numbers of their types.
 pub fn member_law()
     ensures members { (id port : ℕ) (d : DataSetsValue) → IsSized d → DataSetsFit d
         → (is_of_port id ≡ true → HasPort port d)
