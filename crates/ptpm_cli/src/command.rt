@@ -5,7 +5,7 @@ use clap::{Arg, ArgAction, ArgGroup, ArgMatches, Command, value_parser};
 use ptpm_commands::answer::{answer, answer_lines};
 use ptpm_commands::ids::ids;
 use ptpm_commands::make::{RequestWords, make};
-use ptpm_commands::show::{show, show_good_lines, show_lines};
+use ptpm_commands::show::{Values, show_as, show_good_lines_as, show_lines_as};
 use ptpm_commands::{Fault, tell};
 use ptpm_draw::{Chosen, draw};
 use ptpm_findings::check_script;
@@ -78,9 +78,9 @@ fn run<R: Read, O: Write, E: Write>(
     match parse(alloc, words) {
         Ok(Task::Answer(Datagrams::One(text))) => answer(alloc, text, out)?,
         Ok(Task::Answer(Datagrams::Lines)) => answer_lines(alloc, reader, out)?,
-        Ok(Task::Show(Datagrams::One(text))) => show(alloc, text, out)?,
-        Ok(Task::Show(Datagrams::Lines)) => show_lines(alloc, reader, out)?,
-        Ok(Task::ShowGoodLines) => show_good_lines(alloc, reader, out, err)?,
+        Ok(Task::Show(form, Datagrams::One(text))) => show_as(alloc, form, text, out)?,
+        Ok(Task::Show(form, Datagrams::Lines)) => show_lines_as(alloc, form, reader, out)?,
+        Ok(Task::ShowGoodLines(form)) => show_good_lines_as(alloc, form, reader, out, err)?,
         Ok(Task::Ids) => ids(out)?,
         Ok(Task::Make(words)) => make(alloc, &words, out)?,
         Ok(Task::Run) => run_script(alloc, reader, out).map_err(Failure::Script)?,
@@ -110,9 +110,9 @@ fn run<R: Read, O: Write, E: Write>(
 /// What the words ask for.
 enum Task<'a> {
     Answer(Datagrams<'a>),
-    Show(Datagrams<'a>),
+    Show(Values, Datagrams<'a>),
     /// `show --lines --skip`.
-    ShowGoodLines,
+    ShowGoodLines(Values),
     Ids,
     Make(RequestWords<'a>),
     /// `run`, with a script on standard input.
@@ -151,8 +151,8 @@ fn parse<'a>(alloc: Global, words: &'a [&'a str]) -> Result<Task<'a>, clap::Erro
 fn task_of<'a>(name: &str, values: &ArgMatches<'a>) -> Option<Task<'a>> {
     match name {
         "answer" => Some(Task::Answer(datagrams_of(values)?)),
-        "show" if values.get_flag("skip") => Some(Task::ShowGoodLines),
-        "show" => Some(Task::Show(datagrams_of(values)?)),
+        "show" if values.get_flag("skip") => Some(Task::ShowGoodLines(shown_values(values))),
+        "show" => Some(Task::Show(shown_values(values), datagrams_of(values)?)),
         "ids" => Some(Task::Ids),
         "make" => Some(Task::Make(request_words(values)?)),
         "run" => Some(Task::Run),
@@ -169,6 +169,15 @@ fn datagrams_of<'a>(values: &ArgMatches<'a>) -> Option<Datagrams<'a>> {
         Some(Datagrams::Lines)
     } else {
         Some(Datagrams::One(values.get_str("HEX")?))
+    }
+}
+
+/// What `show` prints of a dataField.
+fn shown_values(values: &ArgMatches<'_>) -> Values {
+    if values.get_flag("members") {
+        Values::Members
+    } else {
+        Values::Octets
     }
 }
 
@@ -263,13 +272,18 @@ fn with_datagrams<'a>(alloc: Global, command: Command<'a>) -> Result<Command<'a>
 /// `show`, which takes `--skip` with `--lines` alone: without a datagram `--lines` is required.
 fn show_command<'a>(alloc: Global) -> Result<Command<'a>, AllocError> {
     let show = Command::new(alloc, "show").about("Prints the fields of a management message");
+    let members = flag(
+        alloc,
+        "members",
+        "Prints each member of the dataField on its line, in place of the octets",
+    );
     let skip = flag(
         alloc,
         "skip",
         "With --lines: names each line without a management message on standard error and reads on, with status 0",
     )
     .conflicts_with("HEX")?;
-    with_datagrams(alloc, show)?.arg(skip)
+    with_datagrams(alloc, show)?.arg(members)?.arg(skip)
 }
 
 fn make_command<'a>(alloc: Global) -> Result<Command<'a>, AllocError> {

@@ -368,9 +368,10 @@ fn help(rt: HostRuntime) {
         Arguments:\n  \
         [HEX]  The datagram in hexadecimal digits\n\n\
         Options:\n      \
-        --lines  Reads a datagram from each line of standard input\n      \
-        --skip   With --lines: names each line without a management message on standard error and reads on, with status 0\n  \
-        -h, --help   Print help\n",
+        --lines    Reads a datagram from each line of standard input\n      \
+        --members  Prints each member of the dataField on its line, in place of the octets\n      \
+        --skip     With --lines: names each line without a management message on standard error and reads on, with status 0\n  \
+        -h, --help     Print help\n",
     );
     prints(&rt, rt.alloc(), &["ptpm", "--version"], b"ptpm 0.1.0\n");
 }

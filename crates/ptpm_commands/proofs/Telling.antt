@@ -14,6 +14,7 @@ use Rattle.ptpm_data.specs.ManagementId.{RowValue, has_action, id_table, row_of}
 use Rattle.ptpm_table.specs.Outbox.{sent}
 use Rattle.ptpm_commands.specs.Answer.{answered, answered_each, sent_line, sent_lines, state_behind}
 use Rattle.ptpm_commands.specs.Ids.{id_line, letter, row_line, scope_text, table_lines}
+use Rattle.ptpm_commands.specs.declared.show.Values.{Values}
 use Rattle.ptpm_commands.specs.Show.{AreShown, message_lines, named_line}
 use Rattle.ptpm_script.specs.OctetText.{text_of_octets}
 
@@ -117,19 +118,22 @@ all-rows = refl
 
 -- ---- messages that are shown
 
-pub shown-none : (before : Option (List ℕ)) → AreShown before before
-shown-none before = record { messages = []; printed = Appends-nil before }
+pub shown-none : (form : Values) (before : Option (List ℕ)) → AreShown form before before
+shown-none form before = record { messages = []; printed = Appends-nil before }
 
-pub shown-one : (before after : Option (List ℕ)) (m : Message)
-    → Appends before after (message_lines m)
-    → AreShown before after
-shown-one before after m wrote = record { messages = m ∷ []; printed = subst (Appends before after) (sym (append-nil (message_lines m))) wrote }
-
-pub shown-both : (a b c : Option (List ℕ)) → AreShown a b → AreShown b c → AreShown a c
-shown-both a b c p q = record {
-  messages = p.messages ++ q.messages;
-  printed = subst (Appends a c) (sym (flat_map-append message_lines p.messages q.messages)) (Appends-trans a b c _ _ p.printed q.printed);
+pub shown-one : (form : Values) (before after : Option (List ℕ)) (m : Message)
+    → Appends before after (message_lines form m)
+    → AreShown form before after
+shown-one form before after m wrote = record {
+  messages = m ∷ [];
+  printed = subst (Appends before after) (sym (append-nil (message_lines form m))) wrote;
 }
 
-pub shown-kept : (a b c : Option (List ℕ)) → AreShown a b → Keeps b c → AreShown a c
-shown-kept a b c p kept = record { messages = p.messages; printed = Appends-kept a b c _ p.printed kept }
+pub shown-both : (form : Values) (a b c : Option (List ℕ)) → AreShown form a b → AreShown form b c → AreShown form a c
+shown-both form a b c p q = record {
+  messages = p.messages ++ q.messages;
+  printed = subst (Appends a c) (sym (flat_map-append (message_lines form) p.messages q.messages)) (Appends-trans a b c _ _ p.printed q.printed);
+}
+
+pub shown-kept : (form : Values) (a b c : Option (List ℕ)) → AreShown form a b → Keeps b c → AreShown form a c
+shown-kept form a b c p kept = record { messages = p.messages; printed = Appends-kept a b c _ p.printed kept }

@@ -12,9 +12,12 @@ use Rattle.ptpm_codec.specs.Identity.{port_identity_text}
 use Rattle.ptpm_codec.specs.Message.{action_name, action_of, error_name, error_number, error_of, id_of, octets_of, text_of}
 use Rattle.ptpm_codec.specs.Reading.{reading}
 use Rattle.ptpm_data.specs.ManagementId.{RowValue, row_of}
+use Rattle.ptpm_members.specs.FieldText.{field_text}
 use Rattle.ptpm_script.specs.OctetText.{text_of_octets}
 use Rattle.ptpm_commands.specs.declared.faults.Fault.{Fault}
 use Rattle.ptpm_commands.specs.declared.faults.Fault.TheVariants as faults
+use Rattle.ptpm_commands.specs.declared.show.Values.{Values}
+use Rattle.ptpm_commands.specs.declared.show.Values.TheVariants as values
 use Rattle.ptpm_commands.specs.Ids.{id_text}
 
 -- ---- the header
@@ -70,19 +73,25 @@ error_named number = name_of_error (find (λ e. error_number e == number) named_
 abbrev pub named_line : List ℕ → ℕ → List ℕ → List ℕ
 named_line what number name = what ++ id_text number ++ codes " " ++ name ++ 10 ∷ []
 
-abbrev pub value_lines : Option ℕ → List ℕ → List ℕ → List ℕ
-value_lines None octets text = line (codes "value ") (text_of_octets octets)
-value_lines (Some error) octets text = named_line (codes "error ") error (error_named error) ++ line (codes "text ") (text_of_octets text)
+-- the dataField of an id: all of its octets, or its members
+unfoldable pub data_lines : Values → ℕ → List ℕ → List ℕ
+data_lines values.Octets id octets = line (codes "value ") (text_of_octets octets)
+data_lines values.Members id octets = field_text [] id octets
 
-unfoldable pub body_lines : Message → List ℕ
-body_lines m =
+abbrev pub value_lines : Values → ℕ → Option ℕ → List ℕ → List ℕ → List ℕ
+value_lines form id None octets text = data_lines form id octets
+value_lines form id (Some error) octets text =
+    named_line (codes "error ") error (error_named error) ++ line (codes "text ") (text_of_octets text)
+
+unfoldable pub body_lines : Values → Message → List ℕ
+body_lines form m =
     named_line (codes "id ") (id_of m.body) (row_name (row_of (id_of m.body)))
-    ++ value_lines (error_of m.body) (octets_of m.body) (text_of m.body)
+    ++ value_lines form (id_of m.body) (error_of m.body) (octets_of m.body) (text_of m.body)
 
 -- ---- the whole
 
-abbrev pub message_lines : Message → List ℕ
-message_lines m = header_lines m ++ body_lines m
+abbrev pub message_lines : Values → Message → List ℕ
+message_lines form m = header_lines m ++ body_lines form m
 
 -- the message of a datagram, or why it holds none
 abbrev pub read_as : Result Message DecodeError → Result Message Fault
@@ -98,10 +107,10 @@ abbrev pub message_of : List ℕ → Result Message Fault
 message_of digits = message_by (decode_of digits)
 
 -- a writer took the lines of a message that was read
-abbrev pub IsShown : Result Message Fault → Option (List ℕ) → Option (List ℕ) → Type 0
-IsShown read before after = (m : Message) × ((read ≡ Ok m) × Appends before after (message_lines m))
+abbrev pub IsShown : Values → Result Message Fault → Option (List ℕ) → Option (List ℕ) → Type 0
+IsShown form read before after = (m : Message) × ((read ≡ Ok m) × Appends before after (message_lines form m))
 
 -- a writer took the lines of some messages
-pub record AreShown (before after : Option (List ℕ)) : Type 0 where
+pub record AreShown (form : Values) (before after : Option (List ℕ)) : Type 0 where
   pub messages : List Message
-  pub printed : Appends before after (flat_map message_lines messages)
+  pub printed : Appends before after (flat_map (message_lines form) messages)

@@ -2,66 +2,117 @@
 
 ghost use Rattle.std.specs.Prelude.{◌≡◌, ◌≢◌, ◌≤◌, Err, IfErr, OnOk, codes, false, true};
 ghost use Rattle.std.specs.Io.KnownBytes.{Appends};
-ghost use Rattle.ptpm_codec.specs.Message.{error_of, octets_of, text_of};
+ghost use Rattle.ptpm_codec.specs.Message.{error_of, id_of, octets_of, text_of};
 ghost use Rattle.ptpm_codec.specs.Reading.{reading};
 ghost use Rattle.ptpm_data.specs.ManagementId.{row_of};
 ghost use Rattle.ptpm_commands.specs.Faults.{IsAtLine, IsAtSomeLine, is_of_line, is_outside};
-ghost use Rattle.ptpm_commands.specs.Show.{AreShown, IsShown, action_lines, body_lines, error_named, header_lines, identity_lines, message_of, named_line, read_as, row_name, sdo_line, value_lines};
+ghost use Rattle.ptpm_commands.specs.Show.{AreShown, IsShown, action_lines, body_lines, data_lines, error_named, header_lines, identity_lines, message_of, named_line, read_as, row_name, sdo_line, value_lines};
 
 use crate::faults::{Fault, tell};
 use crate::lines::Lines;
 use ptpm_codec::{ErrorId, View, view};
 use ptpm_data::row;
+use ptpm_members::FieldText;
 use ptpm_script::Hexadecimal;
 use std::alloc::Global;
 use std::io;
 use std::io::{Read, Write};
 
-/// Prints the message that the text spells in hexadecimal.
+/// What is printed of a dataField.
+#[derive(Clone, Copy, Debug, PartialEq, Eq)]
+pub enum Values {
+    /// Its octets, in hexadecimal.
+    Octets,
+    /// Its members, a line each, with their names in the standard.
+    Members,
+}
+
+/// Prints the message that the text spells in hexadecimal, its dataField by its octets.
 pub fn show<O: Write>(alloc: Global, text: &str, out: &mut O) -> Result<(), Fault>
     ensures shown { OnOk result
-        (IsShown (message_of text.now) (O.contents out.old) (O.contents out.new)) }
+        (IsShown Values.Octets (message_of text.now) (O.contents out.old) (O.contents out.new)) }
+    ensures fault { IfErr result (λ e. is_outside e ≡ false → message_of text.now ≡ Err e) }
+    ensures unprinted { IfErr result
+        (λ e. e ≢ Fault.WriteFault → O.contents out.new ≡ O.contents out.old) }
+{
+    show_as(alloc, Values::Octets, text, out)
+}
+
+/// Prints the message that the text spells in hexadecimal.
+pub fn show_as<O: Write>(alloc: Global, form: Values, text: &str, out: &mut O) -> Result<(), Fault>
+    ensures shown { OnOk result
+        (IsShown form (message_of text.now) (O.contents out.old) (O.contents out.new)) }
     ensures fault { IfErr result (λ e. is_outside e ≡ false → message_of text.now ≡ Err e) }
     ensures unprinted { IfErr result
         (λ e. e ≢ Fault.WriteFault → O.contents out.new ≡ O.contents out.old) }
 {
     let datagram = hex::decode(alloc, text)?;
-    show_datagram(datagram.as_slice(), out)
+    show_datagram(form, datagram.as_slice(), out)
 }
 
-/// Prints the message of each line of a reader, one after another. A line that is `nothing` is passed over; the first that
-/// holds no management message is a fault.
+/// Prints the message of each line of a reader, one after another, each dataField by its octets. A line that is `nothing` is
+/// passed over; the first that holds no management message is a fault.
 pub fn show_lines<R: Read + Drop, O: Write>(
     alloc: Global,
     reader: R,
     out: &mut O,
 ) -> Result<(), Fault>
-    ensures shown { OnOk result (AreShown (O.contents out.old) (O.contents out.new)) }
+    ensures shown { OnOk result
+        (AreShown Values.Octets (O.contents out.old) (O.contents out.new)) }
+    ensures fault { IfErr result (λ e. IsAtSomeLine e) }
+{
+    show_lines_as(alloc, Values::Octets, reader, out)
+}
+
+/// Prints the message of each line of a reader, one after another. A line that is `nothing` is passed over; the first that
+/// holds no management message is a fault.
+pub fn show_lines_as<R: Read + Drop, O: Write>(
+    alloc: Global,
+    form: Values,
+    reader: R,
+    out: &mut O,
+) -> Result<(), Fault>
+    ensures shown { OnOk result (AreShown form (O.contents out.old) (O.contents out.new)) }
     ensures fault { IfErr result (λ e. IsAtSomeLine e) }
 {
     let mut lines = Lines::new(alloc, reader)?;
     for number in 1..u64::MAX {
-        if !show_next(alloc, &mut lines, number, out)? {
+        if !show_next(alloc, form, &mut lines, number, out)? {
             break;
         }
     }
     Ok(())
 }
 
-/// The same, but a line that is too long or holds no management message is reported on `err`, as the fault that it would be, and
-/// passed over. What `err` does changes nothing.
+/// Prints as `show_lines` does, but passes over a line that is too long or holds no management message, and reports it on `err`,
+/// as the fault that it would be. What `err` does changes nothing.
 pub fn show_good_lines<R: Read + Drop, O: Write, E: Write>(
     alloc: Global,
     reader: R,
     out: &mut O,
     err: &mut E,
 ) -> Result<(), Fault>
-    ensures shown { OnOk result (AreShown (O.contents out.old) (O.contents out.new)) }
+    ensures shown { OnOk result
+        (AreShown Values.Octets (O.contents out.old) (O.contents out.new)) }
+    ensures fault { IfErr result (λ e. is_outside e ≡ true) }
+{
+    show_good_lines_as(alloc, Values::Octets, reader, out, err)
+}
+
+/// Prints as `show_lines_as` does, and passes over lines as `show_good_lines` does.
+pub fn show_good_lines_as<R: Read + Drop, O: Write, E: Write>(
+    alloc: Global,
+    form: Values,
+    reader: R,
+    out: &mut O,
+    err: &mut E,
+) -> Result<(), Fault>
+    ensures shown { OnOk result (AreShown form (O.contents out.old) (O.contents out.new)) }
     ensures fault { IfErr result (λ e. is_outside e ≡ true) }
 {
     let mut lines = Lines::new(alloc, reader)?;
     for number in 1..u64::MAX {
-        match show_next(alloc, &mut lines, number, out) {
+        match show_next(alloc, form, &mut lines, number, out) {
             Ok(true) => {}
             Ok(false) => break,
             Err(fault) if fault.is_of_line() => {
@@ -78,11 +129,12 @@ pub fn show_good_lines<R: Read + Drop, O: Write, E: Write>(
 /// before a line that is not at hand.
 fn show_next<R: Read + Drop, O: Write>(
     alloc: Global,
+    form: Values,
     lines: &mut Lines<R>,
     number: u64,
     out: &mut O,
 ) -> Result<bool, Fault>
-    ensures shown { OnOk result (AreShown (O.contents out.old) (O.contents out.new)) }
+    ensures shown { OnOk result (AreShown form (O.contents out.old) (O.contents out.new)) }
     ensures fault { IfErr result (λ e. IsAtLine number e) }
     ensures unprinted { IfErr result
         (λ e. is_of_line e ≡ true → O.contents out.new ≡ O.contents out.old) }
@@ -91,28 +143,28 @@ fn show_next<R: Read + Drop, O: Write>(
         return Ok(false);
     }
     if let Some(datagram) = lines.datagram(alloc, number)? {
-        show_at(number, datagram.as_slice(), out)?;
+        show_at(number, form, datagram.as_slice(), out)?;
     }
     lines.flush_before_wait(out)?;
     Ok(true)
 }
 
 /// Prints the message of a datagram in the line of this number, which a fault of it names.
-fn show_at<O: Write>(number: u64, datagram: &[u8], out: &mut O) -> Result<(), Fault>
-    ensures shown { OnOk result (AreShown (O.contents out.old) (O.contents out.new)) }
+fn show_at<O: Write>(number: u64, form: Values, datagram: &[u8], out: &mut O) -> Result<(), Fault>
+    ensures shown { OnOk result (AreShown form (O.contents out.old) (O.contents out.new)) }
     ensures fault { IfErr result (λ e. IsAtLine number e) }
     ensures unprinted { IfErr result
         (λ e. is_of_line e ≡ true → O.contents out.new ≡ O.contents out.old) }
 {
-    match show_datagram(datagram, out) {
+    match show_datagram(form, datagram, out) {
         Ok(()) => Ok(()),
         Err(fault) => Err(fault.at_line(number)),
     }
 }
 
-fn show_datagram<O: Write>(datagram: &[u8], out: &mut O) -> Result<(), Fault>
+fn show_datagram<O: Write>(form: Values, datagram: &[u8], out: &mut O) -> Result<(), Fault>
     ensures shown { OnOk result
-        (IsShown (read_as (reading datagram.now)) (O.contents out.old) (O.contents out.new)) }
+        (IsShown form (read_as (reading datagram.now)) (O.contents out.old) (O.contents out.new)) }
     ensures fault { IfErr result
         (λ e. is_outside e ≡ false → read_as (reading datagram.now) ≡ Err e) }
     ensures unprinted { IfErr result
@@ -120,7 +172,7 @@ fn show_datagram<O: Write>(datagram: &[u8], out: &mut O) -> Result<(), Fault>
 {
     let message = view(datagram)?;
     show_header(&message, out)?;
-    show_body(&message, out)?;
+    show_body(form, &message, out)?;
     Ok(())
 }
 
@@ -177,25 +229,45 @@ fn show_sdo<O: Write>(sdo: u16, out: &mut O) -> io::Result<()>
 
 /// The managementId, whose name is `-` if the table of ids has none, and what follows it in the TLV.
 #[tactic(auto, unfolding(crate::specs::Show::body_lines))]
-fn show_body<O: Write>(message: &View<'_>, out: &mut O) -> io::Result<()>
+fn show_body<O: Write>(form: Values, message: &View<'_>, out: &mut O) -> io::Result<()>
     ensures { OnOk result (Appends (O.contents out.old) (O.contents out.new)
-        (body_lines message.now)) }
+        (body_lines form message.now)) }
 {
     let id = message.id();
     writeln!(out, "id {} {}", Hexadecimal(&id.to_be_bytes()), name_of(id))?;
-    show_value(message, out)
+    show_value(form, message, out)
 }
 
 /// The dataField; of an error status the managementErrorId, whose name is `-` if the standard has none, and the text.
-fn show_value<O: Write>(message: &View<'_>, out: &mut O) -> io::Result<()>
+fn show_value<O: Write>(form: Values, message: &View<'_>, out: &mut O) -> io::Result<()>
     ensures { OnOk result (Appends (O.contents out.old) (O.contents out.new)
-        (value_lines (error_of message.now.body) (octets_of message.now.body) (text_of message.now.body))) }
+        (value_lines form (id_of message.now.body) (error_of message.now.body)
+        (octets_of message.now.body) (text_of message.now.body))) }
 {
     let Some(error) = message.error() else {
-        return writeln!(out, "value {}", Hexadecimal(message.octets()));
+        return show_data(form, message.id(), message.octets(), out);
     };
     show_error(error, out)?;
     writeln!(out, "text {}", Hexadecimal(message.text()))
+}
+
+/// The dataField of this id.
+#[tactic(auto, unfolding(crate::specs::Show::data_lines))]
+fn show_data<O: Write>(form: Values, id: u16, octets: &[u8], out: &mut O) -> io::Result<()>
+    ensures { OnOk result (Appends (O.contents out.old) (O.contents out.new)
+        (data_lines form id octets.now)) }
+{
+    match form {
+        Values::Octets => writeln!(out, "value {}", Hexadecimal(octets)),
+        Values::Members => {
+            let members = FieldText {
+                lead: "",
+                id,
+                octets,
+            };
+            write!(out, "{members}")
+        }
+    }
 }
 
 /// The managementErrorId, whose name is `-` if the standard has none.

@@ -2,7 +2,7 @@
 
 use super::failing::FailingReader;
 use super::{
-    PASSED_ON, REFUSAL, REPLY, REQUEST, SHOWN_REFUSAL, SHOWN_REPLY, TO_EVERY_CLOCK, edited,
+    PASSED_ON, REFUSAL, REPLY, REQUEST, SHOWN_REFUSAL, SHOWN_REPLY, TO_EVERY_CLOCK, edited, prints,
 };
 use crate::command::command;
 use std::alloc::Global;
@@ -107,6 +107,94 @@ const FOLLOWER_FINDINGS: &[u8] = b"domain 0: 1 clock, no grandmaster\n  \
     0 020000fffe000002 offset offsetFromMaster 20 ns\n\
     0 020000fffe000002 delay meanDelay 10 ns\n\
     0 020000fffe000002 incomplete DEFAULT_DATA_SET TIME_PROPERTIES_DATA_SET PORT_DATA_SET USER_DESCRIPTION\n";
+
+/// The reply with its members.
+const REPLY_MEMBERS: &str = "sdo 000
+domain 0
+source aabbccfffeddee01/1
+target 0011223344556677/1
+number 7
+hops 0 of 0
+action RESPONSE
+id 2005 PRIORITY1
+priority1 128
+";
+
+/// The request, a refusal, two octets of an id that the table lacks, and both lines of the follower.
+const SHOWN_MEMBERS: &str = "sdo 000
+domain 0
+source 0011223344556677/1
+target aabbccfffeddee01/65535
+number 7
+hops 1 of 1
+action GET
+id 2005 PRIORITY1
+value -
+sdo 000
+domain 0
+source aabbccfffeddee01/1
+target 0011223344556677/1
+number 7
+hops 0 of 0
+action RESPONSE
+id 2005 PRIORITY1
+error 0004 WRONG_VALUE
+text 6e6f
+sdo 000
+domain 0
+source 0011223344556677/1
+target aabbccfffeddee01/65535
+number 7
+hops 1 of 1
+action GET
+id 2fff -
+value 0102
+sdo 000
+domain 0
+source 020000fffe000002/1
+target 020000fffe0000ee/1
+number 1
+hops 1 of 1
+action RESPONSE
+id 2001 CURRENT_DATA_SET
+stepsRemoved 1
+offsetFromMaster 20.0
+meanDelay 10.0
+sdo 000
+domain 0
+source 020000fffe000002/1
+target 020000fffe0000ee/1
+number 1
+hops 1 of 1
+action RESPONSE
+id 2002 PARENT_DATA_SET
+parentPortIdentity 020000fffe000001/1
+parentStats false
+observedParentOffsetScaledLogVariance 0xffff
+observedParentClockPhaseChangeRate 2147483647
+grandmasterPriority1 128
+grandmasterClockQuality.clockClass 248
+grandmasterClockQuality.clockAccuracy 0xfe
+grandmasterClockQuality.offsetScaledLogVariance 0xffff
+grandmasterPriority2 128
+grandmasterIdentity 020000fffe000001
+";
+
+/// With `--members` each message has the members of its dataField, in whichever way it comes.
+#[test]
+fn members(rt: HostRuntime) -> Result<(), Fail> {
+    let alloc = rt.alloc();
+    let edits = [(3, 0x38), (51, 4), (52, 0x2f), (53, 0xff)];
+    let unknown = edited(alloc, &edits, &[1, 2])?;
+    let input = format!(in alloc; "{REQUEST}\n{REFUSAL}\n{unknown}\n{FOLLOWER}")?;
+    let words = ["ptpm", "show", "--members", "--lines", "--skip"];
+    let (lines, shown) = (input.as_bytes(), SHOWN_MEMBERS.as_bytes());
+    ends(&rt, alloc, &words[..4], lines, 0, shown, "");
+    ends(&rt, alloc, &words, lines, 0, shown, "");
+    let words = ["ptpm", "show", REPLY, "--members"];
+    prints(&rt, alloc, &words, REPLY_MEMBERS.as_bytes());
+    Ok(())
+}
 
 /// Each option is heeded; without a clock the status is 3.
 #[test]

@@ -5,4 +5,4 @@ pub returns-in-Ok-clause-shown : goal.returns-in-Ok-clause-shown
 returns-in-Ok-clause-shown g c =
     let W = g.O.Write.contents in
     let shown = c.in-Ok.ensures.shown in
-    shown-one (W c.args.out.now) (W c.show_datagram.new.out) shown.0 shown.1.1
+    shown-one c.args.form (W c.args.out.now) (W c.show_datagram.new.out) shown.0 shown.1.1

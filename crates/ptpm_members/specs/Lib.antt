@@ -1,0 +1,4 @@
+pub mod Names
+pub mod Tables
+pub mod ValueText
+pub mod FieldText
