@@ -29,10 +29,13 @@ fn survey(rt: HostRuntime) {
 #[test]
 fn survey_of_a_clock(rt: HostRuntime) {
     let mut survey = Survey::of_clock(rt.alloc(), MANAGER, CLOCK, 0, 7, 1, 0x2004);
-    let (clock, _) = PORT.split_at(28);
-    let mut request = edited(&SURVEY[..34], &[]);
-    let _ = request.try_extend_from_slice(&clock[20..]);
-    let _ = request.try_extend_from_slice(&SURVEY[42..]);
+    let (to_target, rest) = SURVEY.split_at(34);
+    let (_, behind_target) = rest.split_at(8);
+    let (_, source) = PORT.split_at(20);
+    let (clock, _) = source.split_at(8);
+    let mut request = edited(to_target, &[]);
+    let _ = request.try_extend_from_slice(clock);
+    let _ = request.try_extend_from_slice(behind_target);
     assert!(rt; sends(&survey, request.as_slice()));
     let other = edited(PORT, &[(27, 2), (31, 8)]);
     let ignored = Surveyed::Ignored(Reason::OtherSource);
