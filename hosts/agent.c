@@ -95,29 +95,38 @@ static unsigned long send_out(const struct ptpm_sent *message, const struct hear
 /* What is to go out goes once all that it says is saved, or does not; how many messages were not taken. */
 static unsigned long send_saved(void) { return !is_unsaved || save_changes(&clock_held) ? send_round() : drop_round(); }
 
-/* The same for one turn, with a line of what became of it; how many of its messages were not taken. */
-static unsigned long send_told(uint16_t ingress, const struct heard *heard, uint32_t answer, unsigned long lost, size_t left,
-                               size_t count, const struct ptpm_changed *changed) {
-    int is_done = save_changes(&clock_held);
-    lost += is_done ? send_round() : drop_round();
-    tell_turn(ingress, heard, answer, left - lost, count);
-    if (is_done) tell_all_changed(changed);
+/* What a turn sends goes out or waits, except what is kept from the network; `left` is how many messages that leaves. How many of
+   these were not taken. */
+static inline unsigned long hand_on(const struct heard *heard, const struct port *port, uint16_t ingress, enum ptpm_handled answer,
+                                    const struct ptpm_sent *places, size_t count, size_t *left) {
+    const struct ptpm_sent *kept[PTPM_MOST_SENT];
+    unsigned long lost = 0;
+    count_answer(answer);
+    if (answer == PTPM_ANSWERED_NEW) note_change();
+    *left = keep_back(heard, port, ingress, answer, places, count, kept);
+    for (size_t i = 0; i < *left; i++) lost += send_out(kept[i], heard, port, ingress);
+    use_places(count);
     return lost;
 }
 
-/* The library's turn. What it changed is asked for a line of it alone, since to find that costs more than the turn does. */
-static enum ptpm_handled judge(const struct heard *heard, uint16_t ingress, struct ptpm_sent *places, size_t *count,
-                               struct ptpm_changed *changed) {
-    if (!options->is_told) return ptpm_clock_handle(&clock_held, ingress, heard->octets, heard->size, places, PTPM_MOST_SENT, count);
-    return ptpm_clock_handle_changed(&clock_held, ingress, heard->octets, heard->size, places, PTPM_MOST_SENT, count, changed);
+/* A turn with lines of what became of it and what it changed. To find that costs more than the turn does. */
+static unsigned long take_told_turn(const struct heard *heard, const struct port *port, uint16_t ingress,
+                                    struct ptpm_sent *places) {
+    struct ptpm_changed changed;
+    size_t count, left;
+    enum ptpm_handled answer = ptpm_clock_handle_changed(&clock_held, ingress, heard->octets, heard->size, places, PTPM_MOST_SENT,
+                                                         &count, &changed);
+    unsigned long lost = hand_on(heard, port, ingress, answer, places, count, &left);
+    int is_done = save_changes(&clock_held);
+    lost += is_done ? send_round() : drop_round();
+    tell_turn(ingress, heard, answer, left - lost, count);
+    if (is_done) tell_all_changed(&changed);
+    return lost;
 }
 
 /* What becomes of a datagram; port is NULL at the Unix socket. How many messages were not taken. */
 static unsigned long take_turn(struct heard *heard, const struct port *port) {
-    const struct ptpm_sent *kept[PTPM_MOST_SENT];
-    struct ptpm_changed changed;
-    size_t count;
-    unsigned long lost = 0;
+    size_t count, left;
     uint16_t ingress = port == NULL ? 1 : (uint16_t)(port - ports + 1);
     if (port != NULL && !is_heard(heard, port)) return 0;
     lower_hops(heard);
@@ -126,13 +135,9 @@ static unsigned long take_turn(struct heard *heard, const struct port *port) {
         count_dropped(send_saved());
         places = places_to_send();
     }
-    enum ptpm_handled answer = judge(heard, ingress, places, &count, &changed);
-    count_answer(answer);
-    if (answer == PTPM_ANSWERED_NEW) note_change();
-    size_t left = keep_back(heard, port, ingress, answer, places, count, kept);
-    for (size_t i = 0; i < left; i++) lost += send_out(kept[i], heard, port, ingress);
-    use_places(count);
-    return options->is_told ? send_told(ingress, heard, answer, lost, left, count, &changed) : lost;
+    if (options->is_told) return take_told_turn(heard, port, ingress, places);
+    enum ptpm_handled answer = ptpm_clock_handle(&clock_held, ingress, heard->octets, heard->size, places, PTPM_MOST_SENT, &count);
+    return hand_on(heard, port, ingress, answer, places, count, &left);
 }
 
 void take_round(const struct port *port, int at) {
