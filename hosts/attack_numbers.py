@@ -118,7 +118,7 @@ def sessions():
             (image(200, 999999), (), image((200 + 1000000) % 65536, 1, attempts=3)),
             (image(20000, 2, hops=4, attempts=1), (), image(20002, 2, attempts=3)),
             (image(20100, 2, domain=5), (), image(20100, 4)),
-            (image(20200, 2, set_of(78)), ("--give-up",), image(20202, 2, attempts=3))]:
+            (image(20200, 2, set_of(78)), ("--give-up",), image(20200, 4))]:
         write_octets("number", content)
         done = two.is_honest(*words)
         check(f"the session {content.hex()} goes on", done and two.last == 0 and octets("number") == after)

@@ -47,9 +47,10 @@ static void tell_reason(const struct task *task, enum asked asked, uint16_t numb
 
 /* What may be wrong if the clock answers nobody. */
 static void advise(const struct task *task) {
-    if (task->port == 0) complain("a clock that answers only if its port is named, such as a ptpd, is asked with --port 1");
     if (task->port > 1) complain("numberPorts of get DEFAULT_DATA_SET tells whether the clock has a port %u", task->port);
-    if (task->path == NULL) complain("survey DEFAULT_DATA_SET shows which clocks are in that domain; --domain names another");
+    if (task->path != NULL) return;
+    if (task->port == 0) complain("a clock that answers only if its port is named, such as a ptpd, is asked with --port 1");
+    complain("survey DEFAULT_DATA_SET shows which clocks are in that domain; --domain names another");
 }
 
 /* What becomes of a request that stays in the session's file. */
