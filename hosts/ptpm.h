@@ -17,10 +17,10 @@
      to free. There is one live copy of a handle. The host may move it, and reads and writes nothing inside it.
    - malloc, realloc and free come from one allocator. malloc aligns each block to the greatest power of two up to 16 that divides
      its size. No call is made from a signal handler, or in a forked child of a process with threads.
-   - A call has the stack that it needs, as the library is built for x86-64 and aarch64. Most calls take 500 octets. The image and the
-     restore of a session take 1,000 each. A restore of a clock takes 10,000, and its image 2,700. A start of a clock takes 5,500, ptpm_clock_handle_changed
-     2,100, ptpm_clock_handle and ptpm_clock_observe 1,000 each. The message of a survey takes 1,900. Beyond that a call has what
-     malloc, realloc, free, memcpy, memmove and memset of the host take. No call calls itself.
+   - A call has the stack that it needs, as the library is built for x86-64 and aarch64. Most calls take 500 octets. The image of a
+     clock, and the image and the restore of a session, take 1,000 each. A restore of a clock takes 9,200. A start of a clock takes
+     5,500, ptpm_clock_handle_changed 2,100, ptpm_clock_handle and ptpm_clock_observe 1,000 each. The message of a survey takes
+     1,900. Beyond that a call has what malloc, realloc, free, memcpy, memmove and memset of the host take. No call calls itself.
 
    A call that only reads takes a const handle, and leaves it as it is. If several refusals hold, a call answers the first. Want of
    memory can come in place of it in ptpm_clock_start alone. Every other call asks for memory only if nothing else refuses. */

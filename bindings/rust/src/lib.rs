@@ -28,9 +28,8 @@
 //!
 //! - No call is made from a signal handler, or in a forked child of a process with threads. Rust lets neither be made without
 //!   `unsafe` of its own.
-//! - The stack has room for what the header says: a restore 10,000 octets, [`Session::image`] 8,000, [`Clock::start`] 5,500 and its
-//!   settings, [`Clock::image`] 2,700, every other call 2,100. An [`Outbox`] has 22,140 octets: [`Outbox::boxed`] puts them on the
-//!   heap.
+//! - The stack has room for what the header says: a clock's restore 9,200 octets, [`Clock::start`] 5,500 and its settings, every
+//!   other call 2,100. An [`Outbox`] has 22,140 octets: [`Outbox::boxed`] puts them on the heap.
 //! - `malloc`, `realloc` and `free` of the program are those of one allocator.
 //!
 //! A handle is used by one thread at a time: a clock may be moved to another thread, and is shared by none.
