@@ -17,9 +17,9 @@
    - malloc, realloc and free come from one allocator. malloc aligns each block to the greatest power of two up to 16 that divides
      its size. No call is made from a signal handler, or in a forked child of a process with threads.
    - A call has the stack that it needs, as the library is built for x86-64 and aarch64. Most calls take 500 octets. The image and the
-     restore of a session take 1,000 each. A restore of a clock takes 10,000, and its image 2,700. A start of a clock takes 5,500, ptpm_clock_handle_changed
-     2,100, ptpm_clock_handle and ptpm_clock_observe 1,000 each. The message of a survey takes 1,900. Beyond that a call has what
-     malloc, realloc, free, memcpy, memmove and memset of the host take. No call calls itself.
+     restore of a session take 1,000 each. A restore of a clock takes 10,000, and its image 2,700. A start of a clock takes 5,500,
+     ptpm_clock_handle_changed 2,100, ptpm_clock_handle and ptpm_clock_observe 1,000 each. The message of a survey takes 1,900.
+     Beyond that a call has what malloc, realloc, free, memcpy, memmove and memset of the host take. No call calls itself.
 
    A call that only reads takes a const handle, and leaves it as it is. If several refusals hold, a call answers the first. Want of
    memory can come in place of it in ptpm_clock_start alone. Every other call asks for memory only if nothing else refuses. */
@@ -364,9 +364,9 @@ enum { PTPM_MOST_ANSWERS = 512 };
 
 /* The starts. A session is refused by PTPM_MANAGER_IS_EVERY, PTPM_TARGET_IS_EVERY, PTPM_SAME_CLOCK, PTPM_NO_PORTS,
    PTPM_TOO_MANY_PORTS, PTPM_TARGET_IS_ZERO or PTPM_NO_MEMORY, in this order. A survey of every clock is refused by the first or the
-   last of these, and one of one clock by all except the two of ports. A clock is refused by all others, PTPM_IDENTITY_IS_ZERO last,
-   and by PTPM_NO_PORTS, PTPM_TOO_MANY_PORTS and PTPM_NO_MEMORY. PTPM_OTHER_SIZES comes before all of them, of
-   ptpm_clock_start_sized and its like alone. */
+   last of these. A survey of one clock is refused by all of them except the two of ports. A clock is refused by all others,
+   PTPM_IDENTITY_IS_ZERO last, and by PTPM_NO_PORTS, PTPM_TOO_MANY_PORTS and PTPM_NO_MEMORY. PTPM_OTHER_SIZES comes before all of
+   them, of ptpm_clock_start_sized and its like alone. */
 __extension__ enum PTPM_FOUR_OCTETS(ptpm_started) {
     PTPM_STARTED = 0,
     PTPM_START_NO_MEMORY = PTPM_NO_MEMORY,
@@ -756,8 +756,8 @@ enum ptpm_resumed ptpm_session_resume(struct ptpm_session *session, uint8_t atte
    one is answered, the one that was given up was carried out before it, or never will be.
    Answers: PTPM_GIVEN_UP; or PTPM_IDLE or PTPM_OUT_OF_REACH, and then nothing changes. The clock might take a number further ahead
             for an old one; so send the request until it is answered.
-   Owed:    the caller begins the next request before it ends, or saves the session's image: else a restart goes on with the
-            request that was given up. */
+   Owed:    the caller begins the next request, or saves the session's image. Else a restart goes on with the request that was
+            given up. */
 enum ptpm_given_up ptpm_session_give_up(struct ptpm_session *session);
 
 /* Has requests sent, and replies expected, in this domain from now on, the unanswered request among them.
@@ -818,7 +818,7 @@ static inline enum ptpm_started ptpm_survey_start_sized(struct ptpm_survey *hand
 
 /* Starts a survey of one clock, without answers, in place of what the handle holds, which is freed first. Every port of the clock
    is asked, and another clock's answer is ignored (PTPM_OTHER_SOURCE). A clock takes such a GET of one of its managers for a
-   numbered request, as of a session. So the manager here is none of them, for example another port of the same identity.
+   numbered request, like one of a session. So the manager here is none of them, for example another port of the same identity.
    Takes:   the identity of the clock: another one than the manager's, and neither all ones nor all zeros.
    Answers: PTPM_STARTED; or why not, and then the handle holds nothing.
    Memory:  the survey, until it is stopped.
