@@ -2,11 +2,12 @@
 
 use crate::tests::*;
 
-/// The request with octets of another, of the same size, from a place on.
+/// The request with two octets of another from a place on.
 fn with(request: &[u8; 54], place: usize, octets: &[u8; 2]) -> [u8; 54] {
     let mut edited = *request;
-    if place <= 52 {
-        edited[place..place + 2].copy_from_slice(octets);
+    if place < 53 {
+        edited[place] = octets[0];
+        edited[place + 1] = octets[1];
     }
     edited
 }

@@ -2,6 +2,7 @@
 
 use super::{CLOCK, DONE, MANAGER_CLOCK, REPLY, REQUEST};
 use crate::*;
+use std::alloc::Global;
 
 /// GET PRIORITY1, number 7, of the manager to every clock, at every port.
 const ENQUIRY: &[u8; 54] = b"\x0d\x12\x00\x36\x00\x00\
@@ -105,8 +106,8 @@ fn a_survey_of_one_clock(rt: HostRuntime) {
 }
 
 /// The number of the refusal of a survey of one clock; 0 if it starts.
-fn refusal_at(rt: &HostRuntime, settings: &SurveySettings, target: &[u8; 8]) -> u32 {
-    match HostedSurvey::start_at(rt.alloc(), settings, target) {
+fn refusal_at(alloc: Global, settings: &SurveySettings, target: &[u8; 8]) -> u32 {
+    match HostedSurvey::start_at(alloc, settings, target) {
         Ok(_) => 0,
         Err(refusal) => session_number(refusal),
     }
@@ -114,6 +115,7 @@ fn refusal_at(rt: &HostRuntime, settings: &SurveySettings, target: &[u8; 8]) -> 
 
 #[test]
 fn survey_of_one_clock_refused(rt: HostRuntime) {
+    let alloc = rt.alloc();
     let every = [0xff; 8];
     let of_every = SurveySettings {
         clock: every,
@@ -123,10 +125,10 @@ fn survey_of_one_clock_refused(rt: HostRuntime) {
         clock: [0; 8],
         ..SURVEY
     };
-    assert!(rt; refusal_at(&rt, &of_every, &every) == 53);
-    assert!(rt; refusal_at(&rt, &SURVEY, &every) == 54);
-    assert!(rt; refusal_at(&rt, &of_zeros, &[0; 8]) == 55);
-    assert!(rt; refusal_at(&rt, &SURVEY, &[0; 8]) == 57);
+    assert!(rt; refusal_at(alloc, &of_every, &every) == 53);
+    assert!(rt; refusal_at(alloc, &SURVEY, &every) == 54);
+    assert!(rt; refusal_at(alloc, &of_zeros, &[0; 8]) == 55);
+    assert!(rt; refusal_at(alloc, &SURVEY, &[0; 8]) == 57);
 }
 
 #[test]
