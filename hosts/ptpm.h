@@ -365,9 +365,9 @@ enum { PTPM_MOST_ANSWERS = 512 };
 
 /* The starts. A session is refused by PTPM_MANAGER_IS_EVERY, PTPM_TARGET_IS_EVERY, PTPM_SAME_CLOCK, PTPM_NO_PORTS,
    PTPM_TOO_MANY_PORTS, PTPM_TARGET_IS_ZERO or PTPM_NO_MEMORY, in this order. A survey of every clock is refused by the first or the
-   last of these. A survey of one clock is refused by all of them, except the two of ports. A clock is refused by all others, PTPM_IDENTITY_IS_ZERO last,
-   and by PTPM_NO_PORTS, PTPM_TOO_MANY_PORTS and PTPM_NO_MEMORY. PTPM_OTHER_SIZES comes before all of them, of
-   ptpm_clock_start_sized and its like alone. */
+   last of these. A survey of one clock is refused by all of them except the two of ports. A clock is refused by all others,
+   PTPM_IDENTITY_IS_ZERO last, and by PTPM_NO_PORTS, PTPM_TOO_MANY_PORTS and PTPM_NO_MEMORY. PTPM_OTHER_SIZES comes before all of
+   them, of ptpm_clock_start_sized and its like alone. */
 __extension__ enum PTPM_FOUR_OCTETS(ptpm_started) {
     PTPM_STARTED = 0,
     PTPM_START_NO_MEMORY = PTPM_NO_MEMORY,
@@ -819,7 +819,7 @@ static inline enum ptpm_started ptpm_survey_start_sized(struct ptpm_survey *hand
 
 /* Starts a survey of one clock, without answers, in place of what the handle holds, which is freed first. Every port of the clock
    is asked, and another clock's answer is ignored (PTPM_OTHER_SOURCE). A clock takes such a GET of one of its managers for a
-   numbered request of a session. So the manager here is none of them, for example another port of the same identity.
+   numbered request, like one of a session. So the manager here is none of them, for example another port of the same identity.
    Takes:   the identity of the clock: another one than the manager's, and neither all ones nor all zeros.
    Answers: PTPM_STARTED; or why not, and then the handle holds nothing.
    Memory:  the survey, until it is stopped.
