@@ -21,7 +21,7 @@ extern "C" {
 
 /* The most that a session takes, whatever its requests and their answers are. A restore in a live handle has both sessions for a
    moment. */
-#define PTPM_SESSION_MEMORY 5968
+#define PTPM_SESSION_MEMORY 5984
 
 /* The most that a survey takes that has kept so many answers, 1 to 512, of so many octets of dataField each. Its tables have room for
    a power of two of answers, and move as they grow; how much of the gaps is used again depends on the answers. */
