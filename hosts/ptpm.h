@@ -893,6 +893,11 @@ enum { PTPM_NO_ID = 65536, PTPM_MOST_NAME = 27 };
    Answers: the id, which fits a uint16_t; or PTPM_NO_ID if no id of this profile has the name. */
 uint32_t ptpm_id_named(const char *name, size_t size);
 
+/* Gives the managementIds of this profile, one after another.
+   Takes:   a place from 0 on. The ids are in ascending order.
+   Answers: the id, which fits a uint16_t; or PTPM_NO_ID past the last. */
+uint32_t ptpm_id_at(size_t place);
+
 /* Gives the standard's name of a managementId.
    Takes:   the id; and room octets, for which PTPM_MOST_NAME is enough.
    Answers: how many octets the name has; 0 if this profile lacks the id, or room is too small for the whole name.
@@ -911,6 +916,17 @@ size_t ptpm_answer_name(uint32_t number, char *text, size_t room);
             small for the whole name.
    Writes:  as many octets from text on: the name, with no zero after it. */
 size_t ptpm_error_name(uint16_t error, char *text, size_t room);
+
+/* The most octets that ptpm_field_text writes, of a dataField that a message can have. */
+enum { PTPM_MOST_FIELD_TEXT = 2843 };
+
+/* Gives the members of a dataField as text, a line each: the member's name in the standard (15.5.3), a space and its value, such as
+   "priority1 128". docs/ptpm.md says how each kind of value is written. If the octets are no dataField of the id, or it has no
+   member, the one line is "value" and the octets in hexadecimal, or "value -" for none.
+   Takes:   the managementId; a dataField of size octets; and room octets, for which PTPM_MOST_FIELD_TEXT is enough.
+   Answers: how many octets the lines have; 0 if room is too small for all of them.
+   Writes:  as many octets from text on: each line with its newline, and no zero after the last. If it answers 0, anything. */
+size_t ptpm_field_text(uint16_t id, const uint8_t *octets, size_t size, char *text, size_t room);
 
 #ifdef __cplusplus
 }

@@ -352,6 +352,7 @@ PTPM_NO_ID = 65536
 
 # The greatest counts and sizes.
 PTPM_MOST_NAME = 27
+PTPM_MOST_FIELD_TEXT = 2843
 
 
 class ptpm_clock(Structure):
@@ -631,9 +632,11 @@ CALLS: Dict[str, Tuple[Any, List[Any]]] = {
     "ptpm_rate_start": (None, [POINTER(ptpm_rate), c_uint64, c_uint64]),
     "ptpm_rate_take": (c_bool, [POINTER(ptpm_rate), c_uint64]),
     "ptpm_id_named": (c_uint32, [c_char_p, c_size_t]),
+    "ptpm_id_at": (c_uint32, [c_size_t]),
     "ptpm_id_name": (c_size_t, [c_uint16, POINTER(c_char), c_size_t]),
     "ptpm_answer_name": (c_size_t, [c_uint32, POINTER(c_char), c_size_t]),
     "ptpm_error_name": (c_size_t, [c_uint16, POINTER(c_char), c_size_t]),
+    "ptpm_field_text": (c_size_t, [c_uint16, c_char_p, c_size_t, POINTER(c_char), c_size_t]),
 }
 
 # The structs, in the order of the header.

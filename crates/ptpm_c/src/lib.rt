@@ -24,6 +24,7 @@ ghost use Rattle.ptpm_c.specs.Held.{clock_held, held};
 ghost use Rattle.ptpm_c.specs.Turned.{IsTurnedTo};
 
 mod agreement;
+mod fields;
 mod handle;
 mod keeping;
 mod kept;

@@ -1,6 +1,7 @@
 //! The calls of a host in C, one after another.
 
 use crate::agreement::*;
+use crate::fields::*;
 use crate::handle::Handle;
 use crate::names::*;
 use crate::saving::*;
@@ -472,6 +473,28 @@ fn names_of_errors(rt: HostRuntime) {
     assert!(rt; ptpm_error_name(0x0002, &mut octets[..9]) == 0);
     assert!(rt; ptpm_error_name(0x0007, &mut octets) == 0);
     assert!(rt; octets.as_slice() == b"WRONG_VALUEOR.".as_slice());
+}
+
+/// The first and the last id of the profile, and the members of a dataField (15.5.3.3.1, 15.5.3.3.2). Memory is ample, and none is
+/// taken.
+#[test]
+fn ids_and_members(rt: HostRuntime) {
+    assert!(rt; ptpm_id_at(0) == 0x0000);
+    assert!(rt; ptpm_id_at(20) == 0x6001);
+    assert!(rt; ptpm_id_at(21) == 65_536);
+    let mut text = [0x2e; 32];
+    assert!(rt; ptpm_field_text(0x2005, b"\x80\x00", &mut text) == 14);
+    assert!(rt; text.starts_with(b"priority1 128\n."));
+    assert!(rt; ptpm_field_text(0x2011, b"\x00\x25\x06\x00", &mut text) == 0);
+    let mut text = [0x2e; 80];
+    assert!(rt; ptpm_field_text(0x2011, b"\x00\x25\x06\x00", &mut text) == 72);
+    assert!(rt;
+        text.starts_with(
+            b"currentUtcOffset 37\nleap61 false\nleap59 true\ncurrentUtcOffsetValid true\n."
+        )
+    );
+    assert!(rt; ptpm_field_text(0x2005, b"\x80", &mut text) == 9);
+    assert!(rt; text.starts_with(b"value 80\nf"));
 }
 
 /// SET PRIORITY1 to 100, number 8, of the manager to the clock, at every port.

@@ -10,6 +10,7 @@ pub mod Session
 pub mod SurveySettings
 pub mod Survey
 pub mod Names
+pub mod Texts
 pub mod AnswerNames
 pub mod ErrorNames
 pub mod Observing

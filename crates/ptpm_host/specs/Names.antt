@@ -1,7 +1,7 @@
 -- The names of management ids as a user of a host writes and reads them, and how a name is handed out.
-use Rattle.std.specs.Prelude.{ℕ, nat_lt, if◌then◌else◌, List, [], length, map, Option, Some, None, option_map}
+use Rattle.std.specs.Prelude.{ℕ, nat_lt, if◌then◌else◌, List, [], length, map, Option, Some, None, option_map, slice_get}
 use Rattle.std.specs.Char.{to_ascii_uppercase}
-use Rattle.ptpm_data.specs.ManagementId.{row_of}
+use Rattle.ptpm_data.specs.ManagementId.{id_table, row_of}
 
 -- a name in capitals (ASCII); any other octet stays
 abbrev pub capitals : List ℕ → List ℕ
@@ -10,6 +10,10 @@ capitals name = map to_ascii_uppercase name
 -- the standard's name of a managementId (15.5.2.3), in capitals, if this profile has the id
 abbrev pub id_name : ℕ → Option (List ℕ)
 id_name id = option_map (λ e. e.name) (row_of id)
+
+-- the id at a place of the table of ids
+abbrev pub id_at : ℕ → Option ℕ
+id_at place = option_map (λ e. e.id) (slice_get id_table place)
 
 -- stands for no id: an id has 16 bits
 abbrev pub no_id : ℕ

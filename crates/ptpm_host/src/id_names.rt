@@ -2,7 +2,7 @@
 
 ghost use Rattle.std.specs.Prelude.{◌≡◌, ℕ, IfSome, Some, option_map};
 ghost use Rattle.ptpm_data.specs.ManagementId.{if_named, row_named, row_of, row_value};
-ghost use Rattle.ptpm_host.specs.Names.{capitals, id_name};
+ghost use Rattle.ptpm_host.specs.Names.{capitals, id_at, id_name};
 
 use ptpm_data::{MANAGEMENT_IDS, Row, row};
 
@@ -25,6 +25,13 @@ pub fn id_named(name: &[u8]) -> Option<u16>
         Some(row) => Some(row.id),
         None => None,
     }
+}
+
+/// The managementId at this place of the table of ids, in ascending order; `None` past the last.
+pub fn id_at(place: usize) -> Option<u16>
+    ensures { result ≡ id_at place }
+{
+    MANAGEMENT_IDS.get(place).copied()
 }
 
 fn row_named(name: &[u8]) -> Option<Row>

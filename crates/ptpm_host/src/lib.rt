@@ -24,13 +24,14 @@ mod session_settings;
 mod settings;
 mod survey;
 mod survey_settings;
+mod texts;
 mod told;
 mod version;
 
 pub use answer_names::answer_name;
 pub use clock::{Handled, HostedClock, MOST_SENT};
 pub use error_names::error_name;
-pub use id_names::{NO_ID, id_name, id_named};
+pub use id_names::{NO_ID, id_at, id_name, id_named};
 pub use laws::{names_law, passed_on_law, rate_law};
 pub use names::hand_out_name;
 pub use numbers::{
@@ -52,6 +53,7 @@ pub use session_settings::SessionSettings;
 pub use settings::{ClockSettings, ManagerSettings, PortSettings};
 pub use survey::{HostedSurvey, Source, SurveyAnswer};
 pub use survey_settings::SurveySettings;
+pub use texts::hand_out_text;
 pub use told::Told;
 pub use version::VERSION_NUMBER;
 
