@@ -1,0 +1,10 @@
+pub mod Reading
+pub mod Placing
+pub mod Answered
+pub mod Placed
+pub mod LineLemmas
+pub mod Numerals
+pub mod ParsingLemmas
+pub mod OneOctet
+pub mod TextBack
+pub mod SetBack

@@ -1,0 +1,58 @@
+//! Where a member stands in a dataField, and how.
+
+ghost use Rattle.std.specs.Prelude.{◌≡◌};
+ghost use Rattle.ptpm_members.specs.Tables.{form_size};
+
+use crate::names::Member;
+
+/// How a member is written in its octets (5.3), and so in a text.
+#[derive(Clone, Copy, Debug, PartialEq, Eq)]
+pub enum Form {
+    /// A number without a sign, in this many octets.
+    Unsigned(u8),
+    /// The same, in a text in hexadecimal.
+    Hexadecimal(u8),
+    /// A number in two's complement, in this many octets.
+    Signed(u8),
+    /// A flag: this bit of an octet.
+    Flag(u8),
+    /// A flag in bit 0 of an octet. Some clocks have it in bit 1, which is reserved: either is read.
+    EitherFlag,
+    /// The lower four bits of an octet.
+    LowNibble,
+    /// A TimeInterval: nanoseconds times 2^16, in two's complement (5.3.2).
+    TimeInterval,
+    ClockIdentity,
+    PortIdentity,
+    /// The number of a port's state (8.2.15.3.1).
+    PortState,
+    /// The number of a delay mechanism (8.2.15.4.4).
+    DelayMechanism,
+    /// A PTPText (5.3.9).
+    Text,
+}
+
+impl Form {
+    /// How many octets it takes; 0 for a PTPText, which says itself how many it has.
+    pub(crate) fn size(self) -> usize
+        ensures { result ≡ form_size self }
+    {
+        match self {
+            Form::Unsigned(size) | Form::Hexadecimal(size) | Form::Signed(size) => {
+                usize::from(size)
+            }
+            Form::Flag(_)
+            | Form::EitherFlag
+            | Form::LowNibble
+            | Form::PortState
+            | Form::DelayMechanism => 1,
+            Form::TimeInterval | Form::ClockIdentity => 8,
+            Form::PortIdentity => 10,
+            Form::Text => 0,
+        }
+    }
+}
+
+/// A member, its first octet in the dataField, and its form there.
+#[derive(Clone, Copy, Debug, PartialEq, Eq)]
+pub struct Field(pub Member, pub u8, pub Form);
