@@ -1,5 +1,5 @@
 -- The lines of a dataField: a member's name in the standard and its value (this project's profile).
-use Rattle.std.specs.Prelude.{ℕ, ◌≤◌, Bool, if◌then◌else◌, List, [], ◌∷◌, ◌++◌, length, drop, codes, flat_map}
+use Rattle.std.specs.Prelude.{ℕ, ◌≤◌, if◌then◌else◌, List, [], ◌∷◌, ◌++◌, length, drop, codes, flat_map}
 use Rattle.ptpm_members.specs.declared.forms.Field.{Field}
 use Rattle.ptpm_members.specs.Names.{member_name}
 use Rattle.ptpm_members.specs.Tables.{fields_of_id, is_whole_of_id}

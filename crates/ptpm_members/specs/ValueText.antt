@@ -1,5 +1,5 @@
 -- What is written of a member's value (this project's profile). Names are those of the standard.
-use Rattle.std.specs.Prelude.{◌≡◌, ℕ, zero, suc, ◌+◌, ◌*◌, ◌/◌, ◌%◌, ◌≤◌, ◌==◌, nat_le, Bool, true, false, not, ◌&&◌, if◌then◌else◌, bit_and, ℤ, unsigned_abs, List, [], ◌∷◌, ◌++◌, length, take, Option, Some, None, codes, decimal, flat_map}
+use Rattle.std.specs.Prelude.{◌≡◌, ℕ, zero, suc, ◌*◌, ◌/◌, ◌%◌, ◌≤◌, ◌==◌, nat_le, Bool, true, false, not, ◌&&◌, if◌then◌else◌, bit_and, ℤ, unsigned_abs, List, [], ◌∷◌, ◌++◌, length, take, Option, Some, None, codes, decimal, flat_map}
 use Rattle.std.specs.Fmt.{sign_text, signed_decimal}
 use Rattle.std.specs.Int.{is_negative}
 use Rattle.byteorder.specs.Endian.{big_number, twos_complement}

@@ -1,4 +1,4 @@
-use Rattle.std.proofs.Common.{false, ◌<◌, arith, rules}
+use Rattle.std.proofs.Common.{false, ◌<◌, rules}
 use Rattle.std.proofs.Output.{has_written_of_eq}
 use Rattle.std.proofs.lemmas.Fmt.{hex_byte}
 use Rattle.ptpm_members.proofs.value_text.write_digits.Goals as goal
