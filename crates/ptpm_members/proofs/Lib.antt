@@ -3,3 +3,8 @@ pub mod Placing
 pub mod Answered
 pub mod Placed
 pub mod LineLemmas
+pub mod Numerals
+pub mod ParsingLemmas
+pub mod OneOctet
+pub mod TextBack
+pub mod SetBack
