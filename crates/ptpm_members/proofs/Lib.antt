@@ -5,6 +5,7 @@ pub mod Placed
 pub mod LineLemmas
 pub mod Numerals
 pub mod ParsingLemmas
+pub mod Meant
 pub mod OneOctet
 pub mod TextBack
 pub mod SetBack

@@ -25,31 +25,31 @@ not_plus text none is =
     let same : (octet 0 text == 43) ≡ true = eq-eqb _ _ is in
     cc
 
-if_some : (b : Bool) (n : ℕ) → (let x : Option ℕ = if b then Some n else None in x) ≡ then_some b n
-if_some true n = refl
-if_some false n = refl
-
 if_none : (b : Bool) (n : ℕ) → (b ≡ true → ⊥) → (let x : Option ℕ = if b then Some n else None in x) ≡ None
 if_none true n never = absurd (never refl)
 if_none false n never = refl
 
-pub number_read : (E : Type 0) (most : ℕ) (text : List ℕ) (n : ℕ) → (octet 0 text == 43) ≡ false
-    → ParsesUnsigned {E = E} 64 10 text (Ok n)
+if_some : (b : Bool) (n : ℕ) → then_some b n ≡ (let x : Option ℕ = if b then Some n else None in x)
+if_some true n = refl
+if_some false n = refl
+
+pub number_read : {E : Type 0} (most : ℕ) (text : List ℕ) (r : Result ℕ E) (n : ℕ) → r ≡ Ok n → (octet 0 text == 43) ≡ false
+    → ParsesUnsigned 64 10 text r
     → then_some (nat_le n most) n ≡ number_up_to most text
 unfolding number_up_to
-number_read E most text n none read =
-    let known = parse_plain own {E = E} 64 text (Ok n) read (not_plus text none) in
+number_read {E = E} most text r n is none read =
+    let known = parse_plain own {E = E} 64 text (Ok n) (rw is at read) (not_plus text none) in
     let digits : all_ascii_digits text ≡ true = known.0.0 in
     let some : nat_le 1 (length text) ≡ true = le-leb 1 (length text) known.0.1 in
     let same : n ≡ digits_value 10 text = known.1 in
-    rw (same, digits, some) (sym (if_some (nat_le (digits_value 10 text) most) (digits_value 10 text)))
+    rw (same, digits, some) (if_some (nat_le (digits_value 10 text) most) (digits_value 10 text))
 
-pub number_unread : (E : Type 0) (most : ℕ) (text : List ℕ) (e : E) → most < 2 ^ 64 → (octet 0 text == 43) ≡ false
-    → ParsesUnsigned {E = E} 64 10 text (Err e)
+pub number_unread : {E : Type 0} (most : ℕ) (text : List ℕ) (r : Result ℕ E) (e : E) → r ≡ Err e → most < 2 ^ 64
+    → (octet 0 text == 43) ≡ false → ParsesUnsigned 64 10 text r
     → number_up_to most text ≡ None
 unfolding number_up_to
-number_unread E most text e small none unread =
-    let known = parse_plain own {E = E} 64 text (Err e) unread (not_plus text none) in
+number_unread {E = E} most text r e is small none unread =
+    let known = parse_plain own {E = E} 64 text (Err e) (rw is at unread) (not_plus text none) in
     if_none (all_ascii_digits text && nat_le 1 (length text) && nat_le (digits_value 10 text) most) (digits_value 10 text) (λ is.
     let p = and_parts (all_ascii_digits text && nat_le 1 (length text)) (nat_le (digits_value 10 text) most) is in
     let q = and_parts (all_ascii_digits text) (nat_le 1 (length text)) p.0 in
@@ -57,9 +57,12 @@ number_unread E most text e small none unread =
     let low : digits_value 10 text ≤ most = leb-true _ _ p.1 in
     known (q.0, omega arith, omega arith))
 
-pub small_if_some : (b : Bool) (most n : ℕ) → b ≡ nat_le n most → IfSome (then_some b n) (λ x. x ≤ most)
-small_if_some true most n is = leb-true n most (sym is)
-small_if_some false most n is = tt
+small_if : (b : Bool) (most n : ℕ) → nat_le n most ≡ b → IfSome (then_some b n) (λ x. x ≤ most)
+small_if true most n is = leb-true n most is
+small_if false most n is = tt
+
+pub small_if_some : (most n : ℕ) → IfSome (then_some (nat_le n most) n) (λ x. x ≤ most)
+small_if_some most n = small_if (nat_le n most) most n refl
 
 -- ---- a minus
 

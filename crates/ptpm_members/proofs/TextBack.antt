@@ -64,23 +64,3 @@ pub text_back : (text : List ℕ) → ((i : ℕ) → get_or text i 0 < 256) → 
     → described (shown_text text) ≡ Some text
 unfolding described
 text_back text small is = rw (text_meant text small, is) refl
-
--- ---- what is meant, from the front on
-
-pub meant_plain : (text : List ℕ) → 0 < length text → escaped text ≡ None → meant text ≡ get_or text 0 0 ∷ meant (drop 1 text)
-unfolding meant_after
-meant_plain [] some plain = absurd (omega arith)
-meant_plain (c ∷ cs) some plain = rw plain refl
-
-pub meant_escape : (text : List ℕ) (o : ℕ) → 4 ≤ length text → escaped text ≡ Some o → meant text ≡ o ∷ meant (drop 4 text)
-unfolding meant_after
-meant_escape [] o long is = absurd (omega arith)
-meant_escape (a ∷ []) o long is = absurd (omega arith)
-meant_escape (a ∷ b ∷ []) o long is = absurd (omega arith)
-meant_escape (a ∷ b ∷ c ∷ []) o long is = absurd (omega arith)
-meant_escape (a ∷ b ∷ c ∷ d ∷ rest) o long is = rw is refl
-
--- a text that is too long is no userDescription
-pub too_long : (text : List ℕ) → 128 < length (meant text) → described text ≡ None
-unfolding described is_description set_of
-too_long text long = rw (lt-leb (length (meant text)) 128 long) refl

@@ -1,6 +1,7 @@
 //! What a person types for a userDescription.
 
 ghost use Rattle.std.specs.Prelude.{◌≡◌, ◌<◌, ◌≤◌, [], ◌∷◌, IfNone, IfSome, length, option_map};
+ghost use Rattle.std.specs.Str.{is_utf8};
 ghost use Rattle.ptpm_data.specs.Ranges.{is_description};
 ghost use Rattle.ptpm_members.specs.Typed.{described, escaped, meant};
 
@@ -63,5 +64,14 @@ fn escaped(text: &[u8]) -> Option<u8>
 fn is_description(text: &[u8]) -> bool
     ensures { result ≡ is_description text.now }
 {
-    text.len() <= MOST_OCTETS && str::from_utf8(text).is_ok()
+    text.len() <= MOST_OCTETS && is_utf8(text)
+}
+
+fn is_utf8(text: &[u8]) -> bool
+    ensures { result ≡ is_utf8 text.now }
+{
+    match str::from_utf8(text) {
+        Ok(_) => true,
+        Err(_) => false,
+    }
 }
