@@ -1,8 +1,9 @@
 -- What is meant by a typed text, from its front on.
-use Rattle.std.proofs.Common.{arith, ◌≡◌, refl, sym, ℕ, ◌<◌, ◌≤◌, Bool, true, false, List, [], ◌∷◌, ◌++◌, length, get_or, drop, length-append, Option, Some, None}
+use Rattle.std.proofs.Common.{arith, ◌≡◌, ◌∙◌, ap, refl, sym, ℕ, ◌<◌, ◌≤◌, Bool, true, false, List, [], ◌∷◌, ◌++◌, length, get_or, drop, length-append, Option, Some, None}
 use Rattle.std.specs.Prelude.{if◌then◌else◌, option_map}
 use Rattle.std.specs.Bool.{then_some}
 use Rattle.std.proofs.lemmas.Bool.{lt-leb}
+use Rattle.std.proofs.lemmas.List.{append-nil}
 use Rattle.ptpm_data.specs.ManagementId.{set_of}
 use Rattle.ptpm_data.specs.Ranges.{is_description}
 use Rattle.ptpm_members.specs.Typed.{described, escaped, if_description, meant, meant_after}
@@ -36,3 +37,7 @@ pub described_all : {A : Type 0} (f : A → List ℕ) (v : A) (text : List ℕ) 
     → option_map f (then_some (is_description (f v)) v) ≡ described text
 unfolding described
 described_all f v text is = rw (← is) (described_by f (is_description (f v)) v refl)
+
+pub meant_end : (text done rest : List ℕ) → rest ≡ [] → done ++ meant rest ≡ meant text → done ≡ meant text
+unfolding meant_after
+meant_end text done rest none is = sym (append-nil done) ∙ ap (λ (xs : List ℕ). done ++ meant xs) (sym none) ∙ is

@@ -148,16 +148,16 @@ description_back octets small whole good =
 pub set_back : (layout : Layout) (octets : List ℕ) → IsInRange layout octets → ComesBack layout octets
 unfolding set_of is_set_length is_set_value is_description member_name with_words with_all each_named with_named with_value laid overlay
 set_back layouts.NullPtpManagement octets ok = refl
-set_back layouts.Priority1 octets ok = sole layouts.Priority1 octets ok.size ok.octets (λ a b small. rw (unsigned_back a small) refl)
-set_back layouts.Priority2 octets ok = sole layouts.Priority2 octets ok.size ok.octets (λ a b small. rw (unsigned_back a small) refl)
-set_back layouts.Domain octets ok = sole layouts.Domain octets ok.size ok.octets (λ a b small. rw (unsigned_back a small) refl)
-set_back layouts.AnnounceReceiptTimeout octets ok = sole layouts.AnnounceReceiptTimeout octets ok.size ok.octets (λ a b small. rw (unsigned_back a small) refl)
-set_back layouts.ClockAccuracy octets ok = sole layouts.ClockAccuracy octets ok.size ok.octets (λ a b small. rw (hexadecimal_back a small) refl)
-set_back layouts.LogAnnounceInterval octets ok = sole layouts.LogAnnounceInterval octets ok.size ok.octets (λ a b small. rw (signed_octet_back a small) refl)
-set_back layouts.LogSyncInterval octets ok = sole layouts.LogSyncInterval octets ok.size ok.octets (λ a b small. rw (signed_octet_back a small) refl)
-set_back layouts.LogMinPdelayReqInterval octets ok = sole layouts.LogMinPdelayReqInterval octets ok.size ok.octets (λ a b small. rw (signed_octet_back a small) refl)
-set_back layouts.DelayMechanism octets ok = sole layouts.DelayMechanism octets ok.size ok.octets (λ a b small. rw (mechanism_back a small) refl)
-set_back layouts.UserDescription octets ok = description_back octets ok.octets ok.size ok.value
+set_back layouts.Priority1 octets ok = sole layouts.Priority1 octets ok.size ok.are_octets (λ a b small. rw (unsigned_back a small) refl)
+set_back layouts.Priority2 octets ok = sole layouts.Priority2 octets ok.size ok.are_octets (λ a b small. rw (unsigned_back a small) refl)
+set_back layouts.Domain octets ok = sole layouts.Domain octets ok.size ok.are_octets (λ a b small. rw (unsigned_back a small) refl)
+set_back layouts.AnnounceReceiptTimeout octets ok = sole layouts.AnnounceReceiptTimeout octets ok.size ok.are_octets (λ a b small. rw (unsigned_back a small) refl)
+set_back layouts.ClockAccuracy octets ok = sole layouts.ClockAccuracy octets ok.size ok.are_octets (λ a b small. rw (hexadecimal_back a small) refl)
+set_back layouts.LogAnnounceInterval octets ok = sole layouts.LogAnnounceInterval octets ok.size ok.are_octets (λ a b small. rw (signed_octet_back a small) refl)
+set_back layouts.LogSyncInterval octets ok = sole layouts.LogSyncInterval octets ok.size ok.are_octets (λ a b small. rw (signed_octet_back a small) refl)
+set_back layouts.LogMinPdelayReqInterval octets ok = sole layouts.LogMinPdelayReqInterval octets ok.size ok.are_octets (λ a b small. rw (signed_octet_back a small) refl)
+set_back layouts.DelayMechanism octets ok = sole layouts.DelayMechanism octets ok.size ok.are_octets (λ a b small. rw (mechanism_back a small) refl)
+set_back layouts.UserDescription octets ok = description_back octets ok.are_octets ok.size ok.value
 set_back layouts.UtcProperties octets ok =
-    by_four (λ xs. AreOctets xs → ComesBack layouts.UtcProperties xs) (λ a b c d range. utc_back a b c d (range 0) (range 1) (range 2)) octets (eqb-true _ _ ok.size) ok.octets
+    by_four (λ xs. AreOctets xs → ComesBack layouts.UtcProperties xs) (λ a b c d range. utc_back a b c d (range 0) (range 1) (range 2)) octets (eqb-true _ _ ok.size) ok.are_octets
 set_back _ octets ok = let wrong = ok.size in cc

@@ -1,5 +1,5 @@
 -- A text is read back from what is shown of it.
-use Rattle.std.proofs.Common.{arith, ◌≡◌, ◌∙◌, ap, refl, sym, ℕ, ◌+◌, ◌<◌, ◌≤◌, ◌==◌, Bool, true, false, List, [], ◌∷◌, ◌++◌, length, get_or, drop, Option, Some, None}
+use Rattle.std.proofs.Common.{arith, ◌≡◌, ◌∙◌, ap, refl, sym, ℕ, suc, ◌+◌, ◌<◌, ◌≤◌, ◌==◌, Bool, true, false, List, [], ◌∷◌, ◌++◌, length, get_or, drop, Option, Some, None}
 use Rattle.std.specs.Prelude.{◌&&◌, flat_map, if◌then◌else◌, nat_le, not}
 use Rattle.std.specs.List.{list_all, range_with_len}
 use Rattle.std.proofs.lemmas.Bool.{and_parts, eqb-true, lt-leb}
@@ -58,7 +58,7 @@ unfolding shown_text meant_after
 text_meant [] small = refl
 text_meant (c ∷ cs) small =
     octet_meant c (flat_map shown_octet cs) (small 0)
-    ∙ ap (λ (xs : List ℕ). c ∷ xs) (text_meant cs (λ i. small (i + 1)))
+    ∙ ap (λ (xs : List ℕ). c ∷ xs) (text_meant cs (λ i. small (suc i)))
 
 pub text_back : (text : List ℕ) → ((i : ℕ) → get_or text i 0 < 256) → is_description text ≡ true
     → described (shown_text text) ≡ Some text

@@ -19,6 +19,6 @@ words_of layout octets = flat_map (member_words octets) (fields_of layout)
 
 -- octets that a SET of a dataField of this layout may have
 pub record IsInRange (layout : Layout) (octets : List ℕ) : Type 0 where
-  pub octets : AreOctets octets
+  pub are_octets : AreOctets octets
   pub size : is_set_length (set_of layout) octets ≡ true
   pub value : is_set_value (set_of layout) octets ≡ true

@@ -1,6 +1,7 @@
 //! The dataField of a SET, from what a person types.
 
-ghost use Rattle.std.specs.Prelude.{◌≡◌, ◌<◌, length, map};
+ghost use Rattle.std.specs.Prelude.{◌≡◌, ◌<◌, length, map, replicate};
+ghost use Rattle.ptpm_members.specs.Tables.{field_size};
 ghost use Rattle.ptpm_members.specs.Parsed.{field_or, laid, octets_or, overlay, parsed, said_or, with_all, with_named, with_value, with_words};
 
 use crate::describing::described;
@@ -9,7 +10,7 @@ use crate::names::Member;
 use crate::tables::{fields, size};
 use crate::typing::typed;
 use ptpm_codec::{overwrite_ptp_text, put};
-use ptpm_data::{Value, row};
+use ptpm_data::{Layout, Value, row};
 
 /// Why words are no dataField.
 #[derive(Clone, Copy, Debug, PartialEq, Eq)]
@@ -26,24 +27,33 @@ pub enum ParseFault {
 
 /// The dataField that words mean for a SET of an id: the name and the value of each member, in the order and spelling of a
 /// `FieldText`. A sole member's name may be left out. Takes no memory.
-#[tactic(auto, unfolding(crate::specs::Parsed::parsed))]
+#[tactic(auto, using(crate::proofs::ParsingLemmas::few_fields), unfolding(crate::specs::Parsed::parsed))]
 pub fn parse(id: u16, words: &[&str]) -> Result<Value, ParseFault>
     ensures { octets_or result ≡ parsed id (map (λ w. w.now) words.now) }
 {
     let Some(row) = row(id) else {
         return Err(ParseFault::NoSuchId);
     };
-    let mut field = Value::new();
-    put(&mut field, &[0; 32][..size(row.layout)]);
+    let mut field = zeros(row.layout);
     match put_words(fields(row.layout), words, &mut field) {
         Ok(()) => Ok(field),
         Err(fault) => Err(fault),
     }
 }
 
+/// A dataField of this layout, if it is no text, with no bit set.
+fn zeros(layout: Layout) -> Value
+    ensures { result.items ≡ replicate (field_size layout) 0 }
+{
+    let mut field = Value::new();
+    put(&mut field, &[0; 32][..size(layout)]);
+    field
+}
+
 /// Puts the values of words into a dataField.
 #[tactic(auto, unfolding(crate::specs::Parsed::with_words))]
 fn put_words(fields: &[Field], words: &[&str], field: &mut Value) -> Result<(), ParseFault>
+    requires { length fields.now < 256 }
     ensures { field_or result field.new.items
         ≡ with_words fields.now (map (λ w. w.now) words.now) field.old.items }
 {
@@ -64,9 +74,9 @@ fn put_all(fields: &[Field], words: &[&str], field: &mut Value) -> Result<(), Pa
         return Err(ParseFault::WordCount);
     }
     for (i, member) in fields.iter().enumerate() {
-        let put = put_named(*member, words[2 * i], words[2 * i + 1], field);
-        if put.is_err() {
-            return put;
+        match put_named(*member, words[2 * i], words[2 * i + 1], field) {
+            Ok(()) => {}
+            Err(fault) => return Err(fault),
         }
     }
     Ok(())
