@@ -3,3 +3,9 @@ pub mod Placing
 pub mod Answered
 pub mod Placed
 pub mod LineLemmas
+pub mod Numerals
+pub mod ParsingLemmas
+pub mod Meant
+pub mod OneOctet
+pub mod TextBack
+pub mod SetBack

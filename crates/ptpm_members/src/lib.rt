@@ -1,17 +1,21 @@
 //! The members of each dataField, as a person reads and types them (IEEE 1588-2019, 15.5.3).
 #![tactic(auto)]
 
+mod describing;
 mod field_text;
 mod forms;
 mod laws;
 mod names;
+mod parsing;
 mod tables;
+mod typing;
 mod value_text;
 
 pub use field_text::FieldText;
 pub use forms::{Field, Form};
-pub use laws::member_law;
+pub use laws::{member_law, typed_again_law};
 pub use names::Member;
+pub use parsing::{ParseFault, parse};
 pub use tables::fields;
 
 #[cfg(test)]

@@ -131,7 +131,7 @@ pub fn fields(layout: Layout) -> &'static [Field]
 }
 
 /// How many octets the dataField of this layout has, if it is no text: an even number, in which its members end.
-fn size(layout: Layout) -> usize
+pub(crate) fn size(layout: Layout) -> usize
     ensures { result ≡ field_size layout }
 {
     let end = match fields(layout).last() {

@@ -1,7 +1,7 @@
-//! Lines of dataFields. The members of each dataField are those that another program reads in the same octets, and their names
-//! are the standard's.
+//! Lines of dataFields, and what is typed for them. The members of each dataField are those that another program reads in the
+//! same octets, and their names are the standard's.
 
-use crate::FieldText;
+use crate::{FieldText, ParseFault, parse};
 use std::alloc::Global;
 
 /// An id, a dataField and its lines.
@@ -56,4 +56,35 @@ fn texts(rt: HostRuntime) {
         };
         assert!(rt; is_right, "{row}");
     }
+}
+
+/// Whether words mean this dataField.
+fn means(id: u16, words: &[&str], octets: &[u8]) -> bool {
+    match parse(id, words) {
+        Ok(field) => field.as_slice() == octets,
+        Err(_) => false,
+    }
+}
+
+#[test]
+fn typed_words(rt: HostRuntime) {
+    assert!(rt; means(0x2005, &["100"], &[100, 0]));
+    assert!(rt; means(0x2005, &["priority1", "0x64"], &[100, 0]));
+    assert!(rt; means(0x2009, &["-4"], &[0xfc, 0]));
+    assert!(rt; means(0x6000, &["no_mechanism"], &[0xfe, 0]));
+    assert!(rt; means(2, &["a\\x5cb"], &[3, 0x61, 0x5c, 0x62]));
+    let words = [
+        "currentUtcOffset",
+        "-1",
+        "leap61",
+        "true",
+        "leap59",
+        "false",
+        "currentUtcOffsetValid",
+        "true",
+    ];
+    assert!(rt; means(0x2011, &words, &[0xff, 0xff, 5, 0]));
+    assert!(rt; parse(0x2005, &["256"]).is_err());
+    assert!(rt; matches!(parse(0x4000, &["1"]), Err(ParseFault::NoSuchId)));
+    assert!(rt; matches!(parse(0x2011, &["37"]), Err(ParseFault::WordCount)));
 }

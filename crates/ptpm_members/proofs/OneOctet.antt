@@ -1,0 +1,77 @@
+-- A value of one octet is read back from its text: each of the 256 is tried.
+use Rattle.std.proofs.Common.{arith, ◌≡◌, ap, refl, ℕ, zero, suc, ◌+◌, ◌<◌, ◌≤◌, Bool, true, false, List, [], ◌∷◌, length, Option, Some, None, inl, inr}
+use Rattle.std.specs.Prelude.{if◌then◌else◌}
+use Rattle.std.specs.Fmt.{digits}
+use Rattle.std.specs.List.{list_all, range_with_len}
+use Rattle.std.specs.Str.{bytes_eq}
+use Rattle.std.proofs.lemmas.Bool.{and_parts, cases_lt}
+use Rattle.std.proofs.lemmas.Slice.Eq.{bytes_eq-Decides}
+use Rattle.hex.proofs.OnLiterals.{hex_on_literals}
+use Rattle.ptpm_data.specs.DataField.{i8_octet}
+use Rattle.ptpm_members.specs.declared.forms.Form.{Form}
+use Rattle.ptpm_members.specs.declared.forms.Form.TheVariants as forms
+use Rattle.ptpm_members.specs.Typed.{flag_of, mechanism_named, mechanism_octet, number_up_to, octet_of, signed_number, typed}
+use Rattle.ptpm_members.specs.ValueText.{flag_name, hexadecimal, mechanism_text, value_text}
+
+abbrev is_one : ℕ → Option (List ℕ) → Bool
+is_one a None = false
+is_one a (Some octets) = bytes_eq octets (a ∷ [])
+
+one_is : (a : ℕ) (o : Option (List ℕ)) → is_one a o ≡ true → o ≡ Some (a ∷ [])
+one_is a None h = cc
+one_is a (Some octets) h = ap (λ (xs : List ℕ). Some xs) ((bytes_eq-Decides octets (a ∷ [])).0 h)
+
+pub tried : (test : ℕ → Bool) (a n c : ℕ) → list_all test (range_with_len a n) ≡ true → a ≤ c → c < a + n → test c ≡ true
+tried test a zero c all low high = absurd (omega arith)
+tried test a (suc n) c all low high =
+    let parts = and_parts (test a) (list_all test (range_with_len (a + 1) n)) all in
+    elim (cases_lt a c) [
+      | inl above ↦ tried test (a + 1) n c parts.1 (omega arith) (omega arith)
+      | inr here ↦
+          let e : c ≡ a = omega arith in
+          rw e parts.0
+    ]
+
+-- whether it is read back
+abbrev comes_back : Form → ℕ → Bool
+comes_back form a = is_one a (typed form (value_text form (a ∷ [])))
+
+all_unsigned : list_all (comes_back (forms.Unsigned 1)) (range_with_len 0 256) ≡ true
+unfolding typed octet_of number_up_to digits
+all_unsigned = refl
+
+all_hexadecimal : list_all (comes_back (forms.Hexadecimal 1)) (range_with_len 0 256) ≡ true
+unfolding typed octet_of hex_on_literals hexadecimal
+all_hexadecimal = refl
+
+all_signed : list_all (comes_back (forms.Signed 1)) (range_with_len 0 256) ≡ true
+unfolding typed signed_number number_up_to digits i8_octet
+all_signed = refl
+
+all_mechanisms : list_all (comes_back forms.DelayMechanism) (range_with_len 0 256) ≡ true
+unfolding typed mechanism_octet mechanism_named octet_of number_up_to digits mechanism_text
+all_mechanisms = refl
+
+back : (form : Form) (a : ℕ) → list_all (comes_back form) (range_with_len 0 256) ≡ true → a < 256
+    → typed form (value_text form (a ∷ [])) ≡ Some (a ∷ [])
+back form a all small = one_is a _ (tried (comes_back form) 0 256 a all (omega arith) (omega arith))
+
+pub unsigned_back : (a : ℕ) → a < 256 → typed (forms.Unsigned 1) (value_text (forms.Unsigned 1) (a ∷ [])) ≡ Some (a ∷ [])
+unsigned_back a small = back (forms.Unsigned 1) a all_unsigned small
+
+pub hexadecimal_back : (a : ℕ) → a < 256
+    → typed (forms.Hexadecimal 1) (value_text (forms.Hexadecimal 1) (a ∷ [])) ≡ Some (a ∷ [])
+hexadecimal_back a small = back (forms.Hexadecimal 1) a all_hexadecimal small
+
+pub signed_octet_back : (a : ℕ) → a < 256
+    → typed (forms.Signed 1) (value_text (forms.Signed 1) (a ∷ [])) ≡ Some (a ∷ [])
+signed_octet_back a small = back (forms.Signed 1) a all_signed small
+
+pub mechanism_back : (a : ℕ) → a < 256
+    → typed forms.DelayMechanism (value_text forms.DelayMechanism (a ∷ [])) ≡ Some (a ∷ [])
+mechanism_back a small = back forms.DelayMechanism a all_mechanisms small
+
+pub flag_back : (mask : ℕ) (b : Bool) → typed (forms.Flag mask) (flag_name b) ≡ Some ((if b then mask else 0) ∷ [])
+unfolding typed flag_of
+flag_back mask true = refl
+flag_back mask false = refl
