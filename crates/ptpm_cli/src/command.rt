@@ -4,7 +4,7 @@ use clap::error::ErrorKind;
 use clap::{Arg, ArgAction, ArgGroup, ArgMatches, Command, value_parser};
 use ptpm_commands::answer::{answer, answer_lines};
 use ptpm_commands::ids::ids;
-use ptpm_commands::make::{RequestWords, make};
+use ptpm_commands::make::{RequestWords, make, make_with_members};
 use ptpm_commands::show::{Values, show_as, show_good_lines_as, show_lines_as};
 use ptpm_commands::{Fault, tell};
 use ptpm_draw::{Chosen, draw};
@@ -83,6 +83,9 @@ fn run<R: Read, O: Write, E: Write>(
         Ok(Task::ShowGoodLines(form)) => show_good_lines_as(alloc, form, reader, out, err)?,
         Ok(Task::Ids) => ids(out)?,
         Ok(Task::Make(words)) => make(alloc, &words, out)?,
+        Ok(Task::MakeWithMembers(words, members)) => {
+            make_with_members(alloc, &words, members.as_slice(), out)?;
+        }
         Ok(Task::Run) => run_script(alloc, reader, out).map_err(Failure::Script)?,
         Ok(Task::Schedule(chances)) => {
             schedule(alloc, chances, reader, out, err).map_err(Failure::Script)?;
@@ -115,6 +118,8 @@ enum Task<'a> {
     ShowGoodLines(Values),
     Ids,
     Make(RequestWords<'a>),
+    /// `make --member`, with what each option says.
+    MakeWithMembers(RequestWords<'a>, Vec<&'a str>),
     /// `run`, with a script on standard input.
     Run,
     /// `schedule`, with a script of requests on standard input.
@@ -140,7 +145,7 @@ fn parse<'a>(alloc: Global, words: &'a [&'a str]) -> Result<Task<'a>, clap::Erro
     let mut ptpm = command_line(alloc)?;
     let matches = ptpm.try_get_matches_from_mut(words)?;
     if let Some((name, values)) = matches.subcommand() {
-        if let Some(task) = task_of(name, values) {
+        if let Some(task) = task_of(alloc, name, values)? {
             return Ok(task);
         }
     }
@@ -148,13 +153,38 @@ fn parse<'a>(alloc: Global, words: &'a [&'a str]) -> Result<Task<'a>, clap::Erro
 }
 
 /// The task of a subcommand whose values were taken; `None` if it is no subcommand, or one of its values is missing.
-fn task_of<'a>(name: &str, values: &ArgMatches<'a>) -> Option<Task<'a>> {
+fn task_of<'a>(
+    alloc: Global,
+    name: &str,
+    values: &ArgMatches<'a>,
+) -> Result<Option<Task<'a>>, AllocError> {
+    match name {
+        "make" => make_task(alloc, values),
+        _ => Ok(task_without_members(name, values)),
+    }
+}
+
+fn make_task<'a>(alloc: Global, values: &ArgMatches<'a>) -> Result<Option<Task<'a>>, AllocError> {
+    let Some(words) = request_words(values) else {
+        return Ok(None);
+    };
+    let Some(said) = values.get_strs("member") else {
+        return Ok(Some(Task::Make(words)));
+    };
+    let mut members = Vec::new(alloc);
+    for member in said {
+        members.push(*member)?;
+    }
+    Ok(Some(Task::MakeWithMembers(words, members)))
+}
+
+/// The task of any other subcommand.
+fn task_without_members<'a>(name: &str, values: &ArgMatches<'a>) -> Option<Task<'a>> {
     match name {
         "answer" => Some(Task::Answer(datagrams_of(values)?)),
         "show" if values.get_flag("skip") => Some(Task::ShowGoodLines(shown_values(values))),
         "show" => Some(Task::Show(shown_values(values), datagrams_of(values)?)),
         "ids" => Some(Task::Ids),
-        "make" => Some(Task::Make(request_words(values)?)),
         "run" => Some(Task::Run),
         "schedule" => Some(Task::Schedule(chances(values)?)),
         "check" => Some(Task::Check),
@@ -299,6 +329,14 @@ fn make_command<'a>(alloc: Global) -> Result<Command<'a>, AllocError> {
         "VALUE",
         "The dataField in hexadecimal digits, none if absent",
     );
+    let member = option(
+        alloc,
+        "member",
+        "NAME=VALUE",
+        "In place of VALUE: a member of the dataField, in the order of `show --members`",
+    )
+    .action(ArgAction::Append)
+    .conflicts_with("VALUE")?;
     let from = option(alloc, "from", "ID/PORT", "sourcePortIdentity").required(true);
     let to = option(alloc, "to", "ID/PORT", "targetPortIdentity").required(true);
     let make = Command::new(alloc, "make")
@@ -306,6 +344,7 @@ fn make_command<'a>(alloc: Global) -> Result<Command<'a>, AllocError> {
         .arg(action)?
         .arg(id)?
         .arg(value)?
+        .arg(member)?
         .arg(from)?
         .arg(to)?;
     with_numbers(alloc, make)

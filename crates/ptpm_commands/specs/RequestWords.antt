@@ -1,5 +1,6 @@
 -- What the words of `ptpm make` ask for.
-use Rattle.std.specs.Prelude.{◌≡◌, ℕ, if◌then◌else◌, List, [], ◌∷◌, ◌++◌, Option, Some, None, Result, Ok, Err}
+use Rattle.std.specs.Prelude.{◌≡◌, ℕ, ◌==◌, Bool, if◌then◌else◌, List, [], ◌∷◌, ◌++◌, length, flat_map, Option, Some, None, Result, Ok, Err}
+use Rattle.std.specs.List.{position_or_len, before_first, after_first}
 use Rattle.std.specs.Io.KnownBytes.{Appends}
 use Rattle.hex.specs.declared.error.FromHexError.{FromHexError}
 use Rattle.hex.specs.Hex.{decode_of}
@@ -13,6 +14,8 @@ use Rattle.ptpm_commands.specs.declared.faults.Fault.{Fault}
 use Rattle.ptpm_commands.specs.declared.faults.Fault.TheVariants as faults
 use Rattle.ptpm_commands.specs.declared.make.RequestWords.{RequestWords}
 use Rattle.ptpm_commands.specs.IdentityText.{identity_of}
+use Rattle.ptpm_members.specs.declared.parsing.ParseFault.{ParseFault}
+use Rattle.ptpm_members.specs.Parsed.{parsed}
 use Rattle.ptpm_script.specs.OctetText.{text_of_octets}
 use Rattle.ptpm_script.specs.RequestNames.{action_named, id_named}
 
@@ -70,12 +73,43 @@ with_action words (Some action) = with_id words action (id_named words.id.now)
 abbrev pub asked : RequestWords → Result Message Fault
 asked words = with_action words (action_named words.action.now)
 
+-- ---- members in place of the value
+
+abbrev pub is_equals : ℕ → Bool
+is_equals octet = octet == 0x3d
+
+-- a member's name and its value, around the first `=`; the value alone, if there is none
+unfoldable pub words_of_member : List ℕ → List (List ℕ)
+words_of_member text =
+    if position_or_len is_equals text == length text then text ∷ []
+    else before_first is_equals text ∷ after_first is_equals text ∷ []
+
+abbrev pub with_field : RequestWords → Action → ℕ → Result (List ℕ) ParseFault → Result Message Fault
+with_field words action id (Ok octets) = request_of words action id octets
+with_field words action id (Err fault) = Err (faults.BadMembers fault)
+
+abbrev pub id_with : RequestWords → List (List ℕ) → Action → Option ℕ → Result Message Fault
+id_with words members action None = Err faults.BadId
+id_with words members action (Some id) = with_field words action id (parsed id (flat_map words_of_member members))
+
+abbrev pub action_with : RequestWords → List (List ℕ) → Option Action → Result Message Fault
+action_with words members None = Err faults.BadAction
+action_with words members (Some action) = id_with words members action (id_named words.id.now)
+
+-- the request that words ask for, with these members, or the first fault of them
+abbrev pub asked_with : RequestWords → List (List ℕ) → Result Message Fault
+asked_with words members = action_with words members (action_named words.action.now)
+
 -- ---- what is printed
 
 -- the canonical spelling of a request, in hexadecimal
 abbrev pub request_line : Message → List ℕ
 request_line request = text_of_octets (canonical request) ++ 10 ∷ []
 
--- a writer took the line of the request that words ask for
+-- a writer took the line of this request
+abbrev pub IsMadeOf : Result Message Fault → Option (List ℕ) → Option (List ℕ) → Type 0
+IsMadeOf asked before after = (request : Message) × ((asked ≡ Ok request) × Appends before after (request_line request))
+
+-- of the request that words ask for
 abbrev pub IsMade : RequestWords → Option (List ℕ) → Option (List ℕ) → Type 0
-IsMade words before after = (request : Message) × ((asked words ≡ Ok request) × Appends before after (request_line request))
+IsMade words = IsMadeOf (asked words)

@@ -6,6 +6,8 @@ ghost use Rattle.ptpm_commands.specs.Faults.{at_line, fault_line, is_of_line};
 
 use hex::FromHexError;
 use ptpm_codec::DecodeError;
+use ptpm_members::ParseFault;
+use std::alloc::AllocError;
 use std::io::Write;
 use std::{fmt, io};
 use thiserror::Error;
@@ -25,6 +27,9 @@ pub enum Fault {
     /// A dataField has an odd number of octets, or more than 1,418.
     #[error("BadValue")]
     BadValue,
+    /// Members are no dataField of the id.
+    #[error("BadMembers {0}")]
+    BadMembers(ParseFault),
     /// An identity is not sixteen hexadecimal digits, a slash and a decimal port from 0 to 65535.
     #[error("BadIdentity")]
     BadIdentity,
@@ -107,6 +112,26 @@ impl From<DecodeError> for Fault {
 
     fn from(error: DecodeError) -> Fault {
         Fault::Refused(error)
+    }
+}
+
+impl From<ParseFault> for Fault {
+    ghost use Rattle.ptpm_commands.specs.declared.faults.Fault.TheVariants as faults;
+
+    ghost from_gives = { λ error fault. fault ≡ faults.BadMembers error };
+
+    fn from(fault: ParseFault) -> Fault {
+        Fault::BadMembers(fault)
+    }
+}
+
+impl From<AllocError> for Fault {
+    ghost use Rattle.ptpm_commands.specs.declared.faults.Fault.TheVariants as faults;
+
+    ghost from_gives = { λ _ fault. fault ≡ faults.OutOfMemory };
+
+    fn from(_error: AllocError) -> Fault {
+        Fault::OutOfMemory
     }
 }
 

@@ -1,16 +1,17 @@
 //! `ptpm make`: a request that the words of a command line ask for, in octets.
 
-ghost use Rattle.std.specs.Prelude.{◌≡◌, ◌≢◌, Err, IfErr, IfOk, OnOk, false};
+ghost use Rattle.std.specs.Prelude.{◌≡◌, ◌≢◌, ◌++◌, Err, IfErr, IfOk, OnOk, false, flat_map, map};
 ghost use Rattle.ptpm_commands.specs.Faults.{is_outside};
-ghost use Rattle.ptpm_commands.specs.RequestWords.{IsMade, asked, request_of};
+ghost use Rattle.ptpm_commands.specs.RequestWords.{IsMade, IsMadeOf, asked, asked_with, request_of, words_of_member};
 ghost use Rattle.ptpm_codec.specs.Message.{IsRequestAction, IsValid};
 
 use crate::faults::Fault;
 use crate::identity_text::identity_of;
 use arrayvec::ArrayVec;
 use ptpm_codec::{Action, Draft, DraftBody, encode, is_data_field};
+use ptpm_members::parse;
 use ptpm_script::{Hexadecimal, action_named, id_named};
-use std::alloc::Global;
+use std::alloc::{AllocError, Global};
 use std::io::Write;
 
 /// The words of a request.
@@ -46,7 +47,72 @@ pub fn make<O: Write>(alloc: Global, words: &RequestWords<'_>, out: &mut O) -> R
     let action = action_named(words.action).ok_or(Fault::BadAction)?;
     let id = id_named(words.id).ok_or(Fault::BadId)?;
     let octets = hex::decode(alloc, words.value)?;
-    let request = request_of(words, action, id, octets.as_slice())?;
+    print_request(words, action, id, octets.as_slice(), out)
+}
+
+/// Prints the canonical spelling of the request whose dataField has these members: each is its name in the standard, `=` and its
+/// value, in the order in which `ptpm show --members` prints them. The name of a sole member and its `=` may be left out. The
+/// value among the words plays no part. The words are judged in the order of `make`, with the members (BadMembers) in place of the
+/// value.
+pub fn make_with_members<O: Write>(
+    alloc: Global,
+    words: &RequestWords<'_>,
+    members: &[&str],
+    out: &mut O,
+) -> Result<(), Fault>
+    ensures made { OnOk result (IsMadeOf (asked_with words.now (map (λ m. m.now) members.now)) (O.contents out.old) (O.contents out.new)) }
+    ensures fault { IfErr result (λ e. is_outside e ≡ false → asked_with words.now (map (λ m. m.now) members.now) ≡ Err e) }
+    ensures unprinted { IfErr result
+        (λ e. e ≢ Fault.WriteFault → O.contents out.new ≡ O.contents out.old) }
+{
+    let action = action_named(words.action).ok_or(Fault::BadAction)?;
+    let id = id_named(words.id).ok_or(Fault::BadId)?;
+    let said = words_of_members(alloc, members)?;
+    let field = parse(id, said.as_slice())?;
+    print_request(words, action, id, field.as_slice(), out)
+}
+
+/// The names and values of members, one after another.
+fn words_of_members<'a>(alloc: Global, members: &[&'a str]) -> Result<Vec<&'a str>, AllocError>
+    ensures { IfOk result (λ v. map (λ w. w.now) v.items ≡ flat_map words_of_member (map (λ m. m.now) members.now)) }
+{
+    let mut words = Vec::new(alloc);
+    for member in members {
+        push_words(*member, &mut words)?;
+    }
+    Ok(words)
+}
+
+/// Appends a member's name and its value, or the value alone if there is no `=`.
+#[tactic(auto, unfolding(crate::specs::RequestWords::words_of_member))]
+fn push_words<'a>(member: &'a str, words: &mut Vec<&'a str>) -> Result<(), AllocError>
+    ensures { OnOk result (map (λ w. w.now) words.new.items ≡ map (λ w. w.now) words.old.items ++ words_of_member member.now) }
+{
+    match member.split_once('=') {
+        Some((name, value)) => {
+            words.push(name)?;
+            words.push(value)?;
+        }
+        None => words.push(member)?,
+    }
+    Ok(())
+}
+
+/// Prints the canonical spelling of the request of an action, an id and a dataField.
+fn print_request<O: Write>(
+    words: &RequestWords<'_>,
+    action: Action,
+    id: u16,
+    octets: &[u8],
+    out: &mut O,
+) -> Result<(), Fault>
+    requires { IsRequestAction action }
+    ensures made { OnOk result (IsMadeOf (request_of words.now action id octets.now) (O.contents out.old) (O.contents out.new)) }
+    ensures fault { IfErr result (λ e. is_outside e ≡ false → request_of words.now action id octets.now ≡ Err e) }
+    ensures unprinted { IfErr result
+        (λ e. e ≢ Fault.WriteFault → O.contents out.new ≡ O.contents out.old) }
+{
+    let request = request_of(words, action, id, octets)?;
     let mut buffer = ArrayVec::new();
     encode(&request, &mut buffer);
     writeln!(out, "{}", Hexadecimal(buffer.as_slice()))?;

@@ -5,3 +5,4 @@ pub mod FieldText
 pub mod Typed
 pub mod Parsed
 pub mod RoundTrip
+pub mod ParseFaultText

@@ -6,6 +6,7 @@ mod field_text;
 mod forms;
 mod laws;
 mod names;
+mod parse_fault_text;
 mod parsing;
 mod tables;
 mod typing;
@@ -13,7 +14,7 @@ mod value_text;
 
 pub use field_text::FieldText;
 pub use forms::{Field, Form};
-pub use laws::{member_law, typed_again_law};
+pub use laws::member_law;
 pub use names::Member;
 pub use parsing::{ParseFault, parse};
 pub use tables::fields;

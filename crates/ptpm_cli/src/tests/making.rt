@@ -198,3 +198,70 @@ fn failing_output(rt: HostRuntime) {
     let request = words("set", "LOG_SYNC_INTERVAL", "ff00", MANAGER, CLOCK);
     meets_full_output(&rt, rt.alloc(), &request, SET_REQUEST.len());
 }
+
+/// The words of a SET with these members in place of a value.
+fn with_members<'a>(id: &'a str, members: [&'a str; 4]) -> [&'a str; 20] {
+    let [first, second, third, fourth] = members;
+    [
+        "ptpm", "make", "set", id, "--member", first, "--member", second, "--member", third,
+        "--member", fourth, "--from", MANAGER, "--to", CLOCK, "--number", "8", "--hops", "1",
+    ]
+}
+
+/// The words of a SET with one member in place of a value.
+fn with_member<'a>(id: &'a str, member: &'a str) -> [&'a str; 14] {
+    [
+        "ptpm", "make", "set", id, "--member", member, "--from", MANAGER, "--to", CLOCK,
+        "--number", "8", "--hops", "1",
+    ]
+}
+
+/// UTC_PROPERTIES (15.5.3.6.2): 37 s, which is valid, and no leap second.
+const SET_UTC: &[u8] = b"0d12003a0000\
+    0000000000000000000000000000\
+    001122334455667700010008047f\
+    aabbccfffeddee01000101010100\
+    0001000620110025\
+    0400\n";
+
+#[test]
+fn members_of_a_request(rt: HostRuntime) {
+    let alloc = rt.alloc();
+    let request = with_member("LOG_SYNC_INTERVAL", "logSyncInterval=-1");
+    prints(&rt, alloc, &request, SET_REQUEST);
+    let request = with_members(
+        "UTC_PROPERTIES",
+        [
+            "currentUtcOffset=37",
+            "leap61=false",
+            "LEAP59=0",
+            "currentUtcOffsetValid=true",
+        ],
+    );
+    prints(&rt, alloc, &request, SET_UTC);
+}
+
+#[test]
+fn members_that_are_refused(rt: HostRuntime) {
+    let alloc = rt.alloc();
+    for (id, member, fault) in [
+        (
+            "PRIORITY1",
+            "256",
+            b"ptpm: BadMembers NoValue priority1\n".as_slice(),
+        ),
+        (
+            "PRIORITY1",
+            "priority2=1",
+            b"ptpm: BadMembers OtherName priority1\n".as_slice(),
+        ),
+        (
+            "UTC_PROPERTIES",
+            "leap61=1",
+            b"ptpm: BadMembers WordCount\n".as_slice(),
+        ),
+        ("2fff", "1", b"ptpm: BadMembers NoSuchId\n".as_slice()),
+    ] {
+        fails(&rt, alloc, &with_member(id, member), 1, fault);
+    }
+}
