@@ -1,11 +1,9 @@
 -- A text is read back from what is shown of it.
-use Rattle.std.proofs.Common.{arith, ◌≡◌, ◌∙◌, ap, refl, sym, ℕ, suc, ◌+◌, ◌<◌, ◌≤◌, ◌==◌, Bool, true, false, List, [], ◌∷◌, ◌++◌, length, get_or, drop, Option, Some, None}
+use Rattle.std.proofs.Common.{arith, ◌≡◌, ◌∙◌, ap, refl, ℕ, suc, ◌<◌, ◌==◌, Bool, true, false, List, [], ◌∷◌, ◌++◌, get_or, Option, Some, None}
 use Rattle.std.specs.Prelude.{◌&&◌, flat_map, if◌then◌else◌, nat_le, not}
 use Rattle.std.specs.List.{list_all, range_with_len}
-use Rattle.std.proofs.lemmas.Bool.{and_parts, eqb-true, lt-leb}
+use Rattle.std.proofs.lemmas.Bool.{and_parts, eqb-true}
 use Rattle.hex.proofs.OnLiterals.{hex_on_literals}
-use Rattle.ptpm_codec.specs.Layout.{octet}
-use Rattle.ptpm_data.specs.ManagementId.{set_of}
 use Rattle.ptpm_data.specs.Ranges.{is_description}
 use Rattle.ptpm_members.specs.Typed.{described, escaped, meant, meant_after}
 use Rattle.ptpm_members.specs.ValueText.{escape, is_plain, shown_octet, shown_text}
