@@ -120,7 +120,7 @@ all_flags = refl
 
 flags_back : (c : ℕ) → c < 256 → bit_or (bit_or (flag_bit 1 c) (flag_bit 2 c)) (flag_bit 4 c) ≡ c % 8
 flags_back c small =
-    eqb-true _ _ (tried (λ c. bit_or (bit_or (flag_bit 1 c) (flag_bit 2 c)) (flag_bit 4 c) == c % 8) 0 256 c all_flags (omega arith) (omega arith))
+    eqb-true _ _ (tried (λ c. bit_or (bit_or (flag_bit 1 c) (flag_bit 2 c)) (flag_bit 4 c) == c % 8) 256 c all_flags small)
 
 utc_back : (a b c d : ℕ) → a < 256 → b < 256 → c < 256 → ComesBack layouts.UtcProperties (a ∷ b ∷ c ∷ d ∷ [])
 unfolding member_name with_words with_all each_named with_named with_value laid overlay

@@ -1,5 +1,5 @@
 -- A text is read back from what is shown of it.
-use Rattle.std.proofs.Common.{arith, ◌≡◌, ◌∙◌, ap, refl, ℕ, suc, ◌<◌, ◌==◌, Bool, true, false, List, [], ◌∷◌, ◌++◌, get_or, Option, Some, None}
+use Rattle.std.proofs.Common.{◌≡◌, ◌∙◌, ap, refl, ℕ, suc, ◌<◌, ◌==◌, Bool, true, false, List, [], ◌∷◌, ◌++◌, get_or, Option, Some, None}
 use Rattle.std.specs.Prelude.{◌&&◌, flat_map, if◌then◌else◌, nat_le, not}
 use Rattle.std.specs.List.{list_all, range_with_len}
 use Rattle.std.proofs.lemmas.Bool.{and_parts, eqb-true}
@@ -29,7 +29,7 @@ all_escapes = refl
 
 escape_read : (a : ℕ) (rest : List ℕ) → a < 256 → escaped (escape a ++ rest) ≡ Some a
 unfolding escaped
-escape_read a rest small = number_is a _ (tried (λ c. is_number c (escaped (escape c))) 0 256 a all_escapes (omega arith) (omega arith))
+escape_read a rest small = number_is a _ (tried (λ c. is_number c (escaped (escape c))) 256 a all_escapes small)
 
 escape_meant : (a : ℕ) (rest : List ℕ) → a < 256 → meant (escape a ++ rest) ≡ a ∷ meant rest
 unfolding meant_after
