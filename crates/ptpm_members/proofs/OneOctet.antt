@@ -1,10 +1,11 @@
 -- A value of one octet is read back from its text: each of the 256 is tried.
-use Rattle.std.proofs.Common.{arith, ◌≡◌, ap, refl, ℕ, zero, suc, ◌+◌, ◌<◌, ◌≤◌, Bool, true, false, List, [], ◌∷◌, length, Option, Some, None, inl, inr}
+use Rattle.std.proofs.Common.{arith, ◌≡◌, ◌∙◌, ap, refl, ℕ, ◌+◌, ◌<◌, Bool, true, false, List, [], ◌∷◌, length, get_or, Option, Some, None}
 use Rattle.std.specs.Prelude.{if◌then◌else◌}
 use Rattle.std.specs.Fmt.{digits}
 use Rattle.std.specs.List.{list_all, range_with_len}
 use Rattle.std.specs.Str.{bytes_eq}
-use Rattle.std.proofs.lemmas.Bool.{and_parts, cases_lt}
+use Rattle.std.proofs.lemmas.List.Folds.{list_all_at}
+use Rattle.std.proofs.lemmas.List.FromFn.{get_or-range_with_len, length-range_with_len}
 use Rattle.std.proofs.lemmas.Slice.Eq.{bytes_eq-Decides}
 use Rattle.hex.proofs.OnLiterals.{hex_on_literals}
 use Rattle.ptpm_data.specs.DataField.{i8_octet}
@@ -21,16 +22,19 @@ one_is : (a : ℕ) (o : Option (List ℕ)) → is_one a o ≡ true → o ≡ Som
 one_is a None h = cc
 one_is a (Some octets) h = ap (λ (xs : List ℕ). Some xs) ((bytes_eq-Decides octets (a ∷ [])).0 h)
 
-pub tried : (test : ℕ → Bool) (a n c : ℕ) → list_all test (range_with_len a n) ≡ true → a ≤ c → c < a + n → test c ≡ true
-tried test a zero c all low high = absurd (omega arith)
-tried test a (suc n) c all low high =
-    let parts = and_parts (test a) (list_all test (range_with_len (a + 1) n)) all in
-    elim (cases_lt a c) [
-      | inl above ↦ tried test (a + 1) n c parts.1 (omega arith) (omega arith)
-      | inr here ↦
-          let e : c ≡ a = omega arith in
-          rw e parts.0
-    ]
+tried_by : (test : ℕ → Bool) (n c : ℕ) (b : Bool) → test c ≡ b → list_all test (range_with_len 0 n) ≡ true → c < n → b ≡ true
+tried_by test n c true is all small = refl
+tried_by test n c false is all small =
+    let inside : c < length (range_with_len 0 n) = rw (length-range_with_len 0 n) small in
+    let from : 0 + c ≡ c = omega arith in
+    let here : get_or (range_with_len 0 n) c 0 ≡ c = get_or-range_with_len 0 n c 0 small ∙ from in
+    let fails : test (get_or (range_with_len 0 n) c 0) ≡ false = rw here is in
+    let none : list_all test (range_with_len 0 n) ≡ false = list_all_at test (range_with_len 0 n) c 0 inside fails in
+    cc
+
+-- what holds of each number below another, as it is tried
+pub tried : (test : ℕ → Bool) (n c : ℕ) → list_all test (range_with_len 0 n) ≡ true → c < n → test c ≡ true
+tried test n c all small = tried_by test n c (test c) refl all small
 
 -- whether it is read back
 abbrev comes_back : Form → ℕ → Bool
@@ -54,7 +58,7 @@ all_mechanisms = refl
 
 back : (form : Form) (a : ℕ) → list_all (comes_back form) (range_with_len 0 256) ≡ true → a < 256
     → typed form (value_text form (a ∷ [])) ≡ Some (a ∷ [])
-back form a all small = one_is a _ (tried (comes_back form) 0 256 a all (omega arith) (omega arith))
+back form a all small = one_is a _ (tried (comes_back form) 256 a all small)
 
 pub unsigned_back : (a : ℕ) → a < 256 → typed (forms.Unsigned 1) (value_text (forms.Unsigned 1) (a ∷ [])) ≡ Some (a ∷ [])
 unsigned_back a small = back (forms.Unsigned 1) a all_unsigned small

@@ -1,5 +1,5 @@
 -- Steps of what is laid into a dataField.
-use Rattle.std.proofs.Common.{arith, ◌≡◌, ◌∙◌, ap, refl, sym, ℕ, suc, ◌+◌, ◌*◌, ◌<◌, ◌≤◌, List, [], ◌∷◌, length, get_or, drop, set, drop-cons, map, Result, Ok, Err}
+use Rattle.std.proofs.Common.{arith, ◌≡◌, ◌∙◌, ap, refl, sym, ℕ, suc, ◌+◌, ◌*◌, ◌<◌, ◌≤◌, List, [], length, get_or, drop, set, drop-cons, map, Result, Ok, Err}
 use Rattle.std.specs.Prelude.{bit_or}
 use Rattle.std.specs.Borrow.{Bor}
 use Rattle.std.proofs.Math.ListN.{get_or-map}
@@ -9,7 +9,7 @@ use Rattle.ptpm_data.specs.declared.management_id.Layout.{Layout}
 use Rattle.ptpm_data.specs.declared.management_id.Layout.TheVariants as layouts
 use Rattle.ptpm_members.specs.declared.forms.Field.{Field}
 use Rattle.ptpm_members.specs.declared.parsing.ParseFault.{ParseFault}
-use Rattle.ptpm_members.specs.Parsed.{each_named, field_or, overlay, then_with, with_all, with_named, word}
+use Rattle.ptpm_members.specs.Parsed.{each_named, overlay, then_with, with_all, with_named, word}
 use Rattle.ptpm_members.specs.Tables.{fields_of}
 
 pub few_fields : (layout : Layout) → length (fields_of layout) < 256
@@ -69,7 +69,7 @@ pub each_put : (fs : List Field) (words : List (Bor (List ℕ))) (field next : L
 each_put fs words field next i f none inside is empty =
     sym (each_step fs (texts words) field i f inside
     ∙ ap (λ (r : Result (List ℕ) ParseFault). then_with r (each_named (drop (i + 1) fs) (drop (2 * (i + 1)) (texts words))))
-      (sym (is ∙ named_is (get_or fs i f) words (2 * i) field none empty)))
+    (sym (is ∙ named_is (get_or fs i f) words (2 * i) field none empty)))
 
 -- at a fault
 pub each_fault : (fs : List Field) (words : List (Bor (List ℕ))) (field : List ℕ) (fault : ParseFault) (i : ℕ) (f : Field) (none : Bor (List ℕ))
@@ -79,7 +79,7 @@ pub each_fault : (fs : List Field) (words : List (Bor (List ℕ))) (field : List
 each_fault fs words field fault i f none inside is empty =
     each_step fs (texts words) field i f inside
     ∙ ap (λ (r : Result (List ℕ) ParseFault). then_with r (each_named (drop (i + 1) fs) (drop (2 * (i + 1)) (texts words))))
-      (sym (is ∙ named_is (get_or fs i f) words (2 * i) field none empty))
+    (sym (is ∙ named_is (get_or fs i f) words (2 * i) field none empty))
 
 pub each_of_all : (fs : List Field) (words : List (List ℕ)) (field : List ℕ) → length words ≡ 2 * length fs
     → with_all fs words field ≡ each_named fs words field

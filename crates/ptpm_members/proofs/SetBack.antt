@@ -1,10 +1,9 @@
 -- What a SET may have comes back from its text.
-use Rattle.std.proofs.Common.{arith, ◌≡◌, ◌∙◌, ap, refl, sym, subst, ℕ, zero, suc, ◌+◌, ◌-◌, ◌*◌, ◌/◌, ◌%◌, ◌^◌, ◌<◌, ◌≤◌, ◌≢◌, ◌==◌, Bool, true, false, List, [], ◌∷◌, ◌++◌, length, get_or, replicate, take, ℤ, pos, negsuc, Option, Some, None, Result, Ok, Err, inl, inr}
-use Rattle.std.specs.Prelude.{FitsSigned, bit_and, bit_or, decimal, if◌then◌else◌, nat_le, nat_lt, not}
+use Rattle.std.proofs.Common.{arith, ◌≡◌, ◌∙◌, ap, refl, ℕ, zero, suc, ◌+◌, ◌-◌, ◌*◌, ◌/◌, ◌%◌, ◌^◌, ◌<◌, ◌≤◌, ◌==◌, true, false, List, [], ◌∷◌, length, get_or, replicate, take, pos, negsuc, Some, Ok, inl, inr}
+use Rattle.std.specs.Prelude.{bit_and, bit_or, decimal, if◌then◌else◌, nat_le, not}
 use Rattle.std.specs.Fmt.{signed_decimal}
-use Rattle.std.specs.Int.{cast_unsigned, w16}
 use Rattle.std.specs.List.{list_all, range_with_len}
-use Rattle.std.specs.Str.{all_ascii_digits, bytes_eq, str_eq_ignore_ascii_case, str_to_ascii_lowercase}
+use Rattle.std.specs.Str.{all_ascii_digits, str_eq_ignore_ascii_case, str_to_ascii_lowercase}
 use Rattle.std.specs.Str.Parse.{digits_value}
 use Rattle.std.proofs.lemmas.Bool.{cases_lt, eqb-true, le-leb, le-ltb, lt-ltb, ne_eqb}
 use Rattle.std.proofs.lemmas.Fmt.{decimal_nonempty, digits_decimal, digits_value-decimal}
@@ -13,7 +12,7 @@ use Rattle.std.proofs.lemmas.Slice.Eq.{bytes_eq-Decides}
 use Rattle.std.proofs.lemmas.Str.Parse.{not_in_digits}
 use Rattle.byteorder.specs.Endian.{big_bytes, big_number, twos_complement}
 use Rattle.ptpm_codec.specs.Layout.{octet}
-use Rattle.ptpm_codec.specs.PtpText.{is_ptp_text, ptp_text, ptp_text_octets}
+use Rattle.ptpm_codec.specs.PtpText.{is_ptp_text, ptp_text}
 use Rattle.ptpm_data.specs.declared.management_id.Layout.{Layout}
 use Rattle.ptpm_data.specs.declared.management_id.Layout.TheVariants as layouts
 use Rattle.ptpm_data.specs.DataField.{i16_octets}
@@ -27,8 +26,8 @@ use Rattle.ptpm_members.specs.Names.{member_name}
 use Rattle.ptpm_members.specs.Parsed.{each_named, laid, overlay, with_all, with_named, with_value, with_words}
 use Rattle.ptpm_members.specs.RoundTrip.{IsInRange, words_of}
 use Rattle.ptpm_members.specs.Tables.{field_size, fields_of}
-use Rattle.ptpm_members.specs.Typed.{described, number_up_to, signed_number, typed}
-use Rattle.ptpm_members.specs.ValueText.{flag_name, shown_text, value_text}
+use Rattle.ptpm_members.specs.Typed.{number_up_to, signed_number, typed}
+use Rattle.ptpm_members.specs.ValueText.{value_text}
 use Rattle.ptpm_members.proofs.Numerals.{own}
 use Rattle.ptpm_members.proofs.OneOctet.{flag_back, hexadecimal_back, mechanism_back, signed_octet_back, tried, unsigned_back}
 use Rattle.ptpm_members.proofs.TextBack.{text_back}
@@ -121,7 +120,7 @@ all_flags = refl
 
 flags_back : (c : ℕ) → c < 256 → bit_or (bit_or (flag_bit 1 c) (flag_bit 2 c)) (flag_bit 4 c) ≡ c % 8
 flags_back c small =
-    eqb-true _ _ (tried (λ c. bit_or (bit_or (flag_bit 1 c) (flag_bit 2 c)) (flag_bit 4 c) == c % 8) 0 256 c all_flags (omega arith) (omega arith))
+    eqb-true _ _ (tried (λ c. bit_or (bit_or (flag_bit 1 c) (flag_bit 2 c)) (flag_bit 4 c) == c % 8) 256 c all_flags small)
 
 utc_back : (a b c d : ℕ) → a < 256 → b < 256 → c < 256 → ComesBack layouts.UtcProperties (a ∷ b ∷ c ∷ d ∷ [])
 unfolding member_name with_words with_all each_named with_named with_value laid overlay

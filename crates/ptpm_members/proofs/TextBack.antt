@@ -1,11 +1,9 @@
 -- A text is read back from what is shown of it.
-use Rattle.std.proofs.Common.{arith, ◌≡◌, ◌∙◌, ap, refl, sym, ℕ, suc, ◌+◌, ◌<◌, ◌≤◌, ◌==◌, Bool, true, false, List, [], ◌∷◌, ◌++◌, length, get_or, drop, Option, Some, None}
+use Rattle.std.proofs.Common.{◌≡◌, ◌∙◌, ap, refl, ℕ, suc, ◌<◌, ◌==◌, Bool, true, false, List, [], ◌∷◌, ◌++◌, get_or, Option, Some, None}
 use Rattle.std.specs.Prelude.{◌&&◌, flat_map, if◌then◌else◌, nat_le, not}
 use Rattle.std.specs.List.{list_all, range_with_len}
-use Rattle.std.proofs.lemmas.Bool.{and_parts, eqb-true, lt-leb}
+use Rattle.std.proofs.lemmas.Bool.{and_parts, eqb-true}
 use Rattle.hex.proofs.OnLiterals.{hex_on_literals}
-use Rattle.ptpm_codec.specs.Layout.{octet}
-use Rattle.ptpm_data.specs.ManagementId.{set_of}
 use Rattle.ptpm_data.specs.Ranges.{is_description}
 use Rattle.ptpm_members.specs.Typed.{described, escaped, meant, meant_after}
 use Rattle.ptpm_members.specs.ValueText.{escape, is_plain, shown_octet, shown_text}
@@ -31,7 +29,7 @@ all_escapes = refl
 
 escape_read : (a : ℕ) (rest : List ℕ) → a < 256 → escaped (escape a ++ rest) ≡ Some a
 unfolding escaped
-escape_read a rest small = number_is a _ (tried (λ c. is_number c (escaped (escape c))) 0 256 a all_escapes (omega arith) (omega arith))
+escape_read a rest small = number_is a _ (tried (λ c. is_number c (escaped (escape c))) 256 a all_escapes small)
 
 escape_meant : (a : ℕ) (rest : List ℕ) → a < 256 → meant (escape a ++ rest) ≡ a ∷ meant rest
 unfolding meant_after

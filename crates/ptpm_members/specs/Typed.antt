@@ -1,6 +1,6 @@
 -- What a person types for a member's value, and the octets that it means (this project's profile). Names are those of the
 -- standard, in either case.
-use Rattle.std.specs.Prelude.{ℕ, ◌+◌, ◌-◌, ◌==◌, nat_le, Bool, true, false, ◌&&◌, ◌||◌, if◌then◌else◌, ℤ, pos, neg_ℤ, List, [], ◌∷◌, length, drop, take, Option, Some, None, option_map}
+use Rattle.std.specs.Prelude.{ℕ, ◌+◌, ◌-◌, ◌==◌, nat_le, nat_lt, Bool, true, false, ◌&&◌, ◌||◌, if◌then◌else◌, ℤ, pos, neg_ℤ, List, [], ◌∷◌, length, drop, take, Option, Some, None, option_and_then, option_map}
 use Rattle.std.specs.Result.{result_ok}
 use Rattle.std.specs.Str.{all_ascii_digits, str_eq_ignore_ascii_case}
 use Rattle.std.specs.Str.Parse.{digits_value}
@@ -33,6 +33,13 @@ is_hexadecimal text = octet 0 text == 0x30 && (octet 1 text == 0x78 || octet 1 t
 unfoldable pub octet_of : List ℕ → Option ℕ
 octet_of text =
     if is_hexadecimal text then option_map (octet 0) (result_ok (decode_sized (drop 2 text) 1)) else number_up_to 255 text
+
+-- a number of four bits, typed as one of an octet
+abbrev pub if_nibble : ℕ → Option ℕ
+if_nibble n = if nat_lt n 16 then Some n else None
+
+abbrev pub nibble_of : List ℕ → Option ℕ
+nibble_of text = option_and_then if_nibble (octet_of text)
 
 -- what follows a minus, if one comes first
 abbrev pub without_minus : List ℕ → Option (List ℕ)
@@ -125,6 +132,6 @@ typed (forms.Hexadecimal n) text = if n == 1 then option_map one_octet (octet_of
 typed (forms.Signed n) text = signed_octets n text
 typed (forms.Flag mask) text = option_map (flag_octet mask) (flag_of text)
 typed forms.EitherFlag text = option_map (flag_octet 1) (flag_of text)
-typed forms.LowNibble text = option_map one_octet (number_up_to 15 text)
+typed forms.LowNibble text = option_map one_octet (nibble_of text)
 typed forms.DelayMechanism text = option_map one_octet (mechanism_octet text)
 typed _ text = None

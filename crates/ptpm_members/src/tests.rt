@@ -1,7 +1,8 @@
 //! Lines of dataFields, and what is typed for them. The members of each dataField are those that another program reads in the
 //! same octets, and their names are the standard's.
 
-use crate::{FieldText, ParseFault, parse};
+use crate::{FieldText, Member, ParseFault, parse};
+use ptpm_data::Member as DataSetMember;
 use std::alloc::Global;
 
 /// An id, a dataField and its lines.
@@ -66,25 +67,78 @@ fn means(id: u16, words: &[&str], octets: &[u8]) -> bool {
     }
 }
 
+/// A row for each kind of member. The octets are those of 15.5.3: a number in two's complement, its most significant octet first
+/// (5.3).
 #[test]
 fn typed_words(rt: HostRuntime) {
     assert!(rt; means(0x2005, &["100"], &[100, 0]));
-    assert!(rt; means(0x2005, &["priority1", "0x64"], &[100, 0]));
+    assert!(rt; means(0x2005, &["PRIORITY1", "0x64"], &[100, 0]));
     assert!(rt; means(0x2009, &["-4"], &[0xfc, 0]));
+    assert!(rt; means(0x2010, &["0Xfe"], &[0xfe, 0]));
+    assert!(rt; means(0x2008, &["True"], &[1, 0]));
+    assert!(rt; means(0x200c, &["0x02"], &[2, 0]));
     assert!(rt; means(0x6000, &["no_mechanism"], &[0xfe, 0]));
-    assert!(rt; means(2, &["a\\x5cb"], &[3, 0x61, 0x5c, 0x62]));
+    assert!(rt; means(0x6000, &["3"], &[3, 0]));
+    assert!(rt; means(2, &["a\\x5cb\\"], &[4, 0x61, 0x5c, 0x62, 0x5c, 0]));
+    assert!(rt; means(0x200d, &[], &[]));
     let words = [
         "currentUtcOffset",
-        "-1",
+        "-32768",
         "leap61",
-        "true",
+        "1",
         "leap59",
         "false",
         "currentUtcOffsetValid",
         "true",
     ];
-    assert!(rt; means(0x2011, &words, &[0xff, 0xff, 5, 0]));
-    assert!(rt; parse(0x2005, &["256"]).is_err());
-    assert!(rt; matches!(parse(0x4000, &["1"]), Err(ParseFault::NoSuchId)));
-    assert!(rt; matches!(parse(0x2011, &["37"]), Err(ParseFault::WordCount)));
+    assert!(rt; means(0x2011, &words, &[0x80, 0, 5, 0]));
+}
+
+/// Whether words are refused for this reason.
+fn refuses(id: u16, words: &[&str], fault: ParseFault) -> bool {
+    match parse(id, words) {
+        Ok(_) => false,
+        Err(found) => found == fault,
+    }
+}
+
+/// A row for each refusal. The values that are none lie next to the ends of a range, or want a digit.
+#[test]
+fn refused_words(rt: HostRuntime) {
+    let priority1 = Member::DataSet(DataSetMember::Priority1);
+    let interval = Member::DataSet(DataSetMember::LogAnnounce);
+    assert!(rt; refuses(0x4000, &["1"], ParseFault::NoSuchId));
+    assert!(rt; refuses(0x2011, &["37"], ParseFault::WordCount));
+    assert!(rt;
+        refuses(
+            0x2005,
+            &["priority2", "1"],
+            ParseFault::OtherName(priority1)
+        )
+    );
+    for text in ["256", "+1", "-1", "", "0x1", "0x100", "1 "] {
+        assert!(rt;
+            refuses(0x2005, &[text], ParseFault::NoValue(priority1)),
+            "{text}"
+        );
+    }
+    let steps = Member::DataSet(DataSetMember::StepsRemoved);
+    let words = [
+        "stepsRemoved",
+        "3",
+        "offsetFromMaster",
+        "0",
+        "meanDelay",
+        "0",
+    ];
+    assert!(rt;
+        refuses(0x2001, &words, ParseFault::NoValue(steps)),
+        "no SET has it"
+    );
+    for text in ["128", "-129", "--1"] {
+        assert!(rt;
+            refuses(0x2009, &[text], ParseFault::NoValue(interval)),
+            "{text}"
+        );
+    }
 }

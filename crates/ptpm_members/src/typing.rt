@@ -5,7 +5,7 @@ ghost use Rattle.std.specs.Result.{result_ok};
 ghost use Rattle.hex.specs.Hex.{decode_sized};
 ghost use Rattle.ptpm_codec.specs.Layout.{octet};
 ghost use Rattle.ptpm_data.specs.DataField.{i16_octets};
-ghost use Rattle.ptpm_members.specs.Typed.{flag_of, mechanism_named, mechanism_octet, number_up_to, octet_of, signed_number, typed, without_minus};
+ghost use Rattle.ptpm_members.specs.Typed.{flag_of, mechanism_named, mechanism_octet, nibble_of, number_up_to, octet_of, signed_number, typed, without_minus};
 
 use crate::forms::Form;
 use arrayvec::ArrayVec;
@@ -27,7 +27,7 @@ pub(crate) fn typed(form: Form, text: &str) -> Option<Octets>
         Form::Signed(2) => Some(two_octets(signed_number(32767, text)?)),
         Form::Flag(mask) => Some(one_octet(if flag_of(text)? { mask } else { 0 })),
         Form::EitherFlag => Some(one_octet(u8::from(flag_of(text)?))),
-        Form::LowNibble => Some(one_octet(number_up_to(15, text)? as u8)),
+        Form::LowNibble => Some(one_octet(nibble_of(text)?)),
         Form::DelayMechanism => Some(one_octet(mechanism_octet(text)?)),
         _ => None,
     }
@@ -82,6 +82,16 @@ fn octet_of(text: &str) -> Option<u8>
     match text.as_bytes() {
         [b'0', b'x' | b'X', digits @ ..] => hexadecimal_octet(digits),
         _ => Some(number_up_to(255, text)? as u8),
+    }
+}
+
+/// A number of four bits, typed as one of an octet.
+fn nibble_of(text: &str) -> Option<u8>
+    ensures { result ≡ nibble_of text.now }
+{
+    match octet_of(text) {
+        Some(octet) => (octet < 16).then_some(octet),
+        None => None,
     }
 }
 
