@@ -57,21 +57,25 @@ request_of words action id octets =
 
 -- ---- the words, in the order in which they are judged
 
+abbrev pub both : Option Action → Option ℕ → Result (Action × ℕ) Fault
+both None id = Err faults.BadAction
+both (Some action) None = Err faults.BadId
+both (Some action) (Some id) = Ok (action, id)
+
+abbrev pub action_and_id : RequestWords → Result (Action × ℕ) Fault
+action_and_id words = both (action_named words.action.now) (id_named words.id.now)
+
 abbrev pub with_value : RequestWords → Action → ℕ → Result (List ℕ) FromHexError → Result Message Fault
 with_value words action id (Ok octets) = request_of words action id octets
 with_value words action id (Err error) = Err faults.BadHex
 
-abbrev pub with_id : RequestWords → Action → Option ℕ → Result Message Fault
-with_id words action None = Err faults.BadId
-with_id words action (Some id) = with_value words action id (decode_of words.value.now)
-
-abbrev pub with_action : RequestWords → Option Action → Result Message Fault
-with_action words None = Err faults.BadAction
-with_action words (Some action) = with_id words action (id_named words.id.now)
+abbrev pub asked_by : RequestWords → Result (Action × ℕ) Fault → Result Message Fault
+asked_by words (Err fault) = Err fault
+asked_by words (Ok a) = with_value words a.0 a.1 (decode_of words.value.now)
 
 -- the request that words ask for, or the first fault of them
 abbrev pub asked : RequestWords → Result Message Fault
-asked words = with_action words (action_named words.action.now)
+asked words = asked_by words (action_and_id words)
 
 -- ---- members in place of the value
 
@@ -88,17 +92,13 @@ abbrev pub with_field : RequestWords → Action → ℕ → Result (List ℕ) Pa
 with_field words action id (Ok octets) = request_of words action id octets
 with_field words action id (Err fault) = Err (faults.BadMembers fault)
 
-abbrev pub id_with : RequestWords → List (List ℕ) → Action → Option ℕ → Result Message Fault
-id_with words members action None = Err faults.BadId
-id_with words members action (Some id) = with_field words action id (parsed id (flat_map words_of_member members))
-
-abbrev pub action_with : RequestWords → List (List ℕ) → Option Action → Result Message Fault
-action_with words members None = Err faults.BadAction
-action_with words members (Some action) = id_with words members action (id_named words.id.now)
+abbrev pub asked_of : RequestWords → List (List ℕ) → Result (Action × ℕ) Fault → Result Message Fault
+asked_of words members (Err fault) = Err fault
+asked_of words members (Ok a) = with_field words a.0 a.1 (parsed a.1 (flat_map words_of_member members))
 
 -- the request that words ask for, with these members, or the first fault of them
 abbrev pub asked_with : RequestWords → List (List ℕ) → Result Message Fault
-asked_with words members = action_with words members (action_named words.action.now)
+asked_with words members = asked_of words members (action_and_id words)
 
 -- ---- what is printed
 

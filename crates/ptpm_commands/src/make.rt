@@ -2,7 +2,7 @@
 
 ghost use Rattle.std.specs.Prelude.{◌≡◌, ◌≢◌, ◌++◌, Err, IfErr, IfOk, OnOk, false, flat_map, map};
 ghost use Rattle.ptpm_commands.specs.Faults.{is_outside};
-ghost use Rattle.ptpm_commands.specs.RequestWords.{IsMade, IsMadeOf, asked, asked_with, request_of, words_of_member};
+ghost use Rattle.ptpm_commands.specs.RequestWords.{IsMade, IsMadeOf, action_and_id, asked, asked_with, request_of, words_of_member};
 ghost use Rattle.ptpm_codec.specs.Message.{IsRequestAction, IsValid};
 
 use crate::faults::Fault;
@@ -44,8 +44,7 @@ pub fn make<O: Write>(alloc: Global, words: &RequestWords<'_>, out: &mut O) -> R
     ensures unprinted { IfErr result
         (λ e. e ≢ Fault.WriteFault → O.contents out.new ≡ O.contents out.old) }
 {
-    let action = action_named(words.action).ok_or(Fault::BadAction)?;
-    let id = id_named(words.id).ok_or(Fault::BadId)?;
+    let (action, id) = action_and_id(words)?;
     let octets = hex::decode(alloc, words.value)?;
     print_request(words, action, id, octets.as_slice(), out)
 }
@@ -65,11 +64,20 @@ pub fn make_with_members<O: Write>(
     ensures unprinted { IfErr result
         (λ e. e ≢ Fault.WriteFault → O.contents out.new ≡ O.contents out.old) }
 {
-    let action = action_named(words.action).ok_or(Fault::BadAction)?;
-    let id = id_named(words.id).ok_or(Fault::BadId)?;
+    let (action, id) = action_and_id(words)?;
     let said = words_of_members(alloc, members)?;
     let field = parse(id, said.as_slice())?;
     print_request(words, action, id, field.as_slice(), out)
+}
+
+/// The action and the id of the words.
+fn action_and_id(words: &RequestWords<'_>) -> Result<(Action, u16), Fault>
+    ensures value { result ≡ action_and_id words.now }
+    ensures action { IfOk result (λ r. IsRequestAction r.0) }
+{
+    let action = action_named(words.action).ok_or(Fault::BadAction)?;
+    let id = id_named(words.id).ok_or(Fault::BadId)?;
+    Ok((action, id))
 }
 
 /// The names and values of members, one after another.
