@@ -1,5 +1,5 @@
 -- Words, and the octets that they are.
-use Rattle.std.proofs.Common.{arith, ◌≡◌, ◌∙◌, ap, refl, sym, subst, ℕ, suc, ◌+◌, ◌<◌, ◌≤◌, Bool, true, false, cond, not, List, [], ◌∷◌, ◌++◌, length, get_or, drop, take, Option, Some, None, append_assoc}
+use Rattle.std.proofs.Common.{arith, ◌≡◌, ◌∙◌, ap, refl, sym, subst, ℕ, suc, ◌+◌, ◌<◌, Bool, true, false, cond, not, List, [], ◌∷◌, ◌++◌, length, get_or, drop, take, Some, None, append_assoc}
 use Rattle.std.specs.List.{flat_map, list_all, position, position_or_len, prefix_len}
 use Rattle.std.specs.Prelude.{nat_lt}
 use Rattle.std.specs.Str.{is_utf8, IsUtf8}
@@ -8,7 +8,7 @@ use Rattle.std.proofs.lemmas.List.{append-nil, length-append}
 use Rattle.std.proofs.lemmas.List.Quantifiers.{position-Some}
 use Rattle.std.proofs.lemmas.List.Sums.{split_at_first}
 use Rattle.std.proofs.lemmas.Str.{IsUtf8-from_is_utf8, is_utf8-from_IsUtf8}
-use Rattle.ptpm_host.specs.Words.{AreWords, BeginsWith, is_word, is_zero}
+use Rattle.ptpm_host.specs.Words.{AreWords, BeginsWith, is_zero}
 
 -- ---- the first zero octet
 

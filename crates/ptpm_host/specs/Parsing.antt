@@ -1,5 +1,5 @@
 -- The dataField of a SET from the words of a host, and why there is none (this project's profile).
-use Rattle.std.specs.Prelude.{◌≡◌, ℕ, ◌<◌, List, length, slice_get, Any, IsErrAnd, IsSomeAnd, MatchResult, Result, Ok, Err, Option, Some, None, ⊤}
+use Rattle.std.specs.Prelude.{◌≡◌, ℕ, ◌<◌, List, length, slice_get, Any, IsErrAnd, IsSomeAnd, MatchResult, Result, Ok, Err, ⊤}
 use Rattle.ptpm_members.specs.declared.forms.Field.{Field}
 use Rattle.ptpm_members.specs.declared.names.Member.{Member}
 use Rattle.ptpm_members.specs.declared.parsing.ParseFault.{ParseFault}
