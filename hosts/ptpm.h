@@ -573,6 +573,17 @@ __extension__ enum PTPM_FOUR_OCTETS(ptpm_restored) {
     PTPM_OTHER_SESSION = 110            /* another manager or clock, another number of ports, or another first number */
 };
 
+/* ptpm_field_parse. */
+__extension__ enum PTPM_FOUR_OCTETS(ptpm_parsed) {
+    PTPM_PARSED = 0,
+    PTPM_PARSE_NO_ROOM = PTPM_NO_ROOM,  /* for fewer octets than the dataField has */
+    PTPM_NOT_WORDS = 113,               /* the last octet is no zero, a word is no UTF-8, or there are over 20 words */
+    PTPM_UNKNOWN_ID = 114,              /* this profile lacks the id */
+    PTPM_WORD_COUNT = 115,              /* more or fewer words than a name and a value for each member */
+    PTPM_OTHER_NAME = 116,              /* a word is not the name of the member that comes next */
+    PTPM_NO_VALUE = 117                 /* a word is no value of the member, or no SET has the member */
+};
+
 /* So the header refuses a compiler that takes no such word. */
 #define PTPM_IS_WIDE(name) typedef char name##_has_not_four_octets[sizeof(enum name) == 4 ? 1 : -1]
 PTPM_IS_WIDE(ptpm_started);
@@ -589,6 +600,7 @@ PTPM_IS_WIDE(ptpm_survey_received);
 PTPM_IS_WIDE(ptpm_told);
 PTPM_IS_WIDE(ptpm_saved);
 PTPM_IS_WIDE(ptpm_restored);
+PTPM_IS_WIDE(ptpm_parsed);
 #undef PTPM_IS_WIDE
 #undef PTPM_FOUR_OCTETS
 
@@ -927,6 +939,18 @@ enum { PTPM_MOST_FIELD_TEXT = 2843 };
    Answers: how many octets the lines have; 0 if room is too small for all of them.
    Writes:  as many octets from text on: each line with its newline, and no zero after the last. If it answers 0, anything. */
 size_t ptpm_field_text(uint16_t id, const uint8_t *octets, size_t size, char *text, size_t room);
+
+/* Gives the dataField of a SET from what a person types: the name of each member in the standard, in either case, and its value, in
+   the order of ptpm_field_text. The name of a sole member may be left out: "100" and "priority1", "100" are the same. docs/ptpm.md
+   says how each kind of value is written.
+   Takes:   the managementId; words in UTF-8 with a zero octet after each, of size octets with all of these; and room octets, for
+            which PTPM_MOST_READ is enough.
+   Answers: PTPM_PARSED; or PTPM_NOT_WORDS, PTPM_UNKNOWN_ID, PTPM_WORD_COUNT, PTPM_OTHER_NAME or PTPM_NO_VALUE of the first member
+            that has one of them, or PTPM_NO_ROOM, the first of them in this order.
+   Writes:  *count, how many octets the dataField has, and as many octets from octets on. If it is refused, *count is 0 and no octet
+            is written. *member, the place of the member with PTPM_OTHER_NAME or PTPM_NO_VALUE, from 0 on, and else 0. */
+enum ptpm_parsed ptpm_field_parse(uint16_t id, const char *words, size_t size, uint8_t *octets, size_t room, size_t *count,
+                                  size_t *member);
 
 #ifdef __cplusplus
 }

@@ -347,6 +347,15 @@ PTPM_OTHER_CLOCK = 108
 PTPM_OTHER_PORTS = 109
 PTPM_OTHER_SESSION = 110
 
+# enum ptpm_parsed.
+PTPM_PARSED = 0
+PTPM_PARSE_NO_ROOM = 34
+PTPM_NOT_WORDS = 113
+PTPM_UNKNOWN_ID = 114
+PTPM_WORD_COUNT = 115
+PTPM_OTHER_NAME = 116
+PTPM_NO_VALUE = 117
+
 # What ptpm_id_named answers if no id has the name.
 PTPM_NO_ID = 65536
 
@@ -637,6 +646,10 @@ CALLS: Dict[str, Tuple[Any, List[Any]]] = {
     "ptpm_answer_name": (c_size_t, [c_uint32, POINTER(c_char), c_size_t]),
     "ptpm_error_name": (c_size_t, [c_uint16, POINTER(c_char), c_size_t]),
     "ptpm_field_text": (c_size_t, [c_uint16, c_char_p, c_size_t, POINTER(c_char), c_size_t]),
+    "ptpm_field_parse": (
+        c_uint32,
+        [c_uint16, c_char_p, c_size_t, POINTER(c_uint8), c_size_t, POINTER(c_size_t), POINTER(c_size_t)],
+    ),
 }
 
 # The structs, in the order of the header.

@@ -90,6 +90,11 @@ errors! {
     OtherPorts = PTPM_OTHER_PORTS, "the image is of a clock with another number of ports";
     OtherSession = PTPM_OTHER_SESSION, "the image is of another manager, clock, number of ports or first number";
     OutOfReach = PTPM_OUT_OF_REACH, "32,767 requests were begun since the latest that was answered";
+    NotWords = PTPM_NOT_WORDS, "the last octet is no zero, a word is no UTF-8, or there are over 20";
+    UnknownId = PTPM_UNKNOWN_ID, "this profile lacks the managementId";
+    WordCount = PTPM_WORD_COUNT, "there are more or fewer words than a name and a value for each member";
+    OtherName = PTPM_OTHER_NAME, "a word is not the name of the member that comes next";
+    NoValue = PTPM_NO_VALUE, "a word is no value of the member, or no SET has the member";
 }
 
 /// The number of a call that was done is 0, and every other one an error.

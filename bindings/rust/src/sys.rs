@@ -25,6 +25,7 @@ pub type ptpm_survey_received = u32;
 pub type ptpm_told = u32;
 pub type ptpm_saved = u32;
 pub type ptpm_restored = u32;
+pub type ptpm_parsed = u32;
 
 #[repr(C)]
 pub struct ptpm_clock {
@@ -353,6 +354,15 @@ extern "C" {
     pub fn ptpm_answer_name(number: u32, text: *mut c_char, room: usize) -> usize;
     pub fn ptpm_error_name(error: u16, text: *mut c_char, room: usize) -> usize;
     pub fn ptpm_field_text(id: u16, octets: *const u8, size: usize, text: *mut c_char, room: usize) -> usize;
+    pub fn ptpm_field_parse(
+        id: u16,
+        words: *const c_char,
+        size: usize,
+        octets: *mut u8,
+        room: usize,
+        count: *mut usize,
+        member: *mut usize,
+    ) -> ptpm_parsed;
 }
 
 /// Tells whether a call that answered so was refused.

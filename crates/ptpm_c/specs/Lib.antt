@@ -6,3 +6,4 @@ pub mod Survey
 pub mod Sizes
 pub mod Lending
 pub mod LendingHandle
+pub mod Fields

@@ -1,11 +1,17 @@
-//! dataFields for hosts in C: the ids that have them, and their members as text. No call here takes a handle or memory.
+//! dataFields for hosts in C: the ids that have them, their members as text, and what a person types for them. No call here takes
+//! a handle or memory.
 
-ghost use Rattle.std.specs.Prelude.{◌≡◌, ◌≢◌, [], IfSome, IfNone, Some};
+ghost use Rattle.std.specs.Prelude.{◌≡◌, ◌≢◌, ◌<◌, ◌≤◌, ℕ, [], Err, IfSome, IfNone, List, Result, Some, length};
+ghost use Rattle.ptpm_c.specs.Fields.{IsTold};
 ghost use Rattle.ptpm_host.specs.Names.{id_at, no_id};
+ghost use Rattle.ptpm_host.specs.declared.refusal.ParseRefusal.{ParseRefusal};
+ghost use Rattle.ptpm_host.specs.declared.refusal.ParseRefusal.TheVariants.{NotWords};
+ghost use Rattle.ptpm_host.specs.Parsing.{IsParsed};
 ghost use Rattle.ptpm_host.specs.Texts.{IsHandedOut};
+ghost use Rattle.ptpm_host.specs.Words.{AreWords, most_words};
 ghost use Rattle.ptpm_members.specs.FieldText.{field_text};
 
-use ptpm_host::{NO_ID, hand_out_text, id_at};
+use ptpm_host::{NO_ID, hand_out_text, id_at, parse_field, parse_number};
 use ptpm_members::FieldText;
 
 /// The managementId at this place of this profile's, which are in ascending order and counted from 0. 65,536, which is no id, past
@@ -34,4 +40,39 @@ pub extern "C" fn ptpm_field_text(id: u16, octets: &[u8], text: &mut [u8]) -> us
         octets,
     };
     hand_out_text(members, text).unwrap_or(0)
+}
+
+/// Leaves the dataField that words mean for a SET of this id at the head of `octets`, `count` octets: 0, or the number of the
+/// refusal, and then `member` is the place of the member that is at fault, counted from 0. Each word has a zero octet after it.
+/// What comes after the dataField stays. What is not told is 0.
+#[unsafe(no_mangle)]
+pub extern "C" fn ptpm_field_parse(
+    id: u16,
+    words: &[u8],
+    octets: &mut [u8],
+    count: &mut usize,
+    member: &mut usize,
+) -> u32
+    ensures parsed { (ws : List (List ℕ))
+        → AreWords ws words.now
+        → length ws ≤ most_words
+        → (answer : Result ℕ ParseRefusal)
+        × IsParsed id ws octets.old octets.new answer
+        × IsTold answer result count.new member.new }
+    ensures no_words { ((ws : List (List ℕ)) → AreWords ws words.now → most_words < length ws)
+        → IsTold (Err NotWords) result count.new member.new }
+    ensures untouched { result ≢ 0 → octets.new ≡ octets.old }
+{
+    match parse_field(id, words, octets) {
+        Ok(size) => {
+            *count = size;
+            *member = 0;
+            0
+        }
+        Err(refusal) => {
+            *count = 0;
+            *member = refusal.place();
+            parse_number(refusal)
+        }
+    }
 }

@@ -453,6 +453,7 @@ fn names_of_answers(rt: HostRuntime) {
         (84, b"BAD_GRANDMASTER_PRIORITY2".as_slice()),
         (101, b"BAD_LOG_MIN_PDELAY".as_slice()),
         (112, b"OUT_OF_REACH".as_slice()),
+        (115, b"WORD_COUNT".as_slice()),
         (0, b"".as_slice()),
         (24, b"".as_slice()),
         (102, b"".as_slice()),
@@ -495,6 +496,70 @@ fn ids_and_members(rt: HostRuntime) {
     );
     assert!(rt; ptpm_field_text(0x2005, b"\x80", &mut text) == 9);
     assert!(rt; text.starts_with(b"value 80\nf"));
+}
+
+/// What a person types for a SET: numbers (15.5.3.3.3), flags by name (15.5.3.6.2), and a text (15.5.3.2.2). Each refusal comes in
+/// its order, and writes nothing. Memory is ample, and none is taken.
+#[test]
+fn fields_from_words(rt: HostRuntime) {
+    for (id, words, field) in [
+        (0x2005, b"100\0".as_slice(), b"\x64\x00".as_slice()),
+        (0x2005, b"0x64\0".as_slice(), b"\x64\x00".as_slice()),
+        (
+            0x2005,
+            b"Priority1\x00100\0".as_slice(),
+            b"\x64\x00".as_slice(),
+        ),
+        (
+            0x2011,
+            b"currentUtcOffset\x0037\0leap61\0false\0leap59\0true\0currentUtcOffsetValid\0true\0".as_slice(),
+            b"\x00\x25\x06\x00".as_slice(),
+        ),
+        (0x0002, b"rack 4\0".as_slice(), b"\x06rack 4\x00".as_slice()),
+    ] {
+        let mut octets = [0x2e; 16];
+        let mut count = 1;
+        let mut member = 1;
+        assert!(rt; ptpm_field_parse(id, words, &mut octets, &mut count, &mut member) == 0);
+        assert!(rt; count == field.len() && member == 0);
+        assert!(rt; octets.starts_with(field) && octets[field.len()] == 0x2e);
+    }
+    for (id, words, room, number, place) in [
+        (0x2005, b"100".as_slice(), 2, 113, 0),
+        (0x2005, b"\xff\0".as_slice(), 2, 113, 0),
+        (
+            0x2005,
+            b"\0\0\0\0\0\0\0\0\0\0\0\0\0\0\0\0\0\0\0\0\0".as_slice(),
+            2,
+            113,
+            0,
+        ),
+        (0x1234, b"100\0".as_slice(), 2, 114, 0),
+        (0x2005, b"100\x00100\x00100\0".as_slice(), 2, 115, 0),
+        (
+            0x2011,
+            b"currentUtcOffset\x0037\0leap59\0true\0leap61\0false\0currentUtcOffsetValid\0true\0".as_slice(),
+            4,
+            116,
+            1,
+        ),
+        (
+            0x2011,
+            b"currentUtcOffset\x0037\0leap61\0false\0leap59\0maybe\0currentUtcOffsetValid\0true\0".as_slice(),
+            4,
+            117,
+            2,
+        ),
+        (0x2005, b"256\0".as_slice(), 1, 117, 0),
+        (0x2005, b"100\0".as_slice(), 1, 34, 0),
+    ] {
+        let mut octets = [0x2e; 4];
+        let mut count = 1;
+        let mut member = 9;
+        let answer = ptpm_field_parse(id, words, &mut octets[..room], &mut count, &mut member);
+        assert!(rt; answer == number && count == 0 && member == place);
+        assert!(rt; octets == [0x2e; 4]);
+    }
 }
 
 /// SET PRIORITY1 to 100, number 8, of the manager to the clock, at every port.

@@ -19,3 +19,5 @@ pub mod PassedOnLaw
 pub mod Rate
 pub mod RateLaw
 pub mod Restoring
+pub mod Words
+pub mod Parsing

@@ -31,6 +31,8 @@ use Rattle.ptpm_host.specs.declared.refusal.ClockRestoreRefusal.{ClockRestoreRef
 use Rattle.ptpm_host.specs.declared.refusal.ClockRestoreRefusal.TheVariants as clock_restores
 use Rattle.ptpm_host.specs.declared.refusal.HandleRefusal.{HandleRefusal}
 use Rattle.ptpm_host.specs.declared.refusal.HandleRefusal.TheVariants as handles
+use Rattle.ptpm_host.specs.declared.refusal.ParseRefusal.{ParseRefusal}
+use Rattle.ptpm_host.specs.declared.refusal.ParseRefusal.TheVariants as parses
 use Rattle.ptpm_host.specs.declared.refusal.ReadRefusal.{ReadRefusal}
 use Rattle.ptpm_host.specs.declared.refusal.ReadRefusal.TheVariants as reads
 use Rattle.ptpm_host.specs.declared.refusal.StartRefusal.{StartRefusal}
@@ -257,3 +259,12 @@ clock_restore_number (clock_restores.Managers fault) = managers_number fault
 clock_restore_number clock_restores.IdentityIsZero = 56
 clock_restore_number (clock_restores.Image fault) = image_number fault
 clock_restore_number clock_restores.OutOfMemory = no_memory
+
+-- why words are no dataField of a SET
+abbrev pub parse_number : ParseRefusal → ℕ
+parse_number parses.NoRoom = no_room
+parse_number parses.NotWords = 113
+parse_number parses.UnknownId = 114
+parse_number parses.WordCount = 115
+parse_number (parses.OtherName place) = 116
+parse_number (parses.NoValue place) = 117

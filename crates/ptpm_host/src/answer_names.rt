@@ -91,6 +91,11 @@ fn refusal_name(number: u32) -> Option<&'static str>
         109 => Some("OTHER_PORTS"),
         110 => Some("OTHER_SESSION"),
         112 => Some("OUT_OF_REACH"),
+        113 => Some("NOT_WORDS"),
+        114 => Some("UNKNOWN_ID"),
+        115 => Some("WORD_COUNT"),
+        116 => Some("OTHER_NAME"),
+        117 => Some("NO_VALUE"),
         _ => None,
     }
 }

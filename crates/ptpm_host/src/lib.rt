@@ -12,6 +12,7 @@ mod managers;
 mod names;
 mod numbers;
 mod observing;
+mod parsing;
 mod passed_on;
 mod places;
 mod rate;
@@ -27,6 +28,7 @@ mod survey_settings;
 mod texts;
 mod told;
 mod version;
+mod words;
 
 pub use answer_names::answer_name;
 pub use clock::{Handled, HostedClock, MOST_SENT};
@@ -36,16 +38,17 @@ pub use laws::{names_law, passed_on_law, rate_law};
 pub use names::hand_out_name;
 pub use numbers::{
     NO_CLOCK, NO_MEMORY, NO_ROOM, NO_SESSION, NO_SURVEY, OTHER_SIZES, begin_number,
-    clock_restore_number, give_up_number, handle_number, heard_number, observe_number, read_number,
-    report_number, restore_number, resume_number, send_number, session_number, start_number,
-    surveyed_number, told_number, verdict_number,
+    clock_restore_number, give_up_number, handle_number, heard_number, observe_number,
+    parse_number, read_number, report_number, restore_number, resume_number, send_number,
+    session_number, start_number, surveyed_number, told_number, verdict_number,
 };
 pub use observing::{ObservedClock, ObservedPort, left_number};
+pub use parsing::parse_field;
 pub use passed_on::{MessageKey, PassedOn, PassedOnPlace};
 pub use rate::Rate;
 pub use refusal::{
-    ClockRestoreRefusal, HandleRefusal, ReadRefusal, ReportRefusal, SendRefusal, SessionRefusal,
-    StartRefusal,
+    ClockRestoreRefusal, HandleRefusal, ParseRefusal, ReadRefusal, ReportRefusal, SendRefusal,
+    SessionRefusal, StartRefusal,
 };
 pub use sent::Sent;
 pub use session::{Heard, HostedSession};

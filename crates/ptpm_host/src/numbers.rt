@@ -7,11 +7,11 @@
 //! further refusals of a call.
 
 ghost use Rattle.std.specs.Prelude.{◌≡◌, ◌≤◌};
-ghost use Rattle.ptpm_host.specs.Numbers.{begin_number, cause_number, clock_restore_number, give_up_number, handle_number, heard_number, image_number, managers_number, member_number, observe_number, read_number, reason_number, report_number, restore_number, resume_number, send_number, session_number, start_number, surveyed_number, told_number, values_number, verdict_number};
+ghost use Rattle.ptpm_host.specs.Numbers.{begin_number, cause_number, clock_restore_number, give_up_number, handle_number, heard_number, image_number, managers_number, member_number, observe_number, parse_number, read_number, reason_number, report_number, restore_number, resume_number, send_number, session_number, start_number, surveyed_number, told_number, values_number, verdict_number};
 
 use crate::refusal::{
-    ClockRestoreRefusal, HandleRefusal, ReadRefusal, ReportRefusal, SendRefusal, SessionRefusal,
-    StartRefusal,
+    ClockRestoreRefusal, HandleRefusal, ParseRefusal, ReadRefusal, ReportRefusal, SendRefusal,
+    SessionRefusal, StartRefusal,
 };
 use crate::session::Heard;
 use crate::told::Told;
@@ -314,5 +314,20 @@ fn image_number(fault: ptpm_saved::RestoreError) -> u32
         ptpm_saved::RestoreError::Damaged => 107,
         ptpm_saved::RestoreError::OtherClock => 108,
         ptpm_saved::RestoreError::OtherPorts => 109,
+    }
+}
+
+/// Why words are no dataField of a SET, 34 or 113 to 117.
+pub fn parse_number(refusal: ParseRefusal) -> u32
+    ensures number { result ≡ parse_number refusal }
+    ensures some { 1 ≤ result }
+{
+    match refusal {
+        ParseRefusal::NoRoom => NO_ROOM,
+        ParseRefusal::NotWords => 113,
+        ParseRefusal::UnknownId => 114,
+        ParseRefusal::WordCount => 115,
+        ParseRefusal::OtherName(_) => 116,
+        ParseRefusal::NoValue(_) => 117,
     }
 }

@@ -84,3 +84,20 @@ pub enum ReportRefusal {
     /// There is room for fewer octets than its dataField has.
     NoRoom,
 }
+
+/// Why words are no dataField of a SET, in the order in which the reasons are judged: of the members, one after another.
+#[derive(Clone, Copy, Debug, PartialEq, Eq)]
+pub enum ParseRefusal {
+    /// They are no words in UTF-8, each with a zero octet after it; or more than any dataField takes.
+    NotWords,
+    /// The table of ids lacks the id.
+    UnknownId,
+    /// There are more or fewer than a name and a value for each member.
+    WordCount,
+    /// A word is not the name of the member at this place, which comes next.
+    OtherName(usize),
+    /// A word is no value of the member at this place, or no SET has such a member.
+    NoValue(usize),
+    /// There is room for fewer octets than the dataField has.
+    NoRoom,
+}

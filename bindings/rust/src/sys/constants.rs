@@ -322,6 +322,15 @@ pub const PTPM_OTHER_CLOCK: u32 = 108;
 pub const PTPM_OTHER_PORTS: u32 = 109;
 pub const PTPM_OTHER_SESSION: u32 = 110;
 
+// `enum ptpm_parsed`.
+pub const PTPM_PARSED: u32 = 0;
+pub const PTPM_PARSE_NO_ROOM: u32 = 34;
+pub const PTPM_NOT_WORDS: u32 = 113;
+pub const PTPM_UNKNOWN_ID: u32 = 114;
+pub const PTPM_WORD_COUNT: u32 = 115;
+pub const PTPM_OTHER_NAME: u32 = 116;
+pub const PTPM_NO_VALUE: u32 = 117;
+
 // What `ptpm_id_named` answers if no id has the name.
 pub const PTPM_NO_ID: u32 = 65536;
 
