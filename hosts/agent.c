@@ -81,8 +81,8 @@ static void tell_all_changed(const struct ptpm_changed *changed) {
     }
 }
 
-/* A message to who asked at the Unix socket goes back there, at once if nothing is to be saved, and any other goes out with the
-   round; how many were not taken. */
+/* A message to who asked at the Unix socket goes back there, at once if nothing is to be saved. Any other goes out with the
+   round. How many messages were not taken. */
 static unsigned long send_out(const struct ptpm_sent *message, const struct heard *heard, const struct port *port,
                               uint16_t ingress) {
     if (message->port != ingress) send_later(message, NULL);
@@ -92,7 +92,7 @@ static unsigned long send_out(const struct ptpm_sent *message, const struct hear
     return 0;
 }
 
-/* What is to go out goes once all that it says is saved, or does not; how many messages were not taken. */
+/* Sends what is to go out once the change that it shows is saved. If that fails it drops it. How many messages were not taken. */
 static unsigned long send_saved(void) { return !is_unsaved || save_changes(&clock_held) ? send_round() : drop_round(); }
 
 /* What a turn sends goes out or waits, except what is kept from the network; `left` is how many messages that leaves. How many of

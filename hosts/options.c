@@ -85,11 +85,13 @@ static long number(const char *option, long least, long most) {
     return found;
 }
 
-/* Three octal digits, as 660. */
+/* Three octal digits, such as 660. */
 static mode_t mode(void) {
     char *end;
     long found = strtol(optarg, &end, 8);
-    if (strlen(optarg) != 3 || *end != '\0' || found < 0) refuse("--unix-mode %s: it takes three octal digits, as 660", optarg);
+    if (strlen(optarg) != 3 || *end != '\0' || found < 0) {
+        refuse("--unix-mode %s: it takes three octal digits, such as 660", optarg);
+    }
     return (mode_t)found;
 }
 
@@ -191,7 +193,7 @@ void read_options(struct options *options, int argc, char **argv) {
     if (optind == argc) refuse("the clock's identity is missing");
     const char *rest = identity_at(argv[optind], options->settings.identity);
     if (rest == NULL || *rest != '\0') {
-        refuse("%s: it takes a clockIdentity, as aabbccfffeddee01 or aabbcc.fffe.ddee01", argv[optind]);
+        refuse("%s: it takes a clockIdentity, such as aabbccfffeddee01 or aabbcc.fffe.ddee01", argv[optind]);
     }
     options->interfaces = argv + optind + 1;
     options->interface_count = (size_t)(argc - optind - 1);

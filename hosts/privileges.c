@@ -70,9 +70,9 @@ void let_go_of_rights(const struct privileges *privileges, enum needs needs) {
     if (prctl(PR_SET_NO_NEW_PRIVS, 1L, 0L, 0L, 0L)) give_up("PR_SET_NO_NEW_PRIVS");
 }
 
-/* What the program and its C library call of the system when the filter is on: sockets and what is read and written, what opens a
-   port anew, the file of the state, the source of observations, the Unix socket at its end, threads, memory, time and the end itself.
-   Each machine lacks some of them. */
+/* What the program and its C library call of the system when the filter is on. They use sockets, and open a port anew. They use
+   the file of the state, the source of observations, and the Unix socket at its end. They use threads, memory and time, and
+   they end. Each machine lacks some of these calls. */
 static const int allowed[] = {
     SYS_recvmmsg, SYS_sendmmsg, SYS_epoll_pwait, SYS_sendto, SYS_write, SYS_read, SYS_futex, SYS_clock_gettime, SYS_recvmsg,
     SYS_recvfrom, SYS_sendmsg, SYS_writev, SYS_ppoll, SYS_epoll_ctl, SYS_epoll_create1, SYS_socket, SYS_bind, SYS_connect,
