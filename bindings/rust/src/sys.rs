@@ -353,7 +353,7 @@ extern "C" {
     pub fn ptpm_error_name(error: u16, text: *mut c_char, room: usize) -> usize;
 }
 
-/// Tells whether a call that answered so was refused.
+/// Says whether a call with this answer was refused.
 #[inline]
 pub const fn ptpm_is_refusal(answer: u32) -> bool {
     answer >= 32
