@@ -18,7 +18,7 @@ enum { QUIET = 2, QUIET_AT_FIRST = 5 };     /* rounds without a new answer that 
 static struct ptpm_survey survey;
 static struct answer answer;
 
-/* What an operator does about an answer of the library for which nothing is asked. */
+/* What an operator can do if the library refuses to ask. */
 static const char *advice(uint32_t refusal) {
     switch (refusal) {
     case PTPM_NEEDS_PORT: return ": name a port of the clock, 1 to 8, such as --target aabbcc.fffe.ddee01-1 or --port 1";

@@ -87,7 +87,7 @@ static void look_around(long now) {
     if (source >= 0 && source_has_moved()) observe_all();
 }
 
-/* Until a signal asks for the end, or that time comes, if it is not 0. */
+/* Runs until a signal asks for the end, or until that time comes, if it is not 0. */
 static void run(long end) {
     struct epoll_event events[WAITS];
     int is_going_on = 1;

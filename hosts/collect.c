@@ -14,8 +14,8 @@
    of requests to one clock alone has fewer answers than such a buffer holds, unless that would take more bursts than this. */
 enum { STEP = 50, BURST = 128, MOST_BURSTS = 16, DOMAINS_AT_ONCE = 32 };
 
-/* A socket without room is tried again so often, this many milliseconds apart. A silence that never comes is not waited for longer
-   than this many time-outs. */
+/* A socket without room is tried again this often, this many milliseconds apart. A silence that never comes is waited for this
+   many time-outs at most. */
 enum { TRIES = 25, TRY = 2, MOST_TIMEOUTS = 10 };
 
 /* The places of members in a message: of the header, and of a TLV and its dataField (IEEE 1588-2019, 13.3, 15.4 and 15.5). */
@@ -133,7 +133,7 @@ static void hear_until(long end) {
     }
 }
 
-/* Until a time-out was quiet. */
+/* Hears answers until none came for one time-out. */
 static void hear_until_quiet(const struct task *task) {
     long now = milliseconds(), end = now + MOST_TIMEOUTS * task->milliseconds;
     for (latest = now; now < end && now < latest + task->milliseconds && !stopped; now = milliseconds()) {
@@ -141,7 +141,7 @@ static void hear_until_quiet(const struct task *task) {
     }
 }
 
-/* Whether a message went out, which waits for room. */
+/* Sends a message, which waits for room; whether it went out. */
 static int is_sent(const uint8_t *message, size_t size) {
     for (int tries = 0; tries < TRIES && !stopped && !has_no_way; tries++) {
         enum sending sending = send_out(message, size);

@@ -14,7 +14,7 @@
    GET with as many octets as the data set has is taken by each clock, also by one that looks at their number. */
 enum { OF_CLOCK = 20, OF_PORT = 26 };
 
-/* Of four numbers so far apart at least one is new, whatever the latest of this manager is. */
+/* Of four numbers this far apart at least one is new, whatever the latest of this manager is. */
 enum { APART = 16384, NUMBERS = 4 };
 
 /* This many answers to reads, and none to the question beside them, show that its number is not new. */

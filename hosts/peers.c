@@ -27,7 +27,7 @@ static struct way_back ways[WAYS_BACK];
 static unsigned long turn;
 static int meeting_socket = -1;
 
-/* A socket with the name of the path, which is there for a moment only: then another is. */
+/* A socket that has the path for a moment only: then another one has it. */
 static int open_named(const struct meeting *meeting) {
     int room = ROOM, at = bind_unix(meeting->path, meeting->mode);
     if (unlink(meeting->path)) give_up(meeting->path);

@@ -39,11 +39,11 @@ extern "C" {
    Answers: whether they are the library's now; false if something is held in those that it has, or if they are fewer than 32. */
 bool ptpm_memory_give(void *block, size_t size);
 
-/* Tells how much of the block is taken.
+/* Reports how much of the block is taken.
    Answers: how many octets, those that the library keeps for itself among them. */
 size_t ptpm_memory_taken(void);
 
-/* Tells how much of the block was taken at once since it was given.
+/* Reports how much of the block was taken at once, at most, since it was given.
    Answers: the most octets. */
 size_t ptpm_memory_most_taken(void);
 

@@ -37,7 +37,7 @@ static const struct option options[] = {
     { NULL, 0, NULL, 0 },
 };
 
-/* The words of the command line, and what options say of them that a later one may change. */
+/* The words of the command line, and what options say that a later option may change. */
 struct words {
     const char *at[MOST_WORDS + 1], *domain;
     int count, is_text, has_target, is_every_port;
