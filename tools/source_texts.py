@@ -5,7 +5,7 @@ import re
 
 # A comment and a sign are read whole, so that a quote in them begins no string.
 TOKEN = re.compile(r'''(?P<comment>/\*.*?\*/|//[^\n]*)
-                     |r(?P<signs>\#*)"(?P<raw>.*?)"(?P=signs)
+                     |(?<!\w)r(?P<signs>\#*)"(?P<raw>.*?)"(?P=signs)
                      |"(?P<string>(?:[^"\\]|\\.)*)"
                      |'(?:[^'\\\n]|\\[^\n]{1,9}?)\'''', re.S | re.X)
 DOCUMENTED = (ast.Module, ast.ClassDef, ast.FunctionDef, ast.AsyncFunctionDef)
