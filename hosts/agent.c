@@ -45,7 +45,7 @@ static const char *state_of(size_t port) {
     return name != NULL ? name : "?";
 }
 
-/* Its identity and its interfaces, once it is heard. */
+/* Says the clock's identity and its interfaces, once it is heard. */
 void say_started(void) {
     char identity[IDENTITY_TEXT], text[2048];
     write_identity(identity, options->settings.identity);
@@ -57,7 +57,7 @@ void say_started(void) {
     say("%s %zu manager%s", text, options->manager_count, options->manager_count == 1 ? "" : "s");
 }
 
-/* Members by their names, which the answers have that refuse their values, after BAD_. */
+/* Prints the names of members that changed. Each is that of the answer which refuses its value, without BAD_. */
 static void tell_changed(const char *where, uint32_t first, uint32_t members) {
     char line[1024];
     int size = snprintf(line, sizeof line, "%s", where);
@@ -81,8 +81,8 @@ static void tell_all_changed(const struct ptpm_changed *changed) {
     }
 }
 
-/* A message to who asked at the Unix socket goes back there, at once if nothing is to be saved, and any other goes out with the
-   round; how many were not taken. */
+/* A message to who asked at the Unix socket goes back there, at once if nothing is to be saved. Any other goes out with the
+   round. How many messages were not taken. */
 static unsigned long send_out(const struct ptpm_sent *message, const struct heard *heard, const struct port *port,
                               uint16_t ingress) {
     if (message->port != ingress) send_later(message, NULL);
@@ -92,11 +92,11 @@ static unsigned long send_out(const struct ptpm_sent *message, const struct hear
     return 0;
 }
 
-/* What is to go out goes once all that it says is saved, or does not; how many messages were not taken. */
+/* Sends what is to go out once the change that it shows is saved. If that fails it drops it. How many messages were not taken. */
 static unsigned long send_saved(void) { return !is_unsaved || save_changes(&clock_held) ? send_round() : drop_round(); }
 
-/* What a turn sends goes out or waits, except what is kept from the network; `left` is how many messages that leaves. How many of
-   these were not taken. */
+/* Sends what a turn sends, or lets it wait, except what is kept from the network. `left` is how many messages that leaves. How
+   many of these were not taken. */
 static inline unsigned long hand_on(const struct heard *heard, const struct port *port, uint16_t ingress, enum ptpm_handled answer,
                                     const struct ptpm_sent *places, size_t count, size_t *left) {
     const struct ptpm_sent *kept[PTPM_MOST_SENT];

@@ -15,8 +15,8 @@ void save_clock(void);
 /* A line on standard error: its identity, its interfaces, the states of its ports, and how many managers it has. */
 void say_started(void);
 
-/* Takes the datagrams that have come in at a port, or, if there is none, at the Unix socket, and sends what they are answered
-   and what is passed on. */
+/* Takes the datagrams that have come in at a port, or at the Unix socket if there is none. Sends their answers, and what is
+   passed on. */
 void take_round(const struct port *port, int at);
 
 /* The clock observes what a text says, all of it or nothing. */

@@ -13,7 +13,7 @@ void print_answer(FILE *to, const struct task *task, const char *lead, const str
     if (answer->told == PTPM_DONE) fprintf(to, "%sdone\n", lead);
     else if (answer->told == PTPM_REFUSED && refusal != NULL) fprintf(to, "%srefused %s\n", lead, refusal);
     else if (answer->told == PTPM_REFUSED) fprintf(to, "%srefused 0x%04x, an error without a name\n", lead, answer->error);
-    else if (answer->told != PTPM_VALUE) complain("nothing is told: %s", answer_name(answer->told));
+    else if (answer->told != PTPM_VALUE) complain("nothing is reported: %s", answer_name(answer->told));
     else if (task->is_in_octets) print_octets(to, lead, answer->octets, answer->size);
     else print_members(to, lead, task->id, answer->octets, answer->size);
 }

@@ -18,14 +18,14 @@ enum { QUIET = 2, QUIET_AT_FIRST = 5 };     /* rounds without a new answer that 
 static struct ptpm_survey survey;
 static struct answer answer;
 
-/* What an operator does about an answer of the library for which nothing is asked. */
+/* What an operator can do if the library refuses to ask. */
 static const char *advice(uint32_t refusal) {
     switch (refusal) {
-    case PTPM_NEEDS_PORT: return ": name a port of the clock, 1 to 8, as --target aabbcc.fffe.ddee01-1 or --port 1";
+    case PTPM_NEEDS_PORT: return ": name a port of the clock, 1 to 8, such as --target aabbcc.fffe.ddee01-1 or --port 1";
     case PTPM_SAME_CLOCK: return ": the manager has the identity of the clock; --manager gives it another";
     case PTPM_MANAGER_IS_EVERY: return ": the manager's identity means every clock; --manager gives it another";
     case PTPM_TARGET_IS_EVERY: return ": --target means every clock; survey asks every clock";
-    case PTPM_TARGET_IS_ZERO: return ": --target is no clock's identity; survey tells those that there are";
+    case PTPM_TARGET_IS_ZERO: return ": --target is no clock's identity; survey shows which clocks there are";
     default: return "";
     }
 }
@@ -35,8 +35,8 @@ static int not_asked(uint32_t refusal) {
     return NOT_ASKED;
 }
 
-/* Counts a message that went out; whether going on has a sense. Where there is no way, and it didn't go out before, it has none,
-   and that is said. */
+/* Counts a message that went out; whether it makes sense to go on. It makes none if there is no way, and none went out before;
+   that is said. */
 static int is_going_on(enum sending sending, long *sent) {
     *sent += sending == OUT;
     if (sending != NO_WAY || *sent > 0) return 1;
@@ -54,7 +54,7 @@ int send_until_answered(struct session *session, const struct task *task, long *
     }
 }
 
-/* Prints what the answer tells, before the session is kept without the request. */
+/* Prints what the answer says, before the session is kept without the request. */
 static int print_report(struct session *session, const struct task *task) {
     take_report(&session->handle, &answer);
     print_answer(stdout, task, "", &answer);
@@ -71,7 +71,7 @@ static void keep_at_rest(struct session *session) {
     complain("%s: %s: the next run asks this again", session_path(), strerror(errno));
 }
 
-/* Takes a request back of which nothing was sent: its number is that of the next one. */
+/* Takes a request back if nothing of it was sent: its number is that of the next one. */
 static void take_back(struct session *session, const struct task *task) {
     start_session(session, task, latest_number(session));
     keep_at_rest(session);

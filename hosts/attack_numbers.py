@@ -16,7 +16,7 @@ PROGRAM = os.path.join(HOME, "manage")
 
 
 def image(first, begun, request=b"", manager=MANAGER + "0001", clock=ME, ports=8, hops=1, attempts=30, domain=0):
-    """What the file has of a session that began so many requests from a number on; the latest is under way if it is given: its
+    """What the file has of a session that began this many requests from a number on; the latest is under way if it is given: its
     action, id, port, the size of the dataField, and the dataField."""
     body = (bytes.fromhex(manager + clock) + bytes([ports]) + first.to_bytes(2, "big") + bytes([hops, attempts, domain])
             + begun.to_bytes(8, "big") + (begun - bool(request)).to_bytes(8, "big") + bytes([bool(request)]) + request)
@@ -110,7 +110,7 @@ def sessions():
         two.last, two.said, _ = two.sets()
         if not two.said.startswith(f"ptpm-manage: nothing was asked: {name}: ") or octets("number") != content or two.last != 2:
             wrong.append((content.hex(), two.said))
-    check(f"{len(refused)} files without a session are refused by name, and stay, but for {wrong}", wrong == [])
+    check(f"{len(refused)} files without a session are refused by name, and stay, except {wrong}", wrong == [])
     check("nothing was sent then", two.value() == "priority2 128")
     for content, words, after in [
             (image(7, 2), (), image(7, 4)),
@@ -127,7 +127,7 @@ def sessions():
         wanted = {77: [lead + "101, had no answer yet, and was sent again:", "ptpm-manage: priority2 77"],
                   78: [lead + "20201, is let go: a get shows whether it was carried out"]}
         value = content[-2] if len(content) > 53 else 0
-        check("what was under way is told", told == wanted.get(value, []))
+        check("what was under way is reported", told == wanted.get(value, []))
     number = next_number("number")
     write_octets("number", image(number, 1, bytes.fromhex("012007ffff00020400")))
     status, said, _ = two.sets()
@@ -269,7 +269,7 @@ def damages():
             wrong.append((place, change, two.said))
         if two.last != 0:
             write_octets("number", whole)
-    check(f"damaged files of a session, but for {wrong}", wrong == [])
+    check(f"damaged files of a session, except {wrong}", wrong == [])
     two.clock.end()
 
 
@@ -286,9 +286,9 @@ def old_files():
         write_octets("number", content)
         is_true = two.other_sets() and two.is_honest()
         check(f"an older copy of the file, {content.hex()}, is dropped by the clock", is_true and two.last == 3)
-    check("which is told", all(part in two.said for part in [
+    check("which is reported", all(part in two.said for part in [
         "this one was not sent", f"set PRIORITY2 of an earlier run, number {number - 2}, comes before it; --give-up lets it go",
-        "and has by now", "priority2 60", " behind one of another file or of a copy", two.number]))
+        "and has by now", "priority2 60", " since another file or a copy of the manager is ahead", two.number]))
     write_octets("number", newer)
     copies = [two.number, os.path.join(work, "copy")]
     shutil.copy(*copies)
@@ -304,14 +304,14 @@ def latest_numbers():
         two, peer = TwoManagers(), Peer("peer")
         check(f"the latest number is {latest}", peer.is_answered(latest) and two.other_sets())
         for _ in range(2):
-            check(f"a new session behind number {latest}", two.is_honest() and two.last == 0)
+            check(f"a new session after number {latest}", two.is_honest() and two.last == 0)
         two.clock.end()
         peer.close()
         os.unlink(two.number)
 
 
 def calls_of(trace):
-    """The system calls of a program behind its start, where it catches signals: each name, and which of its calls it is."""
+    """The system calls of a program after its start, where it catches signals: each name, and which of its calls it is."""
     counts, calls, is_started = {}, [], False
     for line in trace.splitlines():
         name = line.split("(")[0]
@@ -343,12 +343,12 @@ def kills():
                 os.unlink(os.path.join(work, left))
             if not (two.other_sets() and two.is_honest() and two.last == 0):
                 wrong.append((name, place))
-        check(f"killed at each of {len(calls)} calls, and again, but for {wrong}", wrong == [])
+        check(f"killed at each of {len(calls)} calls, and again, except {wrong}", wrong == [])
     two.clock.end()
 
 
 def users():
-    """A user without root's rights, whose numbers stand below his own folder."""
+    """A user without root's rights, whose numbers are below his own folder."""
     folder = tempfile.mkdtemp()
     home = os.path.join(folder, "home")
     os.chmod(folder, 0o755)
@@ -364,7 +364,7 @@ def users():
     check("UDP port 320 says what it takes", done.returncode == 2 and done.stderr == said + "UDP port 320: Permission denied: it takes "
           "root, or the capability CAP_NET_BIND_SERVICE\n")
     state = os.path.join(home, ".local", "state", "ptpm")
-    check("the numbers of a user stand below his folder, and no lock where nothing was sent", os.listdir(state) == [])
+    check("the numbers of a user are below his folder, and no lock where nothing was sent", os.listdir(state) == [])
     check("Ethernet says what it takes", over_ethernet.returncode == 2 and over_ethernet.stderr == said + "a socket of Ethernet: "
           "Operation not permitted: it takes root, or the capability CAP_NET_RAW\n")
     shutil.rmtree(folder)

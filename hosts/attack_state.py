@@ -54,7 +54,7 @@ def value():
 
 
 def saves_of(clock):
-    """How many saves a clock has told, once what it tells is written."""
+    """How many saves a clock has reported, once what it reports is written."""
     time.sleep(0.3)
     return clock.text().count("saved: ")
 
@@ -104,7 +104,7 @@ def configurations():
     said = begins("-d", "3", *WORDS)[1]
     check("and at no later one, which is said", f"{state}: -d 3 counts at the first start alone: the clock is in domain 7\n" in said
           and " in domain 7: " in said)
-    check("nor is the same domain told", "counts" not in begins("-d", "7", *WORDS)[1])
+    check("nor is the same domain reported", "counts" not in begins("-d", "7", *WORDS)[1])
     gone = f"{state}: 1 manager of it is not configured any more, and what was kept of its requests is let go\n"
     check("a manager that is gone loses its entry", gone in begins("-s", state, "-u", path, ME)[1])
     check("which is said once", "configured any more" not in begins("-s", state, "-u", path, ME)[1])

@@ -203,7 +203,7 @@ def has_own_socket():
 
 
 def response(request, tlv, kind=1):
-    """A message that answers a request by what stands in a TLV behind its length."""
+    """A message that answers a request by what is in a TLV after its length."""
     head = bytearray(request[:48])
     head[2:4] = (52 + len(tlv)).to_bytes(2, "big")
     head[20:30], head[34:44], head[46] = bytes.fromhex(ME + "0001"), request[20:30], 2

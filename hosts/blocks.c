@@ -70,7 +70,7 @@ static enum ptpm_begun begin(size_t size) {
     return answer;
 }
 
-/* Has the session's request answered by so many octets. */
+/* Has the session's request answered by this many octets. */
 static enum ptpm_session_received receive(size_t size) {
     size_t whole = answer_of((uint16_t)(next_number - 1), 0xee01, size);
     return ptpm_session_receive(&session, octets, whole);
@@ -127,7 +127,7 @@ static void exact_clocks(int all) {
     stop_all();
 }
 
-/* Clocks that are started, started anew, restored and stopped without end, in a block for just so many. */
+/* Clocks that are started, started anew, restored and stopped without end, in a block for just this many. */
 static void endless_clocks(void) {
     unsigned refused = 0;
     ptpm_memory_give(block, CLOCKS * PTPM_CLOCK_MEMORY);
@@ -163,7 +163,7 @@ static void exact_session(void) {
     stop_all();
 }
 
-/* A survey that keeps all of so many answers. */
+/* A survey that keeps each of this many answers. */
 static void roomy_survey(unsigned answers, size_t size, size_t room) {
     unsigned kept = 0;
     ptpm_memory_give(block, room);
@@ -173,7 +173,7 @@ static void roomy_survey(unsigned answers, size_t size, size_t room) {
     stop_all();
 }
 
-/* A thousand answers, of which a survey keeps 512; and in a small block fewer, each of which is read. */
+/* A survey keeps 512 of a thousand answers. In a small block it keeps fewer, and each of these is read. */
 static void thousand_answers(void) {
     unsigned full = 0, refused = 0;
     struct ptpm_source source;
@@ -182,7 +182,7 @@ static void thousand_answers(void) {
     ptpm_memory_give(block, PTPM_SURVEY_MEMORY(512, 130));
     start_survey();
     for (uint16_t i = 0; i < 1000; i++) full += survey_receive(i, 130) == PTPM_FULL;
-    check(full == 488 && ptpm_survey_count(&survey) == 512, "a thousand answers, of which 512 are kept");
+    check(full == 488 && ptpm_survey_count(&survey) == 512, "512 of a thousand answers are kept");
     stop_all();
     ptpm_memory_give(block, PTPM_SURVEY_MEMORY(20, 130));
     start_survey();

@@ -1,8 +1,8 @@
-/* ptpm-clock: a clock whose management messages come in at UDP port 320 or by Ethernet at each interface, its ports 1, 2 and on
-   (IEEE 1588-2019, annexes C, D and E), and at a Unix socket as ptp4l has it for pmc, which counts as port 1;
-   docs/ptpm-clock.md says how it is used. It has no servo: what one would observe comes from a file or a pipe. All that decides
-   is the library's; what stands here and in the files beside it moves octets, keeps limits and prints, and is not proved. It
-   waits for nobody: what a peer doesn't take at once is dropped. */
+/* ptpm-clock: a clock. Its management messages come in by UDP or Ethernet (IEEE 1588-2019, annexes C, D and E) at its
+   interfaces, the ports 1, 2 and on. They also come in at a Unix socket, which counts as port 1. There it is asked as pmc asks
+   a ptp4l. How it is used is in docs/ptpm-clock.md. It has no servo: what one would observe comes from a file or a pipe. All
+   that decides is the library's. What is here and in the files beside it moves octets, keeps limits and prints, and is not
+   proved. It waits for nobody except the disk: what a peer doesn't take at once is dropped. */
 #define _GNU_SOURCE
 #include "agent.h"
 #include "common.h"
@@ -87,7 +87,7 @@ static void look_around(long now) {
     if (source >= 0 && source_has_moved()) observe_all();
 }
 
-/* Until a signal asks for the end, or that time comes, if it is not 0. */
+/* Runs until a signal asks for the end, or until that time comes, if it is not 0. */
 static void run(long end) {
     struct epoll_event events[WAITS];
     int is_going_on = 1;

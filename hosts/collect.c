@@ -10,15 +10,15 @@
 #include <stdlib.h>
 #include <string.h>
 
-/* One request each 50 ms: all at once lose answers in the buffers of the clocks, which hear each other's answers too. Of requests to
-   one clock alone a burst has fewer answers than such a buffer holds, unless they would take more than so many bursts. */
+/* One request each 50 ms: all at once lose answers in the buffers of the clocks, which hear each other's answers too. A burst
+   of requests to one clock alone has fewer answers than such a buffer holds, unless that would take more bursts than this. */
 enum { STEP = 50, BURST = 128, MOST_BURSTS = 16, DOMAINS_AT_ONCE = 32 };
 
-/* A socket without room is tried again so often, this many milliseconds apart. A silence that never comes is not waited for longer
-   than this many time-outs. */
+/* A socket without room is tried again this often, this many milliseconds apart. A silence that never comes is waited for this
+   many time-outs at most. */
 enum { TRIES = 25, TRY = 2, MOST_TIMEOUTS = 10 };
 
-/* Where members are in a message: of the header, and of a TLV and its dataField (IEEE 1588-2019, 13.3, 15.4 and 15.5). */
+/* The places of members in a message: of the header, and of a TLV and its dataField (IEEE 1588-2019, 13.3, 15.4 and 15.5). */
 enum {
     LENGTH_AT = 2, DOMAIN_AT = 4, CLOCK_AT = 20, PORT_AT = 28, NUMBER_AT = 30, TARGET_AT = 34, ACTION_AT = 46, TLV_AT = 48, FIELD_AT = 54,
     PORT_COUNT_AT = FIELD_AT + 2, FIELD_PORT_AT = FIELD_AT + 8, LEAST_MESSAGE = FIELD_AT,
@@ -133,7 +133,7 @@ static void hear_until(long end) {
     }
 }
 
-/* Until a time-out was quiet. */
+/* Hears answers until none came for one time-out. */
 static void hear_until_quiet(const struct task *task) {
     long now = milliseconds(), end = now + MOST_TIMEOUTS * task->milliseconds;
     for (latest = now; now < end && now < latest + task->milliseconds && !stopped; now = milliseconds()) {
@@ -141,7 +141,7 @@ static void hear_until_quiet(const struct task *task) {
     }
 }
 
-/* Whether a message went out, which waits for room. */
+/* Sends a message, which waits for room; whether it went out. */
 static int is_sent(const uint8_t *message, size_t size) {
     for (int tries = 0; tries < TRIES && !stopped && !has_no_way; tries++) {
         enum sending sending = send_out(message, size);
@@ -208,7 +208,7 @@ static void ask_lacking(size_t count) {
     }
 }
 
-/* Asks in so many domains; whether the library would ask at all. */
+/* Asks in this many domains; whether the library would ask at all. */
 static int ask_in(const struct task *task, const uint8_t *domains, size_t count) {
     for (size_t i = 0; i < count; i++) {
         for (int id = 0; id < COLLECTED; id++) {
@@ -223,7 +223,7 @@ static int ask_in(const struct task *task, const uint8_t *domains, size_t count)
     for (int round = 1; round <= task->settings.attempts && !stopped && !has_no_way; round++) {
         size_t lacks = count_lacking();
         if (lacks == 0) break;
-        show_progress("%zu clocks so far; attempt %d for %zu answers that lack", seen_count(), round, lacks);
+        show_progress("%zu clocks so far; attempt %d for %zu answers that are missing", seen_count(), round, lacks);
         ask_lacking(lacks);
         hear_until_quiet(task);
     }
@@ -234,7 +234,7 @@ static int ask_in(const struct task *task, const uint8_t *domains, size_t count)
 static int end_of_collection(const struct task *task, const struct domains *domains) {
     clear_progress();
     if (unseen_answers() > 0) {
-        complain("there is room for %d clocks and %d answers: %lu answers more are left out", MOST_CLOCKS, MOST_KEPT, unseen_answers());
+        complain("there is room for %d clocks and %d answers: %lu more answers are left out", MOST_CLOCKS, MOST_KEPT, unseen_answers());
     }
     if (has_no_way) complain("nothing was sent: %s: %s", way_name(), strerror(errno));
     else if (stopped && task->site.watch == 0) complain("ended by a signal: more may answer");

@@ -6,8 +6,9 @@
 #include "task.h"
 #include <stdio.h>
 
-/* Asks every clock of these domains, and prints each answer, the whole message in hexadecimal on a line. ANSWERED if a clock answered;
-   else the program's status, which is said then. Each call asks under new numbers, and `seen.h` tells the clocks of the latest. */
+/* Asks every clock of these domains, and prints each answer, the whole message in hexadecimal on a line. ANSWERED if a clock
+   answered; else the program's status, and why is said. Each call asks under new numbers, and after it `seen.h` has the clocks
+   of the latest. */
 int collect_answers(const struct task *task, const struct domains *domains, FILE *to);
 
 /* Carries out `collect`; the program's status. */

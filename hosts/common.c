@@ -232,7 +232,7 @@ int open_unix_as(const char *path, mode_t mode) {
     return at;
 }
 
-/* Whether what is made from now on is of the group of the file at a path, which is as the program may. */
+/* Whether files that are made from now on get the group of the file at a path. The program may lack the right to that. */
 static int takes_group_of(const char *path) {
     struct stat found;
     return stat(path, &found) == 0 && setegid(found.st_gid) == 0;

@@ -9,7 +9,7 @@
 #include <sys/socket.h>
 #include <sys/types.h>
 
-/* UDP port of all messages but those of events. */
+/* UDP port of all messages except those of events. */
 enum { GENERAL_PORT = 320 };
 
 /* The program's own: its name, which comes before what it says on standard error. */
@@ -30,8 +30,8 @@ size_t read_octets(const char **text, uint8_t *octets, size_t most);
 /* The signal that asks the program to end, SIGHUP, SIGINT or SIGTERM; 0 before it. */
 extern volatile sig_atomic_t stopped;
 
-/* From now on these signals set `stopped`, and come in while `wait_for` waits and not elsewhere. One that was ignored when
-   the program began stays so. Where nobody reads what the program prints, a write fails, and no SIGPIPE ends it. */
+/* From now on these signals set `stopped`, and come in while `wait_for` waits and not elsewhere. One that was ignored when the
+   program began stays so. If nobody reads what the program prints, a write fails, and no SIGPIPE ends it. */
 void catch_signals(void);
 
 /* poll, for this many milliseconds at most, and until a signal comes in. */
@@ -40,11 +40,12 @@ int wait_for(struct pollfd *waits, nfds_t count, long milliseconds);
 /* A time that no one sets. */
 long milliseconds(void);
 
-/* A socket at UDP port 320 of an interface, and in the group of PTP there (IEEE 1588-2019, annexes C and D); it hears nothing
-   of what this host sends. -1 if it can't be made: errno says why, and *what at which step. */
+/* A socket at UDP port 320 of an interface, in the group of PTP there (IEEE 1588-2019, annexes C and D). It hears nothing of
+   what this host sends. -1 if it can't be made: errno says why, and *what at which step. */
 int open_udp(const char *interface, int is_six, const char **what);
 
-/* After the text of errno, which right it takes to open such a socket, or one of Ethernet; nothing if errno is of no right. */
+/* Which right it takes to open such a socket, or one of Ethernet, as a text that follows that of errno. It is empty if errno is
+   about no right. */
 const char *right_needed(int is_ethernet);
 
 /* The address of that group, and its size. */
@@ -54,8 +55,8 @@ socklen_t group(struct sockaddr_storage *to, int is_six);
    done. */
 int join_again(int at, unsigned interface, int is_six);
 
-/* Removes a socket at a path at which no program listens, and those beside it whose names end in a dot and the number of a process
-   that is gone: ptpm-manage has its own there while it asks. */
+/* Removes a socket at a path if no program listens at it. Beside it ptpm-manage has its own while it asks: the path, a dot and
+   the number of the process. Those of processes that are gone are removed too. */
 void remove_left_over(const char *path);
 
 /* A Unix socket at a path where nothing is. */
@@ -65,8 +66,8 @@ int bind_unix(const char *path, mode_t mode);
    removed. One a program. */
 int open_unix_as(const char *path, mode_t mode);
 
-/* The same with mode 660, at a path that ends in a dot and the number of this process. Those of processes that are gone go. It is
-   of the group of the socket at the path without these, where this program may give it that: so a clock of that group, which is
+/* The same with mode 660, at a path that ends in a dot and the number of this process. Those of processes that are gone go. If
+   this program may, it gives its socket the group of the one at the path without these. So a clock of that group, which is
    another user, can answer there. */
 int open_unix(const char *path);
 

@@ -14,7 +14,7 @@ HOPS = 3
 
 
 class Broken(Exception):
-    """The library is not what the model says: nothing behind that can be judged."""
+    """The library is not what the model says: nothing after that can be judged."""
 
 
 class Origin(NamedTuple):

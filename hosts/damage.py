@@ -1,4 +1,4 @@
-"""damage.py SOCKET COUNT: so many requests to a clock's Unix socket, every second one with octets changed or cut off."""
+"""damage.py SOCKET COUNT: COUNT requests to a clock's Unix socket, every second one with octets changed or cut off."""
 import random
 import socket
 import sys

@@ -1,4 +1,4 @@
-/* The domains in which a site is asked: those that the command line names, or that Announce messages tell. */
+/* The domains in which a site is asked: those that the command line names, or in which Announce messages are heard. */
 #ifndef DOMAINS_H
 #define DOMAINS_H
 
@@ -6,14 +6,14 @@
 
 struct domains { uint8_t is_in[DOMAINS]; };
 
-/* Finds them. With `all` it listens for Announce messages as long as the task says, and takes 0 and 127 besides; at a Unix socket,
-   where none comes in, each domain there is. */
+/* Finds them. With `all` it listens for Announce messages as long as the task says, and adds 0 and 127. At a Unix socket none
+   comes in: there it takes each of the 256. */
 void find_domains(struct domains *domains, const struct task *task);
 
-/* Hears what comes in for so many milliseconds, and with `all` takes the domains of Announce messages too. */
+/* Hears what comes in for this many milliseconds, and with `all` adds the domains of Announce messages. */
 void listen_for_domains(struct domains *domains, const struct task *task, long milliseconds);
 
-/* They as text: `domain 5`, or `3 domains`. It is there until the next call. */
+/* The domains as a text: `domain 5`, or `3 domains`. It is there until the next call. */
 const char *domains_text(const struct domains *domains);
 
 #endif

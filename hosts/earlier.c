@@ -14,11 +14,11 @@ static void say_let_go(const struct task *earlier, uint16_t number) {
 
 /* The clock might take a further number for an old one. */
 _Noreturn static void refuse_to_let_go(const struct task *earlier, uint32_t refusal, uint16_t number) {
-    refuse("nothing was sent: %s: %s of an earlier run, number %u, is not let go, since too many before it had no answer; without "
+    refuse("nothing was sent: %s: %s of an earlier run, number %u, is not let go: too many before it had no answer. Without "
            "--give-up it is sent again", answer_name(refusal), task_words(earlier), number);
 }
 
-/* Says what came of it, before the session is kept without it. */
+/* Says what the answer to it is, before the session is kept without it. */
 static int say_answer(struct session *session, const struct task *earlier) {
     static struct answer answer;
     uint16_t number = latest_number(session);

@@ -1,15 +1,17 @@
-/* What an earlier run asked in the session, and has no answer yet: that run was killed, was ended by a signal, lost its machine's
-   power, or had no answer. */
+/* What an earlier run asked in the session, and has no answer yet. That run was killed, was ended by a signal, lost its
+   machine's power, or had no answer. */
 #ifndef EARLIER_H
 #define EARLIER_H
 
 #include "session.h"
 
-/* Finishes it, before the task's own request: sends it again until it is answered, and says what the answer is. If the task says
-   so it is let go instead, which is said too: the session goes on at the number after it, and once the clock answers a later number
-   the request was carried out, or never will be. A question whether a number is new is let go without a word: a clock that lacks
-   the port that it names never answers it. If too many in a row had no answer nothing is let go: such a question is finished too,
-   and if the task lets a request go, the program ends, status 2. ANSWERED, or the program's status, which is told then. */
+/* Finishes it, before the task's own request: sends it again until it is answered, and says what the answer is. If the task
+   says so it is let go instead, which is said too. The session then goes on at the number after it. Once the clock answers a
+   later number, the request was carried out, or never will be.
+
+   A question whether a number is new is let go without a word: a clock that lacks the port that it names never answers it. If
+   too many requests one after the other had no answer, nothing is let go. Such a question is then finished too, and if the task
+   lets a request go, the program ends, status 2. ANSWERED, or the program's status, and why is said. */
 int settle_earlier(struct session *session, const struct task *earlier, const struct task *task);
 
 #endif

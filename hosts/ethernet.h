@@ -9,7 +9,7 @@
 /* What comes before the message in a frame that is sent, how many octets that frame has at least, and how many parts. */
 enum { STATION = 6, ETHERNET_HEAD = 14, ETHERNET_LEAST = 60, FRAME_PARTS = 3 };
 
-/* A socket of an interface, at which frames with management messages alone come in, of the group and of the interface's own
+/* A socket of an interface. Frames with management messages alone come in there, to the group and to the interface's own
    address. It hears nothing of what this host sends. own gets the interface's address. -1 if it can't be made: errno says why,
    and *what at which step. */
 int open_ethernet(const char *interface, uint8_t own[STATION], const char **what);
@@ -17,8 +17,8 @@ int open_ethernet(const char *interface, uint8_t own[STATION], const char **what
 /* Has a socket hear frames with management messages alone, or with every message; whether it does. */
 int filter_ethernet(int at, int is_management_alone);
 
-/* Where the message begins in a frame, after the tags of a VLAN; 0 if the frame has none for the group or this address. The
-   frame may be padded after the message. */
+/* The place at which the message begins in a frame, after the tags of a VLAN. 0 if the frame has none for the group or this
+   address. The frame may be padded after the message. */
 size_t message_in(const uint8_t *frame, size_t size, const uint8_t own[STATION]);
 
 /* Whether a frame is to this address alone. */

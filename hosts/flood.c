@@ -1,5 +1,6 @@
 /* flood INTERFACE IDENTITY RATE SECONDS
-   For trials: asks a clock for PRIORITY1 so many times a second, over UDP and IPv4, one GET after another at even times, and prints
+
+   For trials: asks a clock for PRIORITY1 RATE times a second, over UDP and IPv4, one GET after another at even times. Prints
    how many were answered, and in how many microseconds the middle one and 99 of a hundred were. */
 #define _GNU_SOURCE
 #include "common.h"

@@ -11,10 +11,10 @@
 #include <string.h>
 
 /* What is asked: DEFAULT_DATA_SET, and for an id of a port PORT_DATA_SET, since some clocks answer only if the port is named. A
-   GET with as many octets as the data set has is taken by each clock, also by one that looks at how many they are. */
+   GET with as many octets as the data set has is taken by each clock, also by one that looks at their number. */
 enum { OF_CLOCK = 20, OF_PORT = 26 };
 
-/* Of four numbers so far apart at least one is new, whatever the latest of this manager is. */
+/* Of four numbers this far apart at least one is new, whatever the latest of this manager is. */
 enum { APART = 16384, NUMBERS = 4 };
 
 /* This many answers to reads, and none to the question beside them, show that its number is not new. */
@@ -97,8 +97,8 @@ static void wait_for_copies(long wait) {
     for (long end = milliseconds() + wait; hear(&size, end) != NULL;) {}
 }
 
-/* A number of four that is new: *number is the last that was tried. The first is drawn, since an answer to an earlier session, and
-   one to a session of the same manager beside this one, would count as one to this if it has the same number. */
+/* Finds a number of four that is new: *number is the last that was tried. The first is drawn. Otherwise it might be that of an
+   earlier session, or of one of the same manager beside this one. An answer to that one would then count as one to this. */
 static enum finding find_of_four(const struct task *task, uint16_t *number, long *sent) {
     enum finding finding = NOT_NEW;
     uint16_t first = draw_number();

@@ -1,25 +1,25 @@
-/* The number under which a manager's request is new to a clock. A clock of this project's profile keeps the latest request of each
-   of its managers and the answer to it: it sends that answer where the request comes in again, and drops other requests under that
-   number and up to 32,768 numbers behind it. So what a run of this program asks under a number that was used before would get an
-   old answer, or none. */
+/* The number under which a manager's request is new to a clock. A clock of this project's profile keeps the latest request of
+   each of its managers and the answer to it. It sends that answer if the request comes in again. It drops other requests under
+   that number, and under the 32,768 numbers before it. So what a run of this program asks under a number that was used before
+   would get an old answer, or none. */
 #ifndef FRESH_NUMBER_H
 #define FRESH_NUMBER_H
 
 #include "session.h"
 
-/* What is asked before a task's request is a GET of a data set with drawn octets. A GET's dataField is ignored, but belongs to what
-   makes a repeat: so it is answered if its number is new, and else not at all. Then the number after it is new too. */
+/* What is asked before a task's request is a GET of a data set with drawn octets. A GET's dataField is ignored, but belongs to
+   what makes a repeat. So it is answered if its number is new, and else not at all. Then the number after it is new too. */
 
-/* Asks so in the session, under its next number: the file of it may be an older one or a copy. ANSWERED, or the program's status,
-   which is said then. */
+/* Asks this in the session, under its next number: the session's file may be an older one or a copy. ANSWERED, or the program's
+   status, which is said then. */
 int ask_whether_new(struct session *session, const struct task *task);
 
 /* Whether a request is such a question. */
 int is_question(const struct task *task);
 
-/* Starts the task's session, of which there is no file, at the number after one that is new: a drawn number, or up to three times
-   16384 ahead of it. It waits before as long as the task says, since copies of what an earlier session sent may be on their way, and
-   the step ahead may make them new. ANSWERED, or the program's status, which is said then. */
+/* Starts the task's session if there is no file of it, at the number after one that is new. That one is drawn, or up to three
+   times 16384 ahead of a drawn one. First it waits as long as the task says. Copies of what an earlier session sent may be on
+   their way, and the step ahead may make them new. ANSWERED, or the program's status, which is said then. */
 int begin_session(struct session *session, const struct task *task);
 
 #endif

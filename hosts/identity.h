@@ -9,7 +9,7 @@
    text; NULL if it does not begin with one. */
 const char *identity_at(const char *text, uint8_t identity[8]);
 
-/* The portNumber after a clockIdentity: a slash or a hyphen and a decimal number, at most `most`; -1 if the rest of the text
+/* The portNumber after a clockIdentity: a slash or a hyphen, and a decimal number, at most `most`. -1 if the rest of the text
    is none. */
 long port_behind(const char *rest, long most);
 

@@ -1,6 +1,6 @@
-/* layout: whether ptpm.h has its members in the library's places. Each member of each struct gets a value of its own, and
-   what the library then says must have that value at the place that the standard gives it (IEEE 1588-2019, clauses 13.3, 15.4
-   and 15.5). And each constant of an answer must have its name, and ids and errors theirs. Prints what does not hold and `layout: N passed, M
+/* layout: whether ptpm.h has its members in the library's places. Each member of each struct gets a value of its own. What the
+   library then says must have that value at the place that the standard gives it (IEEE 1588-2019, clauses 13.3, 15.4 and 15.5).
+   Each constant of an answer must have its name, and ids and errors theirs. Prints what does not hold and `layout: N passed, M
    failed`; its status is 1 if one failed. */
 #include "checking.h"
 #include "ptpm.h"
@@ -113,7 +113,7 @@ static void numbers_and_identities(void) {
     check(reads(0x2004, 2, ME "0002" "080c" "7a7b7c7d7e7f6a6b" "fd0901fef902"), "PORT_DATA_SET of port 2");
 }
 
-/* Where one flag is set, and no other, one bit of the three flag octets is. */
+/* If one flag is set, and no other, one bit of the three flag octets is. */
 static void flags(void) {
     static const struct { size_t place; const char *name; unsigned two_step, parent_stats, times; } cases[] = {
         { offsetof(struct ptpm_clock_settings, two_step), "two_step", 1, 0, 0 },
@@ -210,7 +210,7 @@ static struct ptpm_observed_clock observed_values(void) {
     return o;
 }
 
-/* Where one member of a clock is observed, and no other, it moves. */
+/* If one member of a clock is observed, and no other, it moves. */
 static void observed_of_a_clock(void) {
     static const struct { size_t place; const char *name; uint16_t id; const char *wanted; } cases[] = {
         { offsetof(struct ptpm_observed_clock, has_clock_class), "has_clock_class", 0x2000, "00000002436422313246" ME "2a00" },
@@ -422,14 +422,14 @@ static void sessions(void) {
     check(ptpm_session_send(&session, octets, sizeof octets, &size) == PTPM_GAVE_UP, "attempts");
     check(session_hears(message(0x2b, OTHER "0007", 0x3344, MANAGER "0a11", 0, 2, "0001" "0004" "200b" "fd00")) == PTPM_ANSWERED
           && ptpm_session_report(held, octets, sizeof octets, &size, &error) == PTPM_VALUE && is_text(octets, size, "fd00"),
-          "a value that is told");
+          "a value that is reported");
     check(ptpm_session_begin(&session, PTPM_SET, 0x2005, 0, (const uint8_t[]){ 0x6a, 0 }, 2) == PTPM_BEGUN
           && ptpm_session_send(&session, octets, sizeof octets, &size) == PTPM_SENT
           && is_text(octets, size, message(0x2b, MANAGER "0a11", 0x3345, OTHER "ffff", 0x0909, PTPM_SET, "0001" "0004" "2005" "6a00")),
           "a SET, its dataField and its number");
     check(session_hears(message(0x2b, OTHER "0001", 0x3345, MANAGER "0a11", 0, 2, "0002" "0008" "0004" "2005" "00000000")) == PTPM_ANSWERED
           && ptpm_session_report(&session, octets, sizeof octets, &size, &error) == PTPM_REFUSED && error == 0x0004,
-          "a refusal that is told");
+          "a refusal that is reported");
     check(ptpm_session_issued(held) == 2, "how many requests were begun");
 }
 

@@ -1,8 +1,9 @@
 /* link [-l PERCENT] [-r PERCENT] [-o PERCENT] [-s SEED] NAMESPACE/DEVICE NAMESPACE/DEVICE
-   For trials, a link between two network namespaces: a TAP device in each, and what is sent at the one comes in at the
-   other. Each way -l loses so many frames of a hundred; of those that pass -r lets so many come in twice, and -o holds a
-   copy of so many back, one at a time, until the next frame has passed. With these, SEED tells what becomes of the n-th
-   frame of a way. At its end, with which the devices are gone, it prints how many came in, and what became of them. */
+
+   For trials, a link between two network namespaces: a TAP device in each, and what is sent at the one comes in at the other.
+   Each way -l loses a percentage of the frames. Of those that pass, -r lets a percentage come in twice. Of a percentage, -o
+   holds a copy back, one at a time, until the next frame has passed. SEED and these decide what becomes of the n-th frame of a
+   way. At its end the devices go, and it prints how many frames came in, and what became of them. */
 #define _GNU_SOURCE
 #include <errno.h>
 #include <fcntl.h>
@@ -22,7 +23,8 @@ enum { MOST = 2048 };       /* over what a frame of Ethernet has */
 
 struct frame { size_t size; uint8_t octets[MOST]; };
 
-/* Of the frames that come in at one end. The held one goes out after the next that passes; of size 0 it is none. */
+/* What is known of the frames that come in at one end. The held one goes out after the next that passes; its size is 0 if none
+   is held. */
 struct way {
     int from, to;
     unsigned short chance[3];
@@ -49,7 +51,7 @@ static long read_number(const char *text, long most) {
     return number;
 }
 
-/* A new TAP device of that name in that namespace, as `ip netns` has them; this program stays in the namespace. */
+/* Makes a TAP device of that name in that namespace, which `ip netns` has made. This program stays in the namespace. */
 static int open_end(const char *text) {
     char path[256];
     struct ifreq request = { .ifr_flags = IFF_TAP | IFF_NO_PI };

@@ -23,7 +23,7 @@ static int at, is_stale = 1;
 int open_links(void) {
     struct sockaddr_nl groups = { .nl_family = AF_NETLINK, .nl_groups = RTMGRP_LINK | RTMGRP_IPV4_IFADDR | RTMGRP_IPV6_IFADDR };
     at = socket(AF_NETLINK, SOCK_RAW | SOCK_CLOEXEC | SOCK_NONBLOCK, NETLINK_ROUTE);
-    if (at < 0 || bind(at, (struct sockaddr *)&groups, sizeof groups)) give_up("what the kernel tells of interfaces");
+    if (at < 0 || bind(at, (struct sockaddr *)&groups, sizeof groups)) give_up("the kernel's reports of interfaces");
     return at;
 }
 
@@ -75,7 +75,7 @@ void read_links(link_taker *take) {
     }
 }
 
-/* Where the octets of an address are, and how many there are; none of another family. */
+/* The octets of an address, and how many there are; none of another family. */
 static const uint8_t *octets_of(const struct sockaddr *address, size_t *size) {
     *size = 4;
     if (address->sa_family == AF_INET) return (const uint8_t *)&((const struct sockaddr_in *)address)->sin_addr;

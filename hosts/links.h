@@ -16,8 +16,8 @@ int open_links(void);
    interface may have changed: index 0. */
 void read_links(link_taker *take);
 
-/* Whether an address of IPv4 or IPv6 belongs to a network at the interface: that of one of the interface's own addresses, or of
-   IPv6 the addresses of a link. */
+/* Whether an address of IPv4 or IPv6 belongs to a network at the interface: that of one of its own addresses. With IPv6 it may
+   also be an address of the link. */
 int is_on_link(unsigned index, const struct sockaddr *address);
 
 #endif

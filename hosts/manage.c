@@ -1,7 +1,7 @@
-/* ptpm-manage: one request to one clock by a session of the library, over UDP port 320 (IEEE 1588-2019, annexes C and D),
-   over Ethernet (annex E) or at a Unix socket, or a survey of all clocks; docs/ptpm-manage.md says how it is used. All that
-   decides is the library's; what stands here and in the files beside it reads words, moves octets, measures time and prints,
-   and is not proved. */
+/* ptpm-manage: one request to one clock by a session of the library, a survey of all clocks, or a whole site. It goes over UDP
+   port 320 (IEEE 1588-2019, annexes C and D), over Ethernet (annex E) or at a Unix socket. How it is used is in
+   docs/ptpm-manage.md. All that decides is the library's. What is here and in the files beside it reads words, moves octets,
+   measures time and prints, and is not proved. */
 #include "asking.h"
 #include "collect.h"
 #include "common.h"

@@ -1,9 +1,9 @@
-/* measure: what a datagram costs a host in C. `./measure LIST COUNT` starts a clock, lets it answer a request of its manager, and
-   hands it the datagram of the list COUNT times at port 1; a counter of instructions (callgrind) tells by the difference of two
-   runs what one of them costs. The lists are those of the program ptpm_measure, which calls the clock without the exports; in
-   `start` a clock of two ports is started and stopped COUNT times. Prints the list, the answer to the last datagram, and how
-   many messages of how many octets were sent for it; of `start` its name alone. Status 2 if the words are not understood, 1
-   if the clock does not start. */
+/* measure: what a datagram costs a host in C. `./measure LIST COUNT` starts a clock, lets it answer a request of its manager,
+   and hands it the datagram of the list COUNT times at port 1. By the difference of two runs a counter of instructions
+   (callgrind) shows what one of them costs. The lists are those of the program ptpm_measure, which calls the clock without the
+   exports. In `start` a clock of two ports is started and stopped COUNT times. Prints the list, the answer to the last
+   datagram, and how many messages it made, of how many octets; of `start` its name alone. Status 2 if the words are not
+   understood, 1 if the clock does not start. */
 #include "ptpm.h"
 #include <stdio.h>
 #include <stdlib.h>

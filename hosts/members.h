@@ -8,8 +8,8 @@
 
 enum { MOST_TEXT = 128 };       /* octets of a userDescription */
 
-/* Prints what the dataField of an id says: after `lead` a line for each member, its name and its value. A dataField that is
-   empty, of an id whose members are not known here, or of another length than the id's is printed as by `print_octets`. */
+/* Prints what the dataField of an id says: after `lead` a line for each member, its name and its value. It uses `print_octets`
+   if the dataField is empty, if the id's members are not known here, or if its length is not the id's. */
 void print_members(FILE *to, const char *lead, uint16_t id, const uint8_t *octets, size_t size);
 
 /* Prints a line of a dataField as it is: `value` and its octets in hexadecimal, or `-` if it has none. */
@@ -24,8 +24,8 @@ int has_text(uint16_t id);
 /* Whether a SET of the id has a dataField without octets. */
 int has_no_member(uint16_t id);
 
-/* The dataField of an id with one member, of two octets, for a value: a decimal number, 0x and hexadecimal digits, and also
-   true and false for a flag, E2E, P2P and NO_MECHANISM for a delayMechanism. NULL, or what is taken in place of the text. */
+/* The dataField of an id with one member, of two octets, for a value: a decimal number, or 0x and hexadecimal digits. A flag
+   may also be true or false, and a delayMechanism E2E, P2P or NO_MECHANISM. NULL, or what is taken in place of the text. */
 const char *read_member(uint16_t id, const char *text, uint8_t octets[2]);
 
 /* The dataField of an id that has a text, a PTPText (5.3.9), for a text of at most MOST_TEXT octets; how many octets it has. */

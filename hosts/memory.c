@@ -84,7 +84,7 @@ void return_block(void *block) {
     lay(piece, size, false);
 }
 
-/* A block that grows moves. Where there is no room for it, it is as it was. */
+/* A block that grows moves. If there is no room for it, it stays as it was. */
 void *grow_block(void *block, size_t size) {
     size_t room = size_of(piece_of(block)) - sizeof(struct piece);
     void *other = size > room ? take_block(size) : block;

@@ -5,8 +5,8 @@
 
 #include <stdint.h>
 
-/* The managementId (IEEE 1588-2019, 15.5.2.3) of a name, in either case, or of four hexadecimal digits, with or without 0x
-   before them; -1 if the text is neither. */
+/* The managementId (IEEE 1588-2019, 15.5.2.3) of a name, in either case. Or that of four hexadecimal digits, with or without 0x
+   before them. -1 if the text is neither. */
 long id_named(const char *text);
 
 /* The name of a managementId of this profile; NULL if it has none. */

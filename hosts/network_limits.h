@@ -1,5 +1,5 @@
-/* What ptpm-clock keeps from the network of what its agent would send, so that no message goes round for good and no stranger has
-   much sent by little: how far messages are passed on, which of them, and how many a second. */
+/* What ptpm-clock keeps from the network of what its agent would send. It limits how far messages are passed on, which of them,
+   and how many a second. So no message goes round for good, and a stranger who sends little can't have much sent. */
 #ifndef NETWORK_LIMITS_H
 #define NETWORK_LIMITS_H
 
@@ -25,13 +25,13 @@ void start_limits(const struct limits *given);
 /* Whether a datagram from a port is heard at all: it comes from an address on the link, or any may. */
 int is_heard(const struct heard *heard, const struct port *port);
 
-/* Lowers boundaryHops (octet 45) to the most that there may be, and startingBoundaryHops (octet 44) by as much: so an answer has as
-   many hops as it would have (15.4.1), and what is passed on has fewer. */
+/* Lowers boundaryHops (octet 45) to the most that there may be, and startingBoundaryHops (octet 44) by as much. So an answer
+   has as many hops as it would have (15.4.1), and what is passed on has fewer. */
 void lower_hops(struct heard *heard);
 
-/* Which of the messages that the agent made of a datagram are to go out: those at `ingress` answer it, and the others are it,
-   passed on. Keeps them in their order at the head of the places, and says how many there are. port is NULL for a datagram of a
-   program of this host. */
+/* Which of the messages that the agent made of a datagram are to go out. Those at `ingress` answer it, and the others pass it
+   on. Keeps them in their order at the head of the places; how many there are. If the datagram is of a program of this host,
+   port is NULL. */
 size_t keep_back(const struct heard *heard, const struct port *port, uint16_t ingress, uint32_t answer,
                  const struct ptpm_sent *sent, size_t count, const struct ptpm_sent *kept[PTPM_MOST_SENT]);
 

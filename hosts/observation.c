@@ -104,7 +104,7 @@ static int put_identity(const struct member *member, const char *text, uint8_t *
     uint8_t identity[8];
     const char *rest = identity_at(text, identity);
     if (rest == NULL || *rest != '\0') {
-        return wrong("%s %s: it takes a clockIdentity, as aabbccfffeddee01 or aabbcc.fffe.ddee01", member->name, text);
+        return wrong("%s %s: it takes a clockIdentity, such as aabbccfffeddee01 or aabbcc.fffe.ddee01", member->name, text);
     }
     memcpy(at, identity, sizeof identity);
     return 1;

@@ -33,35 +33,35 @@ static const char help[] =
     "Answers PTP management messages as a clock does, over UDP or Ethernet at its interfaces and at a Unix socket.\n"
     "\n"
     "  IDENTITY            clockIdentity of the clock: aabbccfffeddee01, or aabbcc.fffe.ddee01\n"
-    "  INTERFACE           its ports 1, 2 and on, eight at most; none with -u alone\n"
+    "  INTERFACE           one for each of its ports, eight at most. With -u there may be none\n"
     "  -6, --ipv6          IPv6 in place of IPv4\n"
     "  -2, --ethernet      IEEE 802.3 in place of IPv4\n"
     "  -m MANAGER          IDENTITY/PORT of a manager with every right, sixteen at most\n"
     "  -d DOMAIN           domainNumber (0)\n"
     "\n"
     "  -u PATH             a Unix socket for programs of this host, which counts as port 1\n"
-    "  --unix-group NAME   the group that it gets, in which this program then is\n"
-    "  --unix-mode MODE    its mode (660)\n"
+    "  --unix-group NAME   the group of this socket, which the program then joins\n"
+    "  --unix-mode MODE    the mode of this socket (660)\n"
     "  -f                  what comes in there for other clocks is passed on at the other ports\n"
     "\n"
     "  --hops N            by how many clocks a message is passed on at most, this one included (8)\n"
     "  --no-forward        nothing is passed on between the ports\n"
-    "  --rate N            how many messages a port passes on a second, and how many answers it has for others than\n"
+    "  --rate N            how many messages a port passes on a second, and how many answers it sends to others than\n"
     "                      managers (1000)\n"
-    "  --any-source        also what comes from addresses that are not on the link is heard\n"
+    "  --any-source        datagrams from addresses that are not on the link are heard too\n"
     "\n"
     "  -s, --state FILE    the clock is saved to FILE before it answers, and goes on from FILE at its next start\n"
     "  -o FILE             what the clock observes, like a servo: a file, which is read at the start and whenever it is\n"
     "                      written, or a pipe. Lines are for example: offset_from_master 98304, or: port 1 state 9\n"
     "  -n SECONDS          it ends by itself then\n"
     "  -v                  a line for each datagram, and one for what it changed\n"
-    "  --user NAME         whom it is to be once its sockets are open\n"
-    "  --no-filter         it may call all of the system, for example for a debugger\n"
+    "  --user NAME         the user that it becomes once its sockets are open\n"
+    "  --no-filter         no system call is refused, for example for a debugger\n"
     "  -h, --help          this text\n"
     "  --version           the version\n"
     "\n"
     "SIGTERM ends it; at its end, and at SIGUSR1, it prints how often each answer was given.\n"
-    "Exit status: 0 ended in order; 1 the clock does not start; 2 it was called wrongly, or a socket or file can't be opened.\n";
+    "Exit status: 0 it ended in order; 1 the clock does not start; 2 wrong words, or a socket or file can't be opened.\n";
 
 _Noreturn void usage(void) {
     fputs("ptpm-clock: see ptpm-clock --help\n", stderr);
@@ -85,11 +85,13 @@ static long number(const char *option, long least, long most) {
     return found;
 }
 
-/* Three octal digits, as 660. */
+/* Three octal digits, such as 660. */
 static mode_t mode(void) {
     char *end;
     long found = strtol(optarg, &end, 8);
-    if (strlen(optarg) != 3 || *end != '\0' || found < 0) refuse("--unix-mode %s: it takes three octal digits, as 660", optarg);
+    if (strlen(optarg) != 3 || *end != '\0' || found < 0) {
+        refuse("--unix-mode %s: it takes three octal digits, such as 660", optarg);
+    }
     return (mode_t)found;
 }
 
@@ -191,7 +193,7 @@ void read_options(struct options *options, int argc, char **argv) {
     if (optind == argc) refuse("the clock's identity is missing");
     const char *rest = identity_at(argv[optind], options->settings.identity);
     if (rest == NULL || *rest != '\0') {
-        refuse("%s: it takes a clockIdentity, as aabbccfffeddee01 or aabbcc.fffe.ddee01", argv[optind]);
+        refuse("%s: it takes a clockIdentity, such as aabbccfffeddee01 or aabbcc.fffe.ddee01", argv[optind]);
     }
     options->interfaces = argv + optind + 1;
     options->interface_count = (size_t)(argc - optind - 1);

@@ -64,7 +64,7 @@ void start_output(void) {
     start_stream(&standard_error);
 }
 
-/* A line whole, or not at all. */
+/* Queues a line whole, or not at all. */
 static void queue(struct stream *stream, const char *line, size_t size) {
     if (!stream->is_started) {
         while (size > 0 && write(stream->file, line, size) < 0 && errno == EINTR) continue;

@@ -1,5 +1,6 @@
-/* What ptpm-clock prints: lines on standard output, and on standard error after the program's name. Once it has started a thread
-   each writes them, so that a reader that hangs stops nothing else: what there is no room for is counted, and not printed. */
+/* What ptpm-clock prints: lines on standard output, and on standard error after the program's name. Once it has started, a
+   thread for each writes them, so that a reader that hangs stops nothing else. A line for which there is no room is counted,
+   and not printed. */
 #ifndef OUTPUT_H
 #define OUTPUT_H
 

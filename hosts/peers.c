@@ -17,7 +17,7 @@ enum {
 struct way_back {
     int socket;
     union sender peer;
-    socklen_t size;             /* of the peer's address; 0 where nobody has it */
+    socklen_t size;             /* of the peer's address; 0 if nobody has it */
     int left_by_others;         /* octets that peers before did not read */
     int unchecked;
     unsigned long used;
@@ -27,7 +27,7 @@ static struct way_back ways[WAYS_BACK];
 static unsigned long turn;
 static int meeting_socket = -1;
 
-/* A socket with the name of the path, which is there for a moment only: then another is. */
+/* A socket that has the path for a moment only: then another one has it. */
 static int open_named(const struct meeting *meeting) {
     int room = ROOM, at = bind_unix(meeting->path, meeting->mode);
     if (unlink(meeting->path)) give_up(meeting->path);
@@ -55,8 +55,8 @@ static int has(const struct way_back *way, const struct heard *heard) {
     return way->size == heard->sender_size && memcmp(&way->peer, &heard->sender, way->size) == 0;
 }
 
-/* The socket that a new peer gets: one that nobody has, or from which all is read and which was used longest ago, or from which
-   least is unread. */
+/* The socket that a new peer gets: one that nobody has. Else, of those from which all is read, the one that was used longest
+   ago. Else the one from which least is unread. */
 static struct way_back *free_way(void) {
     struct way_back *found = &ways[0];
     int least = INT_MAX;
@@ -84,7 +84,7 @@ static struct way_back *way_to(const struct heard *heard) {
     return latest;
 }
 
-/* Whether a peer has read so much that it may have one more message. */
+/* Whether a peer has read enough to get one more message. */
 static int has_room(struct way_back *way) {
     if (++way->unchecked <= UNCHECKED) return 1;
     int octets = unread(way);

@@ -1,11 +1,11 @@
-/* The Unix socket of ptpm-clock, and the programs of this host that ask there, its peers. What a peer does not read stays in the
-   socket that it was sent from: so each peer has a socket of its own, and little room there. */
+/* The Unix socket of ptpm-clock, and the programs of this host that ask there, its peers. What a peer does not read stays in
+   the socket that it was sent from. So each peer has a socket of its own, and little room there. */
 #ifndef PEERS_H
 #define PEERS_H
 
 #include "rounds.h"
 
-/* Where the socket is to be, with which mode, and whose group it gets: -1 leaves it the program's. */
+/* The path that the socket is to have, its mode, and its group; with -1 that is the program's. */
 struct meeting { const char *path; mode_t mode; gid_t group; };
 
 enum { WAYS_BACK = 64 };

@@ -26,11 +26,11 @@ extern struct port ports[PORTS];
 extern size_t port_count;
 extern enum transport transport;
 
-/* Opens the next port. Where it can't be opened the program ends with status 2. */
+/* Opens the next port. If it can't be opened the program ends with status 2. */
 void open_port(const char *interface);
 
-/* Sees once a second, and when the kernel reports a change, which interface has the name of each port, and opens a port anew
-   if it is another one. What can't be opened is said once, and tried again each second. */
+/* Once a second, and when the kernel reports a change, sees which interface has the name of each port. If it is another one, it
+   opens the port anew. What can't be opened is said once, and tried again each second. */
 void renew_ports(long now);
 
 /* Takes what the kernel has reported of interfaces. */

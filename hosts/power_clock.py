@@ -55,7 +55,7 @@ class Wire:
                 frame, place = self.socket.recvfrom(4096)
             except BlockingIOError:
                 return
-            octets = frame[42:]                         # behind the heads of Ethernet, IPv4 and UDP
+            octets = frame[42:]                         # after the heads of Ethernet, IPv4 and UDP
             if frame[12:14] != b"\x08\x00" or len(octets) < 54 or octets[0] & 15 != 13:
                 continue
             if place[2] == OUTGOING:
@@ -111,7 +111,7 @@ class Clock:
                 return
 
     def life(self):
-        """A life that is cut short: at any moment, also behind a call that failed, or at a call."""
+        """A life that is cut short: at any moment, also after a call that failed, or at a call."""
         kind, before = self.chance.random(), read(state)
         is_told = kind >= 0.25
         if kind < 0.25:
@@ -145,7 +145,7 @@ class Clock:
             return False
 
     def has_log(self):
-        """Whether strace has told all: it goes on for a moment behind the end."""
+        """Whether strace has told all: it goes on for a moment after the end."""
         for _ in range(200):
             with open(log) as file:
                 if "+++ " in file.read()[-100:]:

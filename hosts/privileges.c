@@ -34,8 +34,8 @@ static void let_go_of_bounds(uint32_t kept) {
     }
 }
 
-/* Who asks at the Unix socket has a socket of its group, and others can't answer there. Without CAP_SETGID the program is in the
-   groups that it was started with. */
+/* Whoever asks at the Unix socket has a socket of its group, and others can't answer there. Without CAP_SETGID the program is
+   in the groups that it was started with. */
 static void join(gid_t group) {
     static gid_t groups[NGROUPS_MAX + 1];
     int count = group == (gid_t)-1 ? -1 : getgroups(NGROUPS_MAX, groups);
@@ -70,9 +70,9 @@ void let_go_of_rights(const struct privileges *privileges, enum needs needs) {
     if (prctl(PR_SET_NO_NEW_PRIVS, 1L, 0L, 0L, 0L)) give_up("PR_SET_NO_NEW_PRIVS");
 }
 
-/* What the program and its C library call of the system when the filter is on: sockets and what is read and written, what opens a
-   port anew, the file of the state, the source of observations, the Unix socket at its end, threads, memory, time and the end itself.
-   Each machine lacks some of them. */
+/* What the program and its C library call of the system when the filter is on. They use sockets, and open a port anew. They use
+   the file of the state, the source of observations, and the Unix socket at its end. They use threads, memory and time, and
+   they end. Each machine lacks some of these calls. */
 static const int allowed[] = {
     SYS_recvmmsg, SYS_sendmmsg, SYS_epoll_pwait, SYS_sendto, SYS_write, SYS_read, SYS_futex, SYS_clock_gettime, SYS_recvmsg,
     SYS_recvfrom, SYS_sendmsg, SYS_writev, SYS_ppoll, SYS_epoll_ctl, SYS_epoll_create1, SYS_socket, SYS_bind, SYS_connect,
@@ -96,7 +96,7 @@ enum { FIRST_CALL = 4, IOCTL = FIRST_CALL + CALLS, FIRST_CONTROL = IOCTL + 2, RE
 
 static struct sock_filter loads(size_t place) { return (struct sock_filter)BPF_STMT(BPF_LD | BPF_W | BPF_ABS, (uint32_t)place); }
 
-/* Goes to one of two places, if what was loaded is a number and if it is not. */
+/* Goes to one of two places: one if what was loaded is a number, and the other if it is not. */
 static struct sock_filter branches(int at, uint32_t number, int where_equal, int where_not) {
     uint8_t by = (uint8_t)(where_equal - at - 1), by_not = (uint8_t)(where_not - at - 1);
     return (struct sock_filter)BPF_JUMP(BPF_JMP | BPF_JEQ | BPF_K, number, by, by_not);

@@ -15,12 +15,12 @@ struct privileges {
 /* What it takes to open a port's socket once more, if its interface is made anew. */
 enum needs { NEEDS_NOTHING, NEEDS_LOW_PORT, NEEDS_FRAMES };
 
-/* Drops every capability but the one that is needed, for good, and becomes the user. Ends the program with status 2 if that
+/* Drops every capability except the one that is needed, for good, and becomes the user. Ends the program with status 2 if that
    can't be done. Comes before any thread. */
 void let_go_of_rights(const struct privileges *privileges, enum needs needs);
 
-/* From now on all calls of the system fail but those that the program makes; nothing if the kernel has no filters. Comes before
-   any thread. */
+/* From now on all calls of the system fail except those that the program makes. It does nothing if the kernel has no filters.
+   Comes before any thread. */
 void filter_calls(const struct privileges *privileges);
 
 #endif

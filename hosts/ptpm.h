@@ -13,17 +13,17 @@
      given.
    - One thread at a time is in a call with a handle, a table or a bucket. Calls with different ones may run side by
      side.
-   - A handle is all zeros before its first call. A start frees what the handle holds, and any other octets it takes for something
-     to free. There is one live copy of a handle. The host may move it, and reads and writes nothing inside it.
+   - A handle is all zeros before its first call. A start frees what the handle holds, and takes any other octets for something to
+     free. There is one live copy of a handle. The host may move it, and reads and writes nothing inside it.
    - malloc, realloc and free come from one allocator. malloc aligns each block to the greatest power of two up to 16 that divides
      its size. No call is made from a signal handler, or in a forked child of a process with threads.
-   - A call has the stack that it needs, as the library is built for x86-64 and aarch64. Most calls take 500 octets. The image of a
+   - A call has the stack that it needs. As the library is built for x86-64 and aarch64, most calls take 500 octets. The image of a
      clock, and the image and the restore of a session, take 1,000 each. A restore of a clock takes 9,200. A start of a clock takes
      5,500, ptpm_clock_handle_changed 2,100, ptpm_clock_handle and ptpm_clock_observe 1,000 each. The message of a survey takes
      1,900. Beyond that a call has what malloc, realloc, free, memcpy, memmove and memset of the host take. No call calls itself.
 
-   A call that only reads takes a const handle, and leaves it as it is. If several refusals hold, a call answers the first. Want of
-   memory can come in place of it in ptpm_clock_start alone. Every other call asks for memory only if nothing else refuses. */
+   A call that only reads takes a const handle, and leaves it as it is. If several refusals hold, a call answers the first. In
+   ptpm_clock_start alone PTPM_NO_MEMORY may come in its place. Every other call asks for memory only if nothing else refuses. */
 #ifndef PTPM_H
 #define PTPM_H
 
@@ -118,8 +118,9 @@ struct ptpm_port_settings {
    IEEE 1588-2019). Start from all zeros, struct ptpm_observed_clock observed = { 0 }; a member without its has_ flag
    stays. A flag is set if it is not 0. A grandmaster is observed whole. If is_grandmaster is set it is the clock itself, and the
    members of a grandmaster and of the parent port do not count. Otherwise, if has_grandmaster is set, it is the one that they name.
-   If neither is set, the quality of a clock that is its own grandmaster is shown as its grandmaster's too. What managers
-   alone set is not observed; clock_accuracy, utc_offset, the two leaps and utc_valid are what the later of both said. */
+   If neither is set, the quality of a clock that is its own grandmaster is shown as its grandmaster's too. What only
+   managers set can't be observed. clock_accuracy, utc_offset, the two leaps and utc_valid are both set and observed, and the later
+   value counts. */
 struct ptpm_observed_clock {
     int64_t offset_from_master;         /* in nanoseconds times 2^16 */
     int64_t mean_path_delay;            /* in nanoseconds times 2^16 */
@@ -167,8 +168,8 @@ struct ptpm_observed_clock {
     uint8_t has_time_source;
 };
 
-/* What a host observes of a port. State 3, DISABLED, is entered and left by commands of managers alone. An enabled port is not
-   observed in it, and a disabled port stays in it. A number of no state counts as 3. */
+/* What a host observes of a port. Only a manager's command enters or leaves state 3, DISABLED. An enabled port is not observed in
+   it, and a disabled port stays in it. A number that is no state counts as 3. */
 struct ptpm_observed_port {
     int64_t peer_delay;                 /* in nanoseconds times 2^16 */
     uint8_t state;                      /* portState, 1 to 9 */
@@ -266,8 +267,8 @@ struct ptpm_source {
     uint16_t port;
 };
 
-/* Which messages were passed on last, 4,096 at most, about 197,000 octets. All zeros note none. The host then draws a seed, by which
-   nobody else can say where a message is noted, and writes nothing else inside it. */
+/* Which messages were passed on last, 4,096 at most, about 197,000 octets. All zeros note none. The host then draws a seed, so that
+   nobody else can say where a message is noted. It writes nothing else inside. */
 struct ptpm_passed_on {
     uint64_t seed;
     uint64_t places[4096][6];
@@ -462,7 +463,7 @@ __extension__ enum PTPM_FOUR_OCTETS(ptpm_begun) {
     PTPM_COUNT_AT_MAXIMUM = 42          /* the session has begun 1,000,000 requests */
 };
 
-/* ptpm_session_send and ptpm_survey_send, which is neither idle nor gives up. */
+/* ptpm_session_send and ptpm_survey_send. The latter is never answered PTPM_IDLE or PTPM_GAVE_UP. */
 __extension__ enum PTPM_FOUR_OCTETS(ptpm_sending) {
     PTPM_SENT = 0,
     PTPM_SEND_NO_ROOM = PTPM_NO_ROOM,   /* for fewer than PTPM_MOST_OCTETS octets */
@@ -584,7 +585,7 @@ __extension__ enum PTPM_FOUR_OCTETS(ptpm_parsed) {
     PTPM_NO_VALUE = 117                 /* a word is no value of the member, or no SET has the member */
 };
 
-/* So the header refuses a compiler that takes no such word. */
+/* So the header refuses a compiler that does not take these forms. */
 #define PTPM_IS_WIDE(name) typedef char name##_has_not_four_octets[sizeof(enum name) == 4 ? 1 : -1]
 PTPM_IS_WIDE(ptpm_started);
 PTPM_IS_WIDE(ptpm_handled);
@@ -604,7 +605,7 @@ PTPM_IS_WIDE(ptpm_parsed);
 #undef PTPM_IS_WIDE
 #undef PTPM_FOUR_OCTETS
 
-/* Whether a call that answered so was refused. It then changed nothing, except that a start leaves nothing in its handle.
+/* Whether a call with this answer was refused. It then changed nothing, except that a start leaves nothing in its handle.
    PTPM_REFUSED is no such answer: it says that the clock which was asked refused the request.
    Takes:   what a call with one of these types answered. */
 static inline bool ptpm_is_refusal(uint32_t answer) { return answer >= 32; }
@@ -612,16 +613,16 @@ static inline bool ptpm_is_refusal(uint32_t answer) { return answer >= 32; }
 /* Each call below says what it takes, and what it answers. It says what of the host's memory it writes beside its handle, what
    memory it asks of malloc, and what the caller then owes. If a line is missing, there is none of it. */
 
-/* Tells the version of the library that is linked: PTPM_VERSION_NUMBER of its own header.
+/* Reports the version of the library that is linked: PTPM_VERSION_NUMBER of its own header.
    Answers: the number. */
 uint32_t ptpm_version(void);
 
 /* Compares the sizes of a caller's structs with those of the library, so that a header of another version is found.
    Takes:   count sizes, one for each struct of this file, in its order.
-   Answers: PTPM_STARTED where the library has these structs, of these sizes, and no others; or PTPM_OTHER_SIZES. */
+   Answers: PTPM_STARTED if the library has these structs, of these sizes, and no others; or PTPM_OTHER_SIZES. */
 enum ptpm_started ptpm_sizes_agree(const size_t *sizes, size_t count);
 
-/* Does so for the file that the caller was compiled with. */
+/* Compares the sizes of the file that the caller was compiled with. */
 static inline enum ptpm_started ptpm_header_agrees(void) {
     static const size_t sizes[] = {
         sizeof(struct ptpm_clock), sizeof(struct ptpm_clock_settings), sizeof(struct ptpm_port_settings),
@@ -743,8 +744,8 @@ static inline enum ptpm_started ptpm_session_start_sized(struct ptpm_session *ha
 enum ptpm_begun ptpm_session_begin(struct ptpm_session *session, uint8_t action, uint16_t id, uint16_t port,
                                    const uint8_t *octets, size_t size);
 
-/* Does what ptpm_session_begin does, at the port that is named whatever the id. Some clocks answer for an id of the clock too only
-   if one of their ports is named. Any port of the clock may answer for such an id.
+/* Does what ptpm_session_begin does, at the port that is named whatever the id. Some clocks answer only if one of their ports is
+   named, for an id of the clock too. Any port of the clock may answer for such an id.
    Takes:   what ptpm_session_begin takes. The port is 1 to the number of the managed clock's ports.
    Answers: what ptpm_session_begin answers.
    Memory:  a copy of the dataField, until the request is answered or given up.
@@ -767,8 +768,8 @@ enum ptpm_resumed ptpm_session_resume(struct ptpm_session *session, uint8_t atte
 /* Lets the unanswered request go, so that the next can be begun. Its number is used for no other, and no answer to it is taken any
    more. The clock may have carried it out, once, or may still: until it takes a later request of this session. So once a later
    one is answered, the one that was given up was carried out before it, or never will be.
-   Answers: PTPM_GIVEN_UP; or PTPM_IDLE or PTPM_OUT_OF_REACH, and then nothing changes. The clock might take a number further ahead
-            for an old one; so send the request until it is answered.
+   Answers: PTPM_GIVEN_UP; or PTPM_IDLE or PTPM_OUT_OF_REACH, and then nothing changes. After PTPM_OUT_OF_REACH send the request
+            until it is answered: the clock might take a number further ahead for an old one.
    Owed:    the caller begins the next request before it ends, or saves the session's image. Otherwise a restart goes on with
             the request that was given up. */
 enum ptpm_given_up ptpm_session_give_up(struct ptpm_session *session);
@@ -806,7 +807,7 @@ enum ptpm_restored ptpm_session_restore(struct ptpm_session *session, const stru
 uint64_t ptpm_session_issued(const struct ptpm_session *session);
 
 /* Gives what the answer to the latest request says.
-   Takes:   room octets, as many as the dataField has or more: 1,418 do for each.
+   Takes:   room octets, as many as the dataField has or more: 1,418 are always enough.
    Answers: PTPM_VALUE, PTPM_DONE or PTPM_REFUSED; or why nothing is given.
    Writes:  *size, and as many octets from octets on: the dataField, after PTPM_VALUE. *size is 0 after every other answer.
             *error: the managementErrorId after PTPM_REFUSED, and 0 after every other answer. */
@@ -866,7 +867,7 @@ size_t ptpm_survey_count(const struct ptpm_survey *survey);
 
 /* Gives what an answer says, and who gave it.
    Takes:   its place, counted from 0 in the order in which the answers came. And room octets, as many as the dataField has or
-            more: 1,418 do for each.
+            more: 1,418 are always enough.
    Answers: PTPM_VALUE, PTPM_DONE or PTPM_REFUSED; or why nothing is given.
    Writes:  *size, and as many octets from octets on: the dataField, after PTPM_VALUE. *size is 0 after every other answer.
             *error: the managementErrorId after PTPM_REFUSED, and 0 after every other answer.
@@ -877,9 +878,9 @@ enum ptpm_told ptpm_survey_answer(const struct ptpm_survey *survey, size_t place
 /* Ends what the handle holds, if it holds anything. The handle then holds nothing, and may be started again. */
 void ptpm_survey_stop(struct ptpm_survey *survey);
 
-/* Says whether a message is to be passed on, and notes it then. It is if none is noted that has its sourcePortIdentity, sequenceId,
-   targetPortIdentity, actionField and managementId, and there is a place to note it. So a message that comes round is passed on
-   once, and one that keeps coming once in each such time.
+/* Says whether a message is to be passed on, and if it is, notes it. It is if none is noted that has its sourcePortIdentity,
+   sequenceId, targetPortIdentity, actionField and managementId, and there is a place to note it. So a message that comes round is
+   passed on once. One that keeps coming is passed on once in each such time.
    Takes:   the message, of size octets; a time; and for how long it is noted, in the unit of that time. Both are the host's.
    Answers: whether it is to be passed on; false too for what is no management message.
    Writes:  one of the places of *table, if it answers true. */
@@ -890,8 +891,8 @@ bool ptpm_passed_on_is_first(struct ptpm_passed_on *table, const uint8_t *messag
    Writes:  all of *rate. */
 void ptpm_rate_start(struct ptpm_rate *rate, uint64_t tokens, uint64_t now);
 
-/* Takes a token from a bucket, if there is one. In any stretch of time it gives no more of them than a second's, and those that the
-   time has brought.
+/* Takes a token from a bucket, if there is one. In any stretch of time it gives at most the tokens of a second, and those of the
+   time that has passed.
    Takes:   a time in milliseconds. One that is before the latest counts as that.
    Answers: whether there was one.
    Writes:  *rate. */

@@ -1,10 +1,11 @@
-/* The library in a block of the host's own, for a device without malloc. Link libptpm_memory.a in place of libptpm.a: it has the
-   same calls (ptpm.h), and takes all its memory from the block that ptpm_memory_give names. It calls no malloc, realloc or free, but
-   memcpy, memmove and memset of the host. A call that finds too little of the block left answers PTPM_NO_MEMORY, as ptpm.h says.
+/* The library in a block of the host's own, for a device without malloc. Link libptpm_memory.a in place of libptpm.a: it has
+   the same calls (ptpm.h), and takes all its memory from the block that ptpm_memory_give names. It calls no malloc, realloc or
+   free, only memcpy, memmove and memset of the host. A call that finds too little of the block left answers PTPM_NO_MEMORY, as
+   ptpm.h says.
 
-   One thread at a time is in a call that takes or gives back memory, also with different handles: the library has no lock of its
-   own. These calls are the starts, the restores, the stops, ptpm_session_begin, ptpm_session_receive, ptpm_survey_receive and the
-   three below. All others take none, and may run beside them with handles of their own, ptpm_clock_handle among them. */
+   One thread at a time is in a call that takes or gives back memory, also if the handles differ: the library has no lock. These
+   calls are the starts, the restores, the stops, ptpm_session_begin, ptpm_session_receive, ptpm_survey_receive and the three
+   below. All others take none, and may run beside them with handles of their own, ptpm_clock_handle among them. */
 #ifndef PTPM_MEMORY_H
 #define PTPM_MEMORY_H
 
@@ -23,8 +24,9 @@ extern "C" {
    moment. */
 #define PTPM_SESSION_MEMORY 5984
 
-/* The most that a survey takes that has kept so many answers, 1 to 512, of so many octets of dataField each. Its tables have room for
-   a power of two of answers, and move as they grow; how much of the gaps is used again depends on the answers. */
+/* The most that a survey takes that has kept a number of answers, 1 to 512, with a number of octets of dataField each. Its
+   tables have room for a power of two of answers, and move as they grow. How much of the gaps is used again depends on the
+   answers. */
 #define PTPM_SURVEY_MEMORY(answers, octets) \
     (1088 + 130 * PTPM_SURVEY_PLACES(answers) + (size_t)(answers) * (((size_t)(octets) + ((octets) < 1) + 31) / 16 * 16))
 #define PTPM_SURVEY_PLACES(answers) \
@@ -37,11 +39,11 @@ extern "C" {
    Answers: whether they are the library's now; false if something is held in those that it has, or if they are fewer than 32. */
 bool ptpm_memory_give(void *block, size_t size);
 
-/* Tells how much of the block is taken.
+/* Reports how much of the block is taken.
    Answers: how many octets, those that the library keeps for itself among them. */
 size_t ptpm_memory_taken(void);
 
-/* Tells how much of the block was taken at once since it was given.
+/* Reports how much of the block was taken at once, at most, since it was given.
    Answers: the most octets. */
 size_t ptpm_memory_most_taken(void);
 

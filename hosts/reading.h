@@ -1,5 +1,5 @@
-/* A GET of a clock's value by nobody: of no manager, so that it takes no number of his, and the clock answers it from its data
-   sets as they are. */
+/* A GET of a clock's value by nobody, that is by no manager. So it takes no number of his, and the clock answers it from its
+   data sets as they are. */
 #ifndef READING_H
 #define READING_H
 
@@ -8,8 +8,8 @@
 /* The portNumber at which nobody asks on behalf of this process; not the one that is given. */
 uint16_t port_of_nobody(uint16_t managers);
 
-/* Begins a GET of this id, at the task's clock and port, under a drawn number, in a session in place of the one that the handle
-   holds; whether it is begun. */
+/* Begins a GET of this id, at the task's clock and port, under a drawn number; whether it is begun. Its session takes the place
+   of the one that the handle holds. */
 int begin_reading(struct ptpm_session *session, const struct task *task, uint16_t id);
 
 /* Sends it until it is answered, a few times at most; whether it is. */

@@ -4,12 +4,13 @@
 #include <stdlib.h>
 #include <string.h>
 
-/* Findings that a change makes for a moment: the answers of a clock are not of one time, and a change goes from clock to clock. */
+/* Findings that a change may make for a moment. The answers of a clock are not of one time, and a change goes from clock to
+   clock. */
 static const char *const passing[] = {
     "steps", "grandmaster_differs", "parent_not_master", "parent_not_seen", "grandmaster_not_seen", "no_master", "two_grandmasters",
 };
 
-/* One that tells of a change, and so goes by itself; and those whose values are other ones each time. */
+/* A finding that reports a change, and so goes by itself; and those whose values are other ones each time. */
 static const char changed[] = "changed";
 static const char *const moving[] = { "offset", "delay" };
 
@@ -87,7 +88,7 @@ static const char *after_string(const char *at, const char *end) {
     return at < end ? at + 1 : end;
 }
 
-/* Where a value ends: at the comma after it, or at the bracket of what it is in. */
+/* The end of a value: the comma after it, or the bracket of what it is in. */
 static const char *after_value(const char *at, const char *end) {
     for (int depth = 0; at < end;) {
         if (*at == '"') {
@@ -250,8 +251,8 @@ static void print_change(FILE *to, const char *lead, char sign, const struct fin
             colour == NULL ? "" : plain);
 }
 
-/* Prints the findings of a report that another lacks: with other values, too, unless their values move. Of what tells of a change, all
-   or none. */
+/* Prints the findings of a report that another lacks. A finding with other values counts as another, unless its values are
+   other ones each time. Of those that report a change it prints all that came, and none that went. */
 static void print_lacking(FILE *to, const char *lead, char sign, const struct report *report, const struct report *other,
                           const char *colour) {
     struct sorted keys = sort_findings(other, by_key), texts = sort_findings(other, by_text);

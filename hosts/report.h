@@ -12,7 +12,7 @@ struct piece { const char *at; size_t size; };
 enum { DOMAIN_PART, CLOCK_PART, NAME_PART, KEY_PARTS };
 struct finding { struct piece whole, key[KEY_PARTS]; int is_left_out; };
 
-/* A report. Its findings stand between `head` and `tail`; where it has no place for findings, `head` is all of it. */
+/* A report. Its findings are between `head` and `tail`. If it has no place for findings, `head` is all of it. */
 struct report {
     char *text;
     size_t size;

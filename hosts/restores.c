@@ -1,7 +1,7 @@
-/* restores [COUNT [SEED]]: so many damaged images of clocks, each given to ptpm_clock_restore. An image, and the managers beside it,
-   lie in pages that can't be written, right before or right behind one that can't be read. What is refused leaves the clock that the
-   handle holds; what is restored has just that image, and is asked. No memory is kept. Prints what does not hold, how often each answer
-   came, and `restores: N passed, M failed`; its status is 1 if one failed. */
+/* restores [COUNT [SEED]]: this many damaged images of clocks, each given to ptpm_clock_restore. An image, and the managers
+   beside it, lie in pages that can't be written, right before or right after one that can't be read. What is refused leaves the
+   clock that the handle holds. What is restored has just that image, and is asked. No memory is kept. Prints what does not
+   hold, how often each answer came, and `restores: N passed, M failed`; its status is 1 if one failed. */
 #define _GNU_SOURCE
 #include "checking.h"
 #include "ptpm.h"

@@ -161,7 +161,7 @@ static int goes_with(const struct outgoing *one, const struct outgoing *other) {
     return one->answered == NULL && other->answered == NULL && one->message->size == other->message->size;
 }
 
-/* So many datagrams of one size to the group as one message, whose parts the kernel sends one by one (UDP_SEGMENT). */
+/* This many datagrams of one size to the group as one message, whose parts the kernel sends one by one (UDP_SEGMENT). */
 static void add_joined(struct batch *batch, const struct outgoing *const *outs, unsigned count) {
     struct control *control = &batch->controls[batch->count];
     uint16_t size = outs[0]->message->size;

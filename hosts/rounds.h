@@ -37,11 +37,11 @@ struct heard {
    round. */
 size_t hear_round(const struct port *port, int at, struct heard heard[ROUND]);
 
-/* The places of a turn's messages, PTPM_MOST_SENT of them; NULL if there are fewer, so that what is to go out has to go first. */
+/* The places of a turn's messages, PTPM_MOST_SENT of them. NULL if there are fewer: then what is to go out has to go first. */
 struct ptpm_sent *places_to_send(void);
 
-/* A message that is in the next place, or after others, is to go out at its port: to who sent what is answered, where that
-   came by unicast, or to the group. */
+/* A message that is in the next place, or after others, is to go out at its port. It goes to who sent what it answers, if that
+   came by unicast, and otherwise to the group. */
 void send_later(const struct ptpm_sent *message, const struct heard *answered);
 
 /* The same of a message for the peer at the Unix socket that sent what is answered. */
@@ -53,7 +53,7 @@ void use_places(size_t count);
 /* Sends what is to go out; how many messages were not taken. What a socket doesn't take at once is dropped. */
 unsigned long send_round(void);
 
-/* Nothing of it goes out; how many messages that are. */
+/* Drops what is to go out; how many messages that are. */
 unsigned long drop_round(void);
 
 #endif

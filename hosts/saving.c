@@ -26,7 +26,7 @@ _Noreturn static void end_with(int status) {
     exit(status);
 }
 
-/* Why the file can't be used, where `why` has more to tell than errno. */
+/* Why the file can't be used: what `why` says, or errno if it is NULL. */
 _Noreturn static void refuse_file(const char *why) {
     say("%s: %s", options->state, why != NULL ? why : strerror(errno));
     end_with(NOT_OPENED);
@@ -143,7 +143,7 @@ static void count_save(size_t size, unsigned long time) {
     if (options->is_told) print_line("saved: %zu octets in %lu us", size, time);
 }
 
-/* Whether it is saved for sure; if not, errno says why. */
+/* Saves the clock; whether it is saved for sure. If not, errno says why. */
 static enum replaced save(const struct ptpm_clock *clock) {
     size_t size;
     unsigned long begun = microseconds();
@@ -160,7 +160,8 @@ void save_at_start(struct ptpm_clock *clock) {
 
 void note_change(void) { is_unsaved = options->state != NULL; }
 
-/* What the store holds may be what was to be saved, and may be gone again with the power: then no message leaves before it is saved. */
+/* After a save in doubt the store holds what was to be saved, but may lose it with the power. So no message leaves before it is
+   saved. */
 int save_changes(struct ptpm_clock *clock) {
     size_t size;
     if (!is_unsaved) return 1;

@@ -1,5 +1,5 @@
-/* Which clocks answered in a collection, and what each of them lacks still. Strangers may answer without end: there is room for
-   so many clocks and answers, and what comes behind them is counted. */
+/* Which clocks answered in a collection, and what each of them still lacks. Strangers may answer without end. So there is room
+   for a number of clocks and answers, and what comes after that is counted. */
 #ifndef SEEN_H
 #define SEEN_H
 
@@ -16,10 +16,10 @@ struct seen_clock {
     uint8_t identity[8], domain;
     uint8_t answered;                   /* a bit for each of what is collected: an answer or a refusal came */
     uint8_t are_ports_refused;          /* by an error in place of a PORT_DATA_SET */
-    uint16_t port_count, ports;         /* numberPorts, 0 until it is told; how many of them gave a PORT_DATA_SET */
+    uint16_t port_count, ports;         /* numberPorts, 0 until it is known; how many of them gave a PORT_DATA_SET */
 };
 
-/* An answer: who gave it, to what, and its content, of which copies have the same sum. */
+/* An answer: who gave it, to what, and its content. Copies of it have the same sum. */
 struct seen_answer {
     const uint8_t *clock;
     uint8_t domain;
@@ -30,8 +30,8 @@ struct seen_answer {
     uint64_t sum;
 };
 
-/* What an answer is: the first of its clock, id and port; one that differs from that first; a copy, or one more that differs; one for
-   which there is no room. */
+/* What an answer is. It is the first of its clock, id and port; or one that differs from that first; or a copy, or one more
+   that differs. Or there is no room for it. */
 enum seen { FIRST_SEEN, DIFFERENT, SEEN_BEFORE, NO_PLACE };
 
 /* From now on no clock was seen. */

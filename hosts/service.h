@@ -1,15 +1,14 @@
-/* What is reported to the manager of services, if one started this program (sd_notify(3)): that it is ready, that it goes on, and
-   that it ends. */
+/* What is reported to the manager of services, if one started this program (sd_notify(3)): that it is ready, goes on, and ends. */
 #ifndef SERVICE_H
 #define SERVICE_H
 
 /* Finds out to whom it is reported, and how often; to nobody if no one asks for it. Comes before rights are dropped. */
 void open_service(void);
 
-/* Its sockets are open. */
+/* Reports that its sockets are open. */
 void tell_ready(void);
 
-/* It goes on: reported when half of the time has passed in which it has to be. */
+/* Reports that it goes on, when half of the time has passed in which it has to. */
 void tell_alive(long now);
 
 void tell_stopping(void);

@@ -59,7 +59,8 @@ static void start_at_number(struct session *session, const struct task *task, co
     }
 }
 
-/* The request that is under way, as a task of this run: it is sent in this run's way and domain, as often as this run's own. */
+/* Makes the request that is under way a task of this run. It is sent by this run's way and in its domain, as often as this
+   run's own. */
 static void read_earlier(struct task *earlier, const struct task *task, const struct session_image *image) {
     *earlier = *task;
     earlier->action = image->action;

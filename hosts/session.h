@@ -1,6 +1,6 @@
-/* A session of the library that goes on from one run of this program to the next. A file keeps it by its image: a request is there
-   before it is sent, and an answer is reported before the file has the session without the request. So what a run leaves that is
-   killed, or whose machine loses power, is a request that was answered and reported, or one that the next run finishes. */
+/* A session of the library that goes on from one run of this program to the next. A file keeps it by its image. A request is
+   there before it is sent. An answer is reported before the file has the session without the request. A run may be killed, or
+   its machine lose power. Its request was then answered and reported, or the next run finishes it. */
 #ifndef SESSION_H
 #define SESSION_H
 

@@ -67,7 +67,7 @@ static int lock_until(long end) {
     return at;
 }
 
-/* If no session is kept, as with a clock that is not there, no lock stays either. */
+/* If no session is kept, for example of a clock that is not there, no lock stays either. */
 static void leave_nothing(void) { leave_no_lock(&file); }
 
 /* The lock goes when the program ends. Its time is that of this turn. */

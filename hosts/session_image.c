@@ -1,7 +1,7 @@
 #include "session_image.h"
 #include <string.h>
 
-/* Where the members are, from the mark at the head on. Numbers of two octets have the higher one first. */
+/* The places of the members, from the mark at the head on. Numbers of two octets have the higher one first. */
 enum {
     MANAGER = 12, MANAGER_PORT = 20, TARGET = 22, PORTS = 30, FIRST = 31, HOPS = 33, IS_UNDER_WAY = 52, ACTION = 53, ID = 54,
     PORT = 56, SIZE = 58, OCTETS = 60,

@@ -12,7 +12,7 @@ enum site_option { LISTEN = 512, JSON, DRAW, MAX_OFFSET, MAX_DELAY, ONCE, WATCH 
 struct site_options {
     int is_collected, is_shown;                 /* `collect`; `status` */
     uint8_t first_domain, last_domain;
-    int is_every_domain;                        /* those that Announce messages tell, and 0 and 127 */
+    int is_every_domain;                        /* those in which Announce messages are heard, and 0 and 127 */
     long listen, watch;                         /* in milliseconds: for such messages, or -1 by default; between two looks, or 0 */
     int is_json, is_drawn, is_once;
     const char *max_offset, *max_delay;         /* as they are written, or NULL */
@@ -25,7 +25,7 @@ int take_site_option(struct site_options *options, int option, const char *value
 /* The domains of a word: a number, two with a hyphen, or `all`. Ends the program with status 2 if it is none. */
 void read_domains(struct site_options *options, const char *text);
 
-/* Refuses options that do not stand together, or not with what is asked. */
+/* Refuses options that exclude each other, or that what is asked does not take. */
 void judge_site_options(const struct site_options *options);
 
 #endif

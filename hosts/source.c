@@ -16,7 +16,7 @@
 enum { MOST_TEXT = 65536 };
 
 /* What has come in and is not taken yet: `size` octets from `first` on. How much of it has no empty line, and how much was the
-   latest text; whether its end has come; whether its head was let go. */
+   latest text. Whether its end has come, and whether its head was let go. */
 static char held[MOST_TEXT + 1];
 static size_t first, size, searched, taken;
 static int is_ended, is_too_long;
@@ -33,8 +33,8 @@ static ino_t file_read;         /* what was read last */
 
 static void complain(const char *what) { say_at_times("%s: %s", path, what); }
 
-/* Who owns a name in a folder, or the folder, may let the path lead anywhere: what is in another's file is read for nobody but
-   those who may read it. */
+/* Whoever owns a name in a folder, or the folder, may let the path lead anywhere. So another's file is read only if everybody
+   may read it. */
 static int may_choose(const struct stat *owned, const struct stat *file) {
     return owned->st_uid == 0 || owned->st_uid == geteuid() || owned->st_uid == file->st_uid;
 }

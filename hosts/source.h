@@ -8,14 +8,17 @@ int open_source(const char *path);
 /* Whether it is to be read although nothing was polled: a folder that was made anew, or a link, leads to another file by now. */
 int source_has_moved(void);
 
-/* Reads what has come in by now, without waiting, and answers what is to be polled from now on: -1 if a pipe was removed, and
-   the last program that wrote to it has closed it. */
+/* Reads what has come in by now, without waiting, and answers what is to be polled from now on. That is -1 if a pipe was
+   removed, and the last program that wrote to it has closed it. */
 int read_source(void);
 
-/* Whether that leaves a text to take, which is then at *text, with a zero after it, until the next call: of a file all that it
-   holds, at first and whenever a program that wrote to it has closed it, or another file has come into its place; of a pipe
-   what came in up to an empty line, or until the last program that wrote to it has closed it. What has 65,536 octets or more,
-   and a file that can't be read, is said on standard error, and is no text. */
+/* Whether that leaves a text to take. It is then at *text, with a zero after it, until the next call.
+
+   Of a file it is all that the file holds. It comes at first, and whenever a program that wrote to the file has closed it, or
+   another file has come into its place. Of a pipe it is what came in up to an empty line, or until the last program that wrote
+   to it has closed it.
+
+   A text of 65,536 octets or more, and a file that can't be read, is said on standard error, and is none. */
 int next_text(char **text);
 
 #endif

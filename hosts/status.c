@@ -21,7 +21,7 @@ enum { BEFORE_SECOND_LOOK = 2000, TIME_TEXT = 32 };
 /* `ptpm site` found something, or failed. */
 enum { FINDINGS = 1 };
 
-/* Where the domain and the clock are in a line of hexadecimal. */
+/* The places of the domain and of the clock in a line of hexadecimal. */
 enum { DOMAIN_IN_LINE = 8, CLOCK_IN_LINE = 40, LEAST_LINE = 56 };
 
 /* A look at the site: the answers as lines, and what they show. */
@@ -80,8 +80,8 @@ static int look_at_site(struct look *look, const struct task *task, const struct
     return look->status;
 }
 
-/* Looks at the site, and if it may be that a change goes through it, a second time: then only what holds twice is left of such
-   findings. */
+/* Looks at the site. If a change may be on its way through it, it looks a second time. Then of such findings only those are
+   left that both looks have. */
 static void look_twice(struct look *look, const struct task *task, struct domains *domains, struct look *earlier) {
     look_at_site(look, task, domains, earlier);
     if (stopped || task->site.is_once || look->status != FINDINGS || !has_passing_finding(&look->report)) return;

@@ -1,6 +1,6 @@
 /* stops: a clock, a session and a survey, each started, used, started anew in a live handle, refused there, started again and
-   stopped, many times. It shows nothing by itself: run in valgrind it tells whether anything was kept. Prints `stops: done`;
-   its status is 1 if a call doesn't answer as it has to. */
+   stopped, many times. It shows nothing by itself: in valgrind it shows whether anything was kept. Prints `stops: done`; its
+   status is 1 if a call doesn't answer as it has to. */
 #include "ptpm.h"
 #include <stdio.h>
 #include <stdlib.h>

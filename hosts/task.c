@@ -17,7 +17,7 @@ enum { WORD = 1, UDP = 256, TEXT, VERSION, GIVE_UP };
 
 enum { MOST_WORDS = 3, MOST_FIELD = 1418, NOT_NAMED = -1 };
 
-/* What holds where no option says otherwise. Each request to one clock alone is repeated for two seconds. */
+/* What holds if no option says otherwise. Each request to one clock alone is repeated for two seconds. */
 enum { HOPS = 1, ATTEMPTS = 30, SITE_HOPS = 7, SITE_ATTEMPTS = 10, LISTENED = 4000 };
 
 static const struct option options[] = {
@@ -37,7 +37,7 @@ static const struct option options[] = {
     { NULL, 0, NULL, 0 },
 };
 
-/* The words of the command line, and what options say of them that a later one may change. */
+/* The words of the command line, and what options say that a later option may change. */
 struct words {
     const char *at[MOST_WORDS + 1], *domain;
     int count, is_text, has_target, is_every_port;
@@ -54,7 +54,7 @@ static long number(const char *option, const char *text, long least, long most) 
 static void read_target(struct task *task, struct words *words, const char *text) {
     const char *rest = identity_at(text, task->settings.target);
     words->has_target = 1;
-    if (rest == NULL) refuse("--target %s: it takes aabbccfffeddee01 or aabbcc.fffe.ddee01, and -1 behind it for port 1", text);
+    if (rest == NULL) refuse("--target %s: it takes aabbccfffeddee01 or aabbcc.fffe.ddee01, and after it -1 for port 1", text);
     words->target_port = *rest == '\0' ? NOT_NAMED : port_behind(rest, 65535);
     if (*rest != '\0' && words->target_port < 0) refuse("--target %s: %s is no port", text, rest);
 }
@@ -149,16 +149,16 @@ static void read_verb(struct task *task, const char *verb) {
 /* A get of every port is a survey of one clock. It asks by nobody, since a clock numbers what its managers ask of it alone. */
 static void read_every_port(struct task *task, const struct words *words) {
     if (!words->is_every_port) return;
-    if (task->is_survey || task->action != PTPM_GET) refuse("--port all stands with get");
+    if (task->is_survey || task->action != PTPM_GET) refuse("--port all goes with get alone");
     if (task->has_manager || task->numbers != NULL) {
-        refuse("--port all asks by no manager: it stands without --manager and --numbers");
+        refuse("--port all asks by no manager: it takes no --manager and no --numbers");
     }
     task->is_survey = task->is_of_clock = 1;
 }
 
 static void read_id(struct task *task, const char *text) {
     long id = id_named(text);
-    if (id < 0) refuse("%s: it is no managementId of the list in ptpm-manage --help, and not four hexadecimal digits", text);
+    if (id < 0) refuse("%s: it is neither a managementId of the list in ptpm-manage --help nor four hexadecimal digits", text);
     task->id = (uint16_t)id;
 }
 
@@ -173,7 +173,7 @@ static void read_octets_of(struct task *task, const char *text) {
 static void read_value(struct task *task, const struct words *words) {
     const char *id = words->at[1], *text = words->count > 2 ? words->at[2] : NULL, *wanted;
     int is_set = !task->is_survey && task->action == PTPM_SET;
-    if (text == NULL && is_set && !has_no_member(task->id)) refuse("set %s: it takes a value behind it", id);
+    if (text == NULL && is_set && !has_no_member(task->id)) refuse("set %s: it takes a value after it", id);
     if (text == NULL) return;
     if (task->is_survey) refuse("%s %s%s: it takes no value", words->at[0], id, task->is_of_clock ? " of every port" : "");
     if (words->is_text) {
@@ -195,34 +195,34 @@ static void judge(const struct task *task, const struct words *words) {
         refuse("the way to the clock is missing: --interface NAME, --udp ADDRESS or --unix PATH");
     }
     if (task->path != NULL && (task->interface_count > 0 || task->address != NULL || task->is_six || task->is_ethernet)) {
-        refuse("--unix stands without --interface, --udp, --ipv6 and --ethernet");
+        refuse("--unix excludes --interface, --udp, --ipv6 and --ethernet");
     }
-    if (task->address != NULL && task->interface_count > 1) refuse("--udp stands with one --interface");
-    if (task->is_ethernet && (task->address != NULL || task->is_six)) refuse("--ethernet stands without --udp and --ipv6");
+    if (task->address != NULL && task->interface_count > 1) refuse("--udp takes one --interface at most");
+    if (task->is_ethernet && (task->address != NULL || task->is_six)) refuse("--ethernet excludes --udp and --ipv6");
     int asks_one = !task->is_survey || task->is_of_clock;
     if (!asks_one && words->has_target) refuse("%s asks every clock: it takes no --target", words->at[0]);
     if (asks_one && !words->has_target) refuse("--target is missing: the clock that is asked; survey asks every clock");
-    if (words->is_every_port && words->target_port >= 0) refuse("--port all and --target name ports apart");
+    if (words->is_every_port && words->target_port >= 0) refuse("--port all names every port, and --target names one");
     if (words->port >= 0 && words->target_port >= 0 && words->port != words->target_port) {
         refuse("--port %ld and --target name two ports", words->port);
     }
 }
 
-/* Whether who asks is the same in each run, so that a clock may have kept an answer of his. A GET to every clock it never keeps,
-   and a GET by nobody needs none; at a Unix socket clock 0 asks at another port each time. */
+/* Whether who asks is the same in each run, so that a clock may have kept an answer of his. It never keeps one to a GET to
+   every clock. A GET by nobody needs none. At a Unix socket clock 0 asks at another port each time. */
 static int is_by_one_manager(const struct task *task) {
     if (task->is_survey) return 0;
     return task->numbers != NULL || task->has_manager || (task->path == NULL && task->action != PTPM_GET);
 }
 
-/* The id that is asked, and its value; where every clock is asked for all six ids of a site there is none. */
+/* The id that is asked, and its value. There is none if every clock is asked for all six ids of a site. */
 static void read_asked(struct task *task, const struct words *words) {
     const char *verb = words->at[0];
     if (task->site.is_collected) {
         if (words->count > 1) refuse("%s %s: %s takes no managementId", verb, words->at[1], verb);
         if (task->has_manager) refuse("--manager: %s asks by no manager", verb);
         if (words->port >= 0 || words->is_text || task->is_in_octets || task->numbers != NULL) {
-            refuse("%s stands without --port, --text, --hexadecimal and --numbers", verb);
+            refuse("%s takes none of --port, --text, --hexadecimal and --numbers", verb);
         }
         return;
     }

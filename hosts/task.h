@@ -21,7 +21,7 @@ struct task {
     int has_manager;                            /* whether settings name the manager */
     int is_kept;                                /* by a manager who is the same in each run: a file keeps his session */
     int is_letting_go;                          /* what an earlier run asked without an answer is not finished */
-    const char *interfaces[MOST_INTERFACES];    /* the way: interfaces, of which `collect` and `status` alone may have several, */
+    const char *interfaces[MOST_INTERFACES];    /* the way: interfaces; `collect` and `status` alone may have several, */
     int interface_count;
     const char *address, *path;                 /* an address, with one of these or none, or a Unix socket */
     int is_six, is_ethernet;                    /* at an interface IPv6, or IEEE 802.3, in place of IPv4 */
@@ -35,7 +35,7 @@ struct task {
 /* Reads it from a command line. Ends the program with status 2 if it is none, and with 0 after --help and --version. */
 void read_task(struct task *task, int argc, char **argv);
 
-/* What is asked, as `set PRIORITY1` or `command DISABLE_PORT at port 2`. The text is there until the next call. */
+/* What is asked, such as `set PRIORITY1` or `command DISABLE_PORT at port 2`. The text is there until the next call. */
 const char *task_words(const struct task *task);
 
 #endif

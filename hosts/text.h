@@ -6,9 +6,9 @@
 #include <stdint.h>
 #include <stdio.h>
 
-/* Prints a text of UTF-8 so that it stays on its line and moves nothing on a terminal: a backslash, and each octet that is no
-   UTF-8 or belongs to a character that controls, formats or fills, as \x and two hexadecimal digits; and where the locale does not
-   read UTF-8 those of each character with an octet that could be taken there for a control character. */
+/* Prints a text of UTF-8 so that it stays on its line and moves nothing on a terminal. A backslash is printed as \x and two
+   hexadecimal digits. So is each octet that is no UTF-8, or of a character that controls, formats or fills. If the locale does
+   not read UTF-8, so are the octets of each character with one that could be taken there for a control character. */
 void print_text(FILE *to, const uint8_t *octets, size_t size);
 
 #endif

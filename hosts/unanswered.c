@@ -8,7 +8,7 @@
 #include "session_file.h"
 #include "way.h"
 
-/* Whether nobody is answered if the manager was not; then what the clock has is said. */
+/* Whether the clock answers nobody's GET, if it did not answer the manager; then what it has is said. */
 static int tell_value(const struct task *task) {
     static struct answer answer;
     struct ptpm_session session = { 0 };
@@ -35,19 +35,19 @@ static void tell_reason(const struct task *task, enum asked asked, uint16_t numb
         break;
     case EARLIER_REQUEST:
     case NUMBER:
-        complain("it dropped number %u of manager %s/%u, behind one of another file or of a copy of the manager, or each answer was "
+        complain("it dropped number %u of manager %s/%u, since another file or a copy of the manager is ahead, or each answer was "
                  "lost", number, manager, port);
-        complain("where it does so each time: once %s is removed, the next run begins a new session", session_path());
+        complain("if it does so each time: once %s is removed, the next run begins a new session", session_path());
         break;
     case FIRST_NUMBER:
-        complain("it answers no GET of manager %s/%u, under none of four numbers", manager, port);
+        complain("it answers no GET of manager %s/%u under any of four numbers", manager, port);
         break;
     }
 }
 
 /* What may be wrong if the clock answers nobody. */
 static void advise(const struct task *task) {
-    if (task->port > 1) complain("numberPorts of get DEFAULT_DATA_SET tells whether the clock has a port %u", task->port);
+    if (task->port > 1) complain("numberPorts of get DEFAULT_DATA_SET shows whether the clock has a port %u", task->port);
     if (task->path != NULL) return;
     if (task->port == 0) complain("a clock that answers only if its port is named, such as a ptpd, is asked with --port 1");
     complain("survey DEFAULT_DATA_SET shows which clocks are in that domain; --domain names another");

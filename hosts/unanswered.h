@@ -4,12 +4,12 @@
 
 #include "task.h"
 
-/* What was sent: the task's request; the request of an earlier run, which is the task here; or, before the task's, the question
-   whether the next number of a session is new, or which of a new session's is. */
+/* What was sent: the task's request; the request of an earlier run, which is the task here; or a question before the task's
+   request. It asks whether the next number of a session is new, or which number of a new session is. */
 enum asked { REQUEST, EARLIER_REQUEST, NUMBER, FIRST_NUMBER };
 
-/* Says what is known of it, after this many messages of it went out under the number: of these nobody knows whether they came in. If
-   a clock may have dropped them it is read by nobody, and what it has is said. The program's status. */
+/* Says what is known of it, after this many messages of it went out under the number. Nobody knows which of them came in. If a
+   clock may have dropped them, nobody reads its value, and what it has is said. The program's status. */
 int no_answer(const struct task *task, enum asked asked, uint16_t number, long sent);
 
 #endif

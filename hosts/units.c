@@ -1,5 +1,6 @@
-/* Tests of what the hosts decide without a socket: token buckets and messages that were passed on, by the library, messages in
-   frames, and what the image of a session says. Prints what does not hold, and `units: N passed, M failed`. */
+/* Tests of what the hosts decide without a socket. They try the library's token buckets, and its table of messages that were
+   passed on. They try where a message is in a frame, and what the image of a session says. Prints what does not hold, and
+   `units: N passed, M failed`. */
 #include "checking.h"
 #include "ethernet.h"
 #include "ptpm.h"
@@ -61,7 +62,7 @@ static void passing_on(void) {
     message[49] = 1;
     message[51] = 2;
     check(is_first(&table, message, NOW), "a message that was not passed on");
-    check(!is_first(&table, message, NOW) && !is_first(&table, message, NOW + 999), "the same in the second behind it");
+    check(!is_first(&table, message, NOW) && !is_first(&table, message, NOW + 999), "the same in the second after it");
     for (size_t i = 0; i < sizeof fields / sizeof *fields; i++) {
         message[fields[i].octet] ^= 1;
         check(is_first(&table, message, NOW) && !is_first(&table, message, NOW), fields[i].name);
@@ -69,7 +70,7 @@ static void passing_on(void) {
     }
     for (size_t i = 0; i < sizeof others / sizeof *others; i++) {
         message[others[i]] ^= 1;
-        check(!is_first(&table, message, NOW), "an octet that tells no message from another");
+        check(!is_first(&table, message, NOW), "the same message with another octet that is not compared");
         message[others[i]] ^= 1;
     }
     check(is_first(&table, message, NOW + 1000) && !is_first(&table, message, NOW + 1999), "a second later it is passed on again");
@@ -139,11 +140,11 @@ static void frames(void) {
     join_frame(parts, written, frame, 45);
     check(parts[0].iov_len == 14 && parts[1].iov_len == 45 && parts[2].iov_len == 1, "a frame has 60 octets at least");
     join_frame(parts, written, frame, 46);
-    check(parts[1].iov_base == frame && parts[1].iov_len == 46 && parts[2].iov_len == 0, "and no octet behind a message that is longer");
+    check(parts[1].iov_base == frame && parts[1].iov_len == 46 && parts[2].iov_len == 0, "and no octet after a message that is longer");
 }
 
-/* The session of manager 0011223344556677/1 with clock aabbccfffeddee01 of two ports, from number 7 on: a GET of PRIORITY1 is under
-   way; and with a COMMAND of DISABLE_PORT at port 2 in its place. */
+/* The session of manager 0011223344556677/1 with clock aabbccfffeddee01 of two ports, from number 7 on. A GET of PRIORITY1 is
+   under way, and then a COMMAND of DISABLE_PORT at port 2 in its place. */
 static void images(void) {
     uint8_t octets[] = {
         'p', 't', 'p', 'm', 2, 1, 0, 0, 0, 0, 0, 48, 0x00, 0x11, 0x22, 0x33, 0x44, 0x55, 0x66, 0x77, 0, 1,
@@ -160,7 +161,7 @@ static void images(void) {
     image = read_image(octets, sizeof octets);
     check(image.action == 3 && image.id == 0x200e && image.port == 2, "a COMMAND at a port");
     check(image.size == 2 && memcmp(image.octets, "\xa5\x5a", 2) == 0, "and its dataField");
-    check(!read_image(octets, size).is_under_way, "a request of which octets are missing is none");
+    check(!read_image(octets, size).is_under_way, "a request that lacks octets is none");
     octets[52] = 0;
     check(!read_image(octets, 53).is_under_way && read_image(octets, 53).first == 7, "a session at rest");
     check(read_image(octets, 52).first == 0, "fewer octets are no session");

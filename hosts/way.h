@@ -6,9 +6,9 @@
 #include <stddef.h>
 #include <stdint.h>
 
-/* Finds the way that the task names, and if the task names no manager, makes the way's own the manager of its settings: over
-   UDP and Ethernet the interface's hardware address with ff and fe in its middle, at a Unix socket clock 0, as pmc; at port 1, or
-   if no numbers are kept at a port of this process. Ends the program with status 2 if there is no way. */
+/* Finds the way that the task names. If the task names no manager, its settings get the way's own. Over UDP and Ethernet that
+   is the interface's hardware address with ff and fe in its middle. At a Unix socket it is clock 0, like that of pmc. Its port
+   is 1, or, if no numbers are kept, one of this process. Ends the program with status 2 if there is no way. */
 void find_way(struct task *task);
 
 /* Opens it. Ends the program with status 2 if it can't be opened. */
@@ -26,11 +26,11 @@ const char *way_name(void);
 /* What became of a message: of a request NONE_LEFT, if its attempts are used. */
 enum sending { OUT, NO_ROOM, NO_WAY, NONE_LEFT };
 
-/* Hands a message to the socket, and waits for no room there. Where it answers NO_WAY errno says why. */
+/* Hands a message to the socket, and waits for no room there. If it answers NO_WAY, errno says why. */
 enum sending send_out(const uint8_t *octets, size_t size);
 
-/* The next message that comes in before a time, which stays until the next call; octets may follow it. NULL if none does,
-   or a signal asks the program to end. */
+/* The next message that comes in before a time. It stays until the next call, and octets may follow it. NULL if none does, or a
+   signal asks the program to end. */
 const uint8_t *hear(size_t *size, long end);
 
 #endif

@@ -14,7 +14,7 @@ _SONAME = "libptpm.so.0"
 
 
 def _path() -> str:
-    """Where the library is: what PTPM_LIBRARY names, that of the repository that this file is of, or the loader's."""
+    """The path of the library: what PTPM_LIBRARY names, that of this file's repository, or the loader's."""
     named = os.environ.get("PTPM_LIBRARY")
     if named:
         return named
@@ -56,8 +56,8 @@ def name_by(call: Callable[..., int], number: int) -> str:
 
 
 class Handle:
-    """What owns a handle of the library: all zeros before its first call, one live copy, and one thread at a time in a call with
-    it."""
+    """What owns a handle of the library. It is all zeros before its first call, and has one live copy. One thread at a time is in
+    a call with it."""
 
     def __init__(self, kind: Type[ctypes.Structure], stop: Callable[..., None]) -> None:
         self._handle = kind()

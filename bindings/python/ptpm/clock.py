@@ -59,9 +59,9 @@ class Clock(Handle):
 
     @classmethod
     def restore(cls, identity: IdentityLike, ports: int, managers: Sequence[Manager], image: bytes) -> Tuple[Clock, int]:
-        """The clock of an image, which has this identity and so many ports, and how many of its managers' latest requests were let
+        """The clock of an image, which has this identity and this number of ports. And how many managers' latest requests were let
         go, since these managers are not among those that are given. Managers and their rights are those that are given; all else is
-        that of the image. What is refused is no reason to start the clock anew: it would then take requests for new ones that it
+        that of the image. What is refused is no reason to start the clock anew. It would then take requests for new ones that it
         has carried out."""
         clock = cls.__new__(cls)
         clock._begin()
@@ -87,8 +87,8 @@ class Clock(Handle):
         self.close()
 
     def handle(self, port: int, octets: bytes) -> Handled:
-        """Judges a datagram that came in at a port, counted from 1, carries its request out, and makes what is to be sent: the port
-        and the octets of each message."""
+        """Judges a datagram that came in at a port, counted from 1, and carries its request out. What is to be sent is the port and
+        the octets of each message."""
         count = ctypes.c_size_t()
         changed = header.ptpm_changed()
         datagram = bytes(octets)

@@ -1,4 +1,4 @@
-"""The data sets of a clock (IEEE 1588-2019, 8.2 and 15.5.3), as `ptpm site --json` has them. TimeIntervals are nanoseconds."""
+"""The data sets of a clock (IEEE 1588-2019, 8.2 and 15.5.3), in the form of `ptpm site --json`. TimeIntervals are nanoseconds."""
 
 from __future__ import annotations
 

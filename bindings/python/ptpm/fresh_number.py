@@ -1,5 +1,5 @@
 """A number that is new to a clock. What is asked under a number that was used before is answered by what the clock kept, or not
-at all. So a session first asks, under its number, a GET with octets that it draws: they are part of what makes a repeat, and the
+at all. So a session first asks, under its number, a GET with octets that it draws. They are part of what makes a repeat, and the
 clock ignores them otherwise. It is answered if the number is new, and never by an answer that was kept."""
 
 from __future__ import annotations
@@ -47,9 +47,9 @@ class Question:
 
 
 def _what(question: Question) -> Tuple[int, int]:
-    """What is asked, and of how many octets: DEFAULT_DATA_SET, and for an id of a port PORT_DATA_SET, since some clocks answer only
-    if the port is named. A GET with as many octets as the data set has is taken by each clock, also by one that looks at how
-    many they are."""
+    """What is asked, and of how many octets. It is DEFAULT_DATA_SET, and for an id of a port PORT_DATA_SET: some clocks answer
+    only if the port is named. A GET with as many octets as the data set has is taken by each clock, also by one that looks at
+    their number."""
     probe = Requests(question.settings)
     try:
         probe.begin(Action.GET, question.id)
@@ -104,8 +104,8 @@ def _let_in(way: Transport, wait: float) -> None:
 
 
 def _of_four(question: Question, way: Transport) -> Tuple[_Finding, int]:
-    """A number of four that is new: the one that was tried last. The first is drawn, since an answer to an earlier session, and
-    one to a session of the same manager beside this one, would count as one to this if it has the same number."""
+    """A number of four that is new: the one that was tried last. The first is drawn. Otherwise it might be that of an earlier
+    session, or of one of the same manager beside this one. An answer to that one would then count as one to this."""
     first = draw()
     _let_in(way, question.wait)
     for k in range(_NUMBERS):

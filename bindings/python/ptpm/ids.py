@@ -61,7 +61,7 @@ def id_of(named: IdLike) -> int:
         return number
     if _NUMBER.fullmatch(named):
         return int(named, 16)
-    raise ValueError(f"{named!r} is no managementId of this profile, and not four hexadecimal digits")
+    raise ValueError(f"{named!r} is neither a managementId of this profile nor four hexadecimal digits")
 
 
 def id_name(number: int) -> str:

@@ -17,7 +17,7 @@ MOST_TEXT = 128
 
 
 class _Kind(Enum):
-    """How a member stands in its octets, and how it is printed."""
+    """How a member is written in its octets, and how it is printed."""
 
     UNSIGNED = auto()
     HEXADECIMAL = auto()

@@ -51,8 +51,8 @@ class SessionSettings:
 
 
 class Requests(Handle):
-    """One request at a time to one clock. Whoever uses these calls by themselves sees to the numbers: what is asked under one
-    that was used before is answered by what the clock kept."""
+    """One request at a time to one clock. Whoever uses these calls by themselves sees to the numbers. What is asked under one that
+    was used before is answered by what the clock kept."""
 
     def __init__(self, settings: SessionSettings) -> None:
         super().__init__(header.ptpm_session, library.ptpm_session_stop)
@@ -71,8 +71,8 @@ class Requests(Handle):
         done(self._call(library.ptpm_session_begin, Action(action), id_of(named), port_number(port), octets, len(octets)))
 
     def begin_at(self, action: int, named: IdLike, port: int, data: bytes = b"") -> None:
-        """Does what `begin` does at the port that is named, whatever the id. Some clocks answer for an id of the clock too only if
-        one of their ports is named; any port of the clock may answer for such an id."""
+        """Does what `begin` does at the port that is named, whatever the id. Some clocks answer only if one of their
+        ports is named, for an id of the clock too. Any port of the clock may answer for such an id."""
         octets = bytes(data)
         words = (Action(action), id_of(named), port_number(port), octets, len(octets))
         done(self._call(library.ptpm_session_begin_at, *words))
@@ -148,7 +148,7 @@ class Requests(Handle):
 
 
 def begin_request(session: Requests, action: int, named: IdLike, data: bytes, port: int) -> None:
-    """Begins a request at the port that is named, for an id of the clock too; if none is, such an id is asked of every port."""
+    """Begins a request at the port that is named, for an id of the clock too. If none is, such an id is asked of every port."""
     if port in (0, _EVERY_PORT):
         session.begin(action, named, data, port)
     else:

@@ -24,14 +24,14 @@ from .transport import Transport
 class Session(Requests):
     """One request at a time to one clock, which carries it out once, however often it is sent.
 
-    `ask` sends a request until it is answered, and reports nothing that the clock had kept of an earlier session: it first finds
+    `ask` sends a request until it is answered, and reports nothing that the clock had kept of an earlier session. It first finds
     that its number is new. With a file the next session goes on from this one. A request is in the file before it is sent. If it
     had no answer, the next session finishes it first, and has what came of it in `earlier`.
     """
 
     def __init__(self, settings: SessionSettings, file: Optional[SessionFile] = None, *, wait: float = 3.0) -> None:
-        """`wait` is how long a session without a number waits before it asks, in seconds, until no copy of an earlier one is on
-        its way."""
+        """`wait` is how many seconds a session without a number waits before it asks, until no copy of an earlier one is on its
+        way."""
         octets = None if file is None else file.octets
         self._file = file
         self._wait = wait
@@ -86,7 +86,7 @@ class Session(Requests):
 
     def let_go(self) -> None:
         """Goes on at the next number, without the request that has no answer. Once the clock has answered a later one, it was
-        carried out, or never will be. It is refused if 32,767 in a row had no answer (OUT_OF_REACH)."""
+        carried out, or never will be. It is refused if 32,767 one after the other had no answer (OUT_OF_REACH)."""
         self.give_up()
         self.is_under_way = False
 

@@ -119,9 +119,9 @@ def site(
 
     The way is one or up to eight `interfaces` (UDP over IPv4, or `ipv6`, or `ethernet`), an address (`udp`), or a socket (`unix`). Or
     `lines` are answers that were collected before, a datagram in hexadecimal each. `domains` is one, a range such as "0-7", or "all".
-    `timeout` is how many seconds a clock has for an answer, `listen` how many are listened for Announce messages, and `limit` how
-    many a collection may take. An offset or a delay above so many nanoseconds is a finding (`max_offset`, `max_delay`). What is None
-    is the programs'. Like `ptpm-manage status` it looks again after two seconds if a finding may pass, unless `once` is set.
+    In seconds, `timeout` is how long a clock has for an answer, and `listen` how long Announce messages are listened for. `limit`
+    is how long a collection may take. An offset or a delay above `max_offset` or `max_delay`, in nanoseconds, is a finding. What is
+    None is the programs'. Like `ptpm-manage status` it looks again after two seconds if a finding may pass, unless `once` is set.
 
     A SiteError has the program's words; its status is 3 if no clock answered."""
     limits = _words((("--max-offset", max_offset), ("--max-delay", max_delay)))

@@ -30,8 +30,8 @@ def _parser() -> argparse.ArgumentParser:
     add("-a", "--attempts", type=int, help="how often a clock is asked for what it lacks")
     add("-t", "--timeout", type=int, help="milliseconds for each answer")
     add("--listen", type=int, help="seconds for Announce messages, with -d all")
-    add("--max-offset", type=int, metavar="NS", help="an offset above so many nanoseconds is a finding")
-    add("--max-delay", type=int, metavar="NS", help="a delay above so many nanoseconds is a finding")
+    add("--max-offset", type=int, metavar="NS", help="an offset above this many nanoseconds is a finding")
+    add("--max-delay", type=int, metavar="NS", help="a delay above this many nanoseconds is a finding")
     add("--once", action="store_true", help="no second look")
     return parser
 

@@ -64,8 +64,8 @@ class SiteClock:
 
 @dataclass(frozen=True)
 class Domain:
-    """A domain: its clocks by identity, and the same as a tree. `roots` are the clocks at its left: those that are their own
-    grandmasters, the least of each loop, and those that did not say whom they follow. `lost` are those that follow a port of a
+    """A domain: its clocks by identity, and the same as a tree. `roots` are the clocks at its left. They are their own
+    grandmasters, or the least of a loop, or did not say whom they follow. `lost` are those that follow a port of a
     clock that did not answer."""
 
     number: int

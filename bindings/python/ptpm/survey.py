@@ -49,7 +49,7 @@ class Survey(Handle):
     """What a survey asks, and its answers: the first of each port, of 512 ports at most.
 
     With a target every port of that clock is asked, and no other clock answers. A clock takes such a GET of one of its managers for
-    a numbered request, as of a session. So the manager is none of them then, for example another port of the same identity.
+    a numbered request, like one of a session. So the manager is none of them then, for example another port of the same identity.
     """
 
     def __init__(self, settings: SurveySettings, target: Optional[IdentityLike] = None) -> None:

@@ -1,5 +1,5 @@
-"""Ways to clocks, over sockets of the standard library: UDP at an interface (IEEE 1588-2019, annexes C and D), and a Unix socket
-of this machine, as that of ptp4l or of ptpm-clock."""
+"""Ways to clocks, over sockets of the standard library. They are UDP at an interface (IEEE 1588-2019, annexes C and D), and a Unix
+socket of this machine, for example that of ptp4l."""
 
 from __future__ import annotations
 
@@ -153,7 +153,7 @@ def _opened(interface: str, family: socket.AddressFamily) -> socket.socket:
 
 class UnixTransport(Transport):
     """The Unix socket of a clock on this machine. Its own socket is beside it meanwhile: the path, a dot, and the number of the
-    process, with another number after it if that is taken."""
+    process. Another number follows if that name is taken."""
 
     is_local = True
 

@@ -91,8 +91,8 @@ impl Clock {
         Ok(clock)
     }
 
-    /// Starts the clock of an image, which has this identity and so many ports, and says how many of its managers' latest requests
-    /// were let go, since these managers are not among those that are given. Managers and their rights are those that are given; all
+    /// Starts the clock of an image, which has this identity and this number of ports. Says how many managers' latest requests were
+    /// let go, since these managers are not among those that are given. Managers and their rights are those that are given; all
     /// else is that of the image.
     ///
     /// # Errors

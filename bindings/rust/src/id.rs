@@ -19,14 +19,14 @@ use core::str::FromStr;
 #[repr(transparent)]
 pub struct ManagementId(pub u16);
 
-/// A text is no managementId.
+/// A text that is no managementId.
 #[derive(Clone, Copy, Debug, PartialEq, Eq)]
 #[non_exhaustive]
 pub struct UnknownId;
 
 impl fmt::Display for UnknownId {
     fn fmt(&self, to: &mut fmt::Formatter<'_>) -> fmt::Result {
-        to.write_str("it is no managementId of this profile, and not four hexadecimal digits")
+        to.write_str("it is neither a managementId of this profile nor four hexadecimal digits")
     }
 }
 

@@ -41,8 +41,8 @@
 //!
 //! # Where the library comes from
 //!
-//! `build.rs` puts it together from the assembly in `dist/` of the repository, by the target's C compiler, or links the `libptpm.a`
-//! in the folder that the environment's `PTPM_LIB_DIR` names.
+//! `build.rs` puts it together from the assembly in `dist/` of the repository, by the target's C compiler. If `PTPM_LIB_DIR` of the
+//! environment names a folder, it links the `libptpm.a` there.
 #![no_std]
 
 extern crate alloc;

@@ -23,8 +23,8 @@ pub enum Action {
 }
 
 /// One manager, the clock that it manages, and how its requests are numbered and sent. A clock takes a request for new if its
-/// number is up to 32,767 ahead of the latest that it took from this manager: a manager that starts again goes on from the number
-/// after the last that it began.
+/// number is up to 32,767 ahead of the latest that it took from this manager. So a manager that starts again goes on from the
+/// number after the last that it began.
 #[derive(Clone, Copy, Debug, PartialEq, Eq)]
 pub struct SessionSettings {
     /// The manager; its clock is not all ones.
@@ -161,8 +161,8 @@ impl Session {
         done(unsafe { sys::ptpm_session_begin(&mut self.handle, action as u8, id.0, port, data.as_ptr(), data.len()) })
     }
 
-    /// Does what [`Session::begin`] does at the port that is named, whatever the id. Some clocks answer for an id of the clock too
-    /// only if one of their ports is named; any port of the clock may answer for such an id.
+    /// Does what [`Session::begin`] does at the port that is named, whatever the id. Some clocks answer only if one of their
+    /// ports is named, for an id of the clock too. Any port of the clock may answer for such an id.
     ///
     /// # Errors
     ///

@@ -87,8 +87,8 @@ impl Survey {
     }
 
     /// Starts a survey of one clock, without answers: every port of it is asked, and no other clock answers. A clock takes such a
-    /// GET of one of its managers for a numbered request, as of a session. So the manager here is none of them, for example another
-    /// port of the same identity.
+    /// GET of one of its managers for a numbered request, like one of a session. So the manager here is none of them, for example
+    /// another port of the same identity.
     ///
     /// # Errors
     ///

@@ -365,7 +365,7 @@ extern "C" {
     ) -> ptpm_parsed;
 }
 
-/// Tells whether a call that answered so was refused.
+/// Says whether a call with this answer was refused.
 #[inline]
 pub const fn ptpm_is_refusal(answer: u32) -> bool {
     answer >= 32
