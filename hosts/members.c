@@ -2,6 +2,7 @@
 #include "members.h"
 #include "common.h"
 #include "identity.h"
+#include "interval.h"
 #include "names.h"
 #include "text.h"
 #include <stdio.h>
@@ -104,17 +105,6 @@ static uint64_t number_at(const uint8_t *octets, size_t size) {
 static int64_t signed_at(const uint8_t *octets, size_t size) {
     uint64_t number = number_at(octets, size), sign = (uint64_t)1 << (8 * size - 1);
     return (int64_t)((number ^ sign) - sign);
-}
-
-/* A TimeInterval, in nanoseconds times 2^16, as nanoseconds with all digits of their fraction. */
-static void print_interval(FILE *to, int64_t interval) {
-    uint64_t size = interval < 0 ? -(uint64_t)interval : (uint64_t)interval, fraction = size & 0xffff;
-    fprintf(to, "%s%llu.", interval < 0 ? "-" : "", (unsigned long long)(size >> 16));
-    do {
-        fraction *= 10;
-        putc('0' + (int)(fraction >> 16), to);
-        fraction &= 0xffff;
-    } while (fraction != 0);
 }
 
 static void print_state(FILE *to, uint8_t state) {
