@@ -160,7 +160,7 @@ void print_octets(FILE *to, const char *lead, const uint8_t *octets, size_t size
     putc('\n', to);
 }
 
-/* The members of a dataField; NULL if it is empty, or its id's members are not known, or its length is another one than the id's. */
+/* The members of a dataField; NULL if it is empty, its id's members are not known, or its length is not the id's. */
 static const struct field *field_in(uint16_t id, const uint8_t *octets, size_t size) {
     const struct field *field = field_of(id);
     size_t wanted = field == NULL || size == 0 ? 0 : field->size != 0 ? field->size : (size_t)(octets[0] + 2) / 2 * 2;

@@ -15,8 +15,8 @@ enum kind { UNSIGNED, SIGNED, INTERVAL, FLAG, IDENTITY, STATE };
 
 enum { MOST_WORDS = 5, NO_FLAG = 0xffff, INTERVAL_TEXT = 64 };
 
-/* A member of a struct: its name there, and the standard's, by which ptpm-manage prints it; its place, and the flag that says that it
-   is given. */
+/* A member of a struct: its name there, and the standard's, by which ptpm-manage prints it; its place, and the flag that says
+   that it is given. */
 struct member { const char *name, *printed; size_t at, size, flag; enum kind kind; };
 
 #define PLACE(what, name) offsetof(struct what, name), sizeof ((struct what *)0)->name
@@ -222,7 +222,9 @@ static int take_printed(struct observation *observation, char **words, size_t co
     int is_port = strcmp(name, "portIdentity") == 0, is_parent = strcmp(name, "parentPortIdentity") == 0;
     int place = place_of(members_of_port, name);
     if (place >= 0 && strcmp(members_of_port[place].name, name) == 0) place = -1;
-    if (!is_port && !is_parent && place < 0 && !is_passed_over(name)) return wrong("%s: no such member of a clock is observed", name);
+    if (!is_port && !is_parent && place < 0 && !is_passed_over(name)) {
+        return wrong("%s: no such member of a clock is observed", name);
+    }
     if (count != 2) return wrong("%s: it takes one value", name);
     if (is_port) return take_port_identity(observation, words[1]);
     if (is_parent) return take_parent_port(observation, words[1]);

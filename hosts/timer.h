@@ -1,5 +1,5 @@
-/* The time at which ptpm-clock wakes by itself, as something to poll. A time-out of each wait would cost a timer of the kernel's for
-   each datagram. */
+/* The time at which ptpm-clock wakes by itself, as something to poll. A time-out of each wait would cost a timer of the kernel's
+   for each datagram. */
 #ifndef TIMER_H
 #define TIMER_H
 
