@@ -155,7 +155,7 @@ static int put_identity(const char *name, const char *text, uint8_t *at) {
     uint8_t identity[8];
     const char *rest = identity_at(text, identity);
     if (rest == NULL || *rest != '\0') {
-        return wrong("%s %s: it takes a clockIdentity, as aabbccfffeddee01 or aabbcc.fffe.ddee01", name, text);
+        return wrong("%s %s: it takes a clockIdentity, such as aabbccfffeddee01 or aabbcc.fffe.ddee01", name, text);
     }
     memcpy(at, identity, sizeof identity);
     return 1;
@@ -210,7 +210,7 @@ static int take_port_identity(struct observation *observation, const char *text)
 
 static int take_parent_port(struct observation *observation, const char *text) {
     long port = read_port_identity(text, observation->clock.parent_port_clock);
-    if (port < 0) return wrong("parentPortIdentity %s: it takes a clockIdentity and a port, as aabbccfffeddee01/1", text);
+    if (port < 0) return wrong("parentPortIdentity %s: it takes a clockIdentity and a port, such as aabbccfffeddee01/1", text);
     observation->clock.parent_port_number = (uint16_t)port;
     observation->grandmaster |= 1u << PARENT_PORT_CLOCK | 1u << PARENT_PORT_NUMBER;
     return 1;
