@@ -10,7 +10,7 @@
 #include <string.h>
 #include <time.h>
 
-enum { NUMBERS = 65536, MESSAGE = 54, TARGET = 34, NUMBER = 30, MOST_TIME = 1000000 };
+enum { NUMBERS = 65536, MESSAGE = 54, SOURCE = 20, TARGET = 34, NUMBER = 30, MOST_TIME = 1000000, IDENTITY = 8 };
 
 const char program[] = "flood";
 
@@ -48,11 +48,16 @@ static uint16_t ask(void) {
     return number;
 }
 
+static int is_answer(const uint8_t *octets, ssize_t size) {
+    return size >= MESSAGE && memcmp(octets + SOURCE, request + TARGET, IDENTITY) == 0
+           && memcmp(octets + TARGET, request + SOURCE, IDENTITY) == 0;
+}
+
 /* Whether something came in, of which an answer counts. */
 static int take_answer(int flags) {
     uint8_t octets[2048];
     ssize_t size = recv(at, octets, sizeof octets, flags);
-    if (size < MESSAGE || memcmp(octets + 20, request + TARGET, 8) != 0) return size >= 0;
+    if (!is_answer(octets, size)) return size >= 0;
     long *asked = &sent_at[octets[NUMBER] << 8 | octets[NUMBER + 1]];
     if (*asked == 0) return 1;
     long took = (nanoseconds() - *asked) / 1000;
