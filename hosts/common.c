@@ -80,11 +80,13 @@ int wait_for(struct pollfd *waits, nfds_t count, long most) {
     return found;
 }
 
-long milliseconds(void) {
+long nanoseconds(void) {
     struct timespec now;
     clock_gettime(CLOCK_MONOTONIC, &now);
-    return now.tv_sec * 1000 + now.tv_nsec / 1000000;
+    return now.tv_sec * 1000000000 + now.tv_nsec;
 }
+
+long milliseconds(void) { return nanoseconds() / 1000000; }
 
 socklen_t group(struct sockaddr_storage *to, int is_six) {
     if (is_six) {

@@ -8,7 +8,6 @@
 #include <stdio.h>
 #include <stdlib.h>
 #include <string.h>
-#include <time.h>
 
 enum { NUMBERS = 65536, MESSAGE = 54, SOURCE = 20, TARGET = 34, NUMBER = 30, MOST_TIME = 1000000, IDENTITY = 8 };
 
@@ -25,12 +24,6 @@ static unsigned long answered, times[MOST_TIME + 1];         /* how many answers
 _Noreturn void usage(void) {
     fputs("flood INTERFACE IDENTITY RATE SECONDS\n", stderr);
     exit(2);
-}
-
-static long nanoseconds(void) {
-    struct timespec now;
-    clock_gettime(CLOCK_MONOTONIC, &now);
-    return now.tv_sec * 1000000000 + now.tv_nsec;
 }
 
 static int at;

@@ -7,7 +7,6 @@
 #include <stdio.h>
 #include <stdlib.h>
 #include <string.h>
-#include <time.h>
 
 enum kind { JUNK, ANNOUNCE, FOREIGN, ALL, KINDS };
 static const char *const kinds[KINDS] = { "junk", "announce", "foreign", "all" };
@@ -32,12 +31,6 @@ static const struct message messages[KINDS] = {
 _Noreturn void usage(void) {
     fputs("noise INTERFACE junk|announce|foreign|all RATE SECONDS\n", stderr);
     exit(2);
-}
-
-static long nanoseconds(void) {
-    struct timespec now;
-    clock_gettime(CLOCK_MONOTONIC, &now);
-    return now.tv_sec * 1000000000 + now.tv_nsec;
 }
 
 /* The n-th message of a kind: another number, and of a GET for one clock another clock each time. */
