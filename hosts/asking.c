@@ -54,10 +54,18 @@ int send_until_answered(struct session *session, const struct task *task, long *
     }
 }
 
+/* Prints the answer of the clock that is asked. If no port of it is named, any of them may have answered. */
+static void print_own_answer(const struct task *task) {
+    struct ptpm_source source = { .port = task->port };
+    memcpy(source.clock, task->settings.target, sizeof source.clock);
+    if (task->is_json) print_answer_as_json(stdout, task, &source, &answer);
+    else print_answer(stdout, task, "", &answer);
+}
+
 /* Prints what the answer says, before the session is kept without the request. */
 static int print_report(struct session *session, const struct task *task) {
     take_report(&session->handle, &answer);
-    print_answer(stdout, task, "", &answer);
+    print_own_answer(task);
     if (fflush(stdout)) return NOT_WRITTEN;
     if (answer.told == PTPM_REFUSED && answer.error == NOT_SUPPORTED && task->action != PTPM_GET) {
         complain("the clock lacks that id, or takes no change of it from this manager: a ptp4l takes some at its Unix socket alone");
@@ -129,7 +137,8 @@ static void print_answers(const struct task *task) {
         answer.told = ptpm_survey_answer(&survey, place, &source, answer.octets, sizeof answer.octets, &answer.size, &answer.error);
         write_identity(clock, source.clock);
         snprintf(lead, sizeof lead, "%s/%u ", clock, source.port);
-        print_answer(stdout, task, lead, &answer);
+        if (task->is_json) print_answer_as_json(stdout, task, &source, &answer);
+        else print_answer(stdout, task, lead, &answer);
     }
 }
 

@@ -16,6 +16,7 @@
 #include "service.h"
 #include "signals.h"
 #include "source.h"
+#include "timer.h"
 #include <errno.h>
 #include <sys/epoll.h>
 
@@ -24,7 +25,7 @@ enum { SECOND = 1000 };
 const char program[] = "ptpm-clock";
 
 static struct options options;
-static int unix_socket = -1, source = -1, signals, links;
+static int unix_socket = -1, source = -1, signals, links, timer;
 
 static void observe_all(void) {
     source = read_source();
@@ -32,7 +33,7 @@ static void observe_all(void) {
 }
 
 /* What is polled. The ports come first. */
-enum { UNIX_SOCKET = PORTS, SOURCE, SIGNALS, LINKS, WAITS };
+enum { UNIX_SOCKET = PORTS, SOURCE, SIGNALS, LINKS, TIMER, WAITS };
 
 static int polled = -1;
 static unsigned long polled_openings[PORTS];    /* which socket of each port is polled */
@@ -49,6 +50,7 @@ static void wait_at_all(void) {
     wait_at(source, SOURCE);
     wait_at(signals, SIGNALS);
     wait_at(links, LINKS);
+    wait_at(timer, TIMER);
 }
 
 /* A socket that is closed is not polled any more. */
@@ -71,6 +73,7 @@ static int take_event(uint32_t what) {
         break;
     case SIGNALS: asked = read_signal(signals); break;
     case LINKS: hear_of_links(); break;
+    case TIMER: read_timer(); break;
     default:
         if (ports[what].socket >= 0) take_round(&ports[what], ports[what].socket);
     }
@@ -103,7 +106,8 @@ static void run(long end) {
         wait_at_ports();
         look_around(now);
         long most = end != 0 && end - now < SECOND ? end - now : SECOND;
-        int found = epoll_wait(polled, events, WAITS, (int)until_alive(now, most));
+        wake_at(now + until_alive(now, most));
+        int found = epoll_wait(polled, events, WAITS, -1);
         for (int i = 0; i < found && is_going_on; i++) is_going_on = take_event(events[i].data.u32);
     }
 }
@@ -112,6 +116,7 @@ static void open_all(void) {
     signals = open_signals();
     transport = options.transport;
     links = open_links();
+    timer = open_timer();
     for (size_t i = 0; i < options.interface_count; i++) open_port(options.interfaces[i]);
     if (options.meeting.path != NULL) unix_socket = open_peers(&options.meeting);
     open_service();

@@ -80,25 +80,25 @@ int wait_for(struct pollfd *waits, nfds_t count, long most) {
     return found;
 }
 
-long milliseconds(void) {
+long nanoseconds(void) {
     struct timespec now;
     clock_gettime(CLOCK_MONOTONIC, &now);
-    return now.tv_sec * 1000 + now.tv_nsec / 1000000;
+    return now.tv_sec * 1000000000 + now.tv_nsec;
 }
 
+long milliseconds(void) { return nanoseconds() / 1000000; }
+
 socklen_t group(struct sockaddr_storage *to, int is_six) {
-    memset(to, 0, sizeof *to);
     if (is_six) {
+        static const struct in6_addr address = { .s6_addr = { 0xff, 0x0e, [14] = 0x01, 0x81 } };        /* ff0e::181 */
         struct sockaddr_in6 *six = (struct sockaddr_in6 *)to;
-        six->sin6_family = AF_INET6;
-        six->sin6_port = htons(GENERAL_PORT);
-        inet_pton(AF_INET6, "ff0e::181", &six->sin6_addr);
+        *six = (struct sockaddr_in6){ .sin6_family = AF_INET6, .sin6_port = htons(GENERAL_PORT), .sin6_addr = address };
         return sizeof *six;
     }
     struct sockaddr_in *four = (struct sockaddr_in *)to;
-    four->sin_family = AF_INET;
-    four->sin_port = htons(GENERAL_PORT);
-    inet_pton(AF_INET, "224.0.1.129", &four->sin_addr);
+    *four = (struct sockaddr_in){
+        .sin_family = AF_INET, .sin_port = htons(GENERAL_PORT), .sin_addr.s_addr = htonl(0xe0000181),      /* 224.0.1.129 */
+    };
     return sizeof *four;
 }
 

@@ -39,6 +39,7 @@ int wait_for(struct pollfd *waits, nfds_t count, long milliseconds);
 
 /* A time that no one sets. */
 long milliseconds(void);
+long nanoseconds(void);
 
 /* A socket at UDP port 320 of an interface, in the group of PTP there (IEEE 1588-2019, annexes C and D). It hears nothing of
    what this host sends. -1 if it can't be made: errno says why, and *what at which step. */

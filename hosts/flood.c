@@ -1,16 +1,16 @@
 /* flood INTERFACE IDENTITY RATE SECONDS
 
    For trials: asks a clock for PRIORITY1 RATE times a second, over UDP and IPv4, one GET after another at even times. Prints
-   how many were answered, and in how many microseconds the middle one and 99 of a hundred were. */
+   how many were answered, and in how many microseconds the middle one and 99 of a hundred were. With a RATE of 0 it waits for each
+   answer before it asks again. */
 #define _GNU_SOURCE
 #include "common.h"
 #include "identity.h"
 #include <stdio.h>
 #include <stdlib.h>
 #include <string.h>
-#include <time.h>
 
-enum { NUMBERS = 65536, MESSAGE = 54, TARGET = 34, NUMBER = 30, MOST_TIME = 1000000 };
+enum { NUMBERS = 65536, MESSAGE = 54, SOURCE = 20, TARGET = 34, NUMBER = 30, MOST_TIME = 1000000, IDENTITY = 8 };
 
 const char program[] = "flood";
 
@@ -27,22 +27,58 @@ _Noreturn void usage(void) {
     exit(2);
 }
 
-static long nanoseconds(void) {
-    struct timespec now;
-    clock_gettime(CLOCK_MONOTONIC, &now);
-    return now.tv_sec * 1000000000 + now.tv_nsec;
+static int at;
+static struct sockaddr_storage to;
+static socklen_t to_size;
+static long sent;
+
+/* Asks under the next number. */
+static uint16_t ask(void) {
+    uint16_t number = (uint16_t)sent++;
+    request[NUMBER] = (uint8_t)(number >> 8);
+    request[NUMBER + 1] = (uint8_t)number;
+    sent_at[number] = nanoseconds();
+    sendto(at, request, sizeof request, 0, (struct sockaddr *)&to, to_size);
+    return number;
 }
 
-static void take_answer(int at) {
+static int is_answer(const uint8_t *octets, ssize_t size) {
+    return size >= MESSAGE && memcmp(octets + SOURCE, request + TARGET, IDENTITY) == 0
+           && memcmp(octets + TARGET, request + SOURCE, IDENTITY) == 0;
+}
+
+/* Whether something came in, of which an answer counts. */
+static int take_answer(int flags) {
     uint8_t octets[2048];
-    ssize_t size = recv(at, octets, sizeof octets, MSG_DONTWAIT);
-    if (size < MESSAGE || memcmp(octets + 20, request + TARGET, 8) != 0) return;
+    ssize_t size = recv(at, octets, sizeof octets, flags);
+    if (!is_answer(octets, size)) return size >= 0;
     long *asked = &sent_at[octets[NUMBER] << 8 | octets[NUMBER + 1]];
-    if (*asked == 0) return;
+    if (*asked == 0) return 1;
     long took = (nanoseconds() - *asked) / 1000;
     times[took < MOST_TIME ? took : MOST_TIME]++;
     answered++;
     *asked = 0;
+    return 1;
+}
+
+/* At even times, and 0.2 seconds for the last answers. */
+static void ask_at_rate(long rate, long seconds) {
+    long begin = nanoseconds(), end = begin + seconds * 1000000000;
+    for (long now; (now = nanoseconds()) < end + 200000000;) {
+        if (now < end && now >= begin + sent * 1000000000 / rate) ask();
+        take_answer(MSG_DONTWAIT);
+    }
+}
+
+/* One after the other; 0.2 seconds for each answer. */
+static void ask_in_turn(long seconds) {
+    const struct timeval most = { .tv_usec = 200000 };
+    long end = nanoseconds() + seconds * 1000000000;
+    setsockopt(at, SOL_SOCKET, SO_RCVTIMEO, &most, sizeof most);
+    while (nanoseconds() < end) {
+        uint16_t number = ask();
+        while (sent_at[number] != 0 && take_answer(0)) continue;
+    }
 }
 
 /* In how many microseconds N of a hundred were answered. */
@@ -55,25 +91,16 @@ static long part(unsigned long percent) {
 
 int main(int argc, char **argv) {
     const char *what;
-    struct sockaddr_storage to;
+    int room = 1 << 24;
     if (argc != 5 || identity_at(argv[2], request + TARGET) == NULL) usage();
-    long rate = decimal(argv[3], 1000000), seconds = decimal(argv[4], 1000), sent = 0;
-    if (rate < 1 || seconds < 1) usage();
-    int at = open_udp(argv[1], 0, &what), room = 1 << 24;
+    long rate = decimal(argv[3], 1000000), seconds = decimal(argv[4], 1000);
+    if (rate < 0 || seconds < 1) usage();
+    at = open_udp(argv[1], 0, &what);
     if (at < 0) give_up(what);
     setsockopt(at, SOL_SOCKET, SO_RCVBUFFORCE, &room, sizeof room);
-    socklen_t size = group(&to, 0);
-    long begin = nanoseconds(), end = begin + seconds * 1000000000;
-    for (long now; (now = nanoseconds()) < end + 200000000;) {
-        if (now < end && now >= begin + sent * 1000000000 / rate) {
-            uint16_t number = (uint16_t)sent++;
-            request[NUMBER] = (uint8_t)(number >> 8);
-            request[NUMBER + 1] = (uint8_t)number;
-            sent_at[number] = now;
-            sendto(at, request, sizeof request, 0, (struct sockaddr *)&to, size);
-        }
-        take_answer(at);
-    }
+    to_size = group(&to, 0);
+    if (rate > 0) ask_at_rate(rate, seconds);
+    else ask_in_turn(seconds);
     printf("sent %ld answered %lu median %ld p99 %ld\n", sent, answered, part(50), part(99));
     return 0;
 }

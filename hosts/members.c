@@ -2,6 +2,7 @@
 #include "members.h"
 #include "common.h"
 #include "identity.h"
+#include "interval.h"
 #include "names.h"
 #include "text.h"
 #include <stdio.h>
@@ -63,9 +64,13 @@ static const struct field fields[] = {
     { "LOG_MIN_PDELAY_REQ_INTERVAL", 2, { { "logMinPdelayReqInterval", SIGNED, 0, 1, 0 } } },
 };
 
-static const char *const without_members[] = { "NULL_PTP_MANAGEMENT", "ENABLE_PORT", "DISABLE_PORT" };
+static const char *const read_only[] = {
+    "DEFAULT_DATA_SET", "CURRENT_DATA_SET", "PARENT_DATA_SET", "TIME_PROPERTIES_DATA_SET", "PORT_DATA_SET", NULL,
+};
+static const char *const without_members[] = { "NULL_PTP_MANAGEMENT", "ENABLE_PORT", "DISABLE_PORT", NULL };
 
 static const struct word mechanisms[] = { { 1, "E2E" }, { 2, "P2P" }, { 0xfe, "NO_MECHANISM" }, { 0, NULL } };
+static const struct word other_mechanisms[] = { { 3, "COMMON_P2P" }, { 4, "SPECIAL" }, { 0, NULL } };     /* in JSON alone */
 static const struct word flags[] = { { 0, "false" }, { 1, "true" }, { 0, NULL } };
 
 static const struct field *field_of(uint16_t id) {
@@ -86,13 +91,17 @@ int has_text(uint16_t id) {
     return field != NULL && field->members[0].kind == TEXT;
 }
 
-int has_no_member(uint16_t id) {
+static int is_one_of(uint16_t id, const char *const *names) {
     const char *name = id_name(id);
-    for (size_t i = 0; name != NULL && i < sizeof without_members / sizeof *without_members; i++) {
-        if (strcmp(without_members[i], name) == 0) return 1;
+    for (; name != NULL && *names != NULL; names++) {
+        if (strcmp(*names, name) == 0) return 1;
     }
     return 0;
 }
+
+int can_only_be_read(uint16_t id) { return is_one_of(id, read_only); }
+
+int has_no_member(uint16_t id) { return is_one_of(id, without_members); }
 
 /* Big-endian (5.2). */
 static uint64_t number_at(const uint8_t *octets, size_t size) {
@@ -104,17 +113,6 @@ static uint64_t number_at(const uint8_t *octets, size_t size) {
 static int64_t signed_at(const uint8_t *octets, size_t size) {
     uint64_t number = number_at(octets, size), sign = (uint64_t)1 << (8 * size - 1);
     return (int64_t)((number ^ sign) - sign);
-}
-
-/* A TimeInterval, in nanoseconds times 2^16, as nanoseconds with all digits of their fraction. */
-static void print_interval(FILE *to, int64_t interval) {
-    uint64_t size = interval < 0 ? -(uint64_t)interval : (uint64_t)interval, fraction = size & 0xffff;
-    fprintf(to, "%s%llu.", interval < 0 ? "-" : "", (unsigned long long)(size >> 16));
-    do {
-        fraction *= 10;
-        putc('0' + (int)(fraction >> 16), to);
-        fraction &= 0xffff;
-    } while (fraction != 0);
 }
 
 static void print_state(FILE *to, uint8_t state) {
@@ -162,10 +160,16 @@ void print_octets(FILE *to, const char *lead, const uint8_t *octets, size_t size
     putc('\n', to);
 }
 
-void print_members(FILE *to, const char *lead, uint16_t id, const uint8_t *octets, size_t size) {
+/* The members of a dataField; NULL if it is empty, its id's members are not known, or its length is not the id's. */
+static const struct field *field_in(uint16_t id, const uint8_t *octets, size_t size) {
     const struct field *field = field_of(id);
     size_t wanted = field == NULL || size == 0 ? 0 : field->size != 0 ? field->size : (size_t)(octets[0] + 2) / 2 * 2;
-    if (size == 0 || size != wanted) {
+    return size > 0 && size == wanted ? field : NULL;
+}
+
+void print_members(FILE *to, const char *lead, uint16_t id, const uint8_t *octets, size_t size) {
+    const struct field *field = field_in(id, octets, size);
+    if (field == NULL) {
         print_octets(to, lead, octets, size);
         return;
     }
@@ -174,6 +178,82 @@ void print_members(FILE *to, const char *lead, uint16_t id, const uint8_t *octet
         print_member(to, &field->members[i], octets);
         putc('\n', to);
     }
+}
+
+/* The standard's name of a mechanism. */
+static const char *mechanism_name(uint8_t number) {
+    for (const struct word *word = mechanisms; word->text != NULL; word++) {
+        if (word->number == number) return word->text;
+    }
+    for (const struct word *word = other_mechanisms; word->text != NULL; word++) {
+        if (word->number == number) return word->text;
+    }
+    return NULL;
+}
+
+/* A name in quotes; `reserved` if the standard has none. */
+static void print_name_as_json(FILE *to, const char *name) { fprintf(to, "\"%s\"", name != NULL ? name : "reserved"); }
+
+static void print_port_as_json(FILE *to, const uint8_t *octets) {
+    char text[IDENTITY_TEXT];
+    write_identity(text, octets);
+    fprintf(to, "{\"clockIdentity\":\"%s\",\"portNumber\":%llu}", text, (unsigned long long)number_at(octets + 8, 2));
+}
+
+/* A value as `ptpm site --json` has it: a TimeInterval in nanoseconds times 2^16. */
+static void print_value_as_json(FILE *to, const struct member *member, const uint8_t *octets) {
+    const uint8_t *at = octets + member->at;
+    switch (member->kind) {
+    case UNSIGNED:
+    case HEXADECIMAL: fprintf(to, "%llu", (unsigned long long)number_at(at, member->size)); break;
+    case SIGNED:
+    case INTERVAL: fprintf(to, "%lld", (long long)signed_at(at, member->size)); break;
+    case FLAG:
+    case VERSION: print_member(to, member, octets); break;
+    case CLOCK:
+        putc('"', to);
+        print_identity(to, at);
+        putc('"', to);
+        break;
+    case PORT: print_port_as_json(to, at); break;
+    case STATE: print_name_as_json(to, state_name(*at)); break;
+    case MECHANISM: print_name_as_json(to, mechanism_name(*at)); break;
+    case TEXT: print_json_text(to, at + 1, *at); break;
+    }
+}
+
+/* How long the part of a member's name is before its dot: the member is one of a structure then. 0 if it has none. */
+static size_t structure_size(const char *name) {
+    const char *dot = strchr(name, '.');
+    return dot == NULL ? 0 : (size_t)(dot - name);
+}
+
+void print_octets_as_json(FILE *to, const uint8_t *octets, size_t size) {
+    fputs("\"dataField\":\"", to);
+    for (size_t i = 0; i < size; i++) fprintf(to, "%02x", octets[i]);
+    putc('"', to);
+}
+
+/* The members of a structure come one after the other. */
+void print_members_as_json(FILE *to, uint16_t id, const uint8_t *octets, size_t size) {
+    const struct field *field = field_in(id, octets, size);
+    if (field == NULL) {
+        print_octets_as_json(to, octets, size);
+        return;
+    }
+    size_t before = 0;
+    fputs("\"members\":{", to);
+    for (size_t i = 0; i < MOST_MEMBERS && field->members[i].name != NULL; i++) {
+        const char *name = field->members[i].name;
+        size_t structure = structure_size(name);
+        if (before > 0 && structure == 0) putc('}', to);
+        if (i > 0) putc(',', to);
+        if (before == 0 && structure > 0) fprintf(to, "\"%.*s\":{", (int)structure, name);
+        fprintf(to, "\"%s\":", structure > 0 ? name + structure + 1 : name);
+        print_value_as_json(to, &field->members[i], octets);
+        before = structure;
+    }
+    fputs(before > 0 ? "}}" : "}", to);
 }
 
 /* The number of a word, in either case; -1 if it is none of these. */

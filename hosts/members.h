@@ -15,11 +15,21 @@ void print_members(FILE *to, const char *lead, uint16_t id, const uint8_t *octet
 /* Prints a line of a dataField as it is: `value` and its octets in hexadecimal, or `-` if it has none. */
 void print_octets(FILE *to, const char *lead, const uint8_t *octets, size_t size);
 
+/* Prints the same as an object of JSON: `"members":` and an object of the members by their names. One that is not known is
+   `"dataField":` and its octets in hexadecimal. */
+void print_members_as_json(FILE *to, uint16_t id, const uint8_t *octets, size_t size);
+
+/* Prints a dataField so as it is. */
+void print_octets_as_json(FILE *to, const uint8_t *octets, size_t size);
+
 /* Whether an id has one member of one octet, so that a SET takes its value as a word. */
 int has_one_member(uint16_t id);
 
 /* Whether an id has a text, and nothing else. */
 int has_text(uint16_t id);
+
+/* Whether the standard has a GET of the id alone. */
+int can_only_be_read(uint16_t id);
 
 /* Whether a SET of the id has a dataField without octets. */
 int has_no_member(uint16_t id);

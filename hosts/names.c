@@ -32,9 +32,18 @@ const char *answer_name(uint32_t answer) {
     return *name != '\0' ? name : "an answer without a name";
 }
 
+enum { FIRST_STATE = 1, LAST_STATE = 9 };
+static const char *const states[] = {
+    "INITIALIZING", "FAULTY", "DISABLED", "LISTENING", "PRE_MASTER", "MASTER", "PASSIVE", "UNCALIBRATED", "SLAVE",
+};
+
 const char *state_name(uint8_t state) {
-    static const char *const states[] = {
-        "INITIALIZING", "FAULTY", "DISABLED", "LISTENING", "PRE_MASTER", "MASTER", "PASSIVE", "UNCALIBRATED", "SLAVE",
-    };
-    return state >= 1 && state <= sizeof states / sizeof *states ? states[state - 1] : NULL;
+    return state >= FIRST_STATE && state <= LAST_STATE ? states[state - FIRST_STATE] : NULL;
+}
+
+uint8_t state_named(const char *text) {
+    for (uint8_t state = FIRST_STATE; state <= LAST_STATE; state++) {
+        if (strcasecmp(text, states[state - FIRST_STATE]) == 0) return state;
+    }
+    return 0;
 }

@@ -21,4 +21,7 @@ const char *answer_name(uint32_t answer);
 /* The name of a portState (8.2.15.3.1); NULL if the standard has none. */
 const char *state_name(uint8_t state);
 
+/* The portState of a name, in either case; 0 if it is none. */
+uint8_t state_named(const char *text);
+
 #endif

@@ -1,6 +1,8 @@
 #define _GNU_SOURCE
 #include "observation.h"
 #include "identity.h"
+#include "interval.h"
+#include "names.h"
 #include "output.h"
 #include <errno.h>
 #include <stdarg.h>
@@ -9,43 +11,68 @@
 #include <string.h>
 
 /* How a member is written. */
-enum kind { UNSIGNED, SIGNED, FLAG, IDENTITY, STATE };
+enum kind { UNSIGNED, SIGNED, INTERVAL, FLAG, IDENTITY, STATE };
 
-enum { MOST_WORDS = 5, NO_FLAG = 0xffff };
+enum { MOST_WORDS = 5, NO_FLAG = 0xffff, INTERVAL_TEXT = 64 };
 
-/* A member of a struct: its place, and the flag that says that it is given. */
-struct member { const char *name; size_t at, size, flag; enum kind kind; };
+/* A member of a struct: its name there, and the standard's, by which ptpm-manage prints it; its place, and the flag that says
+   that it is given. */
+struct member { const char *name, *printed; size_t at, size, flag; enum kind kind; };
 
 #define PLACE(what, name) offsetof(struct what, name), sizeof ((struct what *)0)->name
-#define OF_CLOCK(name, kind) { #name, PLACE(ptpm_observed_clock, name), offsetof(struct ptpm_observed_clock, has_##name), kind }
-#define OF_GRANDMASTER(name, kind) { #name, PLACE(ptpm_observed_clock, name), NO_FLAG, kind }
-#define OF_PORT(name, kind) { #name, PLACE(ptpm_observed_port, name), offsetof(struct ptpm_observed_port, has_##name), kind }
+#define OF_CLOCK(name, printed, kind) \
+    { #name, printed, PLACE(ptpm_observed_clock, name), offsetof(struct ptpm_observed_clock, has_##name), kind }
+#define OF_GRANDMASTER(name, printed, kind) { #name, printed, PLACE(ptpm_observed_clock, name), NO_FLAG, kind }
+#define OF_PORT(name, printed, kind) \
+    { #name, printed, PLACE(ptpm_observed_port, name), offsetof(struct ptpm_observed_port, has_##name), kind }
 
 static const struct member members_of_clock[] = {
-    OF_CLOCK(clock_class, UNSIGNED), OF_CLOCK(clock_accuracy, UNSIGNED), OF_CLOCK(variance, UNSIGNED),
-    OF_CLOCK(steps_removed, UNSIGNED), OF_CLOCK(offset_from_master, SIGNED), OF_CLOCK(mean_path_delay, SIGNED),
-    OF_CLOCK(parent_stats, FLAG), OF_CLOCK(observed_variance, UNSIGNED), OF_CLOCK(observed_rate, SIGNED),
-    OF_CLOCK(utc_offset, SIGNED), OF_CLOCK(leap61, FLAG), OF_CLOCK(leap59, FLAG), OF_CLOCK(utc_valid, FLAG),
-    OF_CLOCK(ptp_timescale, FLAG), OF_CLOCK(time_traceable, FLAG), OF_CLOCK(frequency_traceable, FLAG),
-    OF_CLOCK(time_source, UNSIGNED), OF_GRANDMASTER(is_grandmaster, FLAG), { 0 },
+    OF_CLOCK(clock_class, "clockQuality.clockClass", UNSIGNED), OF_CLOCK(clock_accuracy, "clockQuality.clockAccuracy", UNSIGNED),
+    OF_CLOCK(variance, "clockQuality.offsetScaledLogVariance", UNSIGNED), OF_CLOCK(steps_removed, "stepsRemoved", UNSIGNED),
+    OF_CLOCK(offset_from_master, "offsetFromMaster", INTERVAL), OF_CLOCK(mean_path_delay, "meanDelay", INTERVAL),
+    OF_CLOCK(parent_stats, "parentStats", FLAG), OF_CLOCK(observed_variance, "observedParentOffsetScaledLogVariance", UNSIGNED),
+    OF_CLOCK(observed_rate, "observedParentClockPhaseChangeRate", SIGNED), OF_CLOCK(utc_offset, "currentUtcOffset", SIGNED),
+    OF_CLOCK(leap61, "leap61", FLAG), OF_CLOCK(leap59, "leap59", FLAG), OF_CLOCK(utc_valid, "currentUtcOffsetValid", FLAG),
+    OF_CLOCK(ptp_timescale, "ptpTimescale", FLAG), OF_CLOCK(time_traceable, "timeTraceable", FLAG),
+    OF_CLOCK(frequency_traceable, "frequencyTraceable", FLAG), OF_CLOCK(time_source, "timeSource", UNSIGNED),
+    OF_GRANDMASTER(is_grandmaster, "", FLAG), { 0 },
 };
 
-/* These are given together. */
+/* These are given together, the last two also by the one parentPortIdentity. */
+enum { PARENT_PORT_CLOCK = 6, PARENT_PORT_NUMBER };
 static const struct member members_of_grandmaster[] = {
-    OF_GRANDMASTER(grandmaster, IDENTITY), OF_GRANDMASTER(grandmaster_priority1, UNSIGNED),
-    OF_GRANDMASTER(grandmaster_class, UNSIGNED), OF_GRANDMASTER(grandmaster_accuracy, UNSIGNED),
-    OF_GRANDMASTER(grandmaster_variance, UNSIGNED), OF_GRANDMASTER(grandmaster_priority2, UNSIGNED),
-    OF_GRANDMASTER(parent_port_clock, IDENTITY), OF_GRANDMASTER(parent_port_number, UNSIGNED), { 0 },
+    OF_GRANDMASTER(grandmaster, "grandmasterIdentity", IDENTITY),
+    OF_GRANDMASTER(grandmaster_priority1, "grandmasterPriority1", UNSIGNED),
+    OF_GRANDMASTER(grandmaster_class, "grandmasterClockQuality.clockClass", UNSIGNED),
+    OF_GRANDMASTER(grandmaster_accuracy, "grandmasterClockQuality.clockAccuracy", UNSIGNED),
+    OF_GRANDMASTER(grandmaster_variance, "grandmasterClockQuality.offsetScaledLogVariance", UNSIGNED),
+    OF_GRANDMASTER(grandmaster_priority2, "grandmasterPriority2", UNSIGNED),
+    OF_GRANDMASTER(parent_port_clock, "", IDENTITY), OF_GRANDMASTER(parent_port_number, "", UNSIGNED), { 0 },
 };
 
-static const struct member members_of_port[] = { OF_PORT(state, STATE), OF_PORT(peer_delay, SIGNED), { 0 } };
+static const struct member members_of_port[] = {
+    OF_PORT(state, "portState", STATE), OF_PORT(peer_delay, "meanLinkDelay", INTERVAL), { 0 },
+};
 
-/* The place of a member in its list; -1 if it is not there. */
+/* What ptpm-manage prints of a clock and of a port beside what is observed. Some of it managers set, and the rest stays. */
+static const char *const not_observed[] = {
+    "twoStepFlag", "slaveOnly", "numberPorts", "priority1", "priority2", "clockIdentity", "domainNumber", "logMinDelayReqInterval",
+    "logAnnounceInterval", "announceReceiptTimeout", "logSyncInterval", "delayMechanism", "logMinPdelayReqInterval", "versionNumber",
+    NULL,
+};
+
+/* The place of a member in its list, by either name; -1 if it is not there. */
 static int place_of(const struct member *members, const char *name) {
     for (int k = 0; members[k].name != NULL; k++) {
-        if (strcmp(members[k].name, name) == 0) return k;
+        if (strcmp(members[k].name, name) == 0 || strcmp(members[k].printed, name) == 0) return k;
     }
     return -1;
+}
+
+static int is_passed_over(const char *name) {
+    int k = 0;
+    while (not_observed[k] != NULL && strcmp(not_observed[k], name) != 0) k++;
+    return not_observed[k] != NULL;
 }
 
 /* Why a line is wrong. */
@@ -80,43 +107,86 @@ static void put(void *at, size_t size, long long number) {
     }
 }
 
-static int put_number(const struct member *member, const char *text, void *at) {
+static int put_number(const struct member *member, const char *name, const char *text, void *at) {
     unsigned bits = (unsigned)(8 * member->size);
-    long long most = member->kind == STATE ? 9 : member->kind == SIGNED ? (long long)(UINT64_MAX >> (65 - bits)) : (1LL << bits) - 1;
-    long long least = member->kind == STATE ? 1 : member->kind == SIGNED ? -most - 1 : 0, number;
+    int is_signed = member->kind != UNSIGNED;
+    long long most = is_signed ? (long long)(UINT64_MAX >> (65 - bits)) : (1LL << bits) - 1;
+    long long least = is_signed ? -most - 1 : 0, number;
     if (!read_integer(text, least, most, &number)) {
-        return wrong("%s %s: it takes a number from %lld to %lld", member->name, text, least, most);
+        const char *more = member->kind == INTERVAL ? ", or nanoseconds such as 1.5ns" : "";
+        return wrong("%s %s: it takes a number from %lld to %lld%s", name, text, least, most, more);
     }
     put(at, member->size, number);
     return 1;
 }
 
-static int put_flag(const struct member *member, const char *text, uint8_t *at) {
-    int is_true = strcmp(text, "true") == 0 || strcmp(text, "1") == 0;
-    if (!is_true && strcmp(text, "false") != 0 && strcmp(text, "0") != 0) {
-        return wrong("%s %s: it takes true or false", member->name, text);
+/* In nanoseconds if the name is the one that is printed, or if the text says so, and otherwise in units of 2^-16 of them. */
+static int put_interval(const struct member *member, const char *name, const char *text, void *at) {
+    char digits[INTERVAL_TEXT];
+    int64_t interval;
+    size_t size = strlen(text);
+    int is_said = size > 2 && strcmp(text + size - 2, "ns") == 0;
+    if (!is_said && strcmp(name, member->name) == 0) return put_number(member, name, text, at);
+    snprintf(digits, sizeof digits, "%.*s", (int)(is_said ? size - 2 : size), text);
+    if (size >= sizeof digits || !read_interval(digits, &interval)) {
+        return wrong("%s %s: it takes nanoseconds, such as 1.5", name, text);
     }
+    put(at, member->size, interval);
+    return 1;
+}
+
+static int put_state(const char *name, const char *text, uint8_t *at) {
+    long long number = state_named(text);
+    if (number == 0 && !read_integer(text, 1, 9, &number)) {
+        return wrong("%s %s: it takes a number from 1 to 9, or a name such as SLAVE", name, text);
+    }
+    *at = (uint8_t)number;
+    return 1;
+}
+
+static int put_flag(const char *name, const char *text, uint8_t *at) {
+    int is_true = strcmp(text, "true") == 0 || strcmp(text, "1") == 0;
+    if (!is_true && strcmp(text, "false") != 0 && strcmp(text, "0") != 0) return wrong("%s %s: it takes true or false", name, text);
     *at = (uint8_t)is_true;
     return 1;
 }
 
-static int put_identity(const struct member *member, const char *text, uint8_t *at) {
+static int put_identity(const char *name, const char *text, uint8_t *at) {
     uint8_t identity[8];
     const char *rest = identity_at(text, identity);
     if (rest == NULL || *rest != '\0') {
-        return wrong("%s %s: it takes a clockIdentity, such as aabbccfffeddee01 or aabbcc.fffe.ddee01", member->name, text);
+        return wrong("%s %s: it takes a clockIdentity, such as aabbccfffeddee01 or aabbcc.fffe.ddee01", name, text);
     }
     memcpy(at, identity, sizeof identity);
     return 1;
 }
 
-/* Writes a value at its member of a struct, and that it is given. */
-static int put_value(const struct member *member, const char *text, void *whole) {
-    uint8_t *at = (uint8_t *)whole + member->at;
-    int is_right = member->kind == FLAG ? put_flag(member, text, at)
-                   : member->kind == IDENTITY ? put_identity(member, text, at) : put_number(member, text, at);
+static int put_kind(const struct member *member, const char *name, const char *text, uint8_t *at) {
+    switch (member->kind) {
+    case FLAG: return put_flag(name, text, at);
+    case IDENTITY: return put_identity(name, text, at);
+    case STATE: return put_state(name, text, at);
+    case INTERVAL: return put_interval(member, name, text, at);
+    default: return put_number(member, name, text, at);
+    }
+}
+
+/* Writes a value, given by one of the member's names, at the member of a struct, and that it is given. */
+static int put_value(const struct member *member, const char *name, const char *text, void *whole) {
+    int is_right = put_kind(member, name, text, (uint8_t *)whole + member->at);
     if (is_right && member->flag != NO_FLAG) ((uint8_t *)whole)[member->flag] = 1;
     return is_right;
+}
+
+/* The portNumber of a portIdentity, whose clock is written; -1 if the text is none. */
+static long read_port_identity(const char *text, uint8_t clock[8]) {
+    const char *rest = identity_at(text, clock);
+    return rest == NULL ? -1 : port_behind(rest, UINT16_MAX);
+}
+
+static int put_of_port(struct observation *observation, size_t port, const struct member *member, char *const *words) {
+    if (port > observation->port_count) observation->port_count = port;
+    return put_value(member, words[0], words[1], &observation->ports[port - 1]);
 }
 
 static int take_port(struct observation *observation, char **words, size_t count) {
@@ -124,18 +194,52 @@ static int take_port(struct observation *observation, char **words, size_t count
     if (count != 4) return wrong("it takes port PORT MEMBER VALUE");
     if (!read_integer(words[1], 1, OBSERVED_PORTS, &port)) return wrong("port %s: it takes a number from 1 to 8", words[1]);
     int place = place_of(members_of_port, words[2]);
+    if (place < 0 && is_passed_over(words[2])) return 1;
     if (place < 0) return wrong("%s: no such member of a port is observed", words[2]);
-    if ((size_t)port > observation->port_count) observation->port_count = (size_t)port;
-    return put_value(&members_of_port[place], words[3], &observation->ports[port - 1]);
+    return put_of_port(observation, (size_t)port, &members_of_port[place], words + 2);
+}
+
+/* It comes before the other members of a port, as ptpm-manage prints them. */
+static int take_port_identity(struct observation *observation, const char *text) {
+    uint8_t clock[8];
+    long port = read_port_identity(text, clock);
+    if (port < 1 || port > OBSERVED_PORTS) return wrong("portIdentity %s: it takes that of a port from 1 to 8", text);
+    observation->printed_port = (size_t)port;
+    return 1;
+}
+
+static int take_parent_port(struct observation *observation, const char *text) {
+    long port = read_port_identity(text, observation->clock.parent_port_clock);
+    if (port < 0) return wrong("parentPortIdentity %s: it takes a clockIdentity and a port, such as aabbccfffeddee01/1", text);
+    observation->clock.parent_port_number = (uint16_t)port;
+    observation->grandmaster |= 1u << PARENT_PORT_CLOCK | 1u << PARENT_PORT_NUMBER;
+    return 1;
+}
+
+/* A line that ptpm-manage prints, of what is no member of the clock's struct. */
+static int take_printed(struct observation *observation, char **words, size_t count) {
+    const char *name = words[0];
+    int is_port = strcmp(name, "portIdentity") == 0, is_parent = strcmp(name, "parentPortIdentity") == 0;
+    int place = place_of(members_of_port, name);
+    if (place >= 0 && strcmp(members_of_port[place].name, name) == 0) place = -1;
+    if (!is_port && !is_parent && place < 0 && !is_passed_over(name)) {
+        return wrong("%s: no such member of a clock is observed", name);
+    }
+    if (count != 2) return wrong("%s: it takes one value", name);
+    if (is_port) return take_port_identity(observation, words[1]);
+    if (is_parent) return take_parent_port(observation, words[1]);
+    if (place < 0) return 1;
+    if (observation->printed_port == 0) return wrong("%s: it takes a portIdentity before it, or port PORT", name);
+    return put_of_port(observation, observation->printed_port, &members_of_port[place], words);
 }
 
 static int take_member(struct observation *observation, char **words, size_t count) {
     int place = place_of(members_of_clock, words[0]), of_grandmaster = place_of(members_of_grandmaster, words[0]);
-    if (place < 0 && of_grandmaster < 0) return wrong("%s: no such member of a clock is observed", words[0]);
+    if (place < 0 && of_grandmaster < 0) return take_printed(observation, words, count);
     if (count != 2) return wrong("%s: it takes one value", words[0]);
-    if (place >= 0) return put_value(&members_of_clock[place], words[1], &observation->clock);
+    if (place >= 0) return put_value(&members_of_clock[place], words[0], words[1], &observation->clock);
     observation->grandmaster |= 1u << of_grandmaster;
-    return put_value(&members_of_grandmaster[of_grandmaster], words[1], &observation->clock);
+    return put_value(&members_of_grandmaster[of_grandmaster], words[0], words[1], &observation->clock);
 }
 
 /* What one line says; whether it is right. */

@@ -81,8 +81,8 @@ static const int allowed[] = {
     SYS_inotify_rm_watch,
     SYS_clone, SYS_clone3, SYS_set_robust_list, SYS_rseq, SYS_sched_yield, SYS_mmap, SYS_munmap, SYS_mremap, SYS_mprotect,
     SYS_madvise, SYS_brk,
-    SYS_getrandom, SYS_gettimeofday, SYS_clock_nanosleep, SYS_nanosleep, SYS_rt_sigaction, SYS_rt_sigprocmask, SYS_rt_sigreturn,
-    SYS_restart_syscall, SYS_getpid, SYS_gettid, SYS_tgkill, SYS_getuid, SYS_geteuid, SYS_exit, SYS_exit_group,
+    SYS_timerfd_settime, SYS_getrandom, SYS_gettimeofday, SYS_clock_nanosleep, SYS_nanosleep, SYS_rt_sigaction, SYS_rt_sigprocmask,
+    SYS_rt_sigreturn, SYS_restart_syscall, SYS_getpid, SYS_gettid, SYS_tgkill, SYS_getuid, SYS_geteuid, SYS_exit, SYS_exit_group,
 #ifdef __x86_64__
     SYS_epoll_wait, SYS_poll, SYS_open, SYS_stat, SYS_lstat, SYS_readlink, SYS_unlink, SYS_time,
 #endif

@@ -61,7 +61,7 @@ size_t hear_round(const struct port *port, int at, struct heard heard[ROUND]) {
     static struct control controls[ROUND];
     static struct mmsghdr messages[ROUND];
     static struct iovec parts[ROUND];
-    static int used_before = ROUND, wanted = 1;
+    static int used_before = ROUND;
     for (int i = 0; i < used_before; i++) {
         parts[i] = (struct iovec){ octets[i], MOST_HEARD };
         messages[i].msg_hdr = (struct msghdr){
@@ -69,9 +69,8 @@ size_t hear_round(const struct port *port, int at, struct heard heard[ROUND]) {
             .msg_control = &controls[i], .msg_controllen = sizeof controls[i],
         };
     }
-    int found = recvmmsg(at, messages, (unsigned)wanted, MSG_DONTWAIT | MSG_TRUNC, NULL);
+    int found = recvmmsg(at, messages, ROUND, MSG_DONTWAIT | MSG_TRUNC, NULL);
     used_before = found > 0 ? found : 0;
-    wanted = found < wanted ? 1 : wanted < ROUND ? 2 * wanted : ROUND;      /* to look in vain costs as much as to receive */
     size_t count = 0;
     for (int i = 0; i < found; i++) {
         heard[i].octets = octets[i];

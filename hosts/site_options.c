@@ -22,7 +22,7 @@ static const char *limit(const char *option, const char *text) {
 }
 
 int take_site_option(struct site_options *options, int option, const char *value) {
-    static const char *const names[] = { "--listen", "--json", "--draw", "--max-offset", "--max-delay", "--once", "--watch" };
+    static const char *const names[] = { "--listen", "--draw", "--max-offset", "--max-delay", "--once", "--watch" };
     if (option < LISTEN || option > WATCH) return 0;
     const char *name = names[option - LISTEN];
     switch ((enum site_option)option) {
@@ -30,7 +30,6 @@ int take_site_option(struct site_options *options, int option, const char *value
     case WATCH: options->watch = seconds(name, value, 1); break;
     case MAX_OFFSET: options->max_offset = limit(name, value); break;
     case MAX_DELAY: options->max_delay = limit(name, value); break;
-    case JSON: options->is_json = 1; break;
     case DRAW: options->is_drawn = 1; break;
     case ONCE: options->is_once = 1; break;
     }
@@ -54,6 +53,5 @@ void read_domains(struct site_options *options, const char *text) {
 void judge_site_options(const struct site_options *options) {
     if (options->given != NULL && !options->is_shown) refuse("%s: it is of status alone", options->given);
     if (options->listen >= 0 && !options->is_every_domain) refuse("--listen: it is of --domain all of collect and status");
-    if (options->is_drawn && options->is_json) refuse("--draw and --json exclude each other");
     if (options->is_drawn && options->watch > 0) refuse("--draw and --watch exclude each other");
 }

@@ -7,14 +7,14 @@
 enum { DOMAINS = 256 };
 
 /* Its options, which have no letter of their own. */
-enum site_option { LISTEN = 512, JSON, DRAW, MAX_OFFSET, MAX_DELAY, ONCE, WATCH };
+enum site_option { LISTEN = 512, DRAW, MAX_OFFSET, MAX_DELAY, ONCE, WATCH };
 
 struct site_options {
     int is_collected, is_shown;                 /* `collect`; `status` */
     uint8_t first_domain, last_domain;
     int is_every_domain;                        /* those in which Announce messages are heard, and 0 and 127 */
     long listen, watch;                         /* in milliseconds: for such messages, or -1 by default; between two looks, or 0 */
-    int is_json, is_drawn, is_once;
+    int is_drawn, is_once;
     const char *max_offset, *max_delay;         /* as they are written, or NULL */
     const char *given;                          /* an option of `status` alone that was given, or NULL */
 };

@@ -75,7 +75,7 @@ static int look_at_site(struct look *look, const struct task *task, const struct
     struct piece parts[2] = {
         { earlier == NULL ? NULL : earlier->lines, earlier == NULL ? 0 : earlier->size }, { look->lines, look->size },
     };
-    enum shown_as as = task->site.is_json ? AS_JSON : AS_TEXT;
+    enum shown_as as = task->is_json ? AS_JSON : AS_TEXT;
     look->status = run_site_program(&task->site, as, parts, 2, &look->report);
     return look->status;
 }
@@ -155,7 +155,7 @@ static void print_difference(const struct look *look, const struct look *earlier
     struct tm parts;
     strftime(lead, sizeof lead, "%F %T ", localtime_r(&now, &parts));
     clear_progress();
-    if (task->site.is_json) {
+    if (task->is_json) {
         print_look(look, task);
         return;
     }

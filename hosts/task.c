@@ -13,7 +13,7 @@
 #include <strings.h>
 
 /* Options without a letter of their own, and a word that is none: getopt's for a string that begins with a hyphen. */
-enum { WORD = 1, UDP = 256, TEXT, VERSION, GIVE_UP };
+enum { WORD = 1, UDP = 256, TEXT, VERSION, GIVE_UP, JSON };
 
 enum { MOST_WORDS = 3, MOST_FIELD = 1418, NOT_NAMED = -1 };
 
@@ -96,6 +96,7 @@ static void take_option(struct task *task, struct words *words, int option, cons
     case 'n': task->times = number("times", value, 1, 1000000); break;
     case GIVE_UP: task->is_letting_go = 1; break;
     case 'x': task->is_in_octets = 1; break;
+    case JSON: task->is_json = 1; break;
     case TEXT: words->is_text = 1; break;
     case 'q': be_quiet(); break;
     case 'h': help(); break;
@@ -162,17 +163,24 @@ static void read_id(struct task *task, const char *text) {
     task->id = (uint16_t)id;
 }
 
+/* What else is said of a value that is no dataField. */
+static const char *hint(const struct task *task) {
+    if (has_text(task->id)) return "; a text takes --text";
+    return task->action == PTPM_SET && can_only_be_read(task->id) ? "; the id can only be read" : "";
+}
+
 static void read_octets_of(struct task *task, const char *text) {
     const char *rest = text;
     if (strlen(text) > 2 * MOST_FIELD) refuse("the dataField has over %d octets", MOST_FIELD);
     task->size = read_octets(&rest, task->octets, sizeof task->octets);
     if (*rest == '\0' && task->size % 2 == 0) return;
-    refuse("%s: it is no even number of octets in hexadecimal%s", text, has_text(task->id) ? "; a text takes --text" : "");
+    refuse("%s: it is no even number of octets in hexadecimal%s", text, hint(task));
 }
 
 static void read_value(struct task *task, const struct words *words) {
     const char *id = words->at[1], *text = words->count > 2 ? words->at[2] : NULL, *wanted;
     int is_set = !task->is_survey && task->action == PTPM_SET;
+    if (text == NULL && is_set && can_only_be_read(task->id)) refuse("set %s: the id can only be read", id);
     if (text == NULL && is_set && !has_no_member(task->id)) refuse("set %s: it takes a value after it", id);
     if (text == NULL) return;
     if (task->is_survey) refuse("%s %s%s: it takes no value", words->at[0], id, task->is_of_clock ? " of every port" : "");
@@ -206,6 +214,14 @@ static void judge(const struct task *task, const struct words *words) {
     if (words->port >= 0 && words->target_port >= 0 && words->port != words->target_port) {
         refuse("--port %ld and --target name two ports", words->port);
     }
+}
+
+/* Whether all that is printed can be objects of JSON. */
+static void judge_json(const struct task *task) {
+    if (!task->is_json) return;
+    if (task->site.is_drawn) refuse("--draw and --json exclude each other");
+    if (task->site.is_collected && !task->site.is_shown) refuse("--json: collect prints datagrams in hexadecimal");
+    if (task->times > 1) refuse("--json and --times exclude each other");
 }
 
 /* Whether who asks is the same in each run, so that a clock may have kept an answer of his. It never keeps one to a GET to
@@ -258,6 +274,7 @@ void read_task(struct task *task, int argc, char **argv) {
     read_reach(task, &words);
     judge(task, &words);
     judge_site_options(&task->site);
+    judge_json(task);
     if (task->site.listen < 0) task->site.listen = LISTENED;
     long port = words.port >= 0 ? words.port : words.target_port;
     task->port = port < 0 ? 0 : (uint16_t)port;

@@ -29,7 +29,7 @@ struct task {
     long wait;                                  /* how long a session waits that has no such file yet, in milliseconds */
     long milliseconds;                          /* how long an answer is waited for */
     long times;                                 /* how often the request is made anew */
-    int is_in_octets;                           /* answers are printed as octets */
+    int is_in_octets, is_json;                  /* answers are printed as octets; as objects of JSON */
 };
 
 /* Reads it from a command line. Ends the program with status 2 if it is none, and with 0 after --help and --version. */

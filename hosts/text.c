@@ -49,11 +49,16 @@ static int has_control(const uint8_t *octets, size_t size) {
     return 0;
 }
 
+/* Whether a character of so many octets, 0 if it is none, is printed as it is. */
+static int is_plain_character(const uint8_t *octets, size_t count, uint32_t number) {
+    return count > 0 && is_shown(number) && (reads_utf8() || !has_control(octets, count));
+}
+
 void print_text(FILE *to, const uint8_t *octets, size_t size) {
     for (size_t i = 0; i < size;) {
         uint32_t number = 0;
         size_t count = character(octets + i, size - i, &number);
-        int is_plain = count > 0 && is_shown(number) && (reads_utf8() || !has_control(octets + i, count));
+        int is_plain = is_plain_character(octets + i, count, number);
         if (count == 0) count = 1;
         for (size_t k = i; k < i + count; k++) {
             if (is_plain) putc(octets[k], to);
@@ -61,4 +66,24 @@ void print_text(FILE *to, const uint8_t *octets, size_t size) {
         }
         i += count;
     }
+}
+
+/* A character by its number: beyond 16 bits in two halves (RFC 8259, 7). */
+static void print_json_number(FILE *to, uint32_t number) {
+    if (number <= 0xffff) fprintf(to, "\\u%04x", number);
+    else fprintf(to, "\\u%04x\\u%04x", 0xd800 + ((number - 0x10000) >> 10), 0xdc00 + ((number - 0x10000) & 0x3ff));
+}
+
+void print_json_text(FILE *to, const uint8_t *octets, size_t size) {
+    putc('"', to);
+    for (size_t i = 0; i < size;) {
+        uint32_t number = 0;
+        size_t count = character(octets + i, size - i, &number);
+        if (count == 0) print_json_number(to, 0xfffd);
+        else if (number == '"' || number == '\\') fprintf(to, "\\%c", (int)number);
+        else if (is_plain_character(octets + i, count, number)) fwrite(octets + i, 1, count, to);
+        else print_json_number(to, number);
+        i += count > 0 ? count : 1;
+    }
+    putc('"', to);
 }

@@ -11,4 +11,8 @@
    not read UTF-8, so are the octets of each character with one that could be taken there for a control character. */
 void print_text(FILE *to, const uint8_t *octets, size_t size);
 
+/* Prints it as a string of JSON, in quotes. Characters that a terminal does not show as they are come as \u and their number,
+   and an octet that is no UTF-8 as U+FFFD. */
+void print_json_text(FILE *to, const uint8_t *octets, size_t size);
+
 #endif

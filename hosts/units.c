@@ -1,10 +1,14 @@
 /* Tests of what the hosts decide without a socket. They try the library's token buckets, and its table of messages that were
-   passed on. They try where a message is in a frame, and what the image of a session says. Prints what does not hold, and
-   `units: N passed, M failed`. */
+   passed on. They try where a message is in a frame, what the image of a session says, and TimeIntervals and JSON as texts. Prints
+   what does not hold, and `units: N passed, M failed`. */
+#define _GNU_SOURCE
 #include "checking.h"
 #include "ethernet.h"
+#include "interval.h"
 #include "ptpm.h"
 #include "session_image.h"
+#include "text.h"
+#include <stdlib.h>
 #include <string.h>
 
 enum { NOW = 5000, TIME = 1000, MESSAGE = 54, ERROR_STATUS = 60, PLACES = 4096 };
@@ -167,11 +171,69 @@ static void images(void) {
     check(read_image(octets, 52).first == 0, "fewer octets are no session");
 }
 
+/* What a function prints, which the next call frees. */
+static char *printed;
+static size_t printed_size;
+static FILE *open_printed(void) {
+    free(printed);
+    return open_memstream(&printed, &printed_size);
+}
+
+static int prints_interval(int64_t interval, const char *text) {
+    FILE *to = open_printed();
+    print_interval(to, interval);
+    return fclose(to) == 0 && strcmp(printed, text) == 0;
+}
+
+static int reads_interval(const char *text, int64_t interval) {
+    int64_t read;
+    return read_interval(text, &read) && read == interval;
+}
+
+/* Nanoseconds times 2^16 (5.3.2). */
+static void intervals(void) {
+    static const struct { int64_t interval; const char *text; } both[] = {
+        { 0, "0.0" }, { 98304, "1.5" }, { -98304, "-1.5" }, { 1, "0.0000152587890625" }, { -1, "-0.0000152587890625" },
+        { INT64_MAX, "140737488355327.9999847412109375" }, { INT64_MIN, "-140737488355328.0" },
+    };
+    static const char *const none[] = {
+        "", "-", ".5", "1.", "1.5.", "+1", "--1", "1e3", "0x10", " 1", "1.5ns", "140737488355328", "-140737488355328.1",
+        "140737488355327.9999999999999999", "1.00000000000000000", "1000000000000000",
+    };
+    int64_t read = 7;
+    for (size_t i = 0; i < sizeof both / sizeof *both; i++) {
+        check(prints_interval(both[i].interval, both[i].text) && reads_interval(both[i].text, both[i].interval), both[i].text);
+    }
+    for (size_t i = 0; i < sizeof none / sizeof *none; i++) check(!read_interval(none[i], &read) && read == 7, none[i]);
+    check(reads_interval("1250", 81920000) && reads_interval("-0", 0), "a whole number");
+    check(reads_interval("0.0000076293945312", 0) && reads_interval("0.0000076293945313", 1), "half a unit");
+    check(reads_interval("-0.1", -6554) && reads_interval("0.9999999999999999", 65536), "the nearest unit");
+}
+
+static int prints_json(const char *text, const char *json) {
+    FILE *to = open_printed();
+    print_json_text(to, (const uint8_t *)text, strlen(text));
+    return fclose(to) == 0 && strcmp(printed, json) == 0;
+}
+
+/* Strings (RFC 8259, 7). */
+static void json(void) {
+    setenv("LC_ALL", "C", 1);
+    check(prints_json("rack 4 \"a\\b\"", "\"rack 4 \\\"a\\\\b\\\"\""), "a quote and a backslash in JSON");
+    check(prints_json("\n\x1b[0m\x7f", "\"\\u000a\\u001b[0m\\u007f\""), "characters that control in JSON");
+    check(prints_json("\xe2\x80\xae\xf3\xa0\x80\x81", "\"\\u202e\\udb40\\udc01\""), "characters that turn and fill in JSON");
+    check(prints_json("a\xff\xc3", "\"a\\ufffd\\ufffd\""), "octets that are no UTF-8 in JSON");
+    check(prints_json("K\xc3\xb6ln \xc3\x9b", "\"K\xc3\xb6ln \\u00db\""), "a character that may control in another locale in JSON");
+}
+
 int main(void) {
     buckets();
     passing_on();
     many_messages();
     frames();
     images();
+    intervals();
+    json();
+    free(printed);
     return told("units");
 }

@@ -1,0 +1,54 @@
+#include "interval.h"
+
+/* Bits of a fraction, as many digits as all its values have, and 10 to that power. */
+enum { FRACTION_BITS = 16, FRACTION_DIGITS = 16 };
+static const uint64_t whole_fraction = 10000000000000000;
+
+void print_interval(FILE *to, int64_t interval) {
+    uint64_t size = interval < 0 ? -(uint64_t)interval : (uint64_t)interval, fraction = size & 0xffff;
+    fprintf(to, "%s%llu.", interval < 0 ? "-" : "", (unsigned long long)(size >> FRACTION_BITS));
+    do {
+        fraction *= 10;
+        putc('0' + (int)(fraction >> FRACTION_BITS), to);
+        fraction &= 0xffff;
+    } while (fraction != 0);
+}
+
+/* Reads up to `most` digits, one at least; how many there are, 0 if none or too many. */
+static int read_digits(const char **text, int most, uint64_t *number) {
+    int count = 0;
+    for (*number = 0; **text >= '0' && **text <= '9'; (*text)++) {
+        if (++count > most) return 0;
+        *number = *number * 10 + (uint64_t)(**text - '0');
+    }
+    return count;
+}
+
+/* A fraction of so many digits in units of 2^-16; half a unit counts as one. */
+static uint64_t units_of(uint64_t fraction, int digits) {
+    uint64_t units = 0;
+    for (; digits < FRACTION_DIGITS; digits++) fraction *= 10;
+    for (int bit = 0; bit < FRACTION_BITS; bit++) {
+        fraction *= 2;
+        units = units << 1 | (fraction >= whole_fraction);
+        if (fraction >= whole_fraction) fraction -= whole_fraction;
+    }
+    return units + (2 * fraction >= whole_fraction);
+}
+
+int read_interval(const char *text, int64_t *interval) {
+    enum { MOST_DIGITS = 15 };      /* 2^47 nanoseconds have as many */
+    uint64_t whole, fraction = 0;
+    int is_below = *text == '-', digits = 0;
+    text += is_below;
+    if (read_digits(&text, MOST_DIGITS, &whole) == 0) return 0;
+    if (*text == '.') {
+        text++;
+        if ((digits = read_digits(&text, FRACTION_DIGITS, &fraction)) == 0) return 0;
+    }
+    if (*text != '\0' || whole > (uint64_t)1 << 47) return 0;
+    uint64_t size = (whole << FRACTION_BITS) + units_of(fraction, digits);
+    if (size > (uint64_t)INT64_MAX + (uint64_t)is_below) return 0;
+    *interval = is_below ? (int64_t)-size : (int64_t)size;
+    return 1;
+}
