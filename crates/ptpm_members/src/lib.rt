@@ -14,7 +14,7 @@ mod value_text;
 
 pub use field_text::FieldText;
 pub use forms::{Field, Form};
-pub use laws::member_law;
+pub use laws::{member_law, typed_again_law};
 pub use names::Member;
 pub use parsing::{ParseFault, parse};
 pub use tables::fields;
