@@ -942,8 +942,10 @@ enum { PTPM_MOST_FIELD_TEXT = 2843 };
 size_t ptpm_field_text(uint16_t id, const uint8_t *octets, size_t size, char *text, size_t room);
 
 /* Gives the dataField of a SET from what a person types: the name of each member in the standard, in either case, and its value, in
-   the order of ptpm_field_text. The name of a sole member may be left out: "100" and "priority1", "100" are the same. docs/ptpm.md
-   says how each kind of value is written.
+   the order of ptpm_field_text. The name of a sole member may be left out: "100" and "priority1", "100" are the same. A value is
+   written as ptpm_field_text writes it. A number of one octet without a sign may be decimal, or 0x and two hexadecimal digits; a
+   flag also 1 or 0. A delayMechanism has its name in either case or its number. In a text, \xHH is an octet in hexadecimal. Whether
+   a clock takes the value is the clock's to say.
    Takes:   the managementId; words in UTF-8 with a zero octet after each, of size octets with all of these; and room octets, for
             which PTPM_MOST_READ is enough.
    Answers: PTPM_PARSED; or PTPM_NOT_WORDS, PTPM_UNKNOWN_ID, PTPM_WORD_COUNT, PTPM_OTHER_NAME or PTPM_NO_VALUE of the first member

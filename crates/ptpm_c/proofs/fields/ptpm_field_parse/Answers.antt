@@ -5,7 +5,7 @@ use Rattle.ptpm_host.specs.Parsing.{fault_place}
 use Rattle.ptpm_c.proofs.fields.ptpm_field_parse.Goals as goal
 
 pub returns-in-Ok-clause-parsed : goal.returns-in-Ok-clause-parsed
-returns-in-Ok-clause-parsed c = λ ws are few. (Ok c.in-Ok.size, c.in-Ok.ensures.parsed ws are few, refl, refl, refl)
+returns-in-Ok-clause-parsed c = λ ws are few. (Ok c.in-Ok.size, c.in-Ok.ensures.parsed ws are few, (refl, refl, refl))
 
 pub returns-in-Ok-clause-no_words : goal.returns-in-Ok-clause-no_words
 returns-in-Ok-clause-no_words c = λ none. let never = c.in-Ok.ensures.no_words none in absurd cc
@@ -13,7 +13,7 @@ returns-in-Ok-clause-no_words c = λ none. let never = c.in-Ok.ensures.no_words 
 pub returns-in-Err-clause-parsed : goal.returns-in-Err-clause-parsed
 returns-in-Err-clause-parsed c =
     λ ws are few.
-    (Err c.in-Err.refusal, c.in-Err.ensures.parsed ws are few, c.parse_number.ensures.number, refl, c.place.ensures)
+    (Err c.in-Err.refusal, c.in-Err.ensures.parsed ws are few, (c.parse_number.ensures.number, refl, c.place.ensures))
 
 pub returns-in-Err-clause-no_words : goal.returns-in-Err-clause-no_words
 returns-in-Err-clause-no_words c =
