@@ -1,8 +1,9 @@
 /* bare INTERFACE IDENTITY calls|rounds|ring
-   For trials, beside ptpm-clock: the least that answers a GET of PRIORITY1, over UDP and IPv4, at one socket, in any domain, and
-   with no look at who asked. So nearly all that it takes is the kernel's. `calls` waits in a receive, and sends. `rounds` makes
-   the calls of ptpm-clock, epoll_wait, recvmmsg and sendmmsg. `ring` sends, and waits for the next datagram, in one call of
-   io_uring. */
+
+   For trials, beside ptpm-clock: the least that answers a GET of PRIORITY1, over UDP and IPv4. It has one socket, and does not
+   look at the domain, nor at who asked. So nearly all that it takes is the kernel's. `calls` waits in a receive, and sends.
+   `rounds` makes the calls of ptpm-clock, epoll_wait, recvmmsg and sendmmsg. `ring` sends, and waits for the next datagram, in one
+   call of io_uring. */
 #define _GNU_SOURCE
 #include "common.h"
 #include "identity.h"

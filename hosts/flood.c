@@ -1,8 +1,8 @@
 /* flood INTERFACE IDENTITY RATE SECONDS
 
-   For trials: asks a clock for PRIORITY1 RATE times a second, over UDP and IPv4, one GET after another at even times. Prints
-   how many were answered, and in how many microseconds the middle one and 99 of a hundred were. With a RATE of 0 it waits for each
-   answer before it asks again. */
+   For trials: asks a clock for PRIORITY1 RATE times a second, over UDP and IPv4, at even times. Prints how many GETs were
+   answered, and in how many microseconds the middle one and 99 of a hundred were. With a RATE of 0 it waits for each answer
+   before it asks again. */
 #define _GNU_SOURCE
 #include "common.h"
 #include "identity.h"
@@ -47,7 +47,7 @@ static int is_answer(const uint8_t *octets, ssize_t size) {
            && memcmp(octets + TARGET, request + SOURCE, IDENTITY) == 0;
 }
 
-/* Whether something came in, of which an answer counts. */
+/* Whether something came in. If it is an answer it is counted. */
 static int take_answer(int flags) {
     uint8_t octets[2048];
     ssize_t size = recv(at, octets, sizeof octets, flags);
