@@ -9,6 +9,7 @@ pub mod Ids
 pub mod Keeping
 pub mod Kept
 pub mod Loops
+pub mod Members
 pub mod Parents
 pub mod PortStates
 pub mod Showing
