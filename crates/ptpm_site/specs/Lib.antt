@@ -1,5 +1,6 @@
 pub mod Amounts
 pub mod Answers
+pub mod Changes
 pub mod Completeness
 pub mod Differences
 pub mod Findings
@@ -13,6 +14,7 @@ pub mod Members
 pub mod Parents
 pub mod PortStates
 pub mod Showing
+pub mod Standing
 pub mod Swapping
 pub mod Telling
 pub mod Tree
