@@ -78,9 +78,8 @@ static const char end[] =
 /* The names of all ids, in their order. */
 static void print_ids(void) {
     int column = WIDTH;
-    for (unsigned id = 0; id <= UINT16_MAX; id++) {
-        const char *name = id_name((uint16_t)id);
-        if (name == NULL) continue;
+    for (size_t place = 0; ptpm_id_at(place) != PTPM_NO_ID; place++) {
+        const char *name = id_name((uint16_t)ptpm_id_at(place));
         int size = (int)strlen(name) + 1;
         if (column + size > WIDTH) column = printf("\n ") - 1;
         column += size;
