@@ -16,7 +16,9 @@ int can_only_be_read(uint16_t id) {
 }
 
 int has_no_member(uint16_t id) {
-    return id == PTPM_ID_NULL_PTP_MANAGEMENT || id == PTPM_ID_ENABLE_PORT || id == PTPM_ID_DISABLE_PORT;
+    uint8_t octets[PTPM_MOST_READ];
+    size_t count, place;
+    return ptpm_field_parse(id, "", 0, octets, sizeof octets, &count, &place) == PTPM_PARSED;
 }
 
 /* Takes the members of an id, with the values of a dataField in which no bit is set. */
