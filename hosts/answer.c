@@ -47,7 +47,7 @@ static void print_field_as_json(FILE *to, const struct task *task, const struct 
 void print_answer_as_json(FILE *to, const struct task *task, const struct ptpm_source *source, const struct answer *answer) {
     clear_progress();
     if (answer->told != PTPM_DONE && answer->told != PTPM_REFUSED && answer->told != PTPM_VALUE) {
-        complain("nothing is told: %s", answer_name(answer->told));
+        complain("nothing is reported: %s", answer_name(answer->told));
         return;
     }
     print_source_as_json(to, task, source);

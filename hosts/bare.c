@@ -1,8 +1,8 @@
-/* bare INTERFACE IDENTITY calls|rounds|ring
-   For trials, beside ptpm-clock: the least that answers a GET of PRIORITY1, over UDP and IPv4, at one socket, in any domain, and
-   with no look at who asked. So nearly all that it takes is the kernel's. `calls` waits in a receive, and sends. `rounds` makes
-   the calls of ptpm-clock, epoll_wait, recvmmsg and sendmmsg. `ring` sends, and waits for the next datagram, in one call of
-   io_uring. */
+/* bare INTERFACE IDENTITY calls|rounds|ring.
+   For trials, beside ptpm-clock: the least that answers a GET of PRIORITY1, over UDP and IPv4, at one socket. It answers in any
+   domain, and does not look at who asked. So nearly all that it takes is the kernel's. `calls` waits in a receive, and sends.
+   `rounds` makes the calls of ptpm-clock, epoll_wait, recvmmsg and sendmmsg. `ring` sends, and waits for the next datagram, in
+   one call of io_uring. */
 #define _GNU_SOURCE
 #include "common.h"
 #include "identity.h"

@@ -24,11 +24,11 @@ int has_no_member(uint16_t id);
 /* Whether a word is the name of a member of the id, in either case. */
 int is_member(uint16_t id, const char *word);
 
-/* How many words a SET of the id takes at most, by the first of them: one, or a name and a value for each member. */
+/* How many words a SET of the id takes at most: one, or a name and a value for each member. The first of them decides. */
 size_t most_words(uint16_t id, const char *first);
 
-/* The dataField of a SET for words: each member's name and its value, or the value of the one member alone. `named` is the id as it
-   was typed. How many octets it has. Ends the program if the words are none, and says which member is at fault. */
+/* The dataField of a SET for words: each member's name and its value, or the value of the one member alone. `named` is the id as
+   it was typed. How many octets it has. Ends the program if the words are none, and says which member is at fault. */
 size_t read_field(uint16_t id, const char *named, const char *const *words, size_t count, uint8_t octets[PTPM_MOST_READ]);
 
 /* The same if the last word is a text as it is, in which a backslash stands for itself. */

@@ -47,7 +47,7 @@ static int is_answer(const uint8_t *octets, ssize_t size) {
            && memcmp(octets + TARGET, request + SOURCE, IDENTITY) == 0;
 }
 
-/* Whether something came in, of which an answer counts. */
+/* Whether something came in. An answer is counted. */
 static int take_answer(int flags) {
     uint8_t octets[2048];
     ssize_t size = recv(at, octets, sizeof octets, flags);

@@ -24,7 +24,7 @@ static int read_digits(const char **text, int most, uint64_t *number) {
     return count;
 }
 
-/* A fraction of so many digits in units of 2^-16; half a unit counts as one. */
+/* A fraction of a number of digits in units of 2^-16; half a unit counts as one. */
 static uint64_t units_of(uint64_t fraction, int digits) {
     uint64_t units = 0;
     for (; digits < FRACTION_DIGITS; digits++) fraction *= 10;

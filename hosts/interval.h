@@ -8,7 +8,7 @@
 /* Prints it with all digits of its fraction, such as 1.5. */
 void print_interval(FILE *to, int64_t interval);
 
-/* The TimeInterval that is nearest to a text: digits, with at most sixteen more after a dot, and a hyphen before them if it is
+/* The TimeInterval that is nearest to a text: digits, with at most sixteen more after a dot. A hyphen is before them if it is
    below 0. Whether the text is one, and it is in range. */
 int read_interval(const char *text, int64_t *interval);
 

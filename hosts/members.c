@@ -68,8 +68,8 @@ static size_t structure_size(const char *name) {
     return dot == NULL ? 0 : (size_t)(dot - name);
 }
 
-/* The name of a member, and what comes before it. The members of a structure come one after the other: `before` is how long the name
-   of the one before it is, 0 if there is none; the answer is that of this member. */
+/* The name of a member, and what comes before it. The members of a structure come one after the other. The answer is how long the
+   name of this member's structure is, 0 if it is in none. `before` is that of the member before it. */
 static size_t print_name_as_json(FILE *to, const char *name, int is_first, size_t before) {
     size_t structure = structure_size(name);
     if (before > 0 && structure == 0) putc('}', to);

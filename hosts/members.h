@@ -6,8 +6,8 @@
 #include <stdint.h>
 #include <stdio.h>
 
-/* Prints what the dataField of an id says: after `lead` a line for each member, its name and its value. It is the line of
-   `print_octets` if the dataField is empty, if the id's members are not known, or if its length is not the id's. */
+/* Prints what the dataField of an id says: after `lead` a line for each member, its name and its value. If the library finds no
+   member in it, it is the line of `print_octets`. */
 void print_members(FILE *to, const char *lead, uint16_t id, const uint8_t *octets, size_t size);
 
 /* Prints a line of a dataField as it is: `value` and its octets in hexadecimal, or `-` if it has none. */

@@ -1,7 +1,7 @@
-/* noise INTERFACE junk|announce|foreign|all RATE SECONDS
-   For trials: sends so many datagrams a second to UDP port 320 of the group of PTP, with IPv4, at even times, and prints how many went
-   out. They are octets by chance, Announce messages of one master, GETs for clocks that are not there, or GETs for every clock, by
-   somebody who is no manager. It reads nothing. */
+/* noise INTERFACE junk|announce|foreign|all RATE SECONDS.
+   For trials: sends RATE datagrams a second to UDP port 320 of the group of PTP, with IPv4, at even times. It prints how many
+   went out. They are octets by chance, Announce messages of one master, GETs for clocks that are not there, or GETs for every
+   clock. The GETs are by somebody who is no manager. It reads nothing. */
 #define _GNU_SOURCE
 #include "common.h"
 #include <stdio.h>

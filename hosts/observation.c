@@ -15,8 +15,8 @@ enum kind { UNSIGNED, SIGNED, INTERVAL, FLAG, IDENTITY, STATE };
 
 enum { MOST_WORDS = 5, NO_FLAG = 0xffff, INTERVAL_TEXT = 64 };
 
-/* A member of a struct: its name there, and the standard's, by which ptpm-manage prints it; its place, and the flag that says
-   that it is given. */
+/* A member of a struct: its name there, and the standard's, by which ptpm-manage prints it. Its place, and that of the flag that
+   says that it is given. */
 struct member { const char *name, *printed; size_t at, size, flag; enum kind kind; };
 
 #define PLACE(what, name) offsetof(struct what, name), sizeof ((struct what *)0)->name

@@ -16,9 +16,9 @@ struct observation {
 };
 
 /* Reads it from lines, the text's own: `MEMBER VALUE` of struct ptpm_observed_clock, and `port PORT MEMBER VALUE` of struct
-   ptpm_observed_port; or the members as ptpm-manage prints them, those of a port after its portIdentity. An empty line and one that
-   begins with # say nothing. Of two lines about one member the later counts. Whether every line is right. If one is wrong there is
-   no observation, and each wrong one is said on standard error, after `name` and its number. */
+   ptpm_observed_port. Or they are members as ptpm-manage prints them, those of a port after its portIdentity. An empty line and
+   one that begins with # say nothing. Of two lines about one member the later counts. Whether every line is right. If one is
+   wrong there is no observation, and each wrong one is said on standard error, after `name` and its number. */
 int read_observation(struct observation *observation, const char *name, char *text);
 
 #endif

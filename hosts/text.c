@@ -49,7 +49,7 @@ static int has_control(const uint8_t *octets, size_t size) {
     return 0;
 }
 
-/* Whether a character of so many octets, 0 if it is none, is printed as it is. */
+/* Whether a character of `count` octets, 0 if it is none, is printed as it is. */
 static int is_plain_character(const uint8_t *octets, size_t count, uint32_t number) {
     return count > 0 && is_shown(number) && (reads_utf8() || !has_control(octets, count));
 }

@@ -147,8 +147,8 @@ def _parsed(number: int, words: Sequence[str]) -> Tuple[int, bytes, int]:
 
 
 def parse(number: int, words: Sequence[str]) -> bytes:
-    """The dataField of a SET from words, as ptpm-manage takes them: the name of each member and its value as it is printed. The name
-    of a sole member may be left out.
+    """The dataField of a SET from words, as ptpm-manage takes them: the name of each member and its value as it is printed. The
+    name of a sole member may be left out.
 
     >>> parse(ManagementId.PRIORITY1, ["100"]) == parse(ManagementId.PRIORITY1, ["priority1", "0x64"]) == bytes([100, 0])
     True
@@ -177,8 +177,8 @@ def _in_order(number: int, values: Mapping[str, Value]) -> Iterable[str]:
 
 
 def data_field(number: int, value: DataField) -> bytes:
-    """The dataField of a SET: octets as they are, nothing as none, and else the one member of the id, or its text. Or the value of
-    each member by its name in the standard.
+    """The dataField of a SET: octets as they are, nothing as none, and else the one member of the id, or its text. Or the value
+    of each member by its name in the standard.
 
     >>> data_field(ManagementId.PRIORITY1, 100).hex(), data_field(ManagementId.USER_DESCRIPTION, "rack 4").hex()
     ('6400', '067261636b203400')

@@ -85,8 +85,8 @@ impl fmt::Display for NoField {
 impl core::error::Error for NoField {}
 
 impl ManagementId {
-    /// The dataField of a SET of this id, from words: the name of each member in the standard, in either case, and its value as
-    /// [`Members`] have it, in their order. The name of a sole member may be left out.
+    /// The dataField of a SET of this id, from words: the name of each member in the standard, in either case, and its value.
+    /// They are written as [`Members`] has them, and in that order. The name of a sole member may be left out.
     ///
     /// ```
     /// use ptpm::{Error, ManagementId};
@@ -124,9 +124,9 @@ impl ManagementId {
         if !matches!(error, Error::OtherName | Error::NoValue) {
             return None;
         }
-        let mut sizes = (2..MOST_READ).step_by(2);
-        let zeros = sizes.find_map(|size| Some(Members::of(self, &[0; MOST_READ][..size])).filter(|all| all.get("value").is_none()))?;
-        let name = zeros.iter().nth(place).map(|member| member.0.into());
-        name
+        let mut all_zeros = (2..MOST_READ).step_by(2).map(|size| Members::of(self, &[0; MOST_READ][..size]));
+        let members = all_zeros.find(|members| members.get("value").is_none())?;
+        let (name, _) = members.iter().nth(place)?;
+        Some(name.into())
     }
 }
