@@ -10,6 +10,8 @@ enum { WIDTH = 98 };        /* columns */
 static const char text[] =
     "ptpm-manage [OPTION].. --target IDENTITY[-PORT] get ID\n"
     "ptpm-manage [OPTION].. --target IDENTITY[-PORT] set ID VALUE\n"
+    "ptpm-manage [OPTION].. --target IDENTITY[-PORT] set ID NAME VALUE ..\n"
+    "\n"
     "ptpm-manage [OPTION].. --target IDENTITY[-PORT] command ID\n"
     "ptpm-manage [OPTION].. survey ID\n"
     "\n"
@@ -18,6 +20,8 @@ static const char text[] =
     "\n"
     "Asks a PTP clock for a data set, sets a value, or has a command carried out, and prints what the\n"
     "clock answers. The request is sent again until it is answered. survey asks every clock and port.\n"
+    "NAME is that of a member, as the answer prints it: set PRIORITY1 100, or set UTC_PROPERTIES\n"
+    "currentUtcOffset 37 leap61 false leap59 false currentUtcOffsetValid true.\n"
     "\n"
     "collect asks every clock for a whole site, and prints the answers in hexadecimal.\n"
     "With status, ptpm site shows them: who is grandmaster, who follows whom, and what is wrong.\n"
@@ -78,9 +82,8 @@ static const char end[] =
 /* The names of all ids, in their order. */
 static void print_ids(void) {
     int column = WIDTH;
-    for (unsigned id = 0; id <= UINT16_MAX; id++) {
-        const char *name = id_name((uint16_t)id);
-        if (name == NULL) continue;
+    for (size_t place = 0; ptpm_id_at(place) != PTPM_NO_ID; place++) {
+        const char *name = id_name((uint16_t)ptpm_id_at(place));
         int size = (int)strlen(name) + 1;
         if (column + size > WIDTH) column = printf("\n ") - 1;
         column += size;

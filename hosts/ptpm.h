@@ -933,23 +933,23 @@ size_t ptpm_error_name(uint16_t error, char *text, size_t room);
 /* The most octets that ptpm_field_text writes, of a dataField that a message can have. */
 enum { PTPM_MOST_FIELD_TEXT = 2843 };
 
-/* Gives the members of a dataField as text, a line each: the member's name in the standard (15.5.3), a space and its value, such as
-   "priority1 128". docs/ptpm.md says how each kind of value is written. If the octets are no dataField of the id, or it has no
-   member, the one line is "value" and the octets in hexadecimal, or "value -" for none.
+/* Gives the members of a dataField as text, a line each: its name in the standard (15.5.3), a space and its value, such as
+   "priority1 128". How each kind of value is written is in docs/ptpm.md. There is one line alone if the octets are no dataField
+   of the id, or it has no member. That is "value" and the octets in hexadecimal, or "value -" for none.
    Takes:   the managementId; a dataField of size octets; and room octets, for which PTPM_MOST_FIELD_TEXT is enough.
    Answers: how many octets the lines have; 0 if room is too small for all of them.
    Writes:  as many octets from text on: each line with its newline, and no zero after the last. If it answers 0, anything. */
 size_t ptpm_field_text(uint16_t id, const uint8_t *octets, size_t size, char *text, size_t room);
 
-/* Gives the dataField of a SET from what a person types: the name of each member in the standard, in either case, and its value, in
-   the order of ptpm_field_text. The name of a sole member may be left out: "100" and "priority1", "100" are the same. A value is
-   written as ptpm_field_text writes it. A number of one octet without a sign may be decimal, or 0x and two hexadecimal digits; a
-   flag also 1 or 0. A delayMechanism has its name in either case or its number. In a text, \xHH is an octet in hexadecimal. Whether
-   a clock takes the value is the clock's to say.
-   Takes:   the managementId; words in UTF-8 with a zero octet after each, of size octets with all of these; and room octets, for
-            which PTPM_MOST_READ is enough.
-   Answers: PTPM_PARSED; or PTPM_NOT_WORDS, PTPM_UNKNOWN_ID, PTPM_WORD_COUNT, PTPM_OTHER_NAME or PTPM_NO_VALUE of the first member
-            that has one of them, or PTPM_NO_ROOM, the first of them in this order.
+/* Gives the dataField of a SET from what a person types: the name of each member in the standard, in either case, and its value.
+   They are in the order of ptpm_field_text. The name of a sole member may be left out: "100" and "priority1", "100" are the same. A
+   value is written as ptpm_field_text writes it. A number of one octet without a sign may be decimal, or 0x and two hexadecimal
+   digits; a flag also 1 or 0. A delayMechanism has its name in either case or its number. In a text, \xHH is an octet in
+   hexadecimal. Whether a clock takes the value is the clock's to say.
+   Takes:   the managementId; and words in UTF-8 with a zero octet after each, of size octets with all of these. And room octets,
+            for which PTPM_MOST_READ is enough.
+   Answers: PTPM_PARSED; or the first of these in this order: PTPM_NOT_WORDS, PTPM_UNKNOWN_ID, PTPM_WORD_COUNT, that of a member,
+            PTPM_NO_ROOM. That of a member is PTPM_OTHER_NAME or PTPM_NO_VALUE, of the first member that has one of them.
    Writes:  *count, how many octets the dataField has, and as many octets from octets on. If it is refused, *count is 0 and no octet
             is written. *member, the place of the member with PTPM_OTHER_NAME or PTPM_NO_VALUE, from 0 on, and else 0. */
 enum ptpm_parsed ptpm_field_parse(uint16_t id, const char *words, size_t size, uint8_t *octets, size_t room, size_t *count,

@@ -1,9 +1,9 @@
 #define _GNU_SOURCE
 #include "task.h"
 #include "common.h"
+#include "field_words.h"
 #include "help.h"
 #include "identity.h"
-#include "members.h"
 #include "names.h"
 #include "notices.h"
 #include <getopt.h>
@@ -15,7 +15,7 @@
 /* Options without a letter of their own, and a word that is none: getopt's for a string that begins with a hyphen. */
 enum { WORD = 1, UDP = 256, TEXT, VERSION, GIVE_UP, JSON };
 
-enum { MOST_WORDS = 3, MOST_FIELD = 1418, NOT_NAMED = -1 };
+enum { MOST_WORDS = 2 + MOST_FIELD_WORDS, MOST_FIELD = 1418, NOT_NAMED = -1 };
 
 /* What holds if no option says otherwise. Each request to one clock alone is repeated for two seconds. */
 enum { HOPS = 1, ATTEMPTS = 30, SITE_HOPS = 7, SITE_ATTEMPTS = 10, LISTENED = 4000 };
@@ -110,10 +110,12 @@ static void take_word(struct words *words, const char *word) {
     words->at[words->count++] = word;
 }
 
-/* After `set ID` comes its value, which may be below 0: it is no option there. */
+/* After `set ID`, and after the name of one of its members, comes a value. It may be below 0: it is no option there. */
 static int is_value(const struct words *words, const char *word) {
-    if (words->count != 2 || strcasecmp(words->at[0], "set") != 0) return 0;
-    return word[0] == '-' && word[1] >= '0' && word[1] <= '9';
+    if (word[0] != '-' || word[1] < '0' || word[1] > '9') return 0;
+    if (words->count < 2 || strcasecmp(words->at[0], "set") != 0) return 0;
+    long id = id_named(words->at[1]);
+    return words->count == 2 || (id >= 0 && is_member((uint16_t)id, words->at[words->count - 1]));
 }
 
 static void read_words(struct task *task, struct words *words, int argc, char **argv) {
@@ -177,24 +179,31 @@ static void read_octets_of(struct task *task, const char *text) {
     refuse("%s: it is no even number of octets in hexadecimal%s", text, hint(task));
 }
 
+/* Whether the words of a value are what an answer prints, or the value of the one member, and no dataField in hexadecimal. */
+static int are_members(const struct task *task, const char *const *value, size_t count) {
+    if (task->action != PTPM_SET || task->is_in_octets) return 0;
+    return count > 1 || takes_value(task->id) || is_member(task->id, value[0]);
+}
+
+static void judge_count(const struct task *task, const char *const *value, size_t count, int is_text) {
+    size_t most = is_text || are_members(task, value, count) ? most_words(task->id, value[0]) : 1;
+    if (count > most) refuse("%s: there is a word too many; see ptpm-manage --help", value[most]);
+}
+
 static void read_value(struct task *task, const struct words *words) {
-    const char *id = words->at[1], *text = words->count > 2 ? words->at[2] : NULL, *wanted;
+    const char *id = words->at[1], *const *value = words->at + 2;
+    size_t count = words->count > 2 ? (size_t)words->count - 2 : 0;
     int is_set = !task->is_survey && task->action == PTPM_SET;
-    if (text == NULL && is_set && can_only_be_read(task->id)) refuse("set %s: the id can only be read", id);
-    if (text == NULL && is_set && !has_no_member(task->id)) refuse("set %s: it takes a value after it", id);
-    if (text == NULL) return;
+    int is_read_only = is_set && can_only_be_read(task->id);
+    if (is_read_only && (count != 1 || is_member(task->id, value[0]))) refuse("set %s: the id can only be read", id);
+    if (count == 0 && is_set && !has_no_member(task->id)) refuse("set %s: it takes a value after it", id);
+    if (count == 0) return;
     if (task->is_survey) refuse("%s %s%s: it takes no value", words->at[0], id, task->is_of_clock ? " of every port" : "");
-    if (words->is_text) {
-        if (!has_text(task->id)) refuse("--text: %s has no text", id);
-        if (strlen(text) > MOST_TEXT) refuse("the text has over %d octets", MOST_TEXT);
-        task->size = text_field(text, task->octets);
-    } else if (is_set && !task->is_in_octets && has_one_member(task->id)) {
-        wanted = read_member(task->id, text, task->octets);
-        if (wanted != NULL) refuse("set %s %s: it takes %s", id, text, wanted);
-        task->size = 2;
-    } else {
-        read_octets_of(task, text);
-    }
+    if (words->is_text && !has_text(task->id)) refuse("--text: %s has no text", id);
+    judge_count(task, value, count, words->is_text);
+    if (words->is_text) task->size = read_text_field(task->id, id, value, count, task->octets);
+    else if (are_members(task, value, count)) task->size = read_field(task->id, id, value, count, task->octets);
+    else read_octets_of(task, value[0]);
 }
 
 /* Whether what is said of the clock and the way to it is whole, and said once. */

@@ -49,6 +49,19 @@ _ptpm() {
     esac
 }
 
+# Offers the name of the member that comes next after `set ID`, if the id has several. A refused command line names them, and asks
+# nothing.
+_ptpm_offer_member() {
+    local -a names
+    local k=$COMP_CWORD words
+    while ((k > 0)) && [[ ${COMP_WORDS[k]} != set ]]; do ((k--)); done
+    words=$((COMP_CWORD - k - 2))
+    ((k > 0 && words >= 0 && words % 2 == 0)) || return
+    mapfile -t names < <(ptpm-manage --target 0000000000000001 set "${COMP_WORDS[k + 1]}" '' '' 2>&1 < /dev/null |
+        grep -oE '[a-zA-Z0-9]+ VALUE' | cut -d ' ' -f 1)
+    _ptpm_offer "${names[@]:words / 2:1}"
+}
+
 _ptpm_manage() {
     local before=${COMP_WORDS[COMP_CWORD - 1]}
     local -a actions=(get set command survey collect status)
@@ -57,7 +70,10 @@ _ptpm_manage() {
     get,* | set,* | command,* | survey,*) _ptpm_offer_lines < <(_ptpm_ids) ;;
     -i,* | --interface,*) _ptpm_offer_interfaces ;;
     -p,* | --port,*) _ptpm_offer all ;;
-    *) _ptpm_takes ptpm-manage "$before" || [[ -n $(_ptpm_last "${actions[*]}") ]] || _ptpm_offer "${actions[@]}" ;;
+    *)
+        _ptpm_takes ptpm-manage "$before" || _ptpm_offer_member || [[ -n $(_ptpm_last "${actions[*]}") ]] ||
+            _ptpm_offer "${actions[@]}"
+        ;;
     esac
 }
 

@@ -11,7 +11,7 @@ from .answers import Error
 from .asking import NoAnswer
 from .identity import Identity, PortIdentity
 from .ids import Action, ManagementId, id_of
-from .members import data_field, has_one_member, takes_no_value
+from .members import data_field, has_one_member, parse, takes_no_value
 from .nobody import ask_as_nobody
 from .report import Report
 from .requests import Requests, SessionSettings, begin_request
@@ -45,7 +45,7 @@ def _parser() -> argparse.ArgumentParser:
     add = parser.add_argument
     add("verb", choices=["get", "set", "command", "survey"])
     add("id", help="a managementId by its name, or four hexadecimal digits")
-    add("value", nargs="?", help="of set: what the answer prints, or the dataField in hexadecimal")
+    add("value", nargs="*", help="of set: names and values of members as the answer prints them, or the dataField in hexadecimal")
     add("-i", "--interface", metavar="NAME", help="over UDP port 320 at this interface")
     add("--ipv6", action="store_true", help="with IPv6")
     add("--udp", metavar="ADDRESS", help="over UDP to this address")
@@ -89,9 +89,9 @@ class Task:
                 raise ValueError(f"--port {self.words.port} and --target name two ports") from None
             self.target, self.port = named.clock, named.port
 
-    def _data(self, text: Optional[str]) -> bytes:
+    def _data(self, value: List[str]) -> bytes:
         words = self.words
-        if text is None:
+        if not value:
             if self.action == Action.SET and not takes_no_value(self.id):
                 raise ValueError(f"set {words.id}: it takes a value after it")
             return b""
@@ -99,11 +99,16 @@ class Task:
             raise ValueError(f"survey {words.id}: it takes no value")
         if words.text and self.id != ManagementId.USER_DESCRIPTION:
             raise ValueError(f"--text: {words.id} has no text")
-        if words.text or (self.action == Action.SET and not words.hexadecimal and has_one_member(self.id)):
-            return data_field(self.id, text)
-        octets = bytes.fromhex(text)
+        is_named = self.action == Action.SET and not words.hexadecimal and not words.text
+        if is_named and (len(value) > 1 or has_one_member(self.id)):
+            return parse(self.id, value)
+        if len(value) > 1:
+            raise ValueError(f"{value[1]}: there is a word too many")
+        if words.text:
+            return data_field(self.id, value[0])
+        octets = bytes.fromhex(value[0])
         if len(octets) % 2:
-            raise ValueError(f"{text}: it is no even number of octets in hexadecimal")
+            raise ValueError(f"{value[0]}: it is no even number of octets in hexadecimal")
         return octets
 
     def _judge(self) -> None:

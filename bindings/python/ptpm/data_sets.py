@@ -8,7 +8,6 @@ from decimal import Decimal
 from typing import Any, Callable, Dict, Mapping, Optional, Type, TypeVar
 
 from .identity import Identity, PortIdentity
-from .members import interval
 from .settings import PortState
 
 _Read = TypeVar("_Read")
@@ -102,6 +101,13 @@ def text_of(value: Any) -> str:
     if not isinstance(value, str):
         raise ValueError(f"{value!r} is no text")
     return value
+
+
+def interval(scaled: int) -> Decimal:
+    """A TimeInterval (5.3.2), in nanoseconds times 2^16, as nanoseconds with all digits of their fraction."""
+    whole, fraction = divmod(abs(scaled), 65536)
+    digits = str(whole) + f"{fraction * 5**16:016d}"  # a part of 2^16 has sixteen digits after the point
+    return Decimal(f"{'-' if scaled < 0 else ''}{digits[:-16]}.{digits[-16:].rstrip('0') or '0'}")
 
 
 def nanoseconds_of(value: Any) -> Decimal:

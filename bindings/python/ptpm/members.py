@@ -2,191 +2,68 @@
 
 from __future__ import annotations
 
+import ctypes
 import unicodedata
 from decimal import Decimal
-from enum import Enum, auto
-from typing import Any, Dict, List, NamedTuple, Optional, Tuple, Type, Union
+from enum import Enum
+from typing import Callable, Dict, Iterable, List, Mapping, NoReturn, Sequence, Tuple, Type, Union
 
+from . import _header as header
+from ._library import library
 from .identity import Identity, PortIdentity
 from .ids import ManagementId
 from .settings import DelayMechanism, PortState
 
 Member = Union[int, bool, str, Decimal, Identity, PortIdentity]
 
+# What a SET takes for a member: a number or a flag, or a text as it is printed.
+Value = Union[int, bool, str]
+DataField = Union[bytes, Value, Mapping[str, Value], None]
+
 MOST_TEXT = 128
 
 
-class _Kind(Enum):
-    """How a member is written in its octets, and how it is printed."""
-
-    UNSIGNED = auto()
-    HEXADECIMAL = auto()
-    SIGNED = auto()
-    FLAG = auto()
-    VERSION = auto()
-    INTERVAL = auto()
-    CLOCK = auto()
-    PORT = auto()
-    STATE = auto()
-    MECHANISM = auto()
-    TEXT = auto()
+def _pairs(number: int, octets: bytes) -> List[Tuple[str, str]]:
+    """The name and the value of each member that the library has in a dataField."""
+    text = ctypes.create_string_buffer(header.PTPM_MOST_FIELD_TEXT)
+    size = library.ptpm_field_text(number, octets, len(octets), text, len(text))
+    lines = [line.partition(" ") for line in text.raw[:size].decode("ascii").splitlines()]
+    return [(name, value) for name, _, value in lines]
 
 
-# What a SET of a member takes.
-_WANTED = {
-    _Kind.SIGNED: "a number from -128 to 127",
-    _Kind.FLAG: "true or false",
-    _Kind.MECHANISM: "E2E, P2P, NO_MECHANISM or a number from 0 to 255",
-}
-_NUMBER = "a number from 0 to 255, or 0x and two hexadecimal digits"
+def _has_members(pairs: Sequence[Tuple[str, str]]) -> bool:
+    """Whether they are members. `value` is the whole dataField, if it has none, or is none of its id."""
+    return bool(pairs) and pairs[0][0] != "value"
 
 
-class _Place(NamedTuple):
-    name: str
-    kind: _Kind
-    at: int
-    size: int = 1
-    mask: int = 0
+def _named(kind: Union[Type[PortState], Type[DelayMechanism]]) -> Callable[[str], Member]:
+    """What reads a word as one that has a name, or as its number if it has none."""
+    return lambda text: int(text) if text.isdigit() else kind[text]
 
 
-def _quality(lead: str, at: int) -> Tuple[_Place, ...]:
-    return (
-        _Place(f"{lead}.clockClass", _Kind.UNSIGNED, at),
-        _Place(f"{lead}.clockAccuracy", _Kind.HEXADECIMAL, at + 1),
-        _Place(f"{lead}.offsetScaledLogVariance", _Kind.HEXADECIMAL, at + 2, 2),
-    )
-
-
-_UTC = (
-    _Place("currentUtcOffset", _Kind.SIGNED, 0, 2),
-    _Place("leap61", _Kind.FLAG, 2, mask=1),
-    _Place("leap59", _Kind.FLAG, 2, mask=2),
-    _Place("currentUtcOffsetValid", _Kind.FLAG, 2, mask=4),
-)
-
-# The size of each dataField, 0 for that of a text, and its members.
-_FIELDS: Dict[int, Tuple[int, Tuple[_Place, ...]]] = {
-    ManagementId.USER_DESCRIPTION: (0, (_Place("userDescription", _Kind.TEXT, 0),)),
-    ManagementId.DEFAULT_DATA_SET: (
-        20,
-        (
-            _Place("twoStepFlag", _Kind.FLAG, 0, mask=1),
-            _Place("slaveOnly", _Kind.FLAG, 0, mask=2),
-            _Place("numberPorts", _Kind.UNSIGNED, 2, 2),
-            _Place("priority1", _Kind.UNSIGNED, 4),
-            *_quality("clockQuality", 5),
-            _Place("priority2", _Kind.UNSIGNED, 9),
-            _Place("clockIdentity", _Kind.CLOCK, 10, 8),
-            _Place("domainNumber", _Kind.UNSIGNED, 18),
-        ),
-    ),
-    ManagementId.CURRENT_DATA_SET: (
-        18,
-        (
-            _Place("stepsRemoved", _Kind.UNSIGNED, 0, 2),
-            _Place("offsetFromMaster", _Kind.INTERVAL, 2, 8),
-            _Place("meanDelay", _Kind.INTERVAL, 10, 8),
-        ),
-    ),
-    ManagementId.PARENT_DATA_SET: (
-        32,
-        (
-            _Place("parentPortIdentity", _Kind.PORT, 0, 10),
-            _Place("parentStats", _Kind.FLAG, 10, mask=1),
-            _Place("observedParentOffsetScaledLogVariance", _Kind.HEXADECIMAL, 12, 2),
-            _Place("observedParentClockPhaseChangeRate", _Kind.SIGNED, 14, 4),
-            _Place("grandmasterPriority1", _Kind.UNSIGNED, 18),
-            *_quality("grandmasterClockQuality", 19),
-            _Place("grandmasterPriority2", _Kind.UNSIGNED, 23),
-            _Place("grandmasterIdentity", _Kind.CLOCK, 24, 8),
-        ),
-    ),
-    ManagementId.TIME_PROPERTIES_DATA_SET: (
-        4,
-        (
-            *_UTC,
-            _Place("ptpTimescale", _Kind.FLAG, 2, mask=8),
-            _Place("timeTraceable", _Kind.FLAG, 2, mask=16),
-            _Place("frequencyTraceable", _Kind.FLAG, 2, mask=32),
-            _Place("timeSource", _Kind.HEXADECIMAL, 3),
-        ),
-    ),
-    ManagementId.PORT_DATA_SET: (
-        26,
-        (
-            _Place("portIdentity", _Kind.PORT, 0, 10),
-            _Place("portState", _Kind.STATE, 10),
-            _Place("logMinDelayReqInterval", _Kind.SIGNED, 11),
-            _Place("meanLinkDelay", _Kind.INTERVAL, 12, 8),
-            _Place("logAnnounceInterval", _Kind.SIGNED, 20),
-            _Place("announceReceiptTimeout", _Kind.UNSIGNED, 21),
-            _Place("logSyncInterval", _Kind.SIGNED, 22),
-            _Place("delayMechanism", _Kind.MECHANISM, 23),
-            _Place("logMinPdelayReqInterval", _Kind.SIGNED, 24),
-            _Place("versionNumber", _Kind.VERSION, 25),
-        ),
-    ),
-    ManagementId.UTC_PROPERTIES: (4, _UTC),
-    ManagementId.PRIORITY1: (2, (_Place("priority1", _Kind.UNSIGNED, 0),)),
-    ManagementId.PRIORITY2: (2, (_Place("priority2", _Kind.UNSIGNED, 0),)),
-    ManagementId.DOMAIN: (2, (_Place("domainNumber", _Kind.UNSIGNED, 0),)),
-    # bit 0; ptp4l has it in bit 1, which else is 0
-    ManagementId.SLAVE_ONLY: (2, (_Place("slaveOnly", _Kind.FLAG, 0, mask=3),)),
-    ManagementId.LOG_ANNOUNCE_INTERVAL: (2, (_Place("logAnnounceInterval", _Kind.SIGNED, 0),)),
-    ManagementId.ANNOUNCE_RECEIPT_TIMEOUT: (2, (_Place("announceReceiptTimeout", _Kind.UNSIGNED, 0),)),
-    ManagementId.LOG_SYNC_INTERVAL: (2, (_Place("logSyncInterval", _Kind.SIGNED, 0),)),
-    ManagementId.VERSION_NUMBER: (2, (_Place("versionNumber", _Kind.VERSION, 0),)),
-    ManagementId.CLOCK_ACCURACY: (2, (_Place("clockAccuracy", _Kind.HEXADECIMAL, 0),)),
-    ManagementId.DELAY_MECHANISM: (2, (_Place("delayMechanism", _Kind.MECHANISM, 0),)),
-    ManagementId.LOG_MIN_PDELAY_REQ_INTERVAL: (2, (_Place("logMinPdelayReqInterval", _Kind.SIGNED, 0),)),
+# How the value of a member of this name is read.
+_READERS: Dict[str, Callable[[str], Member]] = {
+    "clockIdentity": Identity.of,
+    "grandmasterIdentity": Identity.of,
+    "parentPortIdentity": PortIdentity.of,
+    "portIdentity": PortIdentity.of,
+    "offsetFromMaster": Decimal,
+    "meanDelay": Decimal,
+    "meanLinkDelay": Decimal,
+    "portState": _named(PortState),
+    "delayMechanism": _named(DelayMechanism),
 }
 
-_WITHOUT_MEMBERS = (ManagementId.NULL_PTP_MANAGEMENT, ManagementId.ENABLE_PORT, ManagementId.DISABLE_PORT)
+
+def _plain(text: str) -> Member:
+    """A flag, or a number in decimal or in hexadecimal."""
+    return text == "true" if text in ("true", "false") else int(text, 0)
 
 
-def interval(scaled: int) -> Decimal:
-    """A TimeInterval (5.3.2), in nanoseconds times 2^16, as nanoseconds with all digits of their fraction."""
-    whole, fraction = divmod(abs(scaled), 65536)
-    digits = str(whole) + f"{fraction * 5**16:016d}"  # a part of 2^16 has sixteen digits after the point
-    return Decimal(f"{'-' if scaled < 0 else ''}{digits[:-16]}.{digits[-16:].rstrip('0') or '0'}")
-
-
-def _named(kind: Union[Type[PortState], Type[DelayMechanism]], number: int) -> int:
-    """The number as one that has a name, if it has one."""
-    try:
-        return kind(number)
-    except ValueError:
-        return number
-
-
-def _value(place: _Place, octets: bytes) -> Member:
-    part = octets[place.at : place.at + place.size]
-    number = int.from_bytes(part, "big", signed=place.kind in (_Kind.SIGNED, _Kind.INTERVAL))
-    if place.kind is _Kind.FLAG:
-        return number & place.mask != 0
-    if place.kind is _Kind.VERSION:
-        return number & 15
-    if place.kind is _Kind.INTERVAL:
-        return interval(number)
-    if place.kind is _Kind.CLOCK:
-        return Identity(part)
-    if place.kind is _Kind.PORT:
-        return PortIdentity(Identity(part[:8]), number & 0xFFFF)
-    if place.kind is _Kind.STATE:
-        return _named(PortState, number)
-    if place.kind is _Kind.MECHANISM:
-        return _named(DelayMechanism, number)
-    if place.kind is _Kind.TEXT:
+def _value(name: str, text: str, octets: bytes) -> Member:
+    if name == "userDescription":
         return octets[1 : 1 + octets[0]].decode("utf-8", "backslashreplace")
-    return number
-
-
-def _places(number: int, octets: bytes) -> Tuple[_Place, ...]:
-    """The members that a dataField has: none if they are not known here, or if it has another length than the id's."""
-    size, places = _FIELDS.get(number, (-1, ()))
-    if size == 0 and octets:
-        size = (octets[0] + 2) // 2 * 2
-    return places if octets and size == len(octets) else ()
+    return _READERS.get(name, _plain)(text)
 
 
 def members(number: int, octets: bytes) -> Dict[str, Member]:
@@ -195,7 +72,8 @@ def members(number: int, octets: bytes) -> Dict[str, Member]:
     >>> members(ManagementId.CURRENT_DATA_SET, bytes.fromhex("0001ffffffffffff80000000000000000001"))
     {'stepsRemoved': 1, 'offsetFromMaster': Decimal('-0.5'), 'meanDelay': Decimal('0.0000152587890625')}
     """
-    return {place.name: _value(place, octets) for place in _places(number, octets)}
+    pairs = _pairs(number, octets)
+    return {name: _value(name, text, octets) for name, text in pairs} if _has_members(pairs) else {}
 
 
 def _is_shown(character: str) -> bool:
@@ -207,19 +85,6 @@ def _shown(text: str) -> str:
     return "".join(c if _is_shown(c) else "".join(f"\\x{octet:02x}" for octet in c.encode()) for c in text)
 
 
-def _printed(place: _Place, octets: bytes) -> str:
-    value = _value(place, octets)
-    if isinstance(value, bool):
-        return "true" if value else "false"
-    if isinstance(value, Enum):
-        return value.name
-    if place.kind is _Kind.HEXADECIMAL:
-        return f"0x{value:0{2 * place.size}x}"
-    if place.kind is _Kind.TEXT:
-        return _shown_text(octets[1 : 1 + octets[0]])
-    return f"{value:f}" if isinstance(value, Decimal) else str(value)
-
-
 def _shown_text(octets: bytes) -> str:
     """A text whose octets are no character are shown as these."""
     shown = octets.decode("utf-8", "surrogateescape")
@@ -228,57 +93,113 @@ def _shown_text(octets: bytes) -> str:
 
 def lines(number: int, octets: bytes) -> List[str]:
     """A line for each member, its name and its value; or the dataField in hexadecimal."""
-    places = _places(number, octets)
-    return [f"{place.name} {_printed(place, octets)}" for place in places] or [f"value {octets.hex() or '-'}"]
+    pairs = _pairs(number, octets)
+    return [f"{name} {_shown_text(octets[1 : 1 + octets[0]]) if name == 'userDescription' else text}" for name, text in pairs]
 
 
-def _one_member(number: int) -> Optional[_Place]:
-    size, places = _FIELDS.get(number, (-1, ()))
-    return places[0] if size == 2 else None
+def _zeros(number: int) -> List[Tuple[str, str]]:
+    """The members of an id, in the order of its dataField, with the values of one in which no bit is set."""
+    for size in range(2, header.PTPM_MOST_READ, 2):
+        pairs = _pairs(number, bytes(size))
+        if _has_members(pairs):
+            return pairs
+    return []
 
 
-def _octet(place: _Place, value: Any) -> int:
-    """The octet of a member for a value, or for a text as it is printed."""
-    if isinstance(value, str):
-        if place.kind is _Kind.FLAG and value.lower() in ("true", "false"):
-            return int(value.lower() == "true")
-        if place.kind is _Kind.MECHANISM and value.upper() in DelayMechanism.__members__:
-            return DelayMechanism[value.upper()]
-        value = int(value, 16 if value.lower().startswith("0x") and place.kind is not _Kind.SIGNED else 10)
-    if place.kind is _Kind.SIGNED:
-        return int(value).to_bytes(1, "big", signed=True)[0]
-    if place.kind is _Kind.FLAG and value not in (0, 1):
-        raise ValueError
-    return int(value).to_bytes(1, "big")[0]
+# What a SET takes for a member of this name that is no flag, and for any other.
+_WANTED = {
+    "userDescription": f"a text of at most {MOST_TEXT} octets in UTF-8",
+    "delayMechanism": "E2E, P2P, NO_MECHANISM or a number from 0 to 255",
+    "currentUtcOffset": "a number from -32768 to 32767",
+    "versionNumber": "a number from 0 to 15, or 0x and two hexadecimal digits",
+}
+_INTERVAL = "a number from -128 to 127"
+_NUMBER = "a number from 0 to 255, or 0x and two hexadecimal digits"
 
 
-def data_field(number: int, value: Union[bytes, int, bool, str, None]) -> bytes:
-    """The dataField of a SET: octets as they are, nothing as none, and else the one member of the id, or its text.
+def _wanted(name: str, zero: str) -> str:
+    if name.startswith("log"):
+        return _INTERVAL
+    return "true or false" if zero == "false" else _WANTED.get(name, _NUMBER)
+
+
+def _refuse(number: int, words: Sequence[str], why: int, place: int) -> NoReturn:
+    """Says what is wrong with words that are no dataField."""
+    pairs = _zeros(number)
+    if why == header.PTPM_NO_VALUE:
+        fault = "" if len(words) == 1 else f"{words[2 * place]} {words[2 * place + 1]}: "
+        raise ValueError(f"{fault}it takes {_wanted(*pairs[place])}")
+    if why == header.PTPM_OTHER_NAME:
+        raise ValueError(f"{words[2 * place]}: the member that comes next is {pairs[place][0]}")
+    if not pairs:
+        raise ValueError("it takes a dataField as octets")
+    raise ValueError(f"it takes {' '.join(f'{name} VALUE' for name, _ in pairs)}")
+
+
+def _parsed(number: int, words: Sequence[str]) -> Tuple[int, bytes, int]:
+    """The library's answer to words for a SET, the dataField, and the place of the member that is at fault."""
+    octets = (ctypes.c_uint8 * header.PTPM_MOST_READ)()
+    count, place = ctypes.c_size_t(), ctypes.c_size_t()
+    joined = b"".join(word.encode() + b"\0" for word in words)
+    at = (octets, len(octets), ctypes.byref(count), ctypes.byref(place))
+    answer: int = library.ptpm_field_parse(number, joined, len(joined), *at)
+    return answer, bytes(octets[: count.value]), place.value
+
+
+def parse(number: int, words: Sequence[str]) -> bytes:
+    """The dataField of a SET from words, as ptpm-manage takes them: the name of each member and its value as it is printed. The
+    name of a sole member may be left out.
+
+    >>> parse(ManagementId.PRIORITY1, ["100"]) == parse(ManagementId.PRIORITY1, ["priority1", "0x64"]) == bytes([100, 0])
+    True
+    """
+    answer, octets, place = _parsed(number, words)
+    if answer != header.PTPM_PARSED:
+        _refuse(number, words, answer, place)
+    return octets
+
+
+def _word(value: Value) -> str:
+    """The word for a value: of a text the one that means it as it is."""
+    return value.replace("\\", "\\x5c").replace("\0", "\\x00") if isinstance(value, str) else str(int(value))
+
+
+def _in_order(number: int, values: Mapping[str, Value]) -> Iterable[str]:
+    """The words for values by their names, in the order of the dataField."""
+    given = {name.lower(): value for name, value in values.items()}
+    names = [name for name, _ in _zeros(number)]
+    for name in names:
+        if name.lower() not in given:
+            raise ValueError(f"{name} is missing")
+        yield from (name, _word(given.pop(name.lower())))
+    if given:
+        raise ValueError(f"it has no member {next(iter(given))}")
+
+
+def data_field(number: int, value: DataField) -> bytes:
+    """The dataField of a SET: octets as they are, nothing as none, and else the one member of the id, or its text. Or the value
+    of each member by its name in the standard.
 
     >>> data_field(ManagementId.PRIORITY1, 100).hex(), data_field(ManagementId.USER_DESCRIPTION, "rack 4").hex()
     ('6400', '067261636b203400')
+    >>> utc = {"currentUtcOffset": 37, "leap61": False, "leap59": False, "currentUtcOffsetValid": True}
+    >>> data_field(ManagementId.UTC_PROPERTIES, utc).hex()
+    '00250400'
     """
     if value is None or isinstance(value, bytes):
         return value or b""
-    if number == ManagementId.USER_DESCRIPTION and isinstance(value, str):
-        text = value.encode()
-        if len(text) > MOST_TEXT:
-            raise ValueError(f"the text has over {MOST_TEXT} octets")
-        return bytes([len(text)]) + text + bytes(1 - len(text) % 2)
-    place = _one_member(number)
-    if place is None:
-        raise ValueError("it takes a dataField as octets")
-    try:
-        return bytes([_octet(place, value), 0])
-    except (ValueError, OverflowError):
-        raise ValueError(f"it takes {_WANTED.get(place.kind, _NUMBER)}") from None
+    if isinstance(value, Mapping):
+        return parse(number, list(_in_order(number, value)))
+    if number == ManagementId.USER_DESCRIPTION and isinstance(value, str) and len(value.encode()) > MOST_TEXT:
+        raise ValueError(f"the text has over {MOST_TEXT} octets")
+    return parse(number, [_word(value)])
 
 
 def has_one_member(number: int) -> bool:
-    """Whether an id has one member of one octet, so that a SET takes its value as a word."""
-    return _one_member(number) is not None
+    """Whether an id has one member, which is no text, so that a SET takes its value as a word."""
+    return len(_zeros(number)) == 1 and number != ManagementId.USER_DESCRIPTION
 
 
 def takes_no_value(number: int) -> bool:
     """Whether a SET of the id has a dataField without octets."""
-    return number in _WITHOUT_MEMBERS
+    return _parsed(number, [])[0] == header.PTPM_PARSED

@@ -4,7 +4,7 @@ from __future__ import annotations
 
 from dataclasses import replace
 from types import TracebackType
-from typing import Optional, Type, Union
+from typing import Optional, Type
 
 from . import _header as header
 from . import fresh_number
@@ -12,7 +12,7 @@ from .answers import Error
 from .asking import NoAnswer, carry_out
 from .identity import Identity, PortIdentity
 from .ids import IdLike, id_of
-from .members import data_field
+from .members import DataField, data_field
 from .nobody import draw
 from .report import Report
 from .requests import Requests, SessionSettings, begin_request
@@ -137,14 +137,14 @@ class Session(Requests):
         way: Transport,
         action: int,
         named: IdLike,
-        value: Union[bytes, int, bool, str, None] = None,
+        value: DataField = None,
         port: int = 0,
         *,
         timeout: float = 0.2,
     ) -> Report:
-        """Asks until it is answered; `timeout` is how long each answer is waited for, in seconds. `value` is a dataField, or the
-        value of an id's one member. A port that is not 0 is named to the clock, whatever the id. If no answer came, NoAnswer says
-        whether the request itself was sent; if it was, `go_on` asks the same again."""
+        """Asks until it is answered; `timeout` is how long each answer is waited for, in seconds. `value` is a dataField, the
+        value of an id's one member, or the value of each member by its name. A port that is not 0 is named to the clock, whatever
+        the id. If no answer came, NoAnswer says whether the request itself was sent; if it was, `go_on` asks the same again."""
         number = id_of(named)
         data = data_field(number, value)
         self._judge(action, number, data, port)

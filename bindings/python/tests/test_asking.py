@@ -195,6 +195,10 @@ class Asking(Folder):
         self.assertEqual(run("-m", MANAGER, "-w", "0", "set", "priority1", "100", "-T", CLOCK), (0, "priority1 100\n"))
         self.assertEqual(run("set", "PRIORITY1", "100", "--target", CLOCK), (1, "refused NOT_SUPPORTED\n"))
         self.assertEqual(run("-m", MANAGER, "set", "LOG_SYNC_INTERVAL", "-2", "-T", f"{CLOCK}-1"), (0, "logSyncInterval -2\n"))
+        utc = ("currentUtcOffset", "-2", "leap61", "false", "leap59", "true", "currentUtcOffsetValid", "true")
+        printed = "currentUtcOffset -2\nleap61 false\nleap59 true\ncurrentUtcOffsetValid true\n"
+        self.assertEqual(run("-m", MANAGER, "set", "UTC_PROPERTIES", *utc, "-T", CLOCK), (0, printed))
+        self.assertEqual(run("set", "PRIORITY1", "100", "7", "--target", CLOCK), (2, ""))
         self.assertEqual(run("get", "PORT_DATA_SET", "--target", CLOCK), (2, ""))
         self.assertEqual(run("-t", "20", "-a", "2", "get", "PRIORITY1", "--target", "0102030405060708"), (3, ""))
         self.assertEqual(run("survey", "PRIORITY1", "-x"), (0, f"{CLOCK}/1 value 6400\n"))

@@ -6,6 +6,7 @@ from __future__ import annotations
 import copy
 import doctest
 import unittest
+from decimal import Decimal
 
 import ptpm
 from ptpm import ClockMembers, HandleAnswer, PortMembers, SessionAnswer, SurveyAnswer
@@ -243,6 +244,26 @@ class Texts(unittest.TestCase):
     def test_members_of_another_length_are_left_as_they_are(self) -> None:
         self.assertEqual(ptpm.members(ptpm.ManagementId.PRIORITY1, bytes(4)), {})
         self.assertEqual(str(ptpm.Report(ptpm.ManagementId.PRIORITY1, bytes(4))), "value 00000000")
+
+    def test_values_have_the_types_of_their_members(self) -> None:
+        octets = bytes.fromhex("4142434445464748" "0001" "0a" "ff" "0000000000018000" "01" "03" "00" "02" "02" "12")
+        self.assertEqual(
+            list(ptpm.members(ptpm.ManagementId.PORT_DATA_SET, octets).values()),
+            [ptpm.PortIdentity.of("4142434445464748/1"), 10, -1, Decimal("1.5"), 1, 3, 0, ptpm.DelayMechanism.P2P, 2, 2],
+        )
+        octets = bytes.fromhex("02000001" "80f8fe4e5d80" "0000000000000010" "0000")
+        values = ptpm.members(ptpm.ManagementId.DEFAULT_DATA_SET, octets)
+        self.assertEqual((values["slaveOnly"], values["clockQuality.clockAccuracy"]), (True, 0xFE))
+        self.assertEqual(values["clockIdentity"], ptpm.Identity(bytes(7) + b"\x10"))  # its text is of decimal digits
+
+    def test_data_fields_by_their_members(self) -> None:
+        utc = {"currentUtcOffsetValid": True, "currentUtcOffset": -2, "leap59": "true", "LEAP61": 0}
+        self.assertEqual(ptpm.data_field(ptpm.ManagementId.UTC_PROPERTIES, utc), bytes.fromhex("fffe0600"))
+        for wrong in ({}, {**utc, "leap60": 0}, {**utc, "currentUtcOffset": 32768}, {**utc, "leap59": "no"}):
+            self.assertRaises(ValueError, ptpm.data_field, ptpm.ManagementId.UTC_PROPERTIES, wrong)
+        for text in ("a\\x41", "\0", "\u00e9"):     # each as it is
+            octets = ptpm.data_field(ptpm.ManagementId.USER_DESCRIPTION, text)
+            self.assertEqual(octets[1 : 1 + octets[0]].decode(), text)
 
 
 if __name__ == "__main__":

@@ -70,7 +70,7 @@ pub use clock::{Clock, Ports, Turn, CLOCK_IMAGE_OCTETS, MOST_READ};
 pub use error::Error;
 pub use id::{ManagementErrorId, ManagementId, UnknownId};
 pub use identity::{Identity, NoIdentity, PortIdentity};
-pub use members::Members;
+pub use members::{Members, NoField};
 pub use observation::{ObservedClock, ObservedGrandmaster, ObservedPort};
 pub use outbox::{Messages, Outbox};
 pub use passing::{PassedOn, Rate};

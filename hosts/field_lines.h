@@ -1,0 +1,22 @@
+/* The members of a dataField (IEEE 1588-2019, 15.5.3) one after another, as the library writes them. */
+#ifndef FIELD_LINES_H
+#define FIELD_LINES_H
+
+#include "ptpm.h"
+
+/* A member: its name in the standard, and its value as a text. The only one is `value`, with the octets in hexadecimal, if they
+   are no dataField of the id or it has no member. */
+struct member { const char *name, *value; };
+
+struct field_lines { char text[PTPM_MOST_FIELD_TEXT + 1], *rest; };
+
+/* Takes the members of a dataField. */
+void start_lines(struct field_lines *lines, uint16_t id, const uint8_t *octets, size_t size);
+
+/* The next member; whether there is one. Its texts stay until the lines are started again. */
+int next_member(struct field_lines *lines, struct member *member);
+
+/* Whether the member has this name. */
+int is_named(const struct member *member, const char *name);
+
+#endif
