@@ -1,10 +1,16 @@
+pub mod Agreeing
 pub mod Alike
 pub mod Circles
 pub mod Clocks
 pub mod Keeping
+pub mod Pairs
 pub mod Places
 pub mod Ports
 pub mod Reports
 pub mod Rows
+pub mod Settling
 pub mod Sources
+pub mod StandingLemmas
+pub mod Statements
 pub mod Swapping
+pub mod Values

@@ -1,9 +1,5 @@
 -- Where a clock says otherwise than its grandmaster, or than the port that it follows: `grandmaster_differs`, `utc`, `intervals`.
-use Rattle.std.specs.Prelude.{ℤ, pos, ◌&&◌, ◌||◌, Bool, nat_eq, List, [], ◌∷◌, Option, Some, None, if◌then◌else◌}
-use Rattle.std.specs.Bool.{beq}
-use Rattle.std.specs.Ordering.{int_eq}
-use Rattle.ptpm_codec.specs.Identity.{same_clock}
-use Rattle.ptpm_site.specs.declared.data_sets.ClockQuality.{ClockQuality}
+use Rattle.std.specs.Prelude.{ℤ, pos, ◌&&◌, ◌||◌, Bool, List, [], ◌∷◌, Option, Some, None, if◌then◌else◌}
 use Rattle.ptpm_site.specs.declared.data_sets.DefaultDataSet.{DefaultDataSet}
 use Rattle.ptpm_site.specs.declared.data_sets.DelayMechanism.{DelayMechanism}
 use Rattle.ptpm_site.specs.declared.data_sets.ParentDataSet.{ParentDataSet}
@@ -16,26 +12,25 @@ use Rattle.ptpm_site.specs.declared.finding.What.{What}
 use Rattle.ptpm_site.specs.declared.finding.What.TheVariants as what
 use Rattle.ptpm_site.specs.declared.member.Member.{Member}
 use Rattle.ptpm_site.specs.declared.member.Member.TheVariants as member
+use Rattle.ptpm_site.specs.declared.member.Value.{Value}
 use Rattle.ptpm_site.specs.declared.member.Value.TheVariants as value
+use Rattle.ptpm_site.specs.Members.{same_value, value_of}
 use Rattle.ptpm_site.specs.PortStates.{is_following, measures_end_to_end, measures_link}
 
 -- one is E2E, and the other P2P or COMMON_P2P
 abbrev pub measure_otherwise : Option DelayMechanism → Option DelayMechanism → Bool
 measure_otherwise a b = measures_link a && measures_end_to_end b || measures_end_to_end a && measures_link b
 
-abbrev pub same_quality : ClockQuality → ClockQuality → Bool
-same_quality a b = nat_eq a.class b.class && nat_eq a.accuracy b.accuracy && nat_eq a.variance b.variance
-
 -- ---- a member that is said otherwise, with both values
 
+abbrev pub value_differs : Member → Value → Value → Option Differs
+value_differs m own other = if same_value (value_of own) (value_of other) then None else Some (record { member = m; own = own; other = other })
+
 abbrev pub number_differs : Member → ℤ → ℤ → Option Differs
-number_differs m own other = if int_eq own other then None else Some (record { member = m; own = value.Number own; other = value.Number other })
+number_differs m own other = value_differs m (value.Number own) (value.Number other)
 
 abbrev pub flag_differs : Member → Bool → Bool → Option Differs
-flag_differs m own other = if beq own other then None else Some (record { member = m; own = value.Flag own; other = value.Flag other })
-
-abbrev pub quality_differs : Member → ClockQuality → ClockQuality → Option Differs
-quality_differs m own other = if same_quality own other then None else Some (record { member = m; own = value.Quality own; other = value.Quality other })
+flag_differs m own other = value_differs m (value.Flag own) (value.Flag other)
 
 abbrev pub mechanism_differs : PortDataSet → PortDataSet → Option Differs
 mechanism_differs own other =
@@ -44,9 +39,7 @@ mechanism_differs own other =
 
 -- grandmasterIdentity, where a clock names another than the clock that it follows
 abbrev pub other_grandmaster : ParentDataSet → ParentDataSet → Option Differs
-other_grandmaster own parent =
-    if same_clock own.grandmaster parent.grandmaster then None
-    else Some (record { member = member.GrandmasterIdentity; own = value.Clock own.grandmaster; other = value.Clock parent.grandmaster })
+other_grandmaster own parent = value_differs member.GrandmasterIdentity (value.Clock own.grandmaster) (value.Clock parent.grandmaster)
 
 -- ---- the members that are compared, each where it is said otherwise
 
@@ -54,7 +47,7 @@ other_grandmaster own parent =
 abbrev pub grandmaster_differs : ParentDataSet → DefaultDataSet → List (Option Differs)
 grandmaster_differs own grandmaster =
     number_differs member.GrandmasterPriority1 (pos own.priority1) (pos grandmaster.priority1)
-    ∷ quality_differs member.GrandmasterClockQuality own.quality grandmaster.quality
+    ∷ value_differs member.GrandmasterClockQuality (value.Quality own.quality) (value.Quality grandmaster.quality)
     ∷ number_differs member.GrandmasterPriority2 (pos own.priority2) (pos grandmaster.priority2) ∷ []
 
 -- what a clock says of UTC, and its grandmaster

@@ -1,10 +1,13 @@
 -- The findings of a site, finding by finding, in their order: by clock, by the table of findings, by port.
-use Rattle.std.specs.Prelude.{ℕ, ◌++◌, List, [], ◌∷◌, Option, Some, None, if◌then◌else◌, option_and_then, is_some}
-use Rattle.std.specs.List.{filter_map, flat_map}
+use Rattle.std.specs.Prelude.{ℕ, ◌++◌, List, [], ◌∷◌, Option, Some, None, if◌then◌else◌, option_and_then, is_some, map}
+use Rattle.std.specs.List.{flat_map}
 use Rattle.std.specs.Option.{option_map, option_map_or, option_to_list}
 use Rattle.ptpm_codec.specs.Identity.{same_clock}
 use Rattle.ptpm_codec.specs.declared.identity.ClockIdentity.{ClockIdentity}
 use Rattle.ptpm_site.specs.declared.asked.Asked.{Asked}
+use Rattle.ptpm_site.specs.declared.changes.Contradiction.{Contradiction}
+use Rattle.ptpm_site.specs.declared.changes.Contradiction.TheVariants as sort
+use Rattle.ptpm_site.specs.declared.clock.Heard.{Heard}
 use Rattle.ptpm_site.specs.declared.comparing.Compared.{Compared}
 use Rattle.ptpm_site.specs.declared.comparing.Compared.TheVariants as compared
 use Rattle.ptpm_site.specs.declared.data_sets.ParentDataSet.{ParentDataSet}
@@ -13,13 +16,16 @@ use Rattle.ptpm_site.specs.declared.finding.Finding.{Finding}
 use Rattle.ptpm_site.specs.declared.finding.What.{What}
 use Rattle.ptpm_site.specs.declared.finding.What.TheVariants as what
 use Rattle.ptpm_site.specs.declared.limits.Limits.{Limits}
+use Rattle.ptpm_site.specs.declared.member.Member.{Member}
 use Rattle.ptpm_site.specs.declared.source.Source.{Source}
+use Rattle.ptpm_site.specs.Changes.{ToldChange, contradiction, told_change}
 use Rattle.ptpm_site.specs.Completeness.{lacking}
 use Rattle.ptpm_site.specs.Amounts.{large_delay, large_link_delay, large_offset}
 use Rattle.ptpm_site.specs.Differences.{grandmaster_differs, intervals_differ, other_grandmaster, utc_differs, what_differs}
 use Rattle.ptpm_site.specs.Following.{beside, followed}
 use Rattle.ptpm_site.specs.Grandmasters.{is_one_of_two, masterless_reason, unseen_grandmaster}
 use Rattle.ptpm_site.specs.Loops.{loop_of}
+use Rattle.ptpm_site.specs.Members.{MemberValue, current_members, current_says, default_members, default_says, description_members, description_says, is_moving, parent_members, parent_says, port_members, port_says, time_members, time_says}
 use Rattle.ptpm_site.specs.Parents.{no_master_port, unseen_parent, wrong_steps}
 use Rattle.ptpm_site.specs.PortStates.{bad_state}
 use Rattle.ptpm_site.specs.Telling.{Telling}
@@ -104,11 +110,11 @@ found_here t limits s =
 
 -- ---- what a finding says, with lists for its vectors
 
--- `changed` and `identity_twice` are not defined here
 pub data Says : Type 0 where
   Plain : (what : What) → Says
   Loop : (clocks : List ClockIdentity) → Says
   Lacks : (ids : List Asked) → (ports : List (ℕ × ℕ)) → Says
+  Otherwise : (how : Contradiction) → (port : Option ℕ) → (change : ToldChange) → Says
 
 pub record Said : Type 0 where
   pub source : Source
@@ -117,18 +123,15 @@ pub record Said : Type 0 where
 abbrev pub said : Source → Says → Said
 said s w = record { source = s; says = w }
 
-abbrev pub says : What → Option Says
-says (what.Loop clocks) = Some (Loop clocks.items)
-says (what.Incomplete missing) = Some (Lacks missing.asked.items missing.ports.items)
-says (what.Changed port change) = None
-says (what.IdentityTwice port change) = None
-says w = Some (Plain w)
-
-abbrev pub told_of : Source → What → Option Said
-told_of s w = option_map (said s) (says w)
+abbrev pub says : What → Says
+says (what.Loop clocks) = Loop clocks.items
+says (what.Incomplete missing) = Lacks missing.asked.items missing.ports.items
+says (what.Changed port change) = Otherwise sort.Changed port (told_change change)
+says (what.IdentityTwice port change) = Otherwise sort.IdentityTwice port (told_change change)
+says w = Plain w
 
 unfoldable pub told : List Finding → List Said
-told findings = filter_map (λ f. told_of f.source f.what) findings
+told findings = map (λ f. said f.source (says f.what)) findings
 
 unfoldable pub loop_told : Telling → Source → List Said
 loop_told t s = option_to_list (option_map (λ clocks. said s (Loop clocks)) (loop_of t s))
@@ -136,10 +139,41 @@ loop_told t s = option_to_list (option_map (λ clocks. said s (Loop clocks)) (lo
 unfoldable pub incomplete_told : Telling → Source → List Said
 incomplete_told t s = option_to_list (option_map (λ m. said s (Lacks m.0 m.1)) (lacking t s))
 
+-- a member that two answers say otherwise, unless it moves with nothing changed
+unfoldable pub member_told : {A : Type 0} → Contradiction → Source → Option ℕ → (A → Member → Option MemberValue) → List (Heard A) → Member → List Said
+member_told how s port says_of heard m =
+    if is_moving m then [] else option_to_list (option_map (λ change. said s (Otherwise how port change)) (contradiction how says_of m heard))
+
+-- each member of a data set that two answers say otherwise
+unfoldable pub set_told : {A : Type 0} → Contradiction → Source → Option ℕ → List Member → (A → Member → Option MemberValue) → List (Heard A) → List Said
+set_told how s port members says_of heard = flat_map (member_told how s port says_of heard) members
+
+unfoldable pub port_set_told : Contradiction → Telling → Source → ℕ → List Said
+port_set_told how t s n = set_told how s (Some n) port_members port_says (t.heard s n)
+
+-- of the data sets of the clock
+unfoldable pub clock_sets_told : Contradiction → Telling → Source → List Said
+clock_sets_told how t s =
+    set_told how s None default_members default_says (t.defaults s)
+    ++ set_told how s None current_members current_says (t.currents s)
+    ++ set_told how s None parent_members parent_says (t.parents s)
+    ++ set_told how s None time_members time_says (t.times s)
+
+-- and of its ports, and its description
+unfoldable pub contradictions_told : Contradiction → Telling → Source → List Said
+contradictions_told how t s =
+    clock_sets_told how t s
+    ++ flat_map (port_set_told how t s) (t.ports s)
+    ++ set_told how s None description_members description_says (t.descriptions s)
+
+-- what its answers lack, and what they say otherwise
+unfoldable pub answers_told : Telling → Source → List Said
+answers_told t s = incomplete_told t s ++ contradictions_told sort.Changed t s ++ contradictions_told sort.IdentityTwice t s
+
 -- ---- all findings
 
 unfoldable pub found_of : Telling → Limits → Source → List Said
-found_of t limits s = told (found_above t s) ++ loop_told t s ++ told (found_here t limits s) ++ incomplete_told t s
+found_of t limits s = told (found_above t s) ++ loop_told t s ++ told (found_here t limits s) ++ answers_told t s
 
 -- the findings of all clocks
 abbrev pub findings_of : Telling → Limits → List Said

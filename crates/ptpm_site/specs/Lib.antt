@@ -1,5 +1,6 @@
 pub mod Amounts
 pub mod Answers
+pub mod Changes
 pub mod Completeness
 pub mod Differences
 pub mod Findings
@@ -9,9 +10,12 @@ pub mod Ids
 pub mod Keeping
 pub mod Kept
 pub mod Loops
+pub mod Members
+pub mod Octets
 pub mod Parents
 pub mod PortStates
 pub mod Showing
+pub mod Standing
 pub mod Swapping
 pub mod Telling
 pub mod Tree

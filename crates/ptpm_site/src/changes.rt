@@ -1,11 +1,27 @@
 //! What changed from one answer to another, and what two answers to one request say otherwise.
 
+ghost use Rattle.std.specs.Prelude.{◌≡◌, ◌++◌, [], ◌∷◌, false, List, None, IfOk, OnOk, find};
+ghost use Rattle.std.specs.List.{list_all};
+ghost use Rattle.std.specs.Option.{option_eq, option_map};
+ghost use Rattle.ptpm_site.specs.Changes.{Statement, contradiction, contradicts, is_settled, statement_of, told_change};
+ghost use Rattle.ptpm_site.specs.Members.{same_value, value_of};
+ghost use Rattle.ptpm_site.specs.Standing.{StandsFor, TellsTwice, same_statement, settled_otherwise, standing_of, statement};
+
 use crate::answer::Request;
 use crate::clock::Heard;
 use crate::member::{DataSet, Member, Value};
 use ptpm_data::PortState;
 use std::alloc::{AllocError, Global};
 use std::collections::BTreeMap;
+
+/// Which answers are held against each other.
+#[derive(Clone, Copy)]
+pub enum Contradiction {
+    /// Those to two requests: what they say otherwise changed.
+    Changed,
+    /// Those to one request: what they say otherwise says that two clocks have one identity.
+    IdentityTwice,
+}
 
 /// A member that two answers of a clock say otherwise: the value of the earlier, and of the later.
 #[derive(Clone, Copy)]
@@ -17,21 +33,25 @@ pub struct Change<'a> {
 
 /// A member's value in an answer, and the request that the answer came to.
 #[derive(Clone, Copy)]
-struct Said<'a> {
+struct Stated<'a> {
     request: Request,
     value: Value<'a>,
 }
 
-impl<'a> Said<'a> {
-    fn of<T: DataSet>(heard: &'a Heard<T>, member: Member) -> Option<Said<'a>> {
-        Some(Said {
+impl<'a> Stated<'a> {
+    fn of<T: DataSet>(heard: &'a Heard<T>, member: Member) -> Option<Stated<'a>>
+        ensures { option_map statement result ≡ statement_of T.says member heard.now }
+    {
+        Some(Stated {
             request: heard.request,
             value: heard.set.value(member)?,
         })
     }
 
     /// Whether a later value that differs is a change: a portState on its way to another is none.
-    fn is_settled(&self) -> bool {
+    fn is_settled(&self) -> bool
+        ensures { result ≡ is_settled (value_of self.now.value) }
+    {
         match self.value {
             Value::State(state) => matches!(
                 state,
@@ -46,63 +66,141 @@ impl<'a> Said<'a> {
             _ => true,
         }
     }
-}
 
-/// Of the settled values so far: the first, one of another request, and another value. Where one of all of them has another
-/// request and another value than a later answer, one of these three has.
-#[derive(Drop)]
-struct Settled<'a> {
-    first: Option<Said<'a>>,
-    other_request: Option<Said<'a>>,
-    other_value: Option<Said<'a>>,
-}
-
-impl<'a> Settled<'a> {
-    fn add(&mut self, said: Said<'a>) {
-        let Some(first) = self.first else {
-            self.first = Some(said);
-            return;
-        };
-        if said.request != first.request {
-            self.other_request = Some(said);
-        }
-        if said.value != first.value {
-            self.other_value = Some(said);
-        }
+    /// Whether a later statement is a change of this one.
+    fn is_changed_by(&self, later: &Stated<'a>) -> bool
+        ensures { result ≡ contradicts Contradiction.Changed (statement self.now) (statement later.now) }
+    {
+        self.is_settled() && self.request != later.request && self.value != later.value
     }
 
-    /// The one of another request and another value than this.
-    fn otherwise(&self, said: &Said<'a>) -> Option<Said<'a>> {
-        for earlier in [self.first, self.other_request, self.other_value] {
-            if let Some(earlier) = earlier {
-                if earlier.request != said.request && earlier.value != said.value {
-                    return Some(earlier);
+    /// Whether another came to the same request and says the same value.
+    fn is_same(&self, other: &Stated<'a>) -> bool
+        ensures { result ≡ same_statement (statement self.now) (statement other.now) }
+    {
+        self.request == other.request && self.value == other.value
+    }
+}
+
+/// The statements that stand for all earlier ones while none of these is a change of another: then all that are settled came to
+/// one request, or say one value, so the first of them, and the first that is not the same, show whether another is a change.
+#[derive(Clone, Copy)]
+enum Standing<'a> {
+    Nothing,
+    One(Stated<'a>),
+    Two(Stated<'a>, Stated<'a>),
+}
+
+impl<'a> Standing<'a> {
+    /// The first that a later statement is a change of.
+    fn changed_by(&self, later: &Stated<'a>) -> Option<Stated<'a>>
+        ensures { option_map statement result ≡ find (λ e. contradicts Contradiction.Changed e (statement later.now)) (standing_of self.now) }
+    {
+        match *self {
+            Standing::Nothing => None,
+            Standing::One(first) => {
+                if first.is_changed_by(later) {
+                    Some(first)
+                } else {
+                    None
+                }
+            }
+            Standing::Two(first, other) => {
+                if first.is_changed_by(later) {
+                    Some(first)
+                } else if other.is_changed_by(later) {
+                    Some(other)
+                } else {
+                    None
                 }
             }
         }
-        None
+    }
+
+    /// Those that stand once a statement came that is a change of none.
+    fn with(&self, next: &Stated<'a>) -> Standing<'a>
+        ensures { (seen : List Statement) → StandsFor self.now seen
+            → find (λ e. contradicts Contradiction.Changed e (statement next.now)) seen ≡ None
+            → StandsFor result (seen ++ statement next.now ∷ []) }
+    {
+        if !next.is_settled() {
+            return *self;
+        }
+        match *self {
+            Standing::Nothing => Standing::One(*next),
+            Standing::One(first) => {
+                if first.is_same(next) {
+                    *self
+                } else {
+                    Standing::Two(first, *next)
+                }
+            }
+            Standing::Two(..) => *self,
+        }
+    }
+}
+
+/// The first settled value that each request was told.
+#[derive(Drop)]
+struct Settled<'a> {
+    first: BTreeMap<Request, Value<'a>>,
+}
+
+impl<'a> Settled<'a> {
+    fn new(alloc: Global) -> Settled<'a>
+        ensures { TellsTwice result [] }
+    {
+        Settled {
+            first: BTreeMap::new(alloc),
+        }
+    }
+
+    /// The value that the request of a later statement was told, where it says another.
+    fn contradicted_by(&self, later: &Stated<'a>) -> Option<Value<'a>>
+        ensures { option_map value_of result ≡ settled_otherwise self.now (statement later.now) }
+    {
+        let before = self.first.get(&later.request).copied()?;
+        if before == later.value {
+            None
+        } else {
+            Some(before)
+        }
+    }
+
+    /// Keeps what a statement says that contradicts none.
+    fn add(&mut self, next: &Stated<'a>) -> Result<(), AllocError>
+        ensures { OnOk result ((seen : List Statement) → TellsTwice self.old seen
+            → find (λ e. contradicts Contradiction.IdentityTwice e (statement next.now)) seen ≡ None
+            → TellsTwice self.new (seen ++ statement next.now ∷ [])) }
+    {
+        if !next.is_settled() {
+            return Ok(());
+        }
+        if self.first.contains_key(&next.request) {
+            return Ok(());
+        }
+        self.first.insert(next.request, next.value)?;
+        Ok(())
     }
 }
 
 /// The first change of a member: two answers to different requests that say it otherwise.
-pub fn first_change<'a, T: DataSet>(heard: &'a [Heard<T>], member: Member) -> Option<Change<'a>> {
-    let mut settled = Settled {
-        first: None,
-        other_request: None,
-        other_value: None,
-    };
+pub fn first_change<'a, T: DataSet>(heard: &'a [Heard<T>], member: Member) -> Option<Change<'a>>
+    ensures { option_map told_change result ≡ contradiction Contradiction.Changed T.says member heard.now }
+{
+    let mut standing = Standing::Nothing;
     for answer in heard {
-        let said = Said::of(answer, member)?;
-        if let Some(earlier) = settled.otherwise(&said) {
+        let Some(later) = Stated::of(answer, member) else {
+            continue;
+        };
+        if let Some(earlier) = standing.changed_by(&later) {
             return Some(Change {
                 member,
                 before: earlier.value,
-                after: said.value,
+                after: later.value,
             });
         }
-        if said.is_settled() {
-            settled.add(said);
-        }
+        standing = standing.with(&later);
     }
     None
 }
@@ -112,36 +210,45 @@ pub fn first_contradiction<'a, T: DataSet>(
     alloc: Global,
     heard: &'a [Heard<T>],
     member: Member,
-) -> Result<Option<Change<'a>>, AllocError> {
-    let mut latest: BTreeMap<Request, Value<'a>> = BTreeMap::new(alloc);
+) -> Result<Option<Change<'a>>, AllocError>
+    ensures { IfOk result (λ change. option_map told_change change ≡ contradiction Contradiction.IdentityTwice T.says member heard.now) }
+{
+    let mut settled = Settled::new(alloc);
     for answer in heard {
-        let Some(said) = Said::of(answer, member) else {
-            return Ok(None);
+        let Some(later) = Stated::of(answer, member) else {
+            continue;
         };
-        if let Some(before) = latest.insert(said.request, said.value)? {
-            let earlier = Said {
-                request: said.request,
-                value: before,
-            };
-            if earlier.is_settled() && before != said.value {
-                return Ok(Some(Change {
-                    member,
-                    before,
-                    after: said.value,
-                }));
-            }
+        if let Some(before) = settled.contradicted_by(&later) {
+            return Ok(Some(Change {
+                member,
+                before,
+                after: later.value,
+            }));
         }
+        settled.add(&later)?;
     }
     Ok(None)
 }
 
 /// Whether two answers say a member otherwise.
-pub fn is_said_otherwise<T: DataSet>(heard: &[Heard<T>], member: Member) -> bool {
+pub fn is_said_otherwise<T: DataSet>(heard: &[Heard<T>], member: Member) -> bool
+    ensures { (how : Contradiction) → result ≡ false → contradiction how T.says member heard.now ≡ None }
+{
     match heard.split_first() {
-        Some((first, others)) => {
-            let value = first.set.value(member);
-            others.iter().any(|other| other.set.value(member) != value)
-        }
+        Some((first, others)) => !all_say_as(first, others, member),
         None => false,
     }
+}
+
+/// Whether all these answers say a member as another does.
+fn all_say_as<T: DataSet>(first: &Heard<T>, others: &[Heard<T>], member: Member) -> bool
+    ensures { result ≡ list_all (λ h. option_eq same_value (T.says first.now.set member) (T.says h.set member)) others.now }
+{
+    others.iter().all(|other| say_alike(first, other, member))
+}
+
+fn say_alike<T: DataSet>(one: &Heard<T>, other: &Heard<T>, member: Member) -> bool
+    ensures { result ≡ option_eq same_value (T.says one.now.set member) (T.says other.now.set member) }
+{
+    one.set.value(member) == other.set.value(member)
 }

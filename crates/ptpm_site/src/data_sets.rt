@@ -1,10 +1,11 @@
 //! The data sets of a clock as its answers tell them (clauses 8.2 and 15.5.3): every member, whatever its value.
 
 ghost use Rattle.std.specs.Prelude.{◌≡◌, ◌+◌, ◌≤◌, length};
+ghost use Rattle.ptpm_site.specs.Octets.{current_read, default_read, mechanism_of, parent_read, port_read, quality_at, time_read};
 ghost use Rattle.ptpm_site.specs.PortStates.{is_following, is_leading, measures_end_to_end, measures_link};
 
-use crate::numbers::{clock_at, flag_at, i8_at, i16_at, i32_at, interval_at, port_at, u16_at};
-use ptpm_codec::{ClockIdentity, PortIdentity};
+use crate::numbers::{flag_at, i8_at, i16_at, i32_at, interval_at};
+use ptpm_codec::{ClockIdentity, PortIdentity, clock_identity_at, port_identity_at, u16_at};
 use ptpm_data::PortState;
 
 /// A ClockQuality (5.3.7).
@@ -100,8 +101,10 @@ pub struct PortDataSet {
 
 impl ClockQuality {
     /// That in the four octets from a place.
+    #[tactic(auto, unfolding(crate::specs::Octets::quality_at))]
     fn at(octets: &[u8], place: usize) -> ClockQuality
         requires { place + 4 ≤ length octets.now }
+        ensures { result ≡ quality_at place octets.now }
     {
         ClockQuality {
             class: octets[place],
@@ -113,7 +116,10 @@ impl ClockQuality {
 
 impl DefaultDataSet {
     /// What a dataField tells; none where its length is another.
-    pub fn read(octets: &[u8]) -> Option<DefaultDataSet> {
+    #[tactic(auto, unfolding(crate::specs::Octets::default_read))]
+    pub fn read(octets: &[u8]) -> Option<DefaultDataSet>
+        ensures { result ≡ default_read octets.now }
+    {
         if octets.len() != 20 {
             return None;
         }
@@ -124,7 +130,7 @@ impl DefaultDataSet {
             priority1: octets[4],
             quality: ClockQuality::at(octets, 5),
             priority2: octets[9],
-            identity: clock_at(octets, 10),
+            identity: clock_identity_at(octets, 10),
             domain: octets[18],
         })
     }
@@ -132,7 +138,10 @@ impl DefaultDataSet {
 
 impl CurrentDataSet {
     /// What a dataField tells; none where its length is another.
-    pub fn read(octets: &[u8]) -> Option<CurrentDataSet> {
+    #[tactic(auto, unfolding(crate::specs::Octets::current_read))]
+    pub fn read(octets: &[u8]) -> Option<CurrentDataSet>
+        ensures { result ≡ current_read octets.now }
+    {
         if octets.len() != 18 {
             return None;
         }
@@ -146,26 +155,32 @@ impl CurrentDataSet {
 
 impl ParentDataSet {
     /// What a dataField tells; none where its length is another.
-    pub fn read(octets: &[u8]) -> Option<ParentDataSet> {
+    #[tactic(auto, unfolding(crate::specs::Octets::parent_read))]
+    pub fn read(octets: &[u8]) -> Option<ParentDataSet>
+        ensures { result ≡ parent_read octets.now }
+    {
         if octets.len() != 32 {
             return None;
         }
         Some(ParentDataSet {
-            parent: port_at(octets, 0),
+            parent: port_identity_at(octets, 0),
             stats: flag_at(octets, 10, 0),
             variance: u16_at(octets, 12),
             rate: i32_at(octets, 14),
             priority1: octets[18],
             quality: ClockQuality::at(octets, 19),
             priority2: octets[23],
-            grandmaster: clock_at(octets, 24),
+            grandmaster: clock_identity_at(octets, 24),
         })
     }
 }
 
 impl TimePropertiesDataSet {
     /// What a dataField tells; none where its length is another.
-    pub fn read(octets: &[u8]) -> Option<TimePropertiesDataSet> {
+    #[tactic(auto, unfolding(crate::specs::Octets::time_read))]
+    pub fn read(octets: &[u8]) -> Option<TimePropertiesDataSet>
+        ensures { result ≡ time_read octets.now }
+    {
         if octets.len() != 4 {
             return None;
         }
@@ -184,7 +199,10 @@ impl TimePropertiesDataSet {
 
 impl PortDataSet {
     /// What a dataField tells, and of which port; none where its length is another.
-    pub fn read(octets: &[u8]) -> Option<(PortIdentity, PortDataSet)> {
+    #[tactic(auto, unfolding(crate::specs::Octets::port_read))]
+    pub fn read(octets: &[u8]) -> Option<(PortIdentity, PortDataSet)>
+        ensures { result ≡ port_read octets.now }
+    {
         if octets.len() != 26 {
             return None;
         }
@@ -199,7 +217,7 @@ impl PortDataSet {
             log_min_pdelay: i8_at(octets, 24),
             version: octets[25] % 16,
         };
-        Some((port_at(octets, 0), set))
+        Some((port_identity_at(octets, 0), set))
     }
 
     /// Whether the port takes time from a master, or is about to.
@@ -235,7 +253,10 @@ impl PortDataSet {
 }
 
 impl DelayMechanism {
-    fn from_number(number: u8) -> Option<DelayMechanism> {
+    /// That of a number, if it is one's.
+    fn from_number(number: u8) -> Option<DelayMechanism>
+        ensures { result ≡ mechanism_of number }
+    {
         match number {
             1 => Some(DelayMechanism::EndToEnd),
             2 => Some(DelayMechanism::PeerToPeer),

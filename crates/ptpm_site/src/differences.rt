@@ -1,11 +1,9 @@
 //! Where a clock says otherwise than its grandmaster or the port that it follows.
 
 ghost use Rattle.std.specs.Prelude.{◌≡◌};
-ghost use Rattle.ptpm_site.specs.Differences.{flag_differs, grandmaster_differs, intervals_differ, mechanism_differs, number_differs, other_grandmaster, quality_differs, utc_differs};
+ghost use Rattle.ptpm_site.specs.Differences.{flag_differs, grandmaster_differs, intervals_differ, mechanism_differs, number_differs, other_grandmaster, utc_differs, value_differs};
 
-use crate::data_sets::{
-    ClockQuality, DefaultDataSet, ParentDataSet, PortDataSet, TimePropertiesDataSet,
-};
+use crate::data_sets::{DefaultDataSet, ParentDataSet, PortDataSet, TimePropertiesDataSet};
 use crate::member::{Member, Value};
 
 /// A member that two clocks say otherwise.
@@ -16,46 +14,28 @@ pub struct Differs {
     pub other: Value<'static>,
 }
 
-/// The member, where the numbers differ.
-fn number_differs(member: Member, own: i64, other: i64) -> Option<Differs>
-    ensures { result ≡ number_differs member own other }
+/// The member, where the values differ.
+fn value_differs(member: Member, own: Value<'static>, other: Value<'static>) -> Option<Differs>
+    ensures { result ≡ value_differs member own.entry other.entry }
 {
     if own == other {
         return None;
     }
-    Some(Differs {
-        member,
-        own: Value::Number(own),
-        other: Value::Number(other),
-    })
+    Some(Differs { member, own, other })
+}
+
+/// The member, where the numbers differ.
+fn number_differs(member: Member, own: i64, other: i64) -> Option<Differs>
+    ensures { result ≡ number_differs member own other }
+{
+    value_differs(member, Value::Number(own), Value::Number(other))
 }
 
 /// The member, where the flags differ.
 fn flag_differs(member: Member, own: bool, other: bool) -> Option<Differs>
     ensures { result ≡ flag_differs member own other }
 {
-    if own == other {
-        return None;
-    }
-    Some(Differs {
-        member,
-        own: Value::Flag(own),
-        other: Value::Flag(other),
-    })
-}
-
-/// The member, where the ClockQualities differ.
-fn quality_differs(member: Member, own: ClockQuality, other: ClockQuality) -> Option<Differs>
-    ensures { result ≡ quality_differs member own other }
-{
-    if own == other {
-        return None;
-    }
-    Some(Differs {
-        member,
-        own: Value::Quality(own),
-        other: Value::Quality(other),
-    })
+    value_differs(member, Value::Flag(own), Value::Flag(other))
 }
 
 /// What a clock says of its grandmaster and the grandmaster's DEFAULT_DATA_SET does not.
@@ -71,10 +51,10 @@ pub fn grandmaster_differs(
             own.priority1 as i64,
             grandmaster.priority1 as i64,
         ),
-        quality_differs(
+        value_differs(
             Member::GrandmasterClockQuality,
-            own.quality,
-            grandmaster.quality,
+            Value::Quality(own.quality),
+            Value::Quality(grandmaster.quality),
         ),
         number_differs(
             Member::GrandmasterPriority2,
@@ -88,14 +68,11 @@ pub fn grandmaster_differs(
 pub fn other_grandmaster(own: &ParentDataSet, parent: &ParentDataSet) -> Option<Differs>
     ensures { result ≡ other_grandmaster own.now parent.now }
 {
-    if own.grandmaster == parent.grandmaster {
-        return None;
-    }
-    Some(Differs {
-        member: Member::GrandmasterIdentity,
-        own: Value::Clock(own.grandmaster),
-        other: Value::Clock(parent.grandmaster),
-    })
+    value_differs(
+        Member::GrandmasterIdentity,
+        Value::Clock(own.grandmaster),
+        Value::Clock(parent.grandmaster),
+    )
 }
 
 /// What a clock says of UTC and its grandmaster does not.

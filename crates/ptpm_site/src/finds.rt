@@ -2,7 +2,7 @@
 
 ghost use Rattle.std.specs.Prelude.{◌≡◌, ◌++◌, [], ◌∷◌, OnOk};
 ghost use Rattle.std.specs.Option.{option_to_list, option_map};
-ghost use Rattle.ptpm_site.specs.Findings.{finding, told, told_of};
+ghost use Rattle.ptpm_site.specs.Findings.{finding, said, says, told};
 
 use crate::finding::{Finding, What};
 use crate::source::Source;
@@ -27,7 +27,7 @@ pub fn tell<'a>(
     source: Source,
     what: What<'a>,
 ) -> Result<(), AllocError>
-    ensures { OnOk result (told findings.new.items ≡ told findings.old.items ++ option_to_list (told_of source what.entry)) }
+    ensures { OnOk result (told findings.new.items ≡ told findings.old.items ++ said source (says what.entry) ∷ []) }
 {
     find(findings, source, what)
 }

@@ -1,11 +1,14 @@
 //! What a clock did not answer, and what its answers say otherwise.
 
-ghost use Rattle.std.specs.Prelude.{◌≡◌, ◌++◌, OnOk};
-ghost use Rattle.ptpm_site.specs.Findings.{incomplete_told, told};
+ghost use Rattle.std.specs.Prelude.{◌≡◌, ◌++◌, [], ◌∷◌, IfOk, OnOk};
+ghost use Rattle.std.specs.List.{flat_map};
+ghost use Rattle.std.specs.Option.{option_map};
+ghost use Rattle.ptpm_site.specs.Changes.{contradiction, told_change};
+ghost use Rattle.ptpm_site.specs.Findings.{Otherwise, answers_told, clock_sets_told, contradictions_told, incomplete_told, member_told, port_set_told, said, set_told, told};
 ghost use Rattle.ptpm_site.specs.Kept.{kept};
 
-use crate::changes::{Change, first_change, first_contradiction, is_said_otherwise};
-use crate::clock::{Clock, Heard};
+use crate::changes::{Change, Contradiction, first_change, first_contradiction, is_said_otherwise};
+use crate::clock::Heard;
 use crate::completeness::missing_answers;
 use crate::finding::{Finding, What};
 use crate::finds::tell;
@@ -15,6 +18,7 @@ use crate::source::Source;
 use std::alloc::{AllocError, Global};
 
 /// `incomplete`, `changed` and `identity_twice`, of a clock of which these ports answered.
+#[tactic(auto, unfolding(crate::specs::Findings::answers_told))]
 pub fn judge_answers<'a>(
     alloc: Global,
     site: &'a Site,
@@ -23,13 +27,18 @@ pub fn judge_answers<'a>(
     findings: &mut Vec<Finding<'a>>,
 ) -> Result<(), AllocError>
     requires { ports.now ≡ (kept site.now).ports source }
-    ensures { OnOk result (told findings.new.items ≡ told findings.old.items ++ incomplete_told (kept site.now) source) }
+    ensures { OnOk result (told findings.new.items ≡ told findings.old.items ++ answers_told (kept site.now) source) }
 {
     judge_missing(alloc, site, source, ports, findings)?;
-    match site.clocks.get(&source) {
-        Some(clock) => judge_clock(alloc, source, clock, findings),
-        None => Ok(()),
-    }
+    judge_contradictions(alloc, site, source, ports, Contradiction::Changed, findings)?;
+    judge_contradictions(
+        alloc,
+        site,
+        source,
+        ports,
+        Contradiction::IdentityTwice,
+        findings,
+    )
 }
 
 /// `incomplete`.
@@ -50,104 +59,142 @@ fn judge_missing(
     }
 }
 
-fn judge_clock<'a>(
+/// `changed` or `identity_twice`, of all data sets of a clock of which these ports answered.
+#[tactic(auto, unfolding(crate::specs::Findings::contradictions_told))]
+fn judge_contradictions<'a>(
     alloc: Global,
+    site: &'a Site,
     source: Source,
-    clock: &'a Clock,
+    ports: &[u16],
+    how: Contradiction,
     findings: &mut Vec<Finding<'a>>,
 ) -> Result<(), AllocError>
-    ensures { OnOk result (told findings.new.items ≡ told findings.old.items) }
+    requires { ports.now ≡ (kept site.now).ports source }
+    ensures { OnOk result (told findings.new.items ≡ told findings.old.items ++ contradictions_told how (kept site.now) source) }
 {
-    judge_changes(alloc, source, clock, Sort::Changed, findings)?;
-    judge_changes(alloc, source, clock, Sort::Twice, findings)
-}
-
-/// Whether answers to different requests or to one are held against each other.
-#[derive(Clone, Copy)]
-enum Sort {
-    Changed,
-    Twice,
-}
-
-/// `changed` or `identity_twice`, of all data sets.
-fn judge_changes<'a>(
-    alloc: Global,
-    source: Source,
-    clock: &'a Clock,
-    sort: Sort,
-    findings: &mut Vec<Finding<'a>>,
-) -> Result<(), AllocError>
-    ensures { OnOk result (told findings.new.items ≡ told findings.old.items) }
-{
+    judge_clock_sets(alloc, site, source, how, findings)?;
+    judge_port_sets(alloc, site, source, ports, how, findings)?;
     judge_set(
         alloc,
         source,
         None,
-        clock.defaults.as_slice(),
-        sort,
-        findings,
-    )?;
-    judge_set(
-        alloc,
-        source,
-        None,
-        clock.currents.as_slice(),
-        sort,
-        findings,
-    )?;
-    judge_set(
-        alloc,
-        source,
-        None,
-        clock.parents.as_slice(),
-        sort,
-        findings,
-    )?;
-    judge_set(alloc, source, None, clock.times.as_slice(), sort, findings)?;
-    for (port, heard) in clock.ports.iter() {
-        judge_set(alloc, source, Some(*port), heard.as_slice(), sort, findings)?;
-    }
-    judge_set(
-        alloc,
-        source,
-        None,
-        clock.descriptions.as_slice(),
-        sort,
+        site.descriptions(source),
+        how,
         findings,
     )
 }
 
-/// The changes, or the contradictions, among the answers of one data set.
+/// The same of the data sets of the clock, but for its description.
+#[tactic(auto, unfolding(crate::specs::Findings::clock_sets_told))]
+fn judge_clock_sets<'a>(
+    alloc: Global,
+    site: &'a Site,
+    source: Source,
+    how: Contradiction,
+    findings: &mut Vec<Finding<'a>>,
+) -> Result<(), AllocError>
+    ensures { OnOk result (told findings.new.items ≡ told findings.old.items ++ clock_sets_told how (kept site.now) source) }
+{
+    judge_set(alloc, source, None, site.defaults(source), how, findings)?;
+    judge_set(alloc, source, None, site.currents(source), how, findings)?;
+    judge_set(alloc, source, None, site.parents(source), how, findings)?;
+    judge_set(alloc, source, None, site.times(source), how, findings)
+}
+
+/// The same of the data sets of these ports.
+fn judge_port_sets<'a>(
+    alloc: Global,
+    site: &'a Site,
+    source: Source,
+    ports: &[u16],
+    how: Contradiction,
+    findings: &mut Vec<Finding<'a>>,
+) -> Result<(), AllocError>
+    ensures { OnOk result (told findings.new.items ≡ told findings.old.items ++ flat_map (port_set_told how (kept site.now) source) ports.now) }
+{
+    for port in ports {
+        judge_port_set(alloc, site, source, *port, how, findings)?;
+    }
+    Ok(())
+}
+
+#[tactic(auto, unfolding(crate::specs::Findings::port_set_told))]
+fn judge_port_set<'a>(
+    alloc: Global,
+    site: &'a Site,
+    source: Source,
+    port: u16,
+    how: Contradiction,
+    findings: &mut Vec<Finding<'a>>,
+) -> Result<(), AllocError>
+    ensures { OnOk result (told findings.new.items ≡ told findings.old.items ++ port_set_told how (kept site.now) source port) }
+{
+    judge_set(
+        alloc,
+        source,
+        Some(port),
+        site.heard(source, port),
+        how,
+        findings,
+    )
+}
+
+/// The members of a data set that two of these answers say otherwise.
+#[tactic(auto, unfolding(crate::specs::Findings::set_told))]
 fn judge_set<'a, T: DataSet>(
     alloc: Global,
     source: Source,
     port: Option<u16>,
     heard: &'a [Heard<T>],
-    sort: Sort,
+    how: Contradiction,
     findings: &mut Vec<Finding<'a>>,
 ) -> Result<(), AllocError>
-    ensures { OnOk result (told findings.new.items ≡ told findings.old.items) }
+    ensures { OnOk result (told findings.new.items ≡ told findings.old.items ++ set_told how source port T.listed T.says heard.now) }
 {
-    for member in T::members() {
-        if member.is_moving() || !is_said_otherwise(heard, *member) {
-            continue;
-        }
-        if let Some(change) = change_of(alloc, heard, *member, sort)? {
-            find_change(findings, source, port, change, sort)?;
-        }
+    let members = T::members();
+    for member in members {
+        judge_member(alloc, source, port, heard, *member, how, findings)?;
     }
     Ok(())
 }
 
+/// A member that two of these answers say otherwise, unless it moves with nothing changed.
+#[tactic(auto, unfolding(crate::specs::Findings::member_told))]
+fn judge_member<'a, T: DataSet>(
+    alloc: Global,
+    source: Source,
+    port: Option<u16>,
+    heard: &'a [Heard<T>],
+    member: Member,
+    how: Contradiction,
+    findings: &mut Vec<Finding<'a>>,
+) -> Result<(), AllocError>
+    ensures { OnOk result (told findings.new.items ≡ told findings.old.items ++ member_told how source port T.says heard.now member) }
+{
+    if member.is_moving() {
+        return Ok(());
+    }
+    match change_of(alloc, heard, member, how)? {
+        Some(change) => find_change(findings, source, port, change, how),
+        None => Ok(()),
+    }
+}
+
+/// The first two answers that say a member otherwise.
 fn change_of<'a, T: DataSet>(
     alloc: Global,
     heard: &'a [Heard<T>],
     member: Member,
-    sort: Sort,
-) -> Result<Option<Change<'a>>, AllocError> {
-    match sort {
-        Sort::Changed => Ok(first_change(heard, member)),
-        Sort::Twice => first_contradiction(alloc, heard, member),
+    how: Contradiction,
+) -> Result<Option<Change<'a>>, AllocError>
+    ensures { IfOk result (λ change. option_map told_change change ≡ contradiction how T.says member heard.now) }
+{
+    if !is_said_otherwise(heard, member) {
+        return Ok(None);
+    }
+    match how {
+        Contradiction::Changed => Ok(first_change(heard, member)),
+        Contradiction::IdentityTwice => first_contradiction(alloc, heard, member),
     }
 }
 
@@ -156,12 +203,12 @@ fn find_change<'a>(
     source: Source,
     port: Option<u16>,
     change: Change<'a>,
-    sort: Sort,
+    how: Contradiction,
 ) -> Result<(), AllocError>
-    ensures { OnOk result (told findings.new.items ≡ told findings.old.items) }
+    ensures { OnOk result (told findings.new.items ≡ told findings.old.items ++ said source (Otherwise how port (told_change change.entry)) ∷ []) }
 {
-    match sort {
-        Sort::Changed => tell(findings, source, What::Changed(port, change)),
-        Sort::Twice => tell(findings, source, What::IdentityTwice(port, change)),
+    match how {
+        Contradiction::Changed => tell(findings, source, What::Changed(port, change)),
+        Contradiction::IdentityTwice => tell(findings, source, What::IdentityTwice(port, change)),
     }
 }

@@ -1,5 +1,9 @@
 //! The members of the data sets, by the standard's names, and their values.
 
+ghost use Rattle.std.specs.Prelude.{◌≡◌};
+ghost use Rattle.std.specs.Option.{option_map};
+ghost use Rattle.ptpm_site.specs.Members.{is_moving, value_of};
+
 use crate::data_sets::{
     ClockQuality, CurrentDataSet, DefaultDataSet, DelayMechanism, ParentDataSet, PortDataSet,
     TimePropertiesDataSet,
@@ -98,7 +102,9 @@ impl Member {
     }
 
     /// Whether its value moves from one answer to the next with nothing changed.
-    pub fn is_moving(self) -> bool {
+    pub fn is_moving(self) -> bool
+        ensures { result ≡ is_moving self }
+    {
         matches!(
             self,
             Member::OffsetFromMaster
@@ -127,14 +133,32 @@ pub enum Value<'a> {
 
 /// A data set as a list of members.
 pub trait DataSet {
+    ghost use Rattle.std.specs.Prelude.{List, Option};
+    ghost use Rattle.ptpm_site.specs.declared.member.Member.{Member};
+    ghost use Rattle.ptpm_site.specs.Members.{MemberValue};
+
     /// Its members, in the standard's order.
-    fn members() -> &'static [Member];
+    ghost listed: { List Member };
 
     /// The value of a member; none where the data set lacks it.
-    fn value(&self, member: Member) -> Option<Value<'_>>;
+    ghost says: { Self → Member → Option MemberValue };
+
+    /// Its members, in the standard's order.
+    fn members() -> &'static [Member]
+        ensures { result.now ≡ listed };
+
+    /// The value of a member; none where the data set lacks it.
+    fn value(&self, member: Member) -> Option<Value<'_>>
+        ensures { option_map value_of result ≡ says self.now member };
 }
 
 impl DataSet for DefaultDataSet {
+    ghost use Rattle.ptpm_site.specs.Members.{default_members, default_says};
+
+    ghost listed = { default_members };
+
+    ghost says = { default_says };
+
     fn members() -> &'static [Member] {
         &[
             Member::TwoStepFlag,
@@ -164,6 +188,12 @@ impl DataSet for DefaultDataSet {
 }
 
 impl DataSet for CurrentDataSet {
+    ghost use Rattle.ptpm_site.specs.Members.{current_members, current_says};
+
+    ghost listed = { current_members };
+
+    ghost says = { current_says };
+
     fn members() -> &'static [Member] {
         &[
             Member::StepsRemoved,
@@ -183,6 +213,12 @@ impl DataSet for CurrentDataSet {
 }
 
 impl DataSet for ParentDataSet {
+    ghost use Rattle.ptpm_site.specs.Members.{parent_members, parent_says};
+
+    ghost listed = { parent_members };
+
+    ghost says = { parent_says };
+
     fn members() -> &'static [Member] {
         &[
             Member::ParentPortIdentity,
@@ -212,6 +248,12 @@ impl DataSet for ParentDataSet {
 }
 
 impl DataSet for TimePropertiesDataSet {
+    ghost use Rattle.ptpm_site.specs.Members.{time_members, time_says};
+
+    ghost listed = { time_members };
+
+    ghost says = { time_says };
+
     fn members() -> &'static [Member] {
         &[
             Member::CurrentUtcOffset,
@@ -241,6 +283,12 @@ impl DataSet for TimePropertiesDataSet {
 }
 
 impl DataSet for PortDataSet {
+    ghost use Rattle.ptpm_site.specs.Members.{port_members, port_says};
+
+    ghost listed = { port_members };
+
+    ghost says = { port_says };
+
     fn members() -> &'static [Member] {
         &[
             Member::PortState,
@@ -272,6 +320,12 @@ impl DataSet for PortDataSet {
 }
 
 impl DataSet for Description {
+    ghost use Rattle.ptpm_site.specs.Members.{description_members, description_says};
+
+    ghost listed = { description_members };
+
+    ghost says = { description_says };
+
     fn members() -> &'static [Member] {
         &[Member::UserDescription]
     }

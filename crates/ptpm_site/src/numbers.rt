@@ -1,68 +1,53 @@
-//! Numbers and identities at their places in a dataField, whose octets stand in network order (clause 5.2).
+//! Signed numbers and flags at their places in a dataField, whose octets stand in network order (clause 5.2).
 
-ghost use Rattle.std.specs.Prelude.{◌+◌, ◌<◌, ◌≤◌, length};
+ghost use Rattle.std.specs.Prelude.{◌≡◌, ◌+◌, ◌<◌, ◌≤◌, length};
+ghost use Rattle.ptpm_data.specs.ImageReading.{i16_at, i32_at, i64_at, i8_at};
+ghost use Rattle.ptpm_site.specs.Octets.{flag_at};
 
 use byteorder::{BigEndian, ByteOrder};
-use ptpm_codec::{ClockIdentity, PortIdentity};
-
-/// The UInteger16 in the two octets from a place.
-pub fn u16_at(octets: &[u8], place: usize) -> u16
-    requires { place + 2 ≤ length octets.now }
-{
-    BigEndian::read_u16(&octets[place..])
-}
 
 /// The Integer16 in the two octets from a place.
+#[tactic(auto, unfolding(ptpm_data::specs::ImageReading::i16_at))]
 pub fn i16_at(octets: &[u8], place: usize) -> i16
     requires { place + 2 ≤ length octets.now }
+    ensures { result ≡ i16_at place octets.now }
 {
     BigEndian::read_i16(&octets[place..])
 }
 
 /// The Integer32 in the four octets from a place.
+#[tactic(auto, unfolding(ptpm_data::specs::ImageReading::i32_at))]
 pub fn i32_at(octets: &[u8], place: usize) -> i32
     requires { place + 4 ≤ length octets.now }
+    ensures { result ≡ i32_at place octets.now }
 {
     BigEndian::read_i32(&octets[place..])
 }
 
 /// The TimeInterval in the eight octets from a place: nanoseconds times 2^16 (5.3.2).
+#[tactic(auto, unfolding(ptpm_data::specs::ImageReading::i64_at))]
 pub fn interval_at(octets: &[u8], place: usize) -> i64
     requires { place + 8 ≤ length octets.now }
+    ensures { result ≡ i64_at place octets.now }
 {
     BigEndian::read_i64(&octets[place..])
 }
 
 /// The Integer8 in an octet.
+#[tactic(auto, unfolding(ptpm_data::specs::ImageReading::i8_at))]
 pub fn i8_at(octets: &[u8], place: usize) -> i8
     requires { place < length octets.now }
+    ensures { result ≡ i8_at place octets.now }
 {
     octets[place].cast_signed()
 }
 
 /// Whether a bit of an octet is set; bit 0 is the least.
+#[tactic(auto, using(std::proofs::lemmas::Nat::Bits::shr_and_one))]
 pub fn flag_at(octets: &[u8], place: usize, bit: u8) -> bool
     requires place { place < length octets.now }
     requires bit { bit < 8 }
+    ensures { result ≡ flag_at place bit octets.now }
 {
     octets[place] >> bit & 1 == 1
-}
-
-/// The clockIdentity in the eight octets from a place (5.3.4).
-pub fn clock_at(octets: &[u8], place: usize) -> ClockIdentity
-    requires { place + 8 ≤ length octets.now }
-{
-    let mut clock = [0; 8];
-    clock.copy_from_slice(&octets[place..place + 8]);
-    ClockIdentity(clock)
-}
-
-/// The portIdentity in the ten octets from a place (5.3.5).
-pub fn port_at(octets: &[u8], place: usize) -> PortIdentity
-    requires { place + 10 ≤ length octets.now }
-{
-    PortIdentity {
-        clock: clock_at(octets, place),
-        port: u16_at(octets, place + 8),
-    }
 }

@@ -1,7 +1,8 @@
--- None of what is found is told.
-use Rattle.std.proofs.Common.{◌≡◌}
-use Rattle.ptpm_site.specs.Findings.{told}
+-- What is said otherwise of the members so far is told.
+use Rattle.std.proofs.Common.{◌≡◌, ◌++◌, take}
+use Rattle.std.specs.List.{flat_map}
+use Rattle.ptpm_site.specs.Findings.{member_told, told}
 use Rattle.ptpm_site.proofs.judging_answers.judge_set.Given as goal
 
 abbrev pub invariant-loop-member : goal.invariant-loop-member
-invariant-loop-member g l = told l.findings.items ≡ told l.fn.findings.items
+invariant-loop-member g l = told l.findings.items ≡ told l.fn.findings.items ++ flat_map (member_told l.how l.source l.port g.T.DataSet.says l.heard) (take l.member-index l.members)

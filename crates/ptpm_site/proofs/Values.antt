@@ -1,0 +1,98 @@
+-- Two values are the same where they are one.
+use Rattle.std.proofs.Common.{◌≡◌, Bool, true, false, ◌&&◌, nat_eq, Option, Some, None, bytes_eq, refl, ap}
+use Rattle.std.specs.Bool.{Decides}
+use Rattle.std.specs.Cmp.{IsEquivalence, booleans_Decides, decided, unsigned_Decides}
+use Rattle.std.specs.Option.{option_eq}
+use Rattle.std.proofs.lemmas.Bool.Decides.{Decides-int_eq}
+use Rattle.std.proofs.lemmas.Slice.Eq.{bytes_eq-Decides}
+use Rattle.ptpm_codec.specs.Identity.{same_clock, same_identity}
+use Rattle.ptpm_codec.specs.declared.identity.ClockIdentity.{ClockIdentity}
+use Rattle.ptpm_codec.specs.declared.identity.PortIdentity.{PortIdentity}
+use Rattle.ptpm_data.specs.declared.port_state.PortState.{PortState}
+use Rattle.ptpm_data.specs.declared.port_state.PortState.TheVariants as states
+use Rattle.ptpm_site.specs.declared.answer.Request.{Request}
+use Rattle.ptpm_site.specs.declared.data_sets.ClockQuality.{ClockQuality}
+use Rattle.ptpm_site.specs.declared.data_sets.DelayMechanism.{DelayMechanism}
+use Rattle.ptpm_site.specs.declared.data_sets.DelayMechanism.TheVariants as mechanisms
+use Rattle.ptpm_site.specs.Changes.{same_request}
+use Rattle.ptpm_site.specs.Members.{MemberValue, Clock, Flag, Mechanism, Number, Port, Quality, State, Text, same_mechanism, same_quality, same_state, same_value}
+
+-- ---- tests
+
+both : {P Q : Type 0} (s t : Bool) → Decides s P → Decides t Q → Decides (s && t) (P × Q)
+both true true d e = (λ h. (d.0 refl, e.0 refl), λ h. refl)
+both true false d e = (λ h. cc, λ h. e.1 h.1)
+both false t d e = (λ h. cc, λ h. d.1 h.0)
+
+decides_by : {P Q : Type 0} {t : Bool} → Decides t P → (P → Q) → (Q → P) → Decides t Q
+decides_by d f g = (λ h. f (d.0 h), λ q. d.1 (g q))
+
+-- ---- parts of values
+
+option_eq-Decides : {A : Type 0} {E : A → A → Bool} → ((a b : A) → Decides (E a b) (a ≡ b)) → (a b : Option A) → Decides (option_eq E a b) (a ≡ b)
+option_eq-Decides d None None = (λ e. refl, λ e. refl)
+option_eq-Decides d (Some a) (Some b) = (λ e. ap Some ((d a b).0 e), λ e. (d a b).1 cc)
+option_eq-Decides d a b = (λ e. cc, λ e. cc)
+
+same_state-Decides : (a b : PortState) → Decides (same_state a b) (a ≡ b)
+same_state-Decides states.Initializing states.Initializing = (λ e. refl, λ e. refl)
+same_state-Decides states.Faulty states.Faulty = (λ e. refl, λ e. refl)
+same_state-Decides states.Disabled states.Disabled = (λ e. refl, λ e. refl)
+same_state-Decides states.Listening states.Listening = (λ e. refl, λ e. refl)
+same_state-Decides states.PreMaster states.PreMaster = (λ e. refl, λ e. refl)
+same_state-Decides states.Master states.Master = (λ e. refl, λ e. refl)
+same_state-Decides states.Passive states.Passive = (λ e. refl, λ e. refl)
+same_state-Decides states.Uncalibrated states.Uncalibrated = (λ e. refl, λ e. refl)
+same_state-Decides states.Slave states.Slave = (λ e. refl, λ e. refl)
+same_state-Decides a b = (λ e. cc, λ e. cc)
+
+same_mechanism-Decides : (a b : DelayMechanism) → Decides (same_mechanism a b) (a ≡ b)
+same_mechanism-Decides mechanisms.EndToEnd mechanisms.EndToEnd = (λ e. refl, λ e. refl)
+same_mechanism-Decides mechanisms.PeerToPeer mechanisms.PeerToPeer = (λ e. refl, λ e. refl)
+same_mechanism-Decides mechanisms.CommonPeerToPeer mechanisms.CommonPeerToPeer = (λ e. refl, λ e. refl)
+same_mechanism-Decides mechanisms.Special mechanisms.Special = (λ e. refl, λ e. refl)
+same_mechanism-Decides mechanisms.NoMechanism mechanisms.NoMechanism = (λ e. refl, λ e. refl)
+same_mechanism-Decides a b = (λ e. cc, λ e. cc)
+
+same_quality-Decides : (a b : ClockQuality) → Decides (same_quality a b) (a ≡ b)
+same_quality-Decides a b =
+    decides_by
+    (both _ _ (both _ _ (unsigned_Decides a.class b.class) (unsigned_Decides a.accuracy b.accuracy)) (unsigned_Decides a.variance b.variance))
+    (λ h i. record { class = h.0.0 i; accuracy = h.0.1 i; variance = h.1 i })
+    (λ e. ((ap (λ q. q.class) e, ap (λ q. q.accuracy) e), ap (λ q. q.variance) e))
+
+same_clock-Decides : (a b : ClockIdentity) → Decides (same_clock a b) (a ≡ b)
+same_clock-Decides a b = decides_by (bytes_eq-Decides a.0 b.0) (λ h i. record { 0 = h i }) (ap (λ c. c.0))
+
+same_identity-Decides : (a b : PortIdentity) → Decides (same_identity a b) (a ≡ b)
+same_identity-Decides a b =
+    decides_by (both _ _ (same_clock-Decides a.clock b.clock) (unsigned_Decides a.port b.port)) (λ h i. record { clock = h.0 i; port = h.1 i })
+    (λ e. (ap (λ p. p.clock) e, ap (λ p. p.port) e))
+
+-- ---- values, and requests
+
+-- at values of one kind
+of_kind : {A : Type 0} {a b : A} {t : Bool} (f : A → MemberValue) → (f a ≡ f b → a ≡ b) → Decides t (a ≡ b) → Decides t (f a ≡ f b)
+of_kind f inside d = (λ e. ap f (d.0 e), λ e. d.1 (inside e))
+
+same_value-Decides : (a b : MemberValue) → Decides (same_value a b) (a ≡ b)
+same_value-Decides (Flag a) (Flag b) = of_kind Flag (λ e. cc) (booleans_Decides a b)
+same_value-Decides (Number a) (Number b) = of_kind Number (λ e. cc) (Decides-int_eq a b)
+same_value-Decides (Quality a) (Quality b) = of_kind Quality (λ e. cc) (same_quality-Decides a b)
+same_value-Decides (Clock a) (Clock b) = of_kind Clock (λ e. cc) (same_clock-Decides a b)
+same_value-Decides (Port a) (Port b) = of_kind Port (λ e. cc) (same_identity-Decides a b)
+same_value-Decides (State a) (State b) = of_kind State (λ e. cc) (option_eq-Decides same_state-Decides a b)
+same_value-Decides (Mechanism a) (Mechanism b) = of_kind Mechanism (λ e. cc) (option_eq-Decides same_mechanism-Decides a b)
+same_value-Decides (Text a) (Text b) = of_kind Text (λ e. cc) (bytes_eq-Decides a b)
+same_value-Decides a b = (λ e. cc, λ e. cc)
+
+pub same_value-equiv : IsEquivalence same_value
+same_value-equiv = decided same_value same_value-Decides
+
+pub same_request-Decides : (a b : Request) → Decides (same_request a b) (a ≡ b)
+same_request-Decides a b =
+    decides_by (both _ _ (same_identity-Decides a.target b.target) (unsigned_Decides a.number b.number))
+    (λ h i. record { target = h.0 i; number = h.1 i }) (λ e. (ap (λ r. r.target) e, ap (λ r. r.number) e))
+
+pub same_request-equiv : IsEquivalence same_request
+same_request-equiv = decided same_request same_request-Decides

@@ -1,0 +1,13 @@
+-- No answer so far is a change of an earlier one, and some stand for all of them.
+use Rattle.std.proofs.Common.{◌≡◌, take}
+use Rattle.ptpm_site.specs.declared.changes.Contradiction.TheVariants as sort
+use Rattle.ptpm_site.specs.Changes.{contradiction, statements}
+use Rattle.ptpm_site.specs.Standing.{StandsFor}
+use Rattle.ptpm_site.proofs.Statements.{ahead}
+use Rattle.ptpm_site.proofs.changes.first_change.Given as goal
+
+abbrev pub invariant-loop-answer : goal.invariant-loop-answer
+invariant-loop-answer g l = record {
+  unchanged : contradiction sort.Changed g.T.DataSet.says l.member l.heard ≡ ahead sort.Changed g.T.DataSet.says l.member l.heard l.answer-index;
+  stands : StandsFor l.standing (statements g.T.DataSet.says l.member (take l.answer-index l.heard));
+}

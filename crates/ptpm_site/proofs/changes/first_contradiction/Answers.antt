@@ -1,0 +1,59 @@
+-- An answer that does not say the member, one that contradicts an earlier one, and one that contradicts none.
+use Rattle.std.proofs.Common.{◌≡◌, ◌<◌, List, Some, None, length, take, subst, sym, ◌∙◌, arith}
+use Rattle.std.specs.List.{find}
+use Rattle.std.specs.Option.{option_map}
+use Rattle.ptpm_site.specs.declared.changes.Contradiction.TheVariants as sort
+use Rattle.ptpm_site.specs.Changes.{Statement, contradicts, statement_of, statements}
+use Rattle.ptpm_site.specs.Members.{value_of}
+use Rattle.ptpm_site.specs.Standing.{TellsTwice, statement}
+use Rattle.ptpm_site.proofs.Statements.{ahead-first, ahead-found, ahead-none, ahead-passed, no_value, taken-none, taken-some}
+use Rattle.ptpm_site.proofs.changes.first_contradiction.Goals as goal
+
+pub loop-answer-init : goal.loop-answer-init
+loop-answer-init g c = record {
+  unchanged = ahead-first sort.IdentityTwice g.T.DataSet.says c.args.member c.args.heard.now;
+  tells = c.new-settled.ensures;
+}
+
+pub loop-answer-preserved-in_default : goal.loop-answer-preserved-in_default
+loop-answer-preserved-in_default g c =
+    let says = g.T.DataSet.says in
+    let i = c.loop-answer.answer-index in
+    let x = c.answer-item.result in
+    let within : c.loop-answer.answer-index < length c.args.heard.now = omega arith in
+    let none : statement_of g.T.DataSet.says c.args.member c.answer-item.result ≡ None = sym c.in_default.ensures in
+    let Tells : List Statement → Type 0 = λ l. TellsTwice c.loop-answer.settled l in
+    record {
+      unchanged = c.loop-answer.invariant.unchanged ∙ ahead-none says c.args.member c.args.heard.now i x within c.answer-item.is sort.IdentityTwice none;
+      tells = subst Tells (sym (taken-none says c.args.member c.args.heard.now i x within c.answer-item.is none)) c.loop-answer.invariant.tells;
+    }
+
+pub returns-in-Some-contradicted_by : goal.returns-in-Some-contradicted_by
+returns-in-Some-contradicted_by g c =
+    let says = g.T.DataSet.says in
+    let i = c.loop-answer.answer-index in
+    let x = c.answer-item.result in
+    let y = statement c.in-Some.later in
+    let within : c.loop-answer.answer-index < length c.args.heard.now = omega arith in
+    let some : statement_of g.T.DataSet.says c.args.member c.answer-item.result ≡ Some (statement c.in-Some.later) = sym c.in-Some.ensures in
+    sym (c.loop-answer.invariant.unchanged
+    ∙ ahead-found says c.args.member c.args.heard.now i x within c.answer-item.is sort.IdentityTwice y (value_of c.in-Some-contradicted_by.before) some
+    (c.loop-answer.invariant.tells.alike y ∙ sym c.in-Some-contradicted_by.ensures))
+
+pub loop-answer-preserved : goal.loop-answer-preserved
+loop-answer-preserved g c =
+    let says = g.T.DataSet.says in
+    let i = c.loop-answer.answer-index in
+    let x = c.answer-item.result in
+    let y = statement c.in-Some.later in
+    let within : c.loop-answer.answer-index < length c.args.heard.now = omega arith in
+    let some : statement_of g.T.DataSet.says c.args.member c.answer-item.result ≡ Some (statement c.in-Some.later) = sym c.in-Some.ensures in
+    let none : find (λ e. contradicts sort.IdentityTwice e (statement c.in-Some.later)) (statements g.T.DataSet.says c.args.member (take c.loop-answer.answer-index c.args.heard.now)) ≡ None =
+    no_value (λ e. e.value) _ (c.loop-answer.invariant.tells.alike y ∙ sym c.in_default-contradicted_by.ensures) in
+    let Tells : List Statement → Type 0 = λ l. TellsTwice c.add.new.self l in
+    record {
+      unchanged = c.loop-answer.invariant.unchanged ∙ ahead-passed says c.args.member c.args.heard.now i x within c.answer-item.is sort.IdentityTwice y some none;
+      tells =
+          subst Tells (sym (taken-some says c.args.member c.args.heard.now i x within c.answer-item.is y some))
+          (c.in_ok-add.ensures (statements says c.args.member (take i c.args.heard.now)) c.loop-answer.invariant.tells none);
+    }

@@ -1,0 +1,80 @@
+-- What the answers of a clock say otherwise: those to two requests (`changed`), and those to one (`identity_twice`).
+use Rattle.std.specs.Prelude.{◌==◌, ◌&&◌, Bool, true, false, not, List, [], ◌∷◌, ◌++◌, Option, find, map}
+use Rattle.std.specs.List.{filter_map}
+use Rattle.std.specs.Option.{option_map, option_map_or}
+use Rattle.ptpm_codec.specs.Identity.{same_identity}
+use Rattle.ptpm_data.specs.declared.port_state.PortState.{PortState}
+use Rattle.ptpm_data.specs.declared.port_state.PortState.TheVariants as states
+use Rattle.ptpm_site.specs.declared.answer.Request.{Request}
+use Rattle.ptpm_site.specs.declared.changes.Change.{Change}
+use Rattle.ptpm_site.specs.declared.changes.Contradiction.{Contradiction}
+use Rattle.ptpm_site.specs.declared.changes.Contradiction.TheVariants as sort
+use Rattle.ptpm_site.specs.declared.clock.Heard.{Heard}
+use Rattle.ptpm_site.specs.declared.member.Member.{Member}
+use Rattle.ptpm_site.specs.Members.{MemberValue, State, same_value, value_of}
+
+-- ---- two answers
+
+-- what an answer says of a member, and the request that it came to
+pub record Statement : Type 0 where
+  pub request : Request
+  pub value : MemberValue
+
+-- who asked, and with which sequenceId
+abbrev pub same_request : Request → Request → Bool
+same_request a b = same_identity a.target b.target && a.number == b.number
+
+-- a port in FAULTY, DISABLED, MASTER, PASSIVE or SLAVE is on its way to no other state
+abbrev pub is_settled_state : PortState → Bool
+is_settled_state states.Faulty = true
+is_settled_state states.Disabled = true
+is_settled_state states.Master = true
+is_settled_state states.Passive = true
+is_settled_state states.Slave = true
+is_settled_state _ = false
+
+abbrev pub is_settled : MemberValue → Bool
+is_settled (State state) = option_map_or is_settled_state state false
+is_settled _ = true
+
+-- which answers are held against each other: those to two requests, or those to one
+abbrev pub are_held : Contradiction → Request → Request → Bool
+are_held sort.Changed a b = not (same_request a b)
+are_held sort.IdentityTwice a b = same_request a b
+
+-- an answer says otherwise than an earlier one, whose value was settled
+abbrev pub contradicts : Contradiction → Statement → Statement → Bool
+contradicts c earlier later = is_settled earlier.value && are_held c earlier.request later.request && not (same_value earlier.value later.value)
+
+-- ---- all answers
+
+-- each of a list with each earlier one, by the later and then by the earlier; some stand before all
+abbrev pub pairs_behind : {A : Type 0} → List A → List A → List (A × A)
+pairs_behind earlier [] = []
+pairs_behind earlier (later ∷ xs) = map (λ e. (e, later)) earlier ++ pairs_behind (earlier ++ later ∷ []) xs
+
+abbrev pub pairs_of : {A : Type 0} → List A → List (A × A)
+pairs_of xs = pairs_behind [] xs
+
+-- what the answers say of a member, in the order of their lines
+abbrev pub statement_of : {A : Type 0} → (A → Member → Option MemberValue) → Member → Heard A → Option Statement
+statement_of says m h = option_map (λ v. record { request = h.request; value = v }) (says h.set m)
+
+abbrev pub statements : {A : Type 0} → (A → Member → Option MemberValue) → Member → List (Heard A) → List Statement
+statements says m heard = filter_map (statement_of says m) heard
+
+-- a member that two answers say otherwise: the value of the earlier, and of the later
+pub record ToldChange : Type 0 where
+  pub member : Member
+  pub before : MemberValue
+  pub after : MemberValue
+
+abbrev pub told_change : Change → ToldChange
+told_change c = record { member = c.member; before = value_of c.before; after = value_of c.after }
+
+-- of a member the first two answers, by the line of the later, and then of the earlier
+abbrev pub first_told : Contradiction → Member → List (Statement × Statement) → Option ToldChange
+first_told c m pairs = option_map (λ p. record { member = m; before = p.0.value; after = p.1.value }) (find (λ p. contradicts c p.0 p.1) pairs)
+
+unfoldable pub contradiction : {A : Type 0} → Contradiction → (A → Member → Option MemberValue) → Member → List (Heard A) → Option ToldChange
+contradiction c says m heard = first_told c m (pairs_of (statements says m heard))
