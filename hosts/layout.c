@@ -163,6 +163,38 @@ static void given_values(void) {
     }
 }
 
+/* Whether PORT_DATA_SET of port 1 has these two lines. */
+static int shows(const char *state, const char *mechanism) {
+    uint8_t octets[PTPM_MOST_READ];
+    char text[PTPM_MOST_FIELD_TEXT + 1], states[64], mechanisms[64];
+    size_t size = 0;
+    if (ptpm_clock_read(&clock_held, PTPM_ID_PORT_DATA_SET, 1, octets, sizeof octets, &size) != PTPM_READ) return 0;
+    text[ptpm_field_text(PTPM_ID_PORT_DATA_SET, octets, size, text, PTPM_MOST_FIELD_TEXT)] = 0;
+    snprintf(states, sizeof states, "portState %s\n", state);
+    snprintf(mechanisms, sizeof mechanisms, "delayMechanism %s\n", mechanism);
+    return strstr(text, states) != NULL && strstr(text, mechanisms) != NULL;
+}
+
+/* Each state and each delay mechanism of the header is the one that the standard names so. */
+static void states_and_mechanisms(void) {
+    static const struct { uint8_t number; const char *name; } states[] = {
+        { PTPM_STATE_INITIALIZING, "INITIALIZING" }, { PTPM_STATE_FAULTY, "FAULTY" }, { PTPM_STATE_DISABLED, "DISABLED" },
+        { PTPM_STATE_LISTENING, "LISTENING" }, { PTPM_STATE_PRE_MASTER, "PRE_MASTER" }, { PTPM_STATE_MASTER, "MASTER" },
+        { PTPM_STATE_PASSIVE, "PASSIVE" }, { PTPM_STATE_UNCALIBRATED, "UNCALIBRATED" }, { PTPM_STATE_SLAVE, "SLAVE" },
+    }, mechanisms[] = {
+        { PTPM_DELAY_E2E, "E2E" }, { PTPM_DELAY_P2P, "P2P" }, { PTPM_DELAY_NONE, "NO_MECHANISM" },
+    };
+    struct ptpm_clock_settings s = own_values();
+    struct ptpm_manager_settings none = { .port = 0 };
+    for (size_t i = 0; i < sizeof states / sizeof *states; i++) {
+        struct ptpm_port_settings port = ports[0];
+        port.state = states[i].number;
+        port.delay_mechanism = mechanisms[i % 3].number;
+        check(ptpm_clock_start(&clock_held, &s, &port, 1, &none, 0) == PTPM_STARTED
+              && shows(states[i].name, mechanisms[i % 3].name), states[i].name);
+    }
+}
+
 /* A member of a port that is out of range is refused by the number with its name. */
 static void refusals(void) {
     static const struct { size_t place; uint8_t value; uint32_t number; const char *name; } cases[] = {
@@ -701,6 +733,7 @@ int main(void) {
     numbers_and_identities();
     flags();
     given_values();
+    states_and_mechanisms();
     refusals();
     observed_of_a_clock();
     observed_grandmaster();

@@ -59,17 +59,18 @@ enum {
 struct ptpm_clock { void *at; bool live; };
 
 /* The start values of a clock's own members: ptpm_clock_defaults writes them all, then the host writes its own over them.
-   A flag is set if it is not 0. Without its has_ flag a value is the clock's own, and parent_port is its port 0. */
+   A flag is set if it is not 0. Without its has_ flag a value is the clock's own, and parent_port is its port 0. An
+   offsetScaledLogVariance is 256 times the base-2 logarithm of the variance in seconds squared, plus 0x8000 (7.6.3). */
 struct ptpm_clock_settings {
     int64_t offset_from_master;         /* in nanoseconds times 2^16 */
     int64_t mean_path_delay;            /* in nanoseconds times 2^16 */
-    int32_t observed_rate;
-    uint16_t variance;
+    int32_t observed_rate;              /* observedParentClockPhaseChangeRate */
+    uint16_t variance;                  /* offsetScaledLogVariance */
     uint16_t steps_removed;
-    uint16_t observed_variance;
-    uint16_t grandmaster_variance;
+    uint16_t observed_variance;         /* observedParentOffsetScaledLogVariance */
+    uint16_t grandmaster_variance;      /* offsetScaledLogVariance of grandmasterClockQuality */
     uint16_t parent_port_number;
-    int16_t utc_offset;
+    int16_t utc_offset;                 /* currentUtcOffset: TAI less UTC, in seconds */
     uint8_t identity[8];                /* neither all ones nor all zeros */
     uint8_t parent_port_clock[8];
     uint8_t grandmaster[8];
@@ -102,16 +103,26 @@ struct ptpm_clock_settings {
     uint8_t user_description[129];      /* UTF-8 */
 };
 
-/* The start values of a port: ptpm_port_defaults writes them all. */
+/* The states of a port (9.2.5), by their numbers as a portState (8.2.15.3.1). */
+enum {
+    PTPM_STATE_INITIALIZING = 1, PTPM_STATE_FAULTY = 2, PTPM_STATE_DISABLED = 3, PTPM_STATE_LISTENING = 4,
+    PTPM_STATE_PRE_MASTER = 5, PTPM_STATE_MASTER = 6, PTPM_STATE_PASSIVE = 7, PTPM_STATE_UNCALIBRATED = 8, PTPM_STATE_SLAVE = 9
+};
+
+/* The delay mechanisms of this profile, by their numbers as a delayMechanism (8.2.15.4.4). NONE is the standard's NO_MECHANISM. */
+enum { PTPM_DELAY_E2E = 1, PTPM_DELAY_P2P = 2, PTPM_DELAY_NONE = 0xFE };
+
+/* The start values of a port: ptpm_port_defaults writes them all. A member log_.. is the base-2 logarithm of an interval in seconds
+   (7.7.2). */
 struct ptpm_port_settings {
     int64_t peer_delay;                 /* in nanoseconds times 2^16 */
-    uint8_t state;                      /* portState, 1 to 9 */
-    int8_t log_min_delay_req;
-    int8_t log_announce;                /* -4 to 4 */
-    uint8_t receipt_timeout;            /* 2 to 10 */
-    int8_t log_sync;                    /* -8 to 1 */
-    uint8_t delay_mechanism;            /* 1, 2 or 0xFE */
-    int8_t log_min_pdelay;              /* -8 to 5 */
+    uint8_t state;                      /* portState, PTPM_STATE_INITIALIZING to PTPM_STATE_SLAVE */
+    int8_t log_min_delay_req;           /* logMinDelayReqInterval */
+    int8_t log_announce;                /* logAnnounceInterval, -4 to 4 */
+    uint8_t receipt_timeout;            /* announceReceiptTimeout, 2 to 10 announce intervals (7.7.3.1) */
+    int8_t log_sync;                    /* logSyncInterval, -8 to 1 */
+    uint8_t delay_mechanism;            /* delayMechanism: PTPM_DELAY_E2E, PTPM_DELAY_P2P or PTPM_DELAY_NONE */
+    int8_t log_min_pdelay;              /* logMinPdelayReqInterval, -8 to 5 */
 };
 
 /* What a host observes of its clock. Its servo, its port state machines and its best master clock algorithm find it (clause 8.2 of
@@ -124,13 +135,13 @@ struct ptpm_port_settings {
 struct ptpm_observed_clock {
     int64_t offset_from_master;         /* in nanoseconds times 2^16 */
     int64_t mean_path_delay;            /* in nanoseconds times 2^16 */
-    int32_t observed_rate;
-    uint16_t variance;                  /* of the clock itself, as clock_class and clock_accuracy */
+    int32_t observed_rate;              /* observedParentClockPhaseChangeRate */
+    uint16_t variance;                  /* offsetScaledLogVariance of the clock itself, as clock_class and clock_accuracy */
     uint16_t steps_removed;
-    uint16_t observed_variance;
-    uint16_t grandmaster_variance;
+    uint16_t observed_variance;         /* observedParentOffsetScaledLogVariance */
+    uint16_t grandmaster_variance;      /* offsetScaledLogVariance of grandmasterClockQuality */
     uint16_t parent_port_number;
-    int16_t utc_offset;
+    int16_t utc_offset;                 /* currentUtcOffset: TAI less UTC, in seconds */
     uint8_t parent_port_clock[8];
     uint8_t grandmaster[8];
     uint8_t clock_class;
@@ -172,7 +183,7 @@ struct ptpm_observed_clock {
    it, and a disabled port stays in it. A number that is no state counts as 3. */
 struct ptpm_observed_port {
     int64_t peer_delay;                 /* in nanoseconds times 2^16 */
-    uint8_t state;                      /* portState, 1 to 9 */
+    uint8_t state;                      /* portState, PTPM_STATE_INITIALIZING to PTPM_STATE_SLAVE */
     uint8_t has_state;
     uint8_t has_peer_delay;
 };
@@ -312,7 +323,8 @@ enum { PTPM_MOST_ANSWERS = 512 };
 
 /* What calls answer. 0 says that the call was done. 1 to 31 say what became of a datagram or of a request. From 32 on the call was
    refused (ptpm_is_refusal). 48 to 63 say why nothing starts, or an observation is refused. 64 to 101 say which member is out of
-   its range. 104 to 110 say why a restore is refused.
+   its range. 104 to 110 say why a restore is refused. 112 says that a request can't be given up. 113 to 117 say why words are no
+   dataField.
 
    Each kind of call has a type for its answers. With -Wenum-compare gcc, g++ and clang++ warn if an answer is compared with a
    name of another kind's. A name that several kinds of calls answer is a plain number, and compares with each type. Each type has
@@ -323,21 +335,21 @@ enum { PTPM_MOST_ANSWERS = 512 };
 #define PTPM_OTHER_DOMAIN 1
 
 /* Why a session or a survey ignores a datagram; another domain, and what is no management message, too. */
-#define PTPM_NOT_A_REPLY 10
-#define PTPM_OTHER_TARGET 11
-#define PTPM_OTHER_SOURCE 12            /* of another clock, or of another port than is asked */
-#define PTPM_OTHER_NUMBER 14
-#define PTPM_OTHER_CONTENT 15
+#define PTPM_NOT_A_REPLY 10             /* its action is neither RESPONSE nor ACKNOWLEDGE */
+#define PTPM_OTHER_TARGET 11            /* its targetPortIdentity is not that of the manager */
+#define PTPM_OTHER_SOURCE 12            /* it is of another clock, or of another port than is asked */
+#define PTPM_OTHER_NUMBER 14            /* its sequenceId is not that of the request */
+#define PTPM_OTHER_CONTENT 15           /* it has another managementId, or its action answers no request of this action */
 
-/* Why a datagram holds no management message. */
-#define PTPM_TOO_SHORT 16
-#define PTPM_NOT_MANAGEMENT 17
-#define PTPM_BAD_VERSION 18
-#define PTPM_BAD_LENGTH 19
-#define PTPM_BAD_ACTION 20
-#define PTPM_BAD_TLV_TYPE 21
-#define PTPM_BAD_TLV_LENGTH 22
-#define PTPM_BAD_TEXT 23
+/* Why a datagram holds no management message of this profile. The first that holds is answered, in this order. */
+#define PTPM_TOO_SHORT 16               /* it has under 54 octets */
+#define PTPM_NOT_MANAGEMENT 17          /* its messageType is not 0xD */
+#define PTPM_BAD_VERSION 18             /* its versionPTP is not 2 */
+#define PTPM_BAD_LENGTH 19              /* its messageLength is under 54, over 1,472, or over the size of the datagram */
+#define PTPM_BAD_ACTION 20              /* its actionField is over 4 */
+#define PTPM_BAD_TLV_TYPE 21            /* its tlvType is not MANAGEMENT, nor MANAGEMENT_ERROR_STATUS in an answer */
+#define PTPM_BAD_TLV_LENGTH 22          /* its lengthField is odd or too small, or its TLV ends before or after the message */
+#define PTPM_BAD_TEXT 23                /* the displayData of its error status is no PTPText */
 
 /* Why nothing changed. */
 #define PTPM_NO_CLOCK 32                /* the handle holds none */

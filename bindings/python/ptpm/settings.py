@@ -15,23 +15,23 @@ from .identity import Identity, IdentityLike, PortIdentity, PortIdentityLike
 class PortState(IntEnum):
     """A portState (table 20)."""
 
-    INITIALIZING = 1
-    FAULTY = 2
-    DISABLED = 3
-    LISTENING = 4
-    PRE_MASTER = 5
-    MASTER = 6
-    PASSIVE = 7
-    UNCALIBRATED = 8
-    SLAVE = 9
+    INITIALIZING = header.PTPM_STATE_INITIALIZING
+    FAULTY = header.PTPM_STATE_FAULTY
+    DISABLED = header.PTPM_STATE_DISABLED
+    LISTENING = header.PTPM_STATE_LISTENING
+    PRE_MASTER = header.PTPM_STATE_PRE_MASTER
+    MASTER = header.PTPM_STATE_MASTER
+    PASSIVE = header.PTPM_STATE_PASSIVE
+    UNCALIBRATED = header.PTPM_STATE_UNCALIBRATED
+    SLAVE = header.PTPM_STATE_SLAVE
 
 
 class DelayMechanism(IntEnum):
     """A delayMechanism (table 21)."""
 
-    E2E = 1
-    P2P = 2
-    NO_MECHANISM = 0xFE
+    E2E = header.PTPM_DELAY_E2E
+    P2P = header.PTPM_DELAY_P2P
+    NO_MECHANISM = header.PTPM_DELAY_NONE
 
 
 class Rights(IntFlag):

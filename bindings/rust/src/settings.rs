@@ -23,30 +23,30 @@ impl TimeInterval {
 #[repr(u8)]
 #[allow(missing_docs)] // the standard's names
 pub enum PortState {
-    Initializing = 1,
-    Faulty = 2,
-    Disabled = 3,
-    Listening = 4,
-    PreMaster = 5,
-    Master = 6,
-    Passive = 7,
-    Uncalibrated = 8,
-    Slave = 9,
+    Initializing = sys::PTPM_STATE_INITIALIZING,
+    Faulty = sys::PTPM_STATE_FAULTY,
+    Disabled = sys::PTPM_STATE_DISABLED,
+    Listening = sys::PTPM_STATE_LISTENING,
+    PreMaster = sys::PTPM_STATE_PRE_MASTER,
+    Master = sys::PTPM_STATE_MASTER,
+    Passive = sys::PTPM_STATE_PASSIVE,
+    Uncalibrated = sys::PTPM_STATE_UNCALIBRATED,
+    Slave = sys::PTPM_STATE_SLAVE,
 }
 
 impl PortState {
     /// The state of a portState's number, if it is one's.
     pub const fn of_number(number: u8) -> Option<Self> {
         Some(match number {
-            1 => Self::Initializing,
-            2 => Self::Faulty,
-            3 => Self::Disabled,
-            4 => Self::Listening,
-            5 => Self::PreMaster,
-            6 => Self::Master,
-            7 => Self::Passive,
-            8 => Self::Uncalibrated,
-            9 => Self::Slave,
+            sys::PTPM_STATE_INITIALIZING => Self::Initializing,
+            sys::PTPM_STATE_FAULTY => Self::Faulty,
+            sys::PTPM_STATE_DISABLED => Self::Disabled,
+            sys::PTPM_STATE_LISTENING => Self::Listening,
+            sys::PTPM_STATE_PRE_MASTER => Self::PreMaster,
+            sys::PTPM_STATE_MASTER => Self::Master,
+            sys::PTPM_STATE_PASSIVE => Self::Passive,
+            sys::PTPM_STATE_UNCALIBRATED => Self::Uncalibrated,
+            sys::PTPM_STATE_SLAVE => Self::Slave,
             _ => return None,
         })
     }
@@ -57,20 +57,20 @@ impl PortState {
 #[repr(u8)]
 pub enum DelayMechanism {
     /// E2E: the delay request-response mechanism.
-    EndToEnd = 1,
+    EndToEnd = sys::PTPM_DELAY_E2E,
     /// P2P: the peer-to-peer delay mechanism.
-    PeerToPeer = 2,
+    PeerToPeer = sys::PTPM_DELAY_P2P,
     /// NO_MECHANISM
-    None = 0xfe,
+    None = sys::PTPM_DELAY_NONE,
 }
 
 impl DelayMechanism {
     /// The mechanism of a delayMechanism's number, if it is one's.
     pub const fn of_number(number: u8) -> Option<Self> {
         Some(match number {
-            1 => Self::EndToEnd,
-            2 => Self::PeerToPeer,
-            0xfe => Self::None,
+            sys::PTPM_DELAY_E2E => Self::EndToEnd,
+            sys::PTPM_DELAY_P2P => Self::PeerToPeer,
+            sys::PTPM_DELAY_NONE => Self::None,
             _ => return None,
         })
     }

@@ -1,5 +1,6 @@
-//! The header `ptpm.h` as it is: its constants, its structs and its calls, by its names. The header says what each of them is, and
-//! what a caller owes. `tools/bindings` of the repository holds this module to it.
+//! The header `ptpm.h` as it is: its constants, its structs and its calls, by its names. The declarations have no comments here.
+//! `ptpm.h` documents each of them: what it is, what a call takes, answers and writes, and what a caller owes. It lies at
+//! `hosts/ptpm.h` of the repository, and is installed beside the library. `tools/bindings` of the repository holds this module to it.
 #![allow(missing_docs, non_camel_case_types)]
 
 mod constants;

@@ -27,6 +27,22 @@ pub const PTPM_ID_UTC_PROPERTIES: u16 = 0x2011;
 pub const PTPM_ID_DELAY_MECHANISM: u16 = 0x6000;
 pub const PTPM_ID_LOG_MIN_PDELAY_REQ_INTERVAL: u16 = 0x6001;
 
+// The states of a port (9.2.5), by their numbers as a portState (8.2.15.3.1).
+pub const PTPM_STATE_INITIALIZING: u8 = 1;
+pub const PTPM_STATE_FAULTY: u8 = 2;
+pub const PTPM_STATE_DISABLED: u8 = 3;
+pub const PTPM_STATE_LISTENING: u8 = 4;
+pub const PTPM_STATE_PRE_MASTER: u8 = 5;
+pub const PTPM_STATE_MASTER: u8 = 6;
+pub const PTPM_STATE_PASSIVE: u8 = 7;
+pub const PTPM_STATE_UNCALIBRATED: u8 = 8;
+pub const PTPM_STATE_SLAVE: u8 = 9;
+
+// The delay mechanisms, by their numbers as a delayMechanism (8.2.15.4.4).
+pub const PTPM_DELAY_E2E: u8 = 1;
+pub const PTPM_DELAY_P2P: u8 = 2;
+pub const PTPM_DELAY_NONE: u8 = 0xfe;
+
 // What a manager may change.
 pub const PTPM_CLOCK_SET: u8 = 1;
 pub const PTPM_PORT_SET: u8 = 2;
