@@ -5,7 +5,6 @@ from __future__ import annotations
 import ctypes
 import unicodedata
 from decimal import Decimal
-from enum import Enum
 from typing import Callable, Dict, Iterable, List, Mapping, NoReturn, Sequence, Tuple, Type, Union
 
 from . import _header as header
