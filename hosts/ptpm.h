@@ -19,8 +19,8 @@
      its size. No call is made from a signal handler, or in a forked child of a process with threads.
    - A call has the stack that it needs. As the library is built for x86-64 and aarch64, most calls take 500 octets. The image of a
      clock, and the image and the restore of a session, take 1,000 each. A restore of a clock takes 9,200. A start of a clock takes
-     5,500, ptpm_clock_handle_changed 2,100, ptpm_clock_handle and ptpm_clock_observe 1,000 each. The message of a survey takes
-     1,900. Beyond that a call has what malloc, realloc, free, memcpy, memmove and memset of the host take. No call calls itself.
+     5,500, ptpm_clock_handle_changed and ptpm_field_parse 2,100 each. ptpm_clock_handle, ptpm_clock_observe and ptpm_field_text take
+     1,000 each. The message of a survey takes 1,900. Beyond that a call has what malloc, realloc, free, memcpy, memmove and memset of the host take. No call calls itself.
 
    A call that only reads takes a const handle, and leaves it as it is. If several refusals hold, a call answers the first. In
    ptpm_clock_start alone PTPM_NO_MEMORY may come in its place. Every other call asks for memory only if nothing else refuses. */
