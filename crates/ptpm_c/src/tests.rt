@@ -495,7 +495,7 @@ fn ids_and_members(rt: HostRuntime) {
         )
     );
     assert!(rt; ptpm_field_text(0x2005, b"\x80", &mut text) == 9);
-    assert!(rt; text.starts_with(b"value 80\nf"));
+    assert!(rt; text.starts_with(b"value 80\nc"));
 }
 
 /// What a person types for a SET: numbers (15.5.3.3.3), flags by name (15.5.3.6.2), and a text (15.5.3.2.2). Each refusal comes in
