@@ -1,5 +1,6 @@
 #define _GNU_SOURCE
 #include "common.h"
+#include "socket_option.h"
 #include <arpa/inet.h>
 #include <dirent.h>
 #include <errno.h>
@@ -102,32 +103,27 @@ socklen_t group(struct sockaddr_storage *to, int is_six) {
     return sizeof *four;
 }
 
-static int is_set(int at, int level, int option, const void *value, size_t size, const char **what, const char *name) {
-    *what = name;
-    return setsockopt(at, level, option, value, (socklen_t)size) == 0;
-}
-
 static int joins_four(int at, const struct sockaddr_in *address, unsigned interface, const char **what) {
     int none = 0;
     struct sockaddr_in any = { .sin_family = AF_INET, .sin_port = htons(GENERAL_PORT) };
     struct ip_mreqn join = { .imr_multiaddr = address->sin_addr, .imr_ifindex = (int)interface };
     *what = "UDP port 320";
     return bind(at, (struct sockaddr *)&any, sizeof any) == 0
-           && is_set(at, IPPROTO_IP, IP_ADD_MEMBERSHIP, &join, sizeof join, what, "IP_ADD_MEMBERSHIP")
-           && is_set(at, IPPROTO_IP, IP_MULTICAST_IF, &join, sizeof join, what, "IP_MULTICAST_IF")
-           && is_set(at, IPPROTO_IP, IP_MULTICAST_LOOP, &none, sizeof none, what, "IP_MULTICAST_LOOP");
+           && set_option(at, IPPROTO_IP, IP_ADD_MEMBERSHIP, &join, sizeof join, what, "IP_ADD_MEMBERSHIP")
+           && set_option(at, IPPROTO_IP, IP_MULTICAST_IF, &join, sizeof join, what, "IP_MULTICAST_IF")
+           && set_option(at, IPPROTO_IP, IP_MULTICAST_LOOP, &none, sizeof none, what, "IP_MULTICAST_LOOP");
 }
 
 static int joins_six(int at, const struct sockaddr_in6 *address, unsigned interface, const char **what) {
     int one = 1, none = 0;
     struct sockaddr_in6 any = { .sin6_family = AF_INET6, .sin6_port = htons(GENERAL_PORT) };
     struct ipv6_mreq join = { .ipv6mr_multiaddr = address->sin6_addr, .ipv6mr_interface = interface };
-    if (!is_set(at, IPPROTO_IPV6, IPV6_V6ONLY, &one, sizeof one, what, "IPV6_V6ONLY")) return 0;
+    if (!set_option(at, IPPROTO_IPV6, IPV6_V6ONLY, &one, sizeof one, what, "IPV6_V6ONLY")) return 0;
     *what = "UDP port 320";
     return bind(at, (struct sockaddr *)&any, sizeof any) == 0
-           && is_set(at, IPPROTO_IPV6, IPV6_ADD_MEMBERSHIP, &join, sizeof join, what, "IPV6_ADD_MEMBERSHIP")
-           && is_set(at, IPPROTO_IPV6, IPV6_MULTICAST_IF, &interface, sizeof interface, what, "IPV6_MULTICAST_IF")
-           && is_set(at, IPPROTO_IPV6, IPV6_MULTICAST_LOOP, &none, sizeof none, what, "IPV6_MULTICAST_LOOP");
+           && set_option(at, IPPROTO_IPV6, IPV6_ADD_MEMBERSHIP, &join, sizeof join, what, "IPV6_ADD_MEMBERSHIP")
+           && set_option(at, IPPROTO_IPV6, IPV6_MULTICAST_IF, &interface, sizeof interface, what, "IPV6_MULTICAST_IF")
+           && set_option(at, IPPROTO_IPV6, IPV6_MULTICAST_LOOP, &none, sizeof none, what, "IPV6_MULTICAST_LOOP");
 }
 
 static int joins(int at, const char *interface, int is_six, const char **what) {
@@ -135,8 +131,8 @@ static int joins(int at, const char *interface, int is_six, const char **what) {
     unsigned index = if_nametoindex(interface);
     struct sockaddr_storage to;
     group(&to, is_six);
-    return index != 0 && is_set(at, SOL_SOCKET, SO_REUSEADDR, &one, sizeof one, what, "SO_REUSEADDR")
-           && is_set(at, SOL_SOCKET, SO_BINDTODEVICE, interface, strlen(interface) + 1, what, "SO_BINDTODEVICE")
+    return index != 0 && set_option(at, SOL_SOCKET, SO_REUSEADDR, &one, sizeof one, what, "SO_REUSEADDR")
+           && set_option(at, SOL_SOCKET, SO_BINDTODEVICE, interface, strlen(interface) + 1, what, "SO_BINDTODEVICE")
            && (is_six ? joins_six(at, (struct sockaddr_in6 *)&to, index, what)
                       : joins_four(at, (struct sockaddr_in *)&to, index, what));
 }

@@ -1,5 +1,6 @@
 #define _GNU_SOURCE
 #include "ethernet.h"
+#include "socket_option.h"
 #include <arpa/inet.h>
 #include <errno.h>
 #include <linux/filter.h>
@@ -31,11 +32,6 @@ static const struct sock_filter wanted[] = {
     BPF_STMT(BPF_RET | BPF_K, 65535),
 };
 
-static int is_set(int at, int level, int option, const void *value, size_t size, const char **what, const char *name) {
-    *what = name;
-    return setsockopt(at, level, option, value, (socklen_t)size) == 0;
-}
-
 static int has_station(int at, unsigned index, uint8_t own[STATION]) {
     struct ifreq request = { 0 };
     if (if_indextoname(index, request.ifr_name) == NULL || ioctl(at, SIOCGIFHWADDR, &request)) return 0;
@@ -61,8 +57,8 @@ static int is_opened(int at, const char *interface, uint8_t own[STATION], const 
     if (index == 0 || !has_station(at, index, own)) return 0;
     *what = "SO_ATTACH_FILTER";
     if (!filter_ethernet(at, 1)
-        || !is_set(at, SOL_PACKET, PACKET_IGNORE_OUTGOING, &one, sizeof one, what, "PACKET_IGNORE_OUTGOING")
-        || !is_set(at, SOL_PACKET, PACKET_ADD_MEMBERSHIP, &join, sizeof join, what, "PACKET_ADD_MEMBERSHIP")) return 0;
+        || !set_option(at, SOL_PACKET, PACKET_IGNORE_OUTGOING, &one, sizeof one, what, "PACKET_IGNORE_OUTGOING")
+        || !set_option(at, SOL_PACKET, PACKET_ADD_MEMBERSHIP, &join, sizeof join, what, "PACKET_ADD_MEMBERSHIP")) return 0;
     *what = "Ethertype 0x88F7";
     return bind(at, (struct sockaddr *)&place, sizeof place) == 0;
 }

@@ -1,0 +1,14 @@
+/* An option of a socket, for whoever reports which one was refused. */
+#ifndef SOCKET_OPTION_H
+#define SOCKET_OPTION_H
+
+#include <stddef.h>
+#include <sys/socket.h>
+
+/* Sets an option, and leaves its name in *what. Whether it was set. */
+static inline int set_option(int at, int level, int option, const void *value, size_t size, const char **what, const char *name) {
+    *what = name;
+    return setsockopt(at, level, option, value, (socklen_t)size) == 0;
+}
+
+#endif
