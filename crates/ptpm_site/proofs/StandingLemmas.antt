@@ -43,13 +43,18 @@ not_second : (p q : Bool) → p && q ≡ false → p ≡ true → q ≡ false
 not_second true q h k = h
 not_second false q h k = absurd (true≢false (sym k))
 
-left_of : (p q : Bool) → p && q ≡ true → p ≡ true
+pub left_of : (p q : Bool) → p && q ≡ true → p ≡ true
 left_of true q h = refl
 left_of false q h = h
 
-right_of : (p q : Bool) → p && q ≡ true → q ≡ true
+pub right_of : (p q : Bool) → p && q ≡ true → q ≡ true
 right_of true q h = h
 right_of false q h = absurd (true≢false (sym h))
+
+pub not_if_alike : (s t v : Bool) → v ≡ true → s && t && not v ≡ false
+not_if_alike true true v h = ap not h
+not_if_alike true false v h = refl
+not_if_alike false t v h = refl
 
 -- ---- two ways to be alike
 
