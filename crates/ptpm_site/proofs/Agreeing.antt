@@ -1,12 +1,12 @@
 -- Where all answers say one value, none says otherwise.
-use Rattle.std.proofs.Common.{◌≡◌, Bool, true, false, not, ◌&&◌, cond, List, [], ◌∷◌, ◌++◌, Option, Some, None, refl, ap, sym, ◌∙◌}
+use Rattle.std.proofs.Common.{◌≡◌, Bool, true, false, ◌&&◌, cond, List, [], ◌∷◌, ◌++◌, Option, Some, None, refl, ap, sym, ◌∙◌}
 use Rattle.std.proofs.lemmas.Bool.{true≢false}
 use Rattle.std.specs.List.{cons_option, find, list_all}
 use Rattle.std.specs.Option.{option_eq, option_map, option_or}
 use Rattle.ptpm_site.specs.declared.changes.Contradiction.{Contradiction}
 use Rattle.ptpm_site.specs.declared.clock.Heard.{Heard}
 use Rattle.ptpm_site.specs.declared.member.Member.{Member}
-use Rattle.ptpm_site.specs.Changes.{Statement, ToldChange, are_held, contradiction, contradicts, first_told, is_settled, pairs_behind, pairs_of, statement_of, statements}
+use Rattle.ptpm_site.specs.Changes.{Statement, are_held, contradiction, contradicts, first_told, is_settled, pairs_behind, pairs_of, statements}
 use Rattle.ptpm_site.specs.Members.{MemberValue, same_value}
 use Rattle.ptpm_site.proofs.Pairs.{first_told-next, told_with}
 use Rattle.ptpm_site.proofs.StandingLemmas.{left_of, not_if_alike, right_of}

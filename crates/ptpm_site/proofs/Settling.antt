@@ -10,13 +10,12 @@ use Rattle.std.proofs.lemmas.List.Folds.{find-append}
 use Rattle.ptpm_site.specs.declared.answer.Request.{Request}
 use Rattle.ptpm_site.specs.declared.changes.Contradiction.TheVariants as sort
 use Rattle.ptpm_site.specs.declared.changes.Settled.{Settled}
-use Rattle.ptpm_site.specs.declared.changes.Stated.{Stated}
 use Rattle.ptpm_site.specs.declared.member.Value.{Value}
 use Rattle.ptpm_site.specs.Changes.{Statement, contradicts, is_settled, same_request}
 use Rattle.ptpm_site.specs.Members.{MemberValue, same_value, value_of}
-use Rattle.ptpm_site.specs.Standing.{TellsTwice, if_other, request_cmp, settled_of, settled_otherwise, statement}
+use Rattle.ptpm_site.specs.Standing.{TellsTwice, if_other, request_cmp, settled_of, settled_otherwise}
 use Rattle.ptpm_site.proofs.StandingLemmas.{not_if_alike, nothing_more, or_none}
-use Rattle.ptpm_site.proofs.Values.{same_request-Decides, same_request-equiv, same_value-equiv}
+use Rattle.ptpm_site.proofs.Values.{same_request-Decides, same_value-equiv}
 
 -- ---- the order of requests tells apart what the test of equality tells apart
 

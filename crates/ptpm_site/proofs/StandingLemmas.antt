@@ -1,11 +1,10 @@
 -- Which statements stand for all earlier ones.
 use Rattle.std.proofs.Common.{◌≡◌, ◌⊎◌, Bool, true, false, not, ◌&&◌, cond, List, [], ◌∷◌, ◌++◌, Option, Some, None, inl, inr, refl, ap, sym, ◌∙◌}
-use Rattle.std.proofs.lemmas.Bool.{cases_Bool, true≢false}
+use Rattle.std.proofs.lemmas.Bool.{true≢false}
 use Rattle.std.specs.Cmp.{IsEquivalence}
 use Rattle.std.proofs.lemmas.Cmp.{on_equiv}
 use Rattle.std.specs.List.{find}
 use Rattle.std.specs.Option.{option_or}
-use Rattle.std.specs.Ordering.{on}
 use Rattle.std.proofs.lemmas.List.Folds.{find-append}
 use Rattle.ptpm_site.specs.declared.changes.Contradiction.TheVariants as sort
 use Rattle.ptpm_site.specs.declared.changes.Standing.{Standing}
@@ -13,7 +12,7 @@ use Rattle.ptpm_site.specs.declared.changes.Standing.TheVariants as standing
 use Rattle.ptpm_site.specs.declared.changes.Stated.{Stated}
 use Rattle.ptpm_site.specs.Changes.{Statement, contradicts, is_settled, same_request}
 use Rattle.ptpm_site.specs.Members.{same_value, value_of}
-use Rattle.ptpm_site.specs.Standing.{IsInOrder, StandsFor, same_statement, standing_of, statement}
+use Rattle.ptpm_site.specs.Standing.{StandsFor, same_statement, standing_of, statement}
 use Rattle.ptpm_site.proofs.Values.{same_request-equiv, same_value-equiv}
 
 -- ---- tests
