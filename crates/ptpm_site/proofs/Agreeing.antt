@@ -1,34 +1,22 @@
 -- Where all answers say one value, none says otherwise.
-use Rattle.std.proofs.Common.{◌≡◌, Bool, true, false, not, ◌&&◌, cond, List, [], ◌∷◌, ◌++◌, Option, Some, None, refl, ap, sym, ◌∙◌}
+use Rattle.std.proofs.Common.{◌≡◌, Bool, true, false, ◌&&◌, cond, List, [], ◌∷◌, ◌++◌, Option, Some, None, refl, ap, sym, ◌∙◌}
 use Rattle.std.proofs.lemmas.Bool.{true≢false}
 use Rattle.std.specs.List.{cons_option, find, list_all}
 use Rattle.std.specs.Option.{option_eq, option_map, option_or}
 use Rattle.ptpm_site.specs.declared.changes.Contradiction.{Contradiction}
 use Rattle.ptpm_site.specs.declared.clock.Heard.{Heard}
 use Rattle.ptpm_site.specs.declared.member.Member.{Member}
-use Rattle.ptpm_site.specs.Changes.{Statement, ToldChange, are_held, contradiction, contradicts, first_told, is_settled, pairs_behind, pairs_of, statement_of, statements}
+use Rattle.ptpm_site.specs.Changes.{Statement, are_held, contradiction, contradicts, first_told, is_settled, pairs_behind, pairs_of, statements}
 use Rattle.ptpm_site.specs.Members.{MemberValue, same_value}
 use Rattle.ptpm_site.proofs.Pairs.{first_told-next, told_with}
+use Rattle.ptpm_site.proofs.StandingLemmas.{left_of, not_if_alike, right_of}
 use Rattle.ptpm_site.proofs.Values.{same_value-equiv}
 
 -- ---- tests
 
-first_part : (p q : Bool) → p && q ≡ true → p ≡ true
-first_part true q h = refl
-first_part false q h = h
-
-second_part : (p q : Bool) → p && q ≡ true → q ≡ true
-second_part true q h = h
-second_part false q h = absurd (true≢false (sym h))
-
 both_parts : (p q : Bool) → p ≡ true → q ≡ true → p && q ≡ true
 both_parts true q h k = k
 both_parts false q h k = h
-
-not_if_alike : (s t v : Bool) → v ≡ true → s && t && not v ≡ false
-not_if_alike true true v h = ap not h
-not_if_alike true false v h = refl
-not_if_alike false t v h = refl
 
 -- ---- statements of one value
 
@@ -38,24 +26,24 @@ say v s = same_value v s.value
 all_and : (v : MemberValue) (xs : List Statement) (y : Statement) → list_all (say v) xs ≡ true → say v y ≡ true → list_all (say v) (xs ++ y ∷ []) ≡ true
 all_and v [] y h k = both_parts (say v y) true k refl
 all_and v (x ∷ xs) y h k =
-    both_parts (say v x) (list_all (say v) (xs ++ y ∷ [])) (first_part (say v x) (list_all (say v) xs) h) (all_and v xs y (second_part (say v x) (list_all (say v) xs) h) k)
+    both_parts (say v x) (list_all (say v) (xs ++ y ∷ [])) (left_of (say v x) (list_all (say v) xs) h) (all_and v xs y (right_of (say v x) (list_all (say v) xs) h) k)
 
 none_earlier : (how : Contradiction) (v : MemberValue) (later : Statement) (earlier : List Statement)
     → say v later ≡ true → list_all (say v) earlier ≡ true → find (λ e. contradicts how e later) earlier ≡ None
 none_earlier how v later [] k h = refl
 none_earlier how v later (e ∷ es) k h =
-    let one : same_value e.value later.value ≡ true = sym (same_value-equiv.congr v e.value later.value (first_part (say v e) (list_all (say v) es) h)) ∙ k in
+    let one : same_value e.value later.value ≡ true = sym (same_value-equiv.congr v e.value later.value (left_of (say v e) (list_all (say v) es) h)) ∙ k in
     ap (λ b. cond b (Some e) (find (λ x. contradicts how x later) es)) (not_if_alike (is_settled e.value) (are_held how e.request later.request) (same_value e.value later.value) one)
-    ∙ none_earlier how v later es k (second_part (say v e) (list_all (say v) es) h)
+    ∙ none_earlier how v later es k (right_of (say v e) (list_all (say v) es) h)
 
 none_told : (how : Contradiction) (m : Member) (v : MemberValue) (earlier xs : List Statement)
     → list_all (say v) earlier ≡ true → list_all (say v) xs ≡ true → first_told how m (pairs_behind earlier xs) ≡ None
 none_told how m v earlier [] h k = refl
 none_told how m v earlier (x ∷ xs) h k =
-    let here : say v x ≡ true = first_part (say v x) (list_all (say v) xs) k in
+    let here : say v x ≡ true = left_of (say v x) (list_all (say v) xs) k in
     first_told-next how m earlier x xs
     ∙ ap (λ o. option_or (option_map (told_with m x) (option_map (λ e. e.value) o)) (first_told how m (pairs_behind (earlier ++ x ∷ []) xs))) (none_earlier how v x earlier here h)
-    ∙ none_told how m v (earlier ++ x ∷ []) xs (all_and v earlier x h here) (second_part (say v x) (list_all (say v) xs) k)
+    ∙ none_told how m v (earlier ++ x ∷ []) xs (all_and v earlier x h here) (right_of (say v x) (list_all (say v) xs) k)
 
 -- ---- answers that say one value, or none
 
@@ -69,8 +57,8 @@ module _ {A : Type 0} (says : A → Member → Option MemberValue) (m : Member) 
   say_value v h (Some w) hs is k rest =
       ap (λ o. list_all (say v) (cons_option (option_map (λ u. record { request = h.request; value = u }) o) (statements says m hs))) is
       ∙ both_parts (same_value v w) (list_all (say v) (statements says m hs))
-      (first_part (same_value v w) (list_all (λ x. option_eq same_value (Some v) (says x.set m)) hs) k)
-      (rest (second_part (same_value v w) (list_all (λ x. option_eq same_value (Some v) (says x.set m)) hs) k))
+      (left_of (same_value v w) (list_all (λ x. option_eq same_value (Some v) (says x.set m)) hs) k)
+      (rest (right_of (same_value v w) (list_all (λ x. option_eq same_value (Some v) (says x.set m)) hs) k))
 
   all_say : (v : MemberValue) (hs : List (Heard A)) → list_all (λ x. option_eq same_value (Some v) (says x.set m)) hs ≡ true → list_all (say v) (statements says m hs) ≡ true
   all_say v [] h = refl

@@ -10,13 +10,12 @@ use Rattle.std.proofs.lemmas.List.Folds.{find-append}
 use Rattle.ptpm_site.specs.declared.answer.Request.{Request}
 use Rattle.ptpm_site.specs.declared.changes.Contradiction.TheVariants as sort
 use Rattle.ptpm_site.specs.declared.changes.Settled.{Settled}
-use Rattle.ptpm_site.specs.declared.changes.Stated.{Stated}
 use Rattle.ptpm_site.specs.declared.member.Value.{Value}
 use Rattle.ptpm_site.specs.Changes.{Statement, contradicts, is_settled, same_request}
 use Rattle.ptpm_site.specs.Members.{MemberValue, same_value, value_of}
-use Rattle.ptpm_site.specs.Standing.{TellsTwice, if_other, request_cmp, settled_of, settled_otherwise, statement}
-use Rattle.ptpm_site.proofs.StandingLemmas.{nothing_more, or_none}
-use Rattle.ptpm_site.proofs.Values.{same_request-Decides, same_request-equiv, same_value-equiv}
+use Rattle.ptpm_site.specs.Standing.{TellsTwice, if_other, request_cmp, settled_of, settled_otherwise}
+use Rattle.ptpm_site.proofs.StandingLemmas.{not_if_alike, nothing_more, or_none}
+use Rattle.ptpm_site.proofs.Values.{same_request-Decides, same_value-equiv}
 
 -- ---- the order of requests tells apart what the test of equality tells apart
 
@@ -60,12 +59,6 @@ apart : (s t v : Bool) → t ≡ false → s && t && v ≡ false
 apart true t v h = ap (λ b. b && v) h
 apart false t v h = refl
 
--- of the same value
-alike : (s t v : Bool) → v ≡ true → s && t && not v ≡ false
-alike true true v h = ap not h
-alike true false v h = refl
-alike false t v h = refl
-
 none_other : (now before : MemberValue) → if_other now before ≡ None → same_value before now ≡ true
 none_other now before h = by_test (same_value before now) h where
   by_test : (b : Bool) → cond b None (Some before) ≡ None → b ≡ true
@@ -91,7 +84,7 @@ pub tells-known : (s : Settled) (seen : List Statement) (y : Statement) (before 
     → TellsTwice s seen → TellsTwice s (seen ++ y ∷ [])
 tells-known s seen y before kept none tells = stays s seen y tells (λ z k.
     cases (same_request y.request z.request)
-    (λ same. alike (is_settled y.value) (same_request y.request z.request) (same_value y.value z.value) (by_value z k same))
+    (λ same. not_if_alike (is_settled y.value) (same_request y.request z.request) (same_value y.value z.value) (by_value z k same))
     (λ other. apart (is_settled y.value) (same_request y.request z.request) (not (same_value y.value z.value)) other)) where
       told : same_value before y.value ≡ true
       told = none_other y.value before (ap (option_and_then (if_other y.value)) (sym kept) ∙ sym (tells.alike y) ∙ ap (option_map (λ e. e.value)) none)

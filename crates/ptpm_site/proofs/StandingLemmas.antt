@@ -1,11 +1,10 @@
 -- Which statements stand for all earlier ones.
 use Rattle.std.proofs.Common.{◌≡◌, ◌⊎◌, Bool, true, false, not, ◌&&◌, cond, List, [], ◌∷◌, ◌++◌, Option, Some, None, inl, inr, refl, ap, sym, ◌∙◌}
-use Rattle.std.proofs.lemmas.Bool.{cases_Bool, true≢false}
+use Rattle.std.proofs.lemmas.Bool.{true≢false}
 use Rattle.std.specs.Cmp.{IsEquivalence}
 use Rattle.std.proofs.lemmas.Cmp.{on_equiv}
 use Rattle.std.specs.List.{find}
 use Rattle.std.specs.Option.{option_or}
-use Rattle.std.specs.Ordering.{on}
 use Rattle.std.proofs.lemmas.List.Folds.{find-append}
 use Rattle.ptpm_site.specs.declared.changes.Contradiction.TheVariants as sort
 use Rattle.ptpm_site.specs.declared.changes.Standing.{Standing}
@@ -13,7 +12,7 @@ use Rattle.ptpm_site.specs.declared.changes.Standing.TheVariants as standing
 use Rattle.ptpm_site.specs.declared.changes.Stated.{Stated}
 use Rattle.ptpm_site.specs.Changes.{Statement, contradicts, is_settled, same_request}
 use Rattle.ptpm_site.specs.Members.{same_value, value_of}
-use Rattle.ptpm_site.specs.Standing.{IsInOrder, StandsFor, same_statement, standing_of, statement}
+use Rattle.ptpm_site.specs.Standing.{StandsFor, same_statement, standing_of, statement}
 use Rattle.ptpm_site.proofs.Values.{same_request-equiv, same_value-equiv}
 
 -- ---- tests
@@ -43,13 +42,18 @@ not_second : (p q : Bool) → p && q ≡ false → p ≡ true → q ≡ false
 not_second true q h k = h
 not_second false q h k = absurd (true≢false (sym k))
 
-left_of : (p q : Bool) → p && q ≡ true → p ≡ true
+pub left_of : (p q : Bool) → p && q ≡ true → p ≡ true
 left_of true q h = refl
 left_of false q h = h
 
-right_of : (p q : Bool) → p && q ≡ true → q ≡ true
+pub right_of : (p q : Bool) → p && q ≡ true → q ≡ true
 right_of true q h = h
 right_of false q h = absurd (true≢false (sym h))
+
+pub not_if_alike : (s t v : Bool) → v ≡ true → s && t && not v ≡ false
+not_if_alike true true v h = ap not h
+not_if_alike true false v h = refl
+not_if_alike false t v h = refl
 
 -- ---- two ways to be alike
 

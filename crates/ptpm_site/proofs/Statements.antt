@@ -1,6 +1,6 @@
 -- What the answers so far say, and those that are left.
 use Rattle.std.proofs.Common.{◌≡◌, ℕ, ◌+◌, ◌<◌, List, [], ◌∷◌, ◌++◌, Option, Some, None, length, get_or, take, drop, suc, add-one, refl, ap, sym, ◌∙◌}
-use Rattle.std.specs.List.{cons_option, filter_map}
+use Rattle.std.specs.List.{cons_option}
 use Rattle.std.specs.Option.{option_map, option_or, option_to_list}
 use Rattle.std.proofs.Math.Seq.{drop-cons, drop-length}
 use Rattle.std.proofs.lemmas.List.{take_more, append-nil}

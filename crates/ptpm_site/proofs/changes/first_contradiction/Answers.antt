@@ -1,7 +1,6 @@
 -- An answer that does not say the member, one that contradicts an earlier one, and one that contradicts none.
 use Rattle.std.proofs.Common.{◌≡◌, ◌<◌, List, Some, None, length, take, subst, sym, ◌∙◌, arith}
 use Rattle.std.specs.List.{find}
-use Rattle.std.specs.Option.{option_map}
 use Rattle.ptpm_site.specs.declared.changes.Contradiction.TheVariants as sort
 use Rattle.ptpm_site.specs.Changes.{Statement, contradicts, statement_of, statements}
 use Rattle.ptpm_site.specs.Members.{value_of}
