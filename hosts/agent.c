@@ -92,8 +92,12 @@ static unsigned long send_out(const struct ptpm_sent *message, const struct hear
     return 0;
 }
 
-/* Sends what is to go out once the change that it shows is saved. If that fails it drops it. How many messages were not taken. */
-static unsigned long send_saved(void) { return !is_unsaved || save_changes(&clock_held) ? send_round() : drop_round(); }
+/* Sends what is to go out once the change that it shows is saved. If that fails it drops it. For peers nothing waits unless
+   something is to be saved. How many messages were not taken. */
+static unsigned long send_saved(void) {
+    if (!is_unsaved) return send_round();
+    return save_changes(&clock_held) ? send_all() : drop_round();
+}
 
 /* Sends what a turn sends, or lets it wait, except what is kept from the network. `left` is how many messages that leaves. How
    many of these were not taken. */
@@ -118,7 +122,7 @@ static unsigned long take_told_turn(const struct heard *heard, const struct port
                                                          &count, &changed);
     unsigned long lost = hand_on(heard, port, ingress, answer, places, count, &left);
     int is_done = save_changes(&clock_held);
-    lost += is_done ? send_round() : drop_round();
+    lost += is_done ? send_all() : drop_round();
     tell_turn(ingress, heard, answer, left - lost, count);
     if (is_done) tell_all_changed(&changed);
     return lost;

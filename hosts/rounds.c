@@ -239,11 +239,13 @@ static unsigned long send_to_peers(void) {
 }
 
 unsigned long send_round(void) {
-    unsigned long lost = peer_count > 0 ? send_to_peers() : 0;
+    unsigned long lost = 0;
     for (size_t place = 0; place < port_count && waiting_count > 0; place++) lost += send_at(place);
     used = waiting_count = 0;
     return lost;
 }
+
+unsigned long send_all(void) { return send_to_peers() + send_round(); }
 
 unsigned long drop_round(void) {
     unsigned long lost = waiting_count + peer_count;

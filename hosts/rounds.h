@@ -50,8 +50,11 @@ void answer_later(const struct ptpm_sent *message, const struct heard *answered)
 /* The first `count` places are used. */
 void use_places(size_t count);
 
-/* Sends what is to go out; how many messages were not taken. What a socket doesn't take at once is dropped. */
+/* Sends what is to go out at the ports; how many messages were not taken. What a socket doesn't take at once is dropped. */
 unsigned long send_round(void);
+
+/* The same, and before it of what is for peers. */
+unsigned long send_all(void);
 
 /* Drops what is to go out; how many messages that are. */
 unsigned long drop_round(void);

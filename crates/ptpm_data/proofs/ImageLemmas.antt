@@ -186,6 +186,19 @@ clock_length d fits =
     let e = time_length d.time in
     simp length-append (omega arith)
 
+pub image_length : (d : DataSetsValue)
+    → DataSetsFit d
+    → length (data_sets_octets d) ≡ 74 + 1 + length d.description + 1 + 15 * length d.ports
+unfolding data_sets_octets
+image_length d fits =
+    omega (
+      arith,
+      length-append (clock_image d ++ length d.description ∷ d.description) (length d.ports ∷ ports_image d.ports),
+      length-append (clock_image d) (length d.description ∷ d.description),
+      clock_length d fits,
+      ports_length d.ports,
+    )
+
 -- ---- the clock's octets
 
 clock_parts : (d : DataSetsValue) → clock_image d ≡ default_image d.default ++ (current_data_field d.current ++ (parent_image d.parent ++ time_image d.time))

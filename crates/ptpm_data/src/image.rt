@@ -10,6 +10,7 @@ use crate::data_field::{
 use crate::data_sets::{
     DataSets, DefaultDataSet, ParentDataSet, PortDataSet, TimePropertiesDataSet,
 };
+use crate::image_laws::fits_law;
 use arrayvec::ArrayVec;
 use ptpm_codec::{put, put_u16};
 
@@ -17,16 +18,24 @@ use ptpm_codec::{put, put_u16};
 /// count them.
 pub const DATA_SETS_OCTETS: usize = 324;
 
+/// How many octets it has of the clock, before its text.
+pub(crate) const CLOCK_OCTETS: usize = 74;
+
+/// How many it has of each port.
+pub(crate) const PORT_OCTETS: usize = 15;
+
 /// Room for an image.
 pub(crate) type Image = ArrayVec<u8, DATA_SETS_OCTETS>;
 
 impl DataSets {
     /// How many octets the image has.
+    #[tactic(auto, using(crate::proofs::ImageLemmas::image_length))]
     pub fn image_size(&self) -> usize
         ensures size { result ≡ length (data_sets_octets self.now) }
         ensures small { result ≤ DATA_SETS_OCTETS }
     {
-        self.image().len()
+        fits_law(self);
+        CLOCK_OCTETS + 1 + self.description.text().len() + 1 + PORT_OCTETS * self.ports.len()
     }
 
     /// Writes the image over the first octets of a place, and answers how many there are: 91 to 324. The others stay. `None`,

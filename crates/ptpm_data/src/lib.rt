@@ -53,6 +53,7 @@ pub use observation::{
 pub use port_state::{DelayMechanism, PortState};
 pub use reply::{PortAnswer, Reply, Value, What};
 pub use request::Request;
+pub use restoring::image_end;
 pub use rights::Rights;
 pub use start::{ClockStart, PortStart, StartError};
 

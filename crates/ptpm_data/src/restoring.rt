@@ -1,6 +1,6 @@
 //! Data sets back from their image (this project's profile).
 
-ghost use Rattle.std.specs.Prelude.{◌≡◌, ◌≤◌, ◌*◌, ◌∷◌, ◌++◌, ℕ, List, length, map, IfSome, IsSomeAnd, Some};
+ghost use Rattle.std.specs.Prelude.{◌≡◌, ◌≤◌, ◌+◌, ◌*◌, ◌∷◌, ◌++◌, ◌↔◌, ℕ, List, length, map, IfSome, IsSomeAnd, IsTrue, Some};
 ghost use Rattle.std.specs.List.{All};
 ghost use Rattle.ptpm_data.specs.declared.data_sets.PortDataSet.{PortDataSet};
 ghost use Rattle.ptpm_data.specs.Image.{BeginsWithImage, DataSetsFit, PortFits, data_sets_octets, ports_image};
@@ -10,16 +10,13 @@ ghost use Rattle.ptpm_data.specs.Members.{DataSetsValue, IsConsistent};
 use crate::data_sets::{
     CurrentDataSet, DataSets, DefaultDataSet, ParentDataSet, TimePropertiesDataSet,
 };
+use crate::image::{CLOCK_OCTETS, PORT_OCTETS};
+use crate::image_laws::fits_law;
+use crate::laws::data_sets_law;
 use crate::places::{flag_at, i8_at, i16_at, i32_at, i64_at, precedence_at};
 use crate::start::{ClockStart, PortStart};
 use arrayvec::ArrayVec;
 use ptpm_codec::{clock_identity_at, port_identity_at, put, u16_at};
-
-/// How many octets an image has of the clock, before its text.
-const CLOCK_OCTETS: usize = 74;
-
-/// How many it has of each port.
-const PORT_OCTETS: usize = 15;
 
 impl DataSets {
     /// The data sets whose image comes first; octets after it are not looked at. `None` if no image is there: the
@@ -28,17 +25,40 @@ impl DataSets {
         ensures image { IfSome result (λ d. BeginsWithImage d octets.now) }
         ensures found { (d : DataSetsValue) → IsConsistent d → DataSetsFit d → BeginsWithImage d octets.now
             → result ≡ Some d }
+        ensures consistent { IfSome result (λ d. IsConsistent d) }
+        ensures fits { IfSome result (λ d. DataSetsFit d) }
     {
-        let sets = read_image(octets)?;
-        if octets.starts_with(sets.image().as_slice()) {
-            Some(sets)
-        } else {
-            None
-        }
+        let read = read_image(octets);
+        let Some(sets) = &read else {
+            return None;
+        };
+        data_sets_law(sets);
+        fits_law(sets);
+        if sets.is_first_in(octets) { read } else { None }
+    }
+
+    /// Whether the image comes first. It is never inlined, nor is `read_image`: so the stack has room for one of them at a time.
+    #[inline(never)]
+    fn is_first_in(&self, octets: &[u8]) -> bool
+        ensures { IsTrue result ↔ BeginsWithImage self.now octets.now }
+    {
+        octets.starts_with(self.image().as_slice())
     }
 }
 
+/// Where an image that comes first ends, by the numbers in it that count its octets: no member is read.
+pub fn image_end(octets: &[u8]) -> Option<usize>
+    ensures within { IfSome result (λ end. end ≤ length octets.now) }
+    ensures found { (d : DataSetsValue) (rest : List ℕ) → DataSetsFit d
+        → octets.now ≡ data_sets_octets d ++ rest
+        → result ≡ Some (length (data_sets_octets d)) }
+{
+    let (clock, text, ports) = split_image(octets)?;
+    Some(clock.len() + 1 + text.len() + 1 + ports.len())
+}
+
 /// The data sets of an image that comes first; if none is there, any or none.
+#[inline(never)]
 fn read_image(octets: &[u8]) -> Option<DataSets>
     ensures { (d : DataSetsValue) (rest : List ℕ) → IsConsistent d → DataSetsFit d
         → octets.now ≡ data_sets_octets d ++ rest
@@ -56,6 +76,8 @@ fn split_image(octets: &[u8]) -> Option<(&[u8], &[u8], &[u8])>
         → octets.now ≡ data_sets_octets d ++ rest
         → IsSomeAnd result (λ p. IsSplit d p.0.now p.1.now p.2.now) }
     ensures size { IfSome result (λ p. length p.0.now ≡ 74) }
+    ensures within { IfSome result
+        (λ p. length p.0.now + 1 + length p.1.now + 1 + length p.2.now ≤ length octets.now) }
 {
     if octets.len() < CLOCK_OCTETS {
         return None;
@@ -69,9 +91,11 @@ fn split_image(octets: &[u8]) -> Option<(&[u8], &[u8], &[u8])>
 /// As many pieces of N octets as the first octet says, and what comes after them.
 fn split_counted(octets: &[u8], size: usize) -> Option<(&[u8], &[u8])>
     requires { size ≤ 15 }
-    ensures { (count : ℕ) (pieces rest : List ℕ) → length pieces ≡ count * size
+    ensures parts { (count : ℕ) (pieces rest : List ℕ) → length pieces ≡ count * size
         → octets.now ≡ count ∷ (pieces ++ rest)
         → IsSomeAnd result (λ p. (p.0.now ≡ pieces) × (p.1.now ≡ rest)) }
+    ensures within { IfSome result
+        (λ p. 1 + length p.0.now + length p.1.now ≡ length octets.now) }
 {
     let (count, octets) = octets.split_first()?;
     octets.split_at_checked(*count as usize * size)

@@ -1,12 +1,14 @@
 -- Kept messages: written over for another copy, and read back.
-use Rattle.std.proofs.Common.{suc, arith, ◌≡◌, ◌<◌, ◌≤◌, ◌^◌, ℕ, ◌+◌, ◌-◌, ◌*◌, Bool, true, false, refl, sym, ◌∙◌, ap, subst, List, [], ◌∷◌, ◌++◌, length, get_or, map, take, drop, Some, None, unwrap_or, slice_set, All}
+use Rattle.std.proofs.Common.{suc, arith, ◌≡◌, ◌<◌, ◌≤◌, ◌^◌, ℕ, ◌+◌, ◌-◌, ◌*◌, Bool, true, false, refl, sym, ◌∙◌, ap, subst, List, [], ◌∷◌, ◌++◌, length, get_or, map, take, drop, Option, Some, None, unwrap_or, slice_set, All}
 use Rattle.ptpm_codec.specs.declared.message.Action.{Action}
 use Rattle.ptpm_codec.specs.declared.message.Action.TheVariants as actions
 use Rattle.ptpm_codec.specs.declared.message.Message.{Message}
 use Rattle.ptpm_codec.specs.Canonical.{canonical, port_identity_octets, text_octets, tlv_octets}
-use Rattle.ptpm_codec.specs.Layout.{message_octets}
+use Rattle.ptpm_codec.specs.Layout.{message_octets, number_at, port_identity_at}
 use Rattle.ptpm_codec.specs.Message.{Fits, IsValid, IsRequestAction}
-use Rattle.ptpm_codec.specs.Reading.{message_of}
+use Rattle.ptpm_codec.specs.Reading.{body_at, message_at, message_of, some_unless}
+use Rattle.ptpm_codec.specs.Refusal.{refusal}
+use Rattle.ptpm_codec.specs.declared.error.DecodeError.{DecodeError}
 use Rattle.ptpm_codec.specs.Spelling.{Spells}
 use Rattle.ptpm_codec.proofs.CanonicalLaws.{by_clocks, canonical_octets, canonical_size, canonical_spells}
 use Rattle.ptpm_codec.proofs.ReadingLaws.{spells-message_of}
@@ -126,6 +128,39 @@ message_back v valid fits =
     subst (λ (m : List ℕ). message_octets m ≡ canonical v) (append-nil (canonical v)) (canonical_octets v [] valid fits) in
     spells-message_of v (canonical v) (subst (λ (m : List ℕ). Spells v m) (sym alone) (canonical_spells v valid fits))
 
+canonical_alone : (v : Message) → IsValid v → Fits v → message_octets (canonical v) ≡ canonical v
+canonical_alone v valid fits =
+    subst (λ (m : List ℕ). message_octets m ≡ canonical v) (append-nil (canonical v)) (canonical_octets v [] valid fits)
+
+-- a kept message is read from its places alone
+pub kept_reads : (e : Envelope) (of_port : Bool) (m : List ℕ)
+    → IsKeptMessage e of_port m
+    → message_of m ≡ Some (message_at m)
+unfolding message_of
+kept_reads e of_port m kept =
+    let v : Message = sent_message e kept.first kept.at (answer_in of_port m) in
+    let alone : message_octets m ≡ m = ap message_octets kept.spelled ∙ (canonical_alone v kept.valid kept.fits ∙ sym kept.spelled) in
+    read_some (refusal m) (message_at (message_octets m)) v (ap message_of kept.spelled ∙ message_back v kept.valid kept.fits)
+    ∙ ap (λ (o : List ℕ). Some (message_at o)) alone
+  where
+    read_some : (r : Option DecodeError) (x v : Message) → some_unless r x ≡ Some v → some_unless r x ≡ Some x
+    read_some None x v h = refl
+    read_some (Some e) x v h = absurd (cc)
+
+pub source_port_at : (m : List ℕ) → source_port (Some (message_at m)) ≡ number_at 28 m
+unfolding port_identity_at
+source_port_at m = refl
+
+-- the answer that is read
+pub answer_read : (of_port : Bool) (m : List ℕ) (port : Option ℕ) (o : Outcome)
+    → message_of m ≡ Some (message_at m)
+    → port ≡ port_in of_port (Some (message_at m))
+    → o ≡ outcome_of_body (body_at m)
+    → ◌≡◌ {A = Answer} (record { port = port; outcome = o }) (answer_in of_port m)
+answer_read of_port m port o read p w =
+    (λ i. record { port = p i; outcome = w i })
+    ∙ sym (ap (λ (x : Option Message). record { port = port_in of_port x; outcome = outcome_in x }) read)
+
 -- the answer of a kept message
 pub answer_back : (of_port : Bool) (e : Envelope) (first : Heard) (at : ℕ) (request : Action) (a : Answer)
     → e.action ≡ reply_action request
@@ -182,6 +217,25 @@ each_more : (e : Envelope) (of_port : Bool) (ms : List (List ℕ)) (m : List ℕ
     → EachKept e of_port (ms ++ m ∷ [])
 each_more e of_port [] m each kept = (kept, tt)
 each_more e of_port (x ∷ ms) m each kept = (each.0, each_more e of_port ms m each.1 kept)
+
+-- ---- one after the other
+
+-- the first message is kept
+pub first_reads : (of_port : Bool) (sizes octets : List ℕ)
+    → ((e : Envelope) × IsKeptReply e of_port sizes octets)
+    → 1 ≤ length sizes
+    → message_of (take (get_or sizes 0 0) octets) ≡ Some (message_at (take (get_or sizes 0 0) octets))
+first_reads of_port [] octets kept some = absurd (omega (arith, some))
+first_reads of_port (s ∷ ss) octets kept some = kept_reads kept.0 of_port (take s octets) kept.1.each.0
+
+-- and so are those behind it
+pub rest_kept : (of_port : Bool) (sizes octets : List ℕ)
+    → ((e : Envelope) × IsKeptReply e of_port sizes octets)
+    → 1 ≤ length sizes
+    → (e : Envelope) × IsKeptReply e of_port (drop 1 sizes) (drop (get_or sizes 0 0) octets)
+rest_kept of_port [] octets kept some = absurd (omega (arith, some))
+rest_kept of_port (s ∷ ss) octets kept some =
+    (kept.0, record { cut = subst (AreSizes ss) (sym (length-drop s octets)) kept.1.cut.2; each = kept.1.each.1 })
 
 -- ---- sizes
 

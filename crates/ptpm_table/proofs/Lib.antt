@@ -7,3 +7,5 @@ pub mod Slots
 pub mod KeptMessageLaws
 pub mod SentLaws
 pub mod LendingLaws
+pub mod IdentityOrder
+pub mod InOrderLaws

@@ -11,7 +11,7 @@ use Rattle.ptpm_codec.specs.declared.message.Body.{Body}
 use Rattle.ptpm_codec.specs.declared.message.Body.TheVariants as bodies
 use Rattle.ptpm_codec.specs.declared.message.Message.{Message}
 use Rattle.ptpm_codec.specs.Canonical.{canonical}
-use Rattle.ptpm_codec.specs.Message.{Fits}
+use Rattle.ptpm_codec.specs.Message.{Fits, IsValid}
 use Rattle.ptpm_codec.specs.Reading.{message_of}
 use Rattle.ptpm_data.specs.Reply as reply
 use Rattle.ptpm_data.specs.Reply.{Answer, Outcome}
@@ -106,6 +106,7 @@ pub record IsKeptMessage (e : Envelope) (of_port : Bool) (m : List ℕ) : Type 0
   pub copy : IsCopyOf e first
   pub spelled : m ≡ canonical (sent_message e first at (answer_in of_port m))
   pub fits : Fits (sent_message e first at (answer_in of_port m))
+  pub valid : IsValid (sent_message e first at (answer_in of_port m))
 
 abbrev pub EachKept : Envelope → Bool → List (List ℕ) → Type 0
 EachKept e of_port [] = Unit {0}

@@ -10,3 +10,4 @@ pub mod KeptMessages
 pub mod Sending
 pub mod SendingLaws
 pub mod Lending
+pub mod InOrder

@@ -1,15 +1,35 @@
 //! What a reply table keeps, lent: the entry of one manager after another.
 
-ghost use Rattle.std.specs.Prelude.{◌≡◌, ◌<◌, Some, length, slice_get};
+ghost use Rattle.std.specs.Prelude.{◌≡◌, ◌≤◌, ◌<◌, ◌∷◌, [], MatchOption, Some, length, slice_get};
 ghost use Rattle.ptpm_codec.specs.Message.{IsValid};
+ghost use Rattle.ptpm_codec.specs.Reading.{body_at, message_at, message_of};
 ghost use Rattle.ptpm_table.specs.KeptMessages.{AreSizes, answer_in, error_of_number, outcome_of_body, pieces};
 ghost use Rattle.ptpm_table.specs.Lending.{lent_answer, lent_outcome};
 
+use crate::in_order::LentEntries;
 use crate::reply_table::ReplyTable;
 use crate::slot::Kept;
-use ptpm_codec::{Action, ErrorId, PortIdentity, View, view};
+use ptpm_codec::{Action, ErrorId, HEAD_OCTETS, PortIdentity, View, u16_at, view};
 use ptpm_data::Request;
 use std::marker::Model;
+
+/// Where a message has the portNumber of its sourcePortIdentity (13.3).
+const SOURCE_PORT: usize = 28;
+
+/// Where it has its actionField, in the lower half of an octet (15.4.1).
+const ACTION: usize = 46;
+
+/// RESPONSE as an actionField (15.4.1.6).
+const RESPONSE: u8 = 2;
+
+/// Where it has its tlvType (14.1).
+const TLV_TYPE: usize = 48;
+
+/// MANAGEMENT_ERROR_STATUS as a tlvType (14.1.1).
+const ERROR_STATUS: u16 = 2;
+
+/// Where an error status has its managementErrorId (15.5.4).
+const ERROR_ID: usize = 52;
 
 /// A table that lends what it keeps, as for an image of it. No octet is copied, and no memory is taken.
 pub trait LendingTable: ReplyTable {
@@ -33,6 +53,10 @@ pub trait LendingTable: ReplyTable {
             (λ e. IsTrue (is_known e.manager (Self.owner self.now).managers)) }
         ensures keepable { IfSome result (λ e. IsKeepable e.entry) }
         ensures fits { IfSome result (λ e. EntryFits e) };
+
+    /// The entries, in the order of identities. The order is found once for all of them.
+    fn in_order(&self) -> LentEntries<'_>
+        ensures { result ≡ fin.entries (Self.entries self.now) };
 }
 
 /// An entry where it is kept. Contracts see it with its manager.
@@ -103,6 +127,91 @@ impl<'a> LentEntry<'a> {
         ensures { slice_get self.now.entry.reply.answers place ≡ Some (lent_answer result) }
     {
         self.kept.answer(place)
+    }
+
+    /// The answers of the reply, from the first on.
+    pub fn answers(&self) -> LentAnswers<'a>
+        ensures { result ≡ self.now.entry.reply.answers }
+    {
+        self.kept.answers()
+    }
+}
+
+/// The answers of a reply, lent one after the other. Contracts see those that are left.
+#[derive(Drop)]
+pub struct LentAnswers<'a> {
+    /// Whether they are of ports.
+    pub(crate) of_port: bool,
+    /// How many octets each of their messages has.
+    pub(crate) sizes: &'a [u8],
+    /// Their messages, one behind the other.
+    pub(crate) messages: &'a [u8],
+}
+
+impl<'a> Model for LentAnswers<'a> {
+    ghost use Rattle.std.specs.Prelude.{List, map};
+    ghost use Rattle.ptpm_data.specs.Reply.{Answer};
+    ghost use Rattle.ptpm_table.specs.KeptMessages.{Envelope, IsKeptReply, answer_in, pieces};
+
+    ghost Value = { List Answer };
+
+    ghost view = { λ l. map (answer_in l.of_port) (pieces l.sizes.now l.messages.now) };
+
+    ghost invariant = { λ l. (e : Envelope) × IsKeptReply e l.of_port l.sizes.now l.messages.now };
+}
+
+impl<'a> LentAnswers<'a> {
+    /// The next one. `None` where all were lent.
+    #[inline(always)]
+    pub fn next(&mut self) -> Option<LentAnswer<'a>>
+        ensures { MatchOption result (self.old ≡ [])
+            (λ a. self.old ≡ lent_answer a ∷ self.new) }
+    {
+        match self.sizes {
+            [] => None,
+            [size, sizes @ ..] => {
+                let (message, messages) = self.messages.split_at(*size as usize);
+                let answer = kept_answer(self.of_port, message);
+                self.sizes = sizes;
+                self.messages = messages;
+                Some(answer)
+            }
+        }
+    }
+}
+
+/// The answer of a message that a reply table keeps, whose fields are where a well-formed message has them.
+#[inline(always)]
+fn kept_answer(of_port: bool, message: &[u8]) -> LentAnswer<'_>
+    requires long { 54 ≤ length message.now }
+    requires read { message_of message.now ≡ Some (message_at message.now) }
+    ensures { lent_answer result ≡ answer_in of_port message.now }
+{
+    LentAnswer {
+        port: if of_port {
+            Some(u16_at(message, SOURCE_PORT))
+        } else {
+            None
+        },
+        what: kept_what(message),
+    }
+}
+
+/// What a kept message answers.
+#[inline(always)]
+#[tactic(auto, unfolding(ptpm_codec::specs::Reading::body_at))]
+fn kept_what(message: &[u8]) -> LentWhat<'_>
+    requires { 54 ≤ length message.now }
+    ensures { lent_outcome result ≡ outcome_of_body (body_at message.now) }
+{
+    if u16_at(message, TLV_TYPE) == ERROR_STATUS {
+        return LentWhat::Refused(error_of_number(u16_at(message, ERROR_ID)));
+    }
+    if message[ACTION] % 16 == RESPONSE {
+        let (_, octets) = message.split_at(HEAD_OCTETS);
+        LentWhat::Value(octets)
+    } else {
+        LentWhat::Done
     }
 }
 

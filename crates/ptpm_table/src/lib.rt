@@ -3,6 +3,7 @@
 
 mod error;
 mod heard;
+mod in_order;
 mod kept;
 mod kept_messages;
 pub mod laws;
@@ -20,7 +21,8 @@ mod slot_table;
 
 pub use error::TableError;
 pub use heard::Heard;
-pub use lending::{LendingTable, LentAnswer, LentEntry, LentWhat};
+pub use in_order::LentEntries;
+pub use lending::{LendingTable, LentAnswer, LentAnswers, LentEntry, LentWhat};
 pub use managers::managers_refusal;
 pub use outbox::Outbox;
 pub use outgoing::Outgoing;

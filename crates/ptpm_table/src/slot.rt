@@ -1,6 +1,7 @@
 //! A manager's place in a table of fixed size.
 
-ghost use Rattle.std.specs.Prelude.{◌≡◌, ◌<◌, ◌≤◌, ◌+◌, ◌++◌, Some, length, slice_get};
+ghost use Rattle.std.specs.Prelude.{◌≡◌, ◌<◌, ◌≤◌, ◌+◌, ◌++◌, ℕ, Some, length, slice_get, slice_index};
+ghost use Rattle.std.specs.Int.{from_be_bytes, w64};
 ghost use Rattle.std.specs.Ordering.{is_lt};
 ghost use Rattle.ptpm_codec.specs.Identity.{identity_cmp};
 ghost use Rattle.ptpm_codec.specs.Message.{IsDataField, IsRequestAction};
@@ -14,14 +15,13 @@ use crate::heard::Heard;
 use crate::kept_messages::{
     Exchange, Messages, Sizes, encode_each, has_port, keep_each, port_for, resend_each,
 };
-use crate::lending::{LentAnswer, LentEntry, answer_in, message_at};
+use crate::lending::{LentAnswer, LentAnswers, LentEntry, answer_in, message_at};
 use crate::outgoing::Outgoing;
 use crate::rendering::hops_passed;
 use crate::renewal::Renewal;
 use arrayvec::ArrayVec;
 use ptpm_codec::{Action, ClockIdentity, DATA_FIELD_OCTETS, PortIdentity, overwrite};
 use ptpm_data::{Reply, Request, Rights};
-use std::cmp::Ordering;
 use std::marker::Model;
 
 /// A manager's rights, and its latest accepted request, if one is kept. In it and in `Kept` the large members come
@@ -62,11 +62,23 @@ impl Slot {
     }
 }
 
-/// Whether a manager comes before another one, by the order of identities.
+/// Whether a manager comes before another one, by the order of identities. The octets of a clock are read as one number, so that
+/// one step compares them.
 pub(crate) fn is_before(who: &PortIdentity, other: &PortIdentity) -> bool
     ensures { result ≡ is_lt (identity_cmp who.now other.now) }
 {
-    who.cmp(other) == Ordering::Less
+    let clock = number_of(who.clock.0);
+    let other_clock = number_of(other.clock.0);
+    clock < other_clock || clock == other_clock && who.port < other.port
+}
+
+/// The number that the octets of a clock spell, the highest first.
+fn number_of(octets: [u8; 8]) -> u64
+    ensures number { result ≡ from_be_bytes w64 octets }
+    ensures long { length octets ≡ 8 }
+    ensures low { (i : ℕ) → slice_index octets i < 256 }
+{
+    u64::from_be_bytes(octets)
 }
 
 /// A request of a manager, in place, with its number, and the clock's reply to it in octets. Contracts see the entry of a
@@ -186,6 +198,17 @@ impl Kept {
     {
         let (sizes, messages) = (self.sizes.as_slice(), self.messages.as_slice());
         answer_in(self.of_port, message_at(sizes, messages, place))
+    }
+
+    /// The answers of the reply.
+    pub(crate) fn answers(&self) -> LentAnswers<'_>
+        ensures { result ≡ self.now.entry.reply.answers }
+    {
+        LentAnswers {
+            of_port: self.of_port,
+            sizes: self.sizes.as_slice(),
+            messages: self.messages.as_slice(),
+        }
     }
 
     /// Keeps another request, with its number and reply, in place of this one. The reply's messages are encoded in place.

@@ -16,6 +16,7 @@ ghost use Rattle.ptpm_table.specs.Slots.{AreKeepable, AreKeepable-prop, IsSooner
 
 use crate::error::TableError;
 use crate::heard::Heard;
+use crate::in_order::{LentEntries, in_order};
 use crate::kept::judge;
 use crate::lending::{LendingTable, LentEntry};
 use crate::managers::{MANAGERS, refusal};
@@ -307,6 +308,10 @@ impl<const SLOTS: usize> LendingTable for SlotTable<SLOTS> {
 
     fn next_entry(&self, after: Option<PortIdentity>) -> Option<LentEntry<'_>> {
         next_slot(self.slots.as_slice(), after).map(|slot| slot.kept.entry())
+    }
+
+    fn in_order(&self) -> LentEntries<'_> {
+        in_order(self.slots.as_slice())
     }
 }
 
