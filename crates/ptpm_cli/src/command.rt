@@ -202,9 +202,11 @@ fn datagrams_of<'a>(values: &ArgMatches<'a>) -> Option<Datagrams<'a>> {
     }
 }
 
-/// What `show` prints of a dataField.
+/// How `show` prints a message.
 fn shown_values(values: &ArgMatches<'_>) -> Values {
-    if values.get_flag("members") {
+    if values.get_flag("json") {
+        Values::Json
+    } else if values.get_flag("members") {
         Values::Members
     } else {
         Values::Octets
@@ -307,13 +309,22 @@ fn show_command<'a>(alloc: Global) -> Result<Command<'a>, AllocError> {
         "members",
         "Prints each member of the dataField on its line, in place of the octets",
     );
+    let json = flag(
+        alloc,
+        "json",
+        "Prints a message as one JSON object, in a line",
+    )
+    .conflicts_with("members")?;
     let skip = flag(
         alloc,
         "skip",
         "With --lines: names each line without a management message on standard error and reads on, with status 0",
     )
     .conflicts_with("HEX")?;
-    with_datagrams(alloc, show)?.arg(members)?.arg(skip)
+    with_datagrams(alloc, show)?
+        .arg(members)?
+        .arg(json)?
+        .arg(skip)
 }
 
 fn make_command<'a>(alloc: Global) -> Result<Command<'a>, AllocError> {

@@ -370,6 +370,7 @@ fn help(rt: HostRuntime) {
         Options:\n      \
         --lines    Reads a datagram from each line of standard input\n      \
         --members  Prints each member of the dataField on its line, in place of the octets\n      \
+        --json     Prints a message as one JSON object, in a line\n      \
         --skip     With --lines: names each line without a management message on standard error and reads on, with status 0\n  \
         -h, --help     Print help\n",
     );

@@ -1,4 +1,4 @@
--- The lines of `ptpm show`: the fields of a message (this project's profile).
+-- The lines of `ptpm show`: the fields of a message, a line each or as an object of JSON (this project's profile).
 use Rattle.std.specs.Prelude.{◌≡◌, ℕ, ◌==◌, ◌/◌, ◌%◌, false, List, [], ◌∷◌, ◌++◌, Option, Some, None, Result, Ok, Err, codes, decimal, find, flat_map}
 use Rattle.std.specs.Fmt.{digit_glyph}
 use Rattle.std.specs.Io.KnownBytes.{Appends}
@@ -6,13 +6,13 @@ use Rattle.hex.specs.declared.error.FromHexError.{FromHexError}
 use Rattle.hex.specs.Hex.{decode_of}
 use Rattle.ptpm_codec.specs.declared.error.DecodeError.{DecodeError}
 use Rattle.ptpm_codec.specs.declared.error.ErrorId.{ErrorId}
-use Rattle.ptpm_codec.specs.declared.error.ErrorId.TheVariants as errors
 use Rattle.ptpm_codec.specs.declared.message.Message.{Message}
 use Rattle.ptpm_codec.specs.Identity.{port_identity_text}
 use Rattle.ptpm_codec.specs.Message.{action_name, action_of, error_name, error_number, error_of, id_of, octets_of, text_of}
 use Rattle.ptpm_codec.specs.Reading.{reading}
 use Rattle.ptpm_data.specs.ManagementId.{RowValue, row_of}
 use Rattle.ptpm_members.specs.FieldText.{field_text}
+use Rattle.ptpm_message_json.specs.MessageJson.{message_text, named_errors}
 use Rattle.ptpm_script.specs.OctetText.{text_of_octets}
 use Rattle.ptpm_commands.specs.declared.faults.Fault.{Fault}
 use Rattle.ptpm_commands.specs.declared.faults.Fault.TheVariants as faults
@@ -56,12 +56,6 @@ abbrev pub row_name : Option RowValue → List ℕ
 row_name None = dash
 row_name (Some row) = row.name
 
--- the errors that the standard names (15.5.4.3)
-abbrev pub named_errors : List ErrorId
-named_errors =
-    errors.ResponseTooBig ∷ errors.NoSuchId ∷ errors.WrongLength ∷ errors.WrongValue ∷ errors.NotSetable ∷ errors.NotSupported
-    ∷ errors.GeneralError ∷ []
-
 abbrev pub name_of_error : Option ErrorId → List ℕ
 name_of_error None = dash
 name_of_error (Some error) = error_name error
@@ -73,10 +67,11 @@ error_named number = name_of_error (find (λ e. error_number e == number) named_
 abbrev pub named_line : List ℕ → ℕ → List ℕ → List ℕ
 named_line what number name = what ++ id_text number ++ codes " " ++ name ++ 10 ∷ []
 
--- the dataField of an id: all of its octets, or its members
+-- the dataField of an id: all of its octets, or its members; an object has it within
 unfoldable pub data_lines : Values → ℕ → List ℕ → List ℕ
 data_lines values.Octets id octets = line (codes "value ") (text_of_octets octets)
 data_lines values.Members id octets = field_text [] id octets
+data_lines values.Json id octets = []
 
 abbrev pub value_lines : Values → ℕ → Option ℕ → List ℕ → List ℕ → List ℕ
 value_lines form id None octets text = data_lines form id octets
@@ -90,8 +85,16 @@ body_lines form m =
 
 -- ---- the whole
 
+abbrev pub field_lines : Values → Message → List ℕ
+field_lines form m = header_lines m ++ body_lines form m
+
+abbrev pub object_line : Message → List ℕ
+object_line m = message_text m ++ 10 ∷ []
+
 abbrev pub message_lines : Values → Message → List ℕ
-message_lines form m = header_lines m ++ body_lines form m
+message_lines values.Octets m = field_lines values.Octets m
+message_lines values.Members m = field_lines values.Members m
+message_lines values.Json m = object_line m
 
 -- the message of a datagram, or why it holds none
 abbrev pub read_as : Result Message DecodeError → Result Message Fault

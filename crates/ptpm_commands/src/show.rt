@@ -1,4 +1,4 @@
-//! `ptpm show`: the fields of a message, a line each.
+//! `ptpm show`: the fields of a message, a line each or as an object of JSON.
 
 ghost use Rattle.std.specs.Prelude.{◌≡◌, ◌≢◌, ◌≤◌, Err, IfErr, OnOk, codes, false, true};
 ghost use Rattle.std.specs.Io.KnownBytes.{Appends};
@@ -6,25 +6,28 @@ ghost use Rattle.ptpm_codec.specs.Message.{error_of, id_of, octets_of, text_of};
 ghost use Rattle.ptpm_codec.specs.Reading.{reading};
 ghost use Rattle.ptpm_data.specs.ManagementId.{row_of};
 ghost use Rattle.ptpm_commands.specs.Faults.{IsAtLine, IsAtSomeLine, is_of_line, is_outside};
-ghost use Rattle.ptpm_commands.specs.Show.{AreShown, IsShown, action_lines, body_lines, data_lines, error_named, header_lines, identity_lines, message_of, named_line, read_as, row_name, sdo_line, value_lines};
+ghost use Rattle.ptpm_commands.specs.Show.{AreShown, IsShown, action_lines, body_lines, data_lines, error_named, field_lines, header_lines, identity_lines, message_lines, message_of, named_line, object_line, read_as, row_name, sdo_line, value_lines};
 
 use crate::faults::{Fault, tell};
 use crate::lines::Lines;
 use ptpm_codec::{ErrorId, View, view};
 use ptpm_data::row;
 use ptpm_members::FieldText;
+use ptpm_message_json::message_text;
 use ptpm_script::Hexadecimal;
 use std::alloc::Global;
 use std::io;
 use std::io::{Read, Write};
 
-/// What is printed of a dataField.
+/// How a message is printed.
 #[derive(Clone, Copy, Debug, PartialEq, Eq)]
 pub enum Values {
-    /// Its octets, in hexadecimal.
+    /// A line for each field; its dataField by its octets, in hexadecimal.
     Octets,
-    /// Its members, a line each, with their names in the standard.
+    /// A line for each field; its dataField by its members, a line each, with their names in the standard.
     Members,
+    /// A line with one object of JSON.
+    Json,
 }
 
 /// Prints the message that the text spells in hexadecimal, its dataField by its octets.
@@ -47,7 +50,7 @@ pub fn show_as<O: Write>(alloc: Global, form: Values, text: &str, out: &mut O) -
         (λ e. e ≢ Fault.WriteFault → O.contents out.new ≡ O.contents out.old) }
 {
     let datagram = hex::decode(alloc, text)?;
-    show_datagram(form, datagram.as_slice(), out)
+    show_datagram(alloc, form, datagram.as_slice(), out)
 }
 
 /// Prints the message of each line of a reader, one after another, each dataField by its octets. A line that is `nothing` is
@@ -143,26 +146,37 @@ fn show_next<R: Read + Drop, O: Write>(
         return Ok(false);
     }
     if let Some(datagram) = lines.datagram(alloc, number)? {
-        show_at(number, form, datagram.as_slice(), out)?;
+        show_at(alloc, number, form, datagram.as_slice(), out)?;
     }
     lines.flush_before_wait(out)?;
     Ok(true)
 }
 
 /// Prints the message of a datagram in the line of this number, which a fault of it names.
-fn show_at<O: Write>(number: u64, form: Values, datagram: &[u8], out: &mut O) -> Result<(), Fault>
+fn show_at<O: Write>(
+    alloc: Global,
+    number: u64,
+    form: Values,
+    datagram: &[u8],
+    out: &mut O,
+) -> Result<(), Fault>
     ensures shown { OnOk result (AreShown form (O.contents out.old) (O.contents out.new)) }
     ensures fault { IfErr result (λ e. IsAtLine number e) }
     ensures unprinted { IfErr result
         (λ e. is_of_line e ≡ true → O.contents out.new ≡ O.contents out.old) }
 {
-    match show_datagram(form, datagram, out) {
+    match show_datagram(alloc, form, datagram, out) {
         Ok(()) => Ok(()),
         Err(fault) => Err(fault.at_line(number)),
     }
 }
 
-fn show_datagram<O: Write>(form: Values, datagram: &[u8], out: &mut O) -> Result<(), Fault>
+fn show_datagram<O: Write>(
+    alloc: Global,
+    form: Values,
+    datagram: &[u8],
+    out: &mut O,
+) -> Result<(), Fault>
     ensures shown { OnOk result
         (IsShown form (read_as (reading datagram.now)) (O.contents out.old) (O.contents out.new)) }
     ensures fault { IfErr result
@@ -171,8 +185,54 @@ fn show_datagram<O: Write>(form: Values, datagram: &[u8], out: &mut O) -> Result
         (λ e. e ≢ Fault.WriteFault → O.contents out.new ≡ O.contents out.old) }
 {
     let message = view(datagram)?;
-    show_header(&message, out)?;
-    show_body(form, &message, out)?;
+    show_message(alloc, form, &message, out)?;
+    Ok(())
+}
+
+fn show_message<O: Write>(
+    alloc: Global,
+    form: Values,
+    message: &View<'_>,
+    out: &mut O,
+) -> Result<(), Fault>
+    requires { message.now.sdo ≤ 4095 }
+    ensures shown { OnOk result (Appends (O.contents out.old) (O.contents out.new)
+        (message_lines form message.now)) }
+    ensures fault { IfErr result (λ e. is_outside e ≡ true) }
+    ensures unprinted { IfErr result
+        (λ e. e ≢ Fault.WriteFault → O.contents out.new ≡ O.contents out.old) }
+{
+    match form {
+        Values::Octets => show_fields(Values::Octets, message, out),
+        Values::Members => show_fields(Values::Members, message, out),
+        Values::Json => show_object(alloc, message, out),
+    }
+}
+
+/// Prints a message as one object of JSON, in a line.
+fn show_object<O: Write>(alloc: Global, message: &View<'_>, out: &mut O) -> Result<(), Fault>
+    ensures shown { OnOk result (Appends (O.contents out.old) (O.contents out.new)
+        (object_line message.now)) }
+    ensures fault { IfErr result (λ e. is_outside e ≡ true) }
+    ensures unprinted { IfErr result
+        (λ e. e ≢ Fault.WriteFault → O.contents out.new ≡ O.contents out.old) }
+{
+    let text = message_text(alloc, message)?;
+    writeln!(out, "{}", text.as_str())?;
+    Ok(())
+}
+
+/// Prints the fields of a message, a line each.
+fn show_fields<O: Write>(form: Values, message: &View<'_>, out: &mut O) -> Result<(), Fault>
+    requires { message.now.sdo ≤ 4095 }
+    ensures shown { OnOk result (Appends (O.contents out.old) (O.contents out.new)
+        (field_lines form message.now)) }
+    ensures fault { IfErr result (λ e. is_outside e ≡ true) }
+    ensures unprinted { IfErr result
+        (λ e. e ≢ Fault.WriteFault → O.contents out.new ≡ O.contents out.old) }
+{
+    show_header(message, out)?;
+    show_body(form, message, out)?;
     Ok(())
 }
 
@@ -251,7 +311,7 @@ fn show_value<O: Write>(form: Values, message: &View<'_>, out: &mut O) -> io::Re
     writeln!(out, "text {}", Hexadecimal(message.text()))
 }
 
-/// The dataField of this id.
+/// The dataField of this id; none of an object, which has it within.
 #[tactic(auto, unfolding(crate::specs::Show::data_lines))]
 fn show_data<O: Write>(form: Values, id: u16, octets: &[u8], out: &mut O) -> io::Result<()>
     ensures { OnOk result (Appends (O.contents out.old) (O.contents out.new)
@@ -267,6 +327,7 @@ fn show_data<O: Write>(form: Values, id: u16, octets: &[u8], out: &mut O) -> io:
             };
             write!(out, "{members}")
         }
+        Values::Json => Ok(()),
     }
 }
 

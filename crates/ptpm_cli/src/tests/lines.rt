@@ -2,7 +2,8 @@
 
 use super::failing::FailingReader;
 use super::{
-    PASSED_ON, REFUSAL, REPLY, REQUEST, SHOWN_REFUSAL, SHOWN_REPLY, TO_EVERY_CLOCK, edited, prints,
+    PASSED_ON, REFUSAL, REPLY, REQUEST, SHOWN_REFUSAL, SHOWN_REPLY, TO_EVERY_CLOCK, UNNAMED,
+    edited, prints,
 };
 use crate::command::command;
 use std::alloc::Global;
@@ -193,6 +194,37 @@ fn members(rt: HostRuntime) -> Result<(), Fail> {
     ends(&rt, alloc, &words, lines, 0, shown, "");
     let words = ["ptpm", "show", REPLY, "--members"];
     prints(&rt, alloc, &words, REPLY_MEMBERS.as_bytes());
+    Ok(())
+}
+
+/// The request, both refusals, two octets of an id that the table lacks, and both lines of the follower. Keys are in order.
+const OBJECTS: &str =
+    r#"{"actionField":"GET","boundaryHops":1,"dataField":"","domainNumber":0,"managementId":"PRIORITY1","sdoId":0,"sequenceId":7,"sourcePortIdentity":{"clockIdentity":"0011223344556677","portNumber":1},"startingBoundaryHops":1,"targetPortIdentity":{"clockIdentity":"aabbccfffeddee01","portNumber":65535}}
+{"actionField":"RESPONSE","boundaryHops":0,"displayData":"no","domainNumber":0,"managementErrorId":"WRONG_VALUE","managementId":"PRIORITY1","sdoId":0,"sequenceId":7,"sourcePortIdentity":{"clockIdentity":"aabbccfffeddee01","portNumber":1},"startingBoundaryHops":0,"targetPortIdentity":{"clockIdentity":"0011223344556677","portNumber":1}}
+{"actionField":"ACKNOWLEDGE","boundaryHops":2,"displayData":"","domainNumber":5,"managementErrorId":"0x1234","managementId":"DISABLE_PORT","sdoId":2748,"sequenceId":7,"sourcePortIdentity":{"clockIdentity":"aabbccfffeddee01","portNumber":2},"startingBoundaryHops":3,"targetPortIdentity":{"clockIdentity":"0011223344556677","portNumber":1}}
+{"actionField":"GET","boundaryHops":1,"dataField":"0102","domainNumber":0,"managementId":"2fff","sdoId":0,"sequenceId":7,"sourcePortIdentity":{"clockIdentity":"0011223344556677","portNumber":1},"startingBoundaryHops":1,"targetPortIdentity":{"clockIdentity":"aabbccfffeddee01","portNumber":65535}}
+{"actionField":"RESPONSE","boundaryHops":1,"domainNumber":0,"managementId":"CURRENT_DATA_SET","members":{"meanDelay":655360,"offsetFromMaster":1310720,"stepsRemoved":1},"sdoId":0,"sequenceId":1,"sourcePortIdentity":{"clockIdentity":"020000fffe000002","portNumber":1},"startingBoundaryHops":1,"targetPortIdentity":{"clockIdentity":"020000fffe0000ee","portNumber":1}}
+{"actionField":"RESPONSE","boundaryHops":1,"domainNumber":0,"managementId":"PARENT_DATA_SET","members":{"grandmasterClockQuality":{"clockAccuracy":254,"clockClass":248,"offsetScaledLogVariance":65535},"grandmasterIdentity":"020000fffe000001","grandmasterPriority1":128,"grandmasterPriority2":128,"observedParentClockPhaseChangeRate":2147483647,"observedParentOffsetScaledLogVariance":65535,"parentPortIdentity":{"clockIdentity":"020000fffe000001","portNumber":1},"parentStats":false},"sdoId":0,"sequenceId":1,"sourcePortIdentity":{"clockIdentity":"020000fffe000002","portNumber":1},"startingBoundaryHops":1,"targetPortIdentity":{"clockIdentity":"020000fffe0000ee","portNumber":1}}
+"#;
+
+/// The reply as an object.
+const REPLY_OBJECT: &str =
+    r#"{"actionField":"RESPONSE","boundaryHops":0,"domainNumber":0,"managementId":"PRIORITY1","members":{"priority1":128},"sdoId":0,"sequenceId":7,"sourcePortIdentity":{"clockIdentity":"aabbccfffeddee01","portNumber":1},"startingBoundaryHops":0,"targetPortIdentity":{"clockIdentity":"0011223344556677","portNumber":1}}
+"#;
+
+/// With `--json` each message is an object in a line, in whichever way it comes. A bad line ends it, unless it is passed over.
+#[test]
+fn objects(rt: HostRuntime) -> Result<(), Fail> {
+    let alloc = rt.alloc();
+    let edits = [(3, 0x38), (51, 4), (52, 0x2f), (53, 0xff)];
+    let unknown = edited(alloc, &edits, &[1, 2])?;
+    let input = format!(in alloc; "{REQUEST}\n{REFUSAL}\n{UNNAMED}\n{unknown}\n{FOLLOWER}00\n")?;
+    let words = ["ptpm", "show", "--json", "--lines", "--skip"];
+    let (lines, fault) = (input.as_bytes(), "ptpm: BadLine 7 TooShort\n");
+    ends(&rt, alloc, &words[..4], lines, 1, OBJECTS.as_bytes(), fault);
+    ends(&rt, alloc, &words, lines, 0, OBJECTS.as_bytes(), fault);
+    let words = ["ptpm", "show", "--json", REPLY];
+    prints(&rt, alloc, &words, REPLY_OBJECT.as_bytes());
     Ok(())
 }
 

@@ -1,0 +1,3 @@
+pub mod Tellable
+pub mod Naming
+pub mod NoFloat

@@ -1,0 +1,78 @@
+-- A dataField of the right length has the octets of each ClockQuality.
+use Rattle.std.proofs.Common.{arith, refl, ◌≡◌, ◌≤◌, ◌+◌, ◌==◌, ℕ, Bool, true, List, [], ◌∷◌, length, Option, Some, None}
+use Rattle.std.specs.Prelude.{nat_le}
+use Rattle.std.specs.List.{All, AllByRecursion, list_all}
+use Rattle.std.proofs.lemmas.Bool.{and_parts, eqb-true, leb-true}
+use Rattle.std.proofs.lemmas.List.Elements.{All-from_recursion}
+use Rattle.ptpm_data.specs.declared.management_id.Layout.{Layout}
+use Rattle.ptpm_data.specs.declared.management_id.Layout.TheVariants as layouts
+use Rattle.ptpm_members.specs.declared.forms.Field.{Field}
+use Rattle.ptpm_members.specs.Tables.{field_size, fields_of, is_whole}
+use Rattle.ptpm_members.proofs.Placed.{placed_in}
+use Rattle.ptpm_message_json.specs.DataField.{HasQuality, IsTellable}
+use Rattle.ptpm_message_json.specs.Names.{quality_name}
+
+abbrev HasItsQuality : List ℕ → Field → Type 0
+HasItsQuality octets f = HasQuality (quality_name f.0) f.1 octets
+
+-- whether a ClockQuality at a place ends within so many octets
+abbrev quality_fits : Option (List ℕ) → ℕ → ℕ → Bool
+quality_fits None at size = true
+quality_fits (Some name) at size = nat_le (at + 4) size
+
+quality_there : (name : Option (List ℕ)) (at size : ℕ) (octets : List ℕ) → length octets ≡ size → quality_fits name at size ≡ true
+    → HasQuality name at octets
+quality_there None at size octets long fits = tt
+quality_there (Some name) at size octets long fits =
+    let end : at + 4 ≤ size = leb-true (at + 4) size fits in
+    omega arith
+
+abbrev field_fits : ℕ → Field → Bool
+field_fits size f = quality_fits (quality_name f.0) f.1 size
+
+all_there : (size : ℕ) (octets : List ℕ) (fs : List Field) → length octets ≡ size → list_all (field_fits size) fs ≡ true
+    → AllByRecursion (HasItsQuality octets) fs
+all_there size octets [] long fit = tt
+all_there size octets (f ∷ fs) long fit =
+    let p = and_parts (field_fits size f) _ fit in
+    (quality_there (quality_name f.0) f.1 size octets long p.0, all_there size octets fs long p.1)
+
+by_size : (layout : Layout) (octets : List ℕ) → (length octets == field_size layout) ≡ true
+    → list_all (field_fits (field_size layout)) (fields_of layout) ≡ true
+    → AllByRecursion (HasItsQuality octets) (fields_of layout)
+by_size layout octets whole fit = all_there (field_size layout) octets (fields_of layout) (eqb-true _ _ whole) fit
+
+without : (layout : Layout) (octets : List ℕ) → list_all (field_fits (length octets)) (fields_of layout) ≡ true
+    → AllByRecursion (HasItsQuality octets) (fields_of layout)
+without layout octets fit = all_there (length octets) octets (fields_of layout) refl fit
+
+-- two layouts have a ClockQuality
+by_layout : (layout : Layout) (octets : List ℕ) → is_whole layout octets ≡ true → AllByRecursion (HasItsQuality octets) (fields_of layout)
+unfolding is_whole
+by_layout layouts.DefaultDataSet octets whole = by_size layouts.DefaultDataSet octets whole refl
+by_layout layouts.ParentDataSet octets whole = by_size layouts.ParentDataSet octets whole refl
+by_layout layouts.UserDescription octets whole = without layouts.UserDescription octets refl
+by_layout layouts.CurrentDataSet octets whole = without layouts.CurrentDataSet octets refl
+by_layout layouts.TimePropertiesDataSet octets whole = without layouts.TimePropertiesDataSet octets refl
+by_layout layouts.PortDataSet octets whole = without layouts.PortDataSet octets refl
+by_layout layouts.Priority1 octets whole = without layouts.Priority1 octets refl
+by_layout layouts.Priority2 octets whole = without layouts.Priority2 octets refl
+by_layout layouts.Domain octets whole = without layouts.Domain octets refl
+by_layout layouts.SlaveOnly octets whole = without layouts.SlaveOnly octets refl
+by_layout layouts.LogAnnounceInterval octets whole = without layouts.LogAnnounceInterval octets refl
+by_layout layouts.AnnounceReceiptTimeout octets whole = without layouts.AnnounceReceiptTimeout octets refl
+by_layout layouts.LogSyncInterval octets whole = without layouts.LogSyncInterval octets refl
+by_layout layouts.VersionNumber octets whole = without layouts.VersionNumber octets refl
+by_layout layouts.ClockAccuracy octets whole = without layouts.ClockAccuracy octets refl
+by_layout layouts.UtcProperties octets whole = without layouts.UtcProperties octets refl
+by_layout layouts.DelayMechanism octets whole = without layouts.DelayMechanism octets refl
+by_layout layouts.LogMinPdelayReqInterval octets whole = without layouts.LogMinPdelayReqInterval octets refl
+by_layout layouts.NullPtpManagement octets whole = tt
+by_layout layouts.EnablePort octets whole = tt
+by_layout layouts.DisablePort octets whole = tt
+
+pub tellable_in : (layout : Layout) (octets : List ℕ) → is_whole layout octets ≡ true → All (IsTellable octets) (fields_of layout)
+tellable_in layout octets whole = λ k d h. record {
+  placed = placed_in layout octets whole k d h;
+  quality = All-from_recursion (HasItsQuality octets) (fields_of layout) (by_layout layout octets whole) k d h;
+}

@@ -1,0 +1,96 @@
+//! What is said of a dataField.
+
+ghost use Rattle.std.specs.Prelude.{◌≡◌, IfOk, OnOk};
+ghost use Rattle.std.specs.List.{All};
+ghost use Rattle.serde_json.specs.View.{members_view};
+ghost use Rattle.ptpm_members.specs.FieldText.{members_in};
+ghost use Rattle.ptpm_message_json.specs.DataField.{IsTellable, members_data, put_data_field, put_field};
+
+use crate::names::{is_in_quality, quality_name};
+use crate::sizes::is_whole;
+use crate::values::{member_value, quality_value};
+use ptpm_data::row;
+use ptpm_members::{Field, fields};
+use serde_json::{Map, Value, put};
+use std::alloc::{AllocError, Global};
+
+/// Puts the dataField of an id: `members`, an object of them by the standard's names; or `dataField`, the octets in hexadecimal, if
+/// they are no dataField of that id, or have no member.
+#[tactic(auto, unfolding(crate::specs::DataField::put_data_field))]
+pub(crate) fn put_data_field(
+    alloc: Global,
+    id: u16,
+    octets: &[u8],
+    map: &mut Map<String, Value>,
+) -> Result<(), AllocError>
+    ensures { OnOk result (members_view map.new.entries
+        ≡ put_data_field id octets.now (members_view map.old.entries)) }
+{
+    let members = members_in(id, octets);
+    if members.is_empty() {
+        return put(
+            map,
+            alloc,
+            "dataField",
+            Value::String(hex::encode(alloc, octets)?),
+        );
+    }
+    let members = members_object(alloc, octets, members)?;
+    put(map, alloc, "members", Value::Object(members))
+}
+
+/// The members that the octets have, each at its place; none if they are no dataField of the id.
+#[tactic(auto, unfolding(ptpm_members::specs::FieldText::members_in))]
+fn members_in(id: u16, octets: &[u8]) -> &'static [Field]
+    ensures value { result.now ≡ members_in id octets.now }
+    ensures tellable { All (IsTellable octets.now) result.now }
+{
+    match row(id) {
+        Some(row) if is_whole(row.layout, octets) => fields(row.layout),
+        _ => &[],
+    }
+}
+
+/// An object of members.
+#[tactic(auto, using(std::proofs::lemmas::List::Sums::fold_more), unfolding(crate::specs::DataField::members_data))]
+fn members_object(
+    alloc: Global,
+    octets: &[u8],
+    members: &[Field],
+) -> Result<Map<String, Value>, AllocError>
+    requires { All (IsTellable octets.now) members.now }
+    ensures { IfOk result (λ m. members_view m.entries ≡ members_data octets.now members.now) }
+{
+    let mut map = Map::new(alloc);
+    for member in members {
+        put_member(alloc, octets, *member, &mut map)?;
+    }
+    Ok(map)
+}
+
+/// Puts a member. The first of a ClockQuality comes with the others, as one object.
+#[tactic(auto, unfolding(crate::specs::DataField::put_field))]
+fn put_member(
+    alloc: Global,
+    octets: &[u8],
+    field: Field,
+    map: &mut Map<String, Value>,
+) -> Result<(), AllocError>
+    requires { IsTellable octets.now field }
+    ensures { OnOk result (members_view map.new.entries
+        ≡ put_field octets.now (members_view map.old.entries) field) }
+{
+    let (_, behind) = octets.split_at(usize::from(field.1));
+    if let Some(name) = quality_name(field.0) {
+        return put(map, alloc, name, quality_value(alloc, behind)?);
+    }
+    if is_in_quality(field.0) {
+        return Ok(());
+    }
+    put(
+        map,
+        alloc,
+        field.0.name(),
+        member_value(alloc, field.2, behind)?,
+    )
+}
