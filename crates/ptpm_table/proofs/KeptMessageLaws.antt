@@ -228,15 +228,6 @@ pub first_reads : (of_port : Bool) (sizes octets : List ℕ)
 first_reads of_port [] octets kept some = absurd (omega (arith, some))
 first_reads of_port (s ∷ ss) octets kept some = kept_reads kept.0 of_port (take s octets) kept.1.each.0
 
--- and so are those behind it
-pub rest_kept : (of_port : Bool) (sizes octets : List ℕ)
-    → ((e : Envelope) × IsKeptReply e of_port sizes octets)
-    → 1 ≤ length sizes
-    → (e : Envelope) × IsKeptReply e of_port (drop 1 sizes) (drop (get_or sizes 0 0) octets)
-rest_kept of_port [] octets kept some = absurd (omega (arith, some))
-rest_kept of_port (s ∷ ss) octets kept some =
-    (kept.0, record { cut = subst (AreSizes ss) (sym (length-drop s octets)) kept.1.cut.2; each = kept.1.each.1 })
-
 -- ---- sizes
 
 pub canonical_length : (v : Message)
