@@ -8,7 +8,7 @@ use crate::encoding::MESSAGE_OCTETS;
 use arrayvec::ArrayVec;
 use byteorder::{BigEndian, ByteOrder};
 
-const ZEROS: &[u8; MESSAGE_OCTETS] = &[0; MESSAGE_OCTETS];
+pub(crate) const ZEROS: &[u8; MESSAGE_OCTETS] = &[0; MESSAGE_OCTETS];
 
 /// Appends a copy of these octets. The buffer has room for them after what it holds.
 pub fn put<const N: usize>(buffer: &mut ArrayVec<u8, N>, octets: &[u8])

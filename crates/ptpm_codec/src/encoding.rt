@@ -1,6 +1,7 @@
 //! Messages to octets: the canonical spelling, written in place.
 
 ghost use Rattle.std.specs.Prelude.{◌≡◌, ◌+◌, ◌^◌, ◌<◌, ◌≤◌, ◌++◌, List, length, replicate, ℕ};
+ghost use Rattle.arrayvec.specs.ArrayVec.{array_vec_len};
 ghost use Rattle.byteorder.specs.Endian.{big_bytes};
 ghost use Rattle.ptpm_codec.specs.Canonical.{canonical, error_status_octets, header_octets, management_octets, text_octets, tlv_octets};
 ghost use Rattle.ptpm_codec.specs.Draft.{body_of};
@@ -8,7 +9,7 @@ ghost use Rattle.ptpm_codec.specs.Layout.{message_octets};
 ghost use Rattle.ptpm_codec.specs.Message.{BodyFits, Fits, IsValid, IsValidBody, PortIdentityFits};
 ghost use Rattle.ptpm_codec.specs.Spelling.{Spells};
 
-use crate::buffers::fit;
+use crate::buffers::{ZEROS, fit, put};
 use crate::draft::{Draft, DraftBody};
 use crate::places::{write_at, write_identity, write_u16};
 use crate::ptp_text::{ptp_text_size, write_ptp_text};
@@ -41,6 +42,22 @@ pub fn encode(draft: &Draft<'_>, buffer: &mut Buffer)
 {
     fit(buffer, HEADER_OCTETS + tlv_size(&draft.body));
     encode_in(draft, buffer.as_mut_slice());
+}
+
+/// Appends the canonical spelling of a valid draft; how many octets that is. The buffer has room for them after what it holds.
+/// Takes no memory.
+pub fn encode_behind<const N: usize>(draft: &Draft<'_>, buffer: &mut ArrayVec<u8, N>) -> usize
+    requires valid { IsValid draft.now }
+    requires room { array_vec_len buffer.old + 48 + length (tlv_octets draft.now.body) ≤ N }
+    ensures items { buffer.new.items ≡ buffer.old.items ++ canonical draft.now }
+    ensures size { result ≡ length (canonical draft.now) }
+    ensures fits { Fits draft.now }
+{
+    let start = buffer.len();
+    let size = HEADER_OCTETS + tlv_size(&draft.body);
+    put(buffer, &ZEROS[..size]);
+    encode_in(draft, &mut buffer.as_mut_slice()[start..]);
+    size
 }
 
 /// Writes the canonical spelling of a valid draft over a place of its size.

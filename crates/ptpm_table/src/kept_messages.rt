@@ -17,7 +17,7 @@ use crate::rendering::draft_of;
 use crate::renewal::Renewal;
 use arrayvec::ArrayVec;
 use ptpm_codec::{
-    Action, Buffer, ClockIdentity, Draft, PortIdentity, encode, overwrite_message, put, put_message,
+    Action, ClockIdentity, Draft, PortIdentity, encode_behind, overwrite_message, put_message,
 };
 use ptpm_data::PortAnswer;
 
@@ -91,10 +91,8 @@ fn append_message(draft: &Draft<'_>, sizes: &mut Sizes, messages: &mut Messages)
     ensures messages { messages.new.items ≡ messages.old.items ++ canonical draft.now }
     ensures fits { Fits draft.now }
 {
-    let mut message = Buffer::new();
-    encode(draft, &mut message);
-    sizes.push(message.len() as u8);
-    put(messages, message.as_slice());
+    let size = encode_behind(draft, messages);
+    sizes.push(size as u8);
 }
 
 /// Leaves the messages of a reply's answers, and nothing else.
