@@ -3,12 +3,14 @@
 
 mod describing;
 mod field_text;
+mod formatted;
 mod forms;
 mod laws;
 mod names;
 mod parse_fault_text;
 mod parsing;
 mod tables;
+mod text_sink;
 mod typing;
 mod value_text;
 
@@ -18,6 +20,7 @@ pub use laws::{member_law, typed_again_law};
 pub use names::Member;
 pub use parsing::{ParseFault, parse};
 pub use tables::fields;
+pub use text_sink::TextSink;
 
 #[cfg(test)]
 mod tests;
