@@ -12,12 +12,13 @@ mod tables;
 mod typing;
 mod value_text;
 
-pub use field_text::FieldText;
+pub use field_text::{FieldText, members_in};
 pub use forms::{Field, Form};
 pub use laws::{member_law, typed_again_law};
 pub use names::Member;
 pub use parsing::{ParseFault, parse};
 pub use tables::fields;
+pub use value_text::{mechanism_name, state_name};
 
 #[cfg(test)]
 mod tests;
