@@ -53,7 +53,7 @@ impl fmt::Display for FieldText<'_> {
 
 /// The members that the octets have, each at its place; none if they are no dataField of the id.
 #[tactic(auto, unfolding(crate::specs::FieldText::members_in))]
-fn members_in(id: u16, octets: &[u8]) -> &'static [Field]
+pub fn members_in(id: u16, octets: &[u8]) -> &'static [Field]
     ensures value { result.now ≡ members_in id octets.now }
     ensures placed { All (IsPlaced octets.now) result.now }
 {

@@ -170,7 +170,8 @@ fn flag_name(flag: bool) -> &'static str
     if flag { "true" } else { "false" }
 }
 
-fn state_name(state: PortState) -> &'static str
+/// The standard's name of a port's state (9.2.5, table 10).
+pub fn state_name(state: PortState) -> &'static str
     ensures { result.now ≡ state_name state }
 {
     match state {
@@ -186,7 +187,8 @@ fn state_name(state: PortState) -> &'static str
     }
 }
 
-fn mechanism_name(mechanism: DelayMechanism) -> &'static str
+/// The standard's name of a delay mechanism (8.2.15.4.4, table 21).
+pub fn mechanism_name(mechanism: DelayMechanism) -> &'static str
     ensures { result.now ≡ mechanism_name mechanism }
 {
     match mechanism {
