@@ -1,14 +1,15 @@
 //! The text of a member's value.
 
-ghost use Rattle.std.specs.Prelude.{◌≡◌, ◌<◌, [], ◌∷◌, false};
-ghost use Rattle.std.specs.Fmt.{digit_glyph};
-ghost use Rattle.ptpm_members.specs.ValueText.{HasValue, flag_name, fraction_digits, hexadecimal, interval_text, mechanism_name, mechanism_text, shown_octet, shown_text, state_name, state_text, value_text};
+ghost use Rattle.std.specs.Prelude.{◌≡◌, ◌<◌, [], ◌∷◌, ◌++◌, codes, decimal, false};
+ghost use Rattle.std.specs.Fmt.{digit_glyph, sign_text, signed_decimal};
+ghost use Rattle.std.specs.Int.{is_negative};
+ghost use Rattle.ptpm_members.specs.ValueText.{HasValue, escape, flag_name, fraction_digits, hexadecimal, interval_text, mechanism_name, mechanism_text, shown_octet, shown_text, state_name, state_text, value_text};
 ghost use Rattle.ptpm_codec.specs.Identity.{clock_identity_text, octet_text, port_identity_text};
 
 use crate::forms::Form;
 use crate::text_sink::TextSink;
 use byteorder::{BigEndian, ByteOrder};
-use itoa::{Buffer, Integer};
+use itoa::Buffer;
 use ptpm_codec::{
     ClockIdentity, PortIdentity, clock_identity_at, port_identity_at, text_of_ptp_text,
 };
@@ -20,15 +21,15 @@ pub(crate) fn push_value<T: TextSink>(form: Form, octets: &[u8], sink: &mut T)
     ensures { T.pushed sink.old (value_text form octets.now) sink.new }
 {
     match form {
-        Form::Unsigned(size) => push_number(BigEndian::read_uint(octets, usize::from(size)), sink),
-        Form::Hexadecimal(size) => {
-            sink.push_str("0x");
-            push_hexadecimal(&octets[..usize::from(size)], sink);
-        }
-        Form::Signed(size) => push_number(BigEndian::read_int(octets, usize::from(size)), sink),
+        Form::Unsigned(size) => push_unsigned(
+            BigEndian::read_uint(octets, usize::from(size)),
+            sink,
+        ),
+        Form::Hexadecimal(size) => push_hexadecimal_number(&octets[..usize::from(size)], sink),
+        Form::Signed(size) => push_signed(BigEndian::read_int(octets, usize::from(size)), sink),
         Form::Flag(mask) => sink.push_str(flag_name(octets[0] & mask != 0)),
         Form::EitherFlag => sink.push_str(flag_name(octets[0] % 4 != 0)),
-        Form::LowNibble => push_number(octets[0] % 16, sink),
+        Form::LowNibble => push_unsigned(u64::from(octets[0] % 16), sink),
         Form::TimeInterval => push_interval(BigEndian::read_int(octets, 8), sink),
         Form::ClockIdentity => push_clock_identity(&clock_identity_at(octets, 0), sink),
         Form::PortIdentity => push_port_identity(&port_identity_at(octets, 0), sink),
@@ -38,12 +39,25 @@ pub(crate) fn push_value<T: TextSink>(form: Form, octets: &[u8], sink: &mut T)
     }
 }
 
-/// A number in decimal, with a minus if it is below 0.
-fn push_number<N: Integer, T: TextSink>(number: N, sink: &mut T)
-    ensures { T.pushed sink.old (N.text number) sink.new }
+fn push_unsigned<T: TextSink>(number: u64, sink: &mut T)
+    ensures { T.pushed sink.old (decimal number) sink.new }
 {
     let mut buffer = Buffer::new();
     sink.push_str(buffer.format(number));
+}
+
+fn push_signed<T: TextSink>(number: i64, sink: &mut T)
+    ensures { T.pushed sink.old (signed_decimal number) sink.new }
+{
+    let mut buffer = Buffer::new();
+    sink.push_str(buffer.format(number));
+}
+
+fn push_hexadecimal_number<T: TextSink>(octets: &[u8], sink: &mut T)
+    ensures { T.pushed sink.old (codes "0x" ++ hexadecimal octets.now) sink.new }
+{
+    sink.push_str("0x");
+    push_hexadecimal(octets, sink);
 }
 
 /// Each octet in two hexadecimal digits, in lower case.
@@ -76,6 +90,7 @@ fn push_digit<T: TextSink>(digit: u8, sink: &mut T)
     });
 }
 
+#[tactic(auto, unfolding(ptpm_codec::specs::Identity::clock_identity_text, crate::specs::ValueText::hexadecimal))]
 fn push_clock_identity<T: TextSink>(clock: &ClockIdentity, sink: &mut T)
     ensures { T.pushed sink.old (clock_identity_text clock.now.0) sink.new }
 {
@@ -88,7 +103,7 @@ fn push_port_identity<T: TextSink>(identity: &PortIdentity, sink: &mut T)
 {
     push_clock_identity(&identity.clock, sink);
     sink.push_str("/");
-    push_number(identity.port, sink);
+    push_unsigned(u64::from(identity.port), sink);
 }
 
 /// A TimeInterval in nanoseconds, with all digits of their fraction.
@@ -97,12 +112,19 @@ fn push_interval<T: TextSink>(interval: i64, sink: &mut T)
     ensures { T.pushed sink.old (interval_text interval) sink.new }
 {
     let size = interval.unsigned_abs();
-    if interval < 0 {
-        sink.push_str("-");
-    }
-    push_number(size / 65536, sink);
+    push_sign(interval, sink);
+    push_unsigned(size / 65536, sink);
     sink.push_str(".");
     push_fraction(16, (size % 65536) as u32, sink);
+}
+
+/// A minus before a number below 0.
+fn push_sign<T: TextSink>(number: i64, sink: &mut T)
+    ensures { T.pushed sink.old (sign_text (is_negative number)) sink.new }
+{
+    if number < 0 {
+        sink.push_str("-");
+    }
 }
 
 /// The digits of so many 65536ths, a number of them at most.
@@ -114,7 +136,7 @@ fn push_fraction<T: TextSink>(digits: u8, number: u32, sink: &mut T)
     if digits == 0 {
         return;
     }
-    push_number(number * 10 / 65536, sink);
+    push_unsigned(u64::from(number * 10 / 65536), sink);
     match number * 10 % 65536 {
         0 => {}
         rest => push_fraction(digits - 1, rest, sink),
@@ -128,7 +150,7 @@ fn push_state<T: TextSink>(number: u8, sink: &mut T)
 {
     match PortState::from_number(number) {
         Some(state) => sink.push_str(state_name(state)),
-        None => push_number(number, sink),
+        None => push_unsigned(u64::from(number), sink),
     }
 }
 
@@ -139,7 +161,7 @@ fn push_mechanism<T: TextSink>(number: u8, sink: &mut T)
 {
     match DelayMechanism::from_number(number) {
         Some(mechanism) => sink.push_str(mechanism_name(mechanism)),
-        None => push_number(number, sink),
+        None => push_unsigned(u64::from(number), sink),
     }
 }
 
@@ -159,9 +181,16 @@ fn push_shown<T: TextSink>(octet: u8, sink: &mut T)
     if (0x20..=0x7e).contains(&octet) && octet != b'\\' {
         sink.push_ascii(octet);
     } else {
-        sink.push_str("\\x");
-        push_digits(octet, sink);
+        push_escape(octet, sink);
     }
+}
+
+/// An octet as an escape: a backslash, an x and two hexadecimal digits.
+fn push_escape<T: TextSink>(octet: u8, sink: &mut T)
+    ensures { T.pushed sink.old (escape octet) sink.new }
+{
+    sink.push_str("\\x");
+    push_digits(octet, sink);
 }
 
 fn flag_name(flag: bool) -> &'static str
