@@ -4,7 +4,6 @@
 mod data_field;
 mod message;
 mod names;
-mod sizes;
 mod values;
 
 pub use message::message_text;
