@@ -1,6 +1,6 @@
 //! A datagram in a line, after the columns of a tool that printed it.
 
-ghost use Rattle.std.specs.Prelude.{◌≡◌, ◌⊎◌, ◌++◌, ◌∷◌, [], IfErr, IfOk, map, option_map};
+ghost use Rattle.std.specs.Prelude.{◌≡◌, ◌⊎◌, ◌<◌, ◌++◌, ◌∷◌, [], IfErr, IfNone, IfOk, IfSome, length, map, option_map};
 ghost use Rattle.ptpm_commands.specs.Columns.{HasNoDatagram, IsRow, cells};
 
 use crate::datagram_line::datagram_of;
@@ -34,9 +34,18 @@ fn cells<'a>(alloc: Global, line: &'a str) -> Result<(Vec<&'a str>, &'a str), Al
 {
     let mut columns = Vec::new(alloc);
     let mut rest = line;
-    while let Some((column, behind)) = rest.split_once('\t') {
+    while let Some((column, behind)) = first_cell(rest) {
         columns.push(column)?;
         rest = behind;
     }
     Ok((columns, rest))
+}
+
+/// The text before the first tab, and what is after it; none if there is no tab.
+fn first_cell(line: &str) -> Option<(&str, &str)>
+    ensures none { IfNone result (cells line.now ≡ line.now ∷ []) }
+    ensures some { IfSome result (λ r. cells line.now ≡ r.0.now ∷ cells r.1.now) }
+    ensures shorter { IfSome result (λ r. length r.1.now < length line.now) }
+{
+    line.split_once('\t')
 }
