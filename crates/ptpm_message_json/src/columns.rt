@@ -13,15 +13,20 @@ use std::alloc::{AllocError, Global};
 pub(crate) fn put_columns(
     alloc: Global,
     columns: &[&str],
-    map: &mut Map<String, Value>,
+    object: &mut Map<String, Value>,
 ) -> Result<(), AllocError>
-    ensures { OnOk result (members_view map.new.entries
-        ≡ put_columns (map (λ c. c.now) columns.now) (members_view map.old.entries)) }
+    ensures { OnOk result (members_view object.new.entries
+        ≡ put_columns (map (λ c. c.now) columns.now) (members_view object.old.entries)) }
 {
     if columns.is_empty() {
         return Ok(());
     }
-    put(map, alloc, "columns", Value::Array(texts(alloc, columns)?))
+    put(
+        object,
+        alloc,
+        "columns",
+        Value::Array(texts(alloc, columns)?),
+    )
 }
 
 fn texts(alloc: Global, texts: &[&str]) -> Result<Vec<Value>, AllocError>
