@@ -1,8 +1,8 @@
 -- What a text leaves in the octets of the caller.
-use Rattle.std.proofs.Common.{arith, ◌≡◌, ◌++◌, ◌≤◌, ◌<◌, ℕ, List, [], None, Option, Some, drop, length, ◌+◌, take, length-append, length-drop, refl}
+use Rattle.std.proofs.Common.{arith, ◌≡◌, ◌++◌, ◌≤◌, ℕ, List, [], None, Option, Some, drop, length, ◌+◌, take, length-append, length-drop, refl}
 use Rattle.std.proofs.lemmas.List.{append_assoc, take-append-le, take_all}
 use Rattle.std.proofs.lemmas.Slice.{drop-append-drop}
-use Rattle.ptpm_host.specs.Texts.{HandsOut, IsHandedOut, IsPut, KeepsText, put_in}
+use Rattle.ptpm_host.specs.Texts.{HandsOut, IsPut, KeepsText, put_in}
 
 take_front : (n : ℕ) (octets xs ys : List ℕ) → n ≡ length xs → octets ≡ xs ++ ys → take n octets ≡ xs
 take_front n octets xs ys size is = grind (arith, take-append-le n xs ys, take_all n xs, size, is)

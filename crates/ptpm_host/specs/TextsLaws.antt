@@ -1,5 +1,5 @@
 -- One text is handed out after another.
-use Rattle.std.specs.Prelude.{ℕ, List, [], Option, ◌++◌, ◌≡◌}
+use Rattle.std.specs.Prelude.{ℕ, List, [], Option, ◌++◌}
 use Rattle.std.proofs.Common.{append-nil, append_assoc, subst, sym}
 use Rattle.ptpm_host.specs.Texts.{HandsOut, KeepsText}
 

@@ -1,7 +1,6 @@
 use Rattle.std.proofs.Common.{[], ◌≡◌, ◌≢◌, ◌<◌, ℕ, List, Option, None, Some, arith, length, refl, unwrap_or}
 use Rattle.ptpm_host.specs.Texts.{HandsOut}
 use Rattle.ptpm_members.proofs.LineLemmas.{text_length}
-use Rattle.ptpm_members.specs.FieldText.{field_text}
 use Rattle.ptpm_c.proofs.fields.ptpm_field_text.Goals as goal
 
 some_lines : (text : List ℕ) (size : Option ℕ) (before after : List ℕ) → HandsOut text size before after
