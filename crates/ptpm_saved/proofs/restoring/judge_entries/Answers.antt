@@ -1,7 +1,8 @@
+use Rattle.std.proofs.Common.{arith}
+use Rattle.std.proofs.lemmas.Bool.{false≢true}
+use Rattle.ptpm_saved.specs.Reading.{entry_read}
+use Rattle.ptpm_saved.proofs.RestoringLemmas.{cut_short, empty_of, found_whole, none_read, not_empty, out_of_order, read_on, read_whole}
 use Rattle.ptpm_saved.proofs.restoring.judge_entries.Goals as goal
 
-pub returns-in_err-gone-clause-found : goal.returns-in_err-gone-clause-found
-returns-in_err-gone-clause-found c = λ es entries size is. absurd (c.in_err-gone.ensures.found es entries size is)
-
-pub returns-clause-sound : goal.returns-clause-sound
-returns-clause-sound c = let r = c.in_ok-gone.ensures.sound in (r.0, r.1, r.2, r.3)
+pub loop-place-init : goal.loop-place-init
+loop-place-init c = none_read c.args.entries.now.octets.now c.args.entries.now.count
