@@ -59,6 +59,3 @@ pub use survey_settings::SurveySettings;
 pub use texts::hand_out_text;
 pub use told::Told;
 pub use version::VERSION_NUMBER;
-
-#[cfg(test)]
-mod tests;

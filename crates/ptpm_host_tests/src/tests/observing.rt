@@ -1,8 +1,8 @@
 //! What a host observes of its clock is what a GET then reads, and each reason to refuse it is named in its turn.
 
 use super::{COMMAND, MANAGER};
-use crate::*;
 use ptpm_agent::Verdict;
+use ptpm_host::*;
 use std::process::Abort;
 
 /// GET CURRENT_DATA_SET, number 7, of the manager to the clock, at every port.

@@ -1,6 +1,6 @@
 //! What a picture says, and that a wrong script has none.
 
-use crate::{Chosen, draw};
+use ptpm_draw::{Chosen, draw};
 use ptpm_world::{EventError, ScriptError};
 use std::alloc::Global;
 use std::test::Fail;

@@ -2,9 +2,9 @@
 //! a change.
 
 use super::{MANAGER, REPLY, REQUEST, SET_PRIORITY1};
-use crate::*;
 use ptpm_agent::Verdict;
 use ptpm_data::{ChangedMembers, ClockMembers};
+use ptpm_host::*;
 
 /// GET PRIORITY1, number 7, of the manager to the clock aabbccfffeddee02, at every port: 1 hop of 2 is left.
 const TO_ANOTHER: &[u8; 54] = b"\x0d\x12\x00\x36\x00\x00\

@@ -1,7 +1,7 @@
 //! A survey of PRIORITY1 among answers from outside.
 
 use super::{CLOCK, DONE, MANAGER_CLOCK, REPLY, REQUEST};
-use crate::*;
+use ptpm_host::*;
 
 /// GET PRIORITY1, number 7, of the manager to every clock, at every port.
 const ENQUIRY: &[u8; 54] = b"\x0d\x12\x00\x36\x00\x00\

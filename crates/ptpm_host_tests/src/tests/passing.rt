@@ -1,7 +1,7 @@
 //! What a host keeps from its network: which messages it passed on, and how many tokens it has left.
 
 use super::{COMMAND, REQUEST};
-use crate::*;
+use ptpm_host::*;
 
 /// How many of some tokens a bucket gives, one after another.
 fn takes(bucket: &mut Rate, now: u64, asked: u32) -> u32 {

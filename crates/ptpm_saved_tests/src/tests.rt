@@ -3,11 +3,11 @@
 ghost use Rattle.std.specs.Prelude.{◌≡◌};
 ghost use Rattle.std.specs.FinMap as fin;
 
-use crate::*;
 use arrayvec::ArrayVec;
 use ptpm_agent::{Agent, Verdict};
 use ptpm_codec::{ClockIdentity, PortIdentity};
 use ptpm_data::Rights;
+use ptpm_saved::*;
 use ptpm_table::{Outbox, ReplyTable, SlotTable};
 use std::process::Abort;
 

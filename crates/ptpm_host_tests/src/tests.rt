@@ -7,8 +7,8 @@ mod requests;
 mod restoring;
 mod surveys;
 
-use crate::*;
 use ptpm_agent::Verdict;
+use ptpm_host::*;
 use ptpm_manager::{BeginError, SendError};
 use std::alloc::Global;
 use std::process::Abort;
