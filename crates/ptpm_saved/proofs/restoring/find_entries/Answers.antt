@@ -1,4 +1,4 @@
-use Rattle.std.proofs.Common.{◌≡◌, ◌∷◌, ◌∙◌, arith, ap, drop, length, refl, subst, sym, ℕ, List}
+use Rattle.std.proofs.Common.{◌∷◌, ◌∙◌, arith, drop, length, refl, subst, sym}
 use Rattle.std.proofs.lemmas.Option.{same_Some}
 use Rattle.ptpm_data.specs.Image.{BeginsWithImage, data_sets_octets}
 use Rattle.ptpm_saved.specs.Image.{entries_image}

@@ -1,7 +1,6 @@
-use Rattle.std.proofs.Common.{◌≡◌, ◌<◌, ◌∙◌, ap, arith, length, refl}
+use Rattle.std.proofs.Common.{◌<◌, ◌∙◌, ap, arith, length, refl}
 use Rattle.ptpm_table.specs.Entries.{is_known}
 use Rattle.ptpm_table.specs.Managers.{Clock}
-use Rattle.ptpm_saved.specs.Image.{entries_image}
 use Rattle.ptpm_saved.specs.Reading.{entry_read}
 use Rattle.ptpm_saved.specs.Restoring.{kept_by}
 use Rattle.ptpm_saved.proofs.EntryOrder.{Pair}
