@@ -19,3 +19,4 @@ pub mod Standing
 pub mod Swapping
 pub mod Telling
 pub mod Tree
+pub mod Walks
