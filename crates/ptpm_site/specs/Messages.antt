@@ -66,3 +66,34 @@ data_told id.CurrentDataSet m = option_map Current (current_read (octets_of m.bo
 data_told id.ParentDataSet m = option_map Parent (parent_read (octets_of m.body))
 data_told id.TimePropertiesDataSet m = option_map Time (time_read (octets_of m.body))
 data_told id.PortDataSet m = port_told_by m (port_read (octets_of m.body))
+
+-- a MANAGEMENT_ERROR_STATUS refuses the id (15.5.4)
+unfoldable pub content_told : Asked → Message → Option Content
+content_told a m = if is_some (error_of m.body) then Some (Refused a) else data_told a m
+
+-- ---- whose an answer is, and which request it came to
+
+abbrev pub source_of : Message → Source
+source_of m = record { domain = m.domain; clock = m.source.clock }
+
+abbrev pub request_of : Message → Request
+request_of m = record { target = m.target; number = m.number }
+
+pub record Answered : Type 0 where
+  pub source : Source
+  pub request : Request
+  pub content : Content
+
+abbrev pub answered : Answer → Answered
+answered a = record { source = a.source; request = a.request; content = content a.told }
+
+abbrev pub is_response : Action → Bool
+is_response action.Response = true
+is_response _ = false
+
+-- the answer that a message is: a RESPONSE to one of the six that tells something
+unfoldable pub answer_of : Message → Option Answered
+answer_of m =
+    if is_response (action_of m.body)
+    then option_and_then (λ a. option_map (λ c. record { source = source_of m; request = request_of m; content = c }) (content_told a m)) (asked_of (id_of m.body))
+    else None
