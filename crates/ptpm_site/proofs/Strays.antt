@@ -1,11 +1,11 @@
 -- Which places lead a loop: a walk from one comes back to it, and passes none that is less.
-use Rattle.std.proofs.Common.{◌≡◌, ℕ, zero, suc, ◌+◌, ◌<◌, ◌≤◌, Bool, true, false, cond, eqb, ltb, List, [], ◌∷◌, ◌++◌, length, get_or, Option, Some, None, ◌⊎◌, ⊎_elim, inl, inr, refl, sym, ap, subst, ◌∙◌, arith}
+use Rattle.std.proofs.Common.{◌≡◌, ℕ, zero, suc, ◌+◌, ◌<◌, ◌≤◌, Bool, true, false, cond, eqb, ltb, List, length, get_or, Option, Some, None, ◌⊎◌, ⊎_elim, inl, inr, refl, sym, ap, subst, ◌∙◌, arith}
 use Rattle.std.proofs.lemmas.Bool.{cases_eq, cases_lt}
 use Rattle.std.proofs.lemmas.Bool.Decides.{nat_tests}
-use Rattle.std.proofs.lemmas.Option.{none-some, same_Some}
+use Rattle.std.proofs.lemmas.Option.{same_Some}
 use Rattle.std.specs.Option.{option_map_or}
-use Rattle.ptpm_site.specs.Loops.{AreWithin, comes_back, is_least}
-use Rattle.ptpm_site.specs.Walks.{AreNumbered, IsPassed, Walked}
+use Rattle.ptpm_site.specs.Loops.{comes_back, is_least}
+use Rattle.ptpm_site.specs.Walks.{AreNumbered, Walked}
 use Rattle.ptpm_site.proofs.Passing.{same_index}
 
 abbrev pub follows : List (Option ℕ) → ℕ → Option ℕ

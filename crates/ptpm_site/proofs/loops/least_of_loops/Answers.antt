@@ -1,5 +1,5 @@
 -- Each walk passes its first place, and marks the least place of a loop that it finds.
-use Rattle.std.proofs.Common.{◌≡◌, ℕ, ◌<◌, ◌≤◌, true, Some, None, Vec, Bool, length, get_or, set, vec_len, sym, ap, subst, arith}
+use Rattle.std.proofs.Common.{◌≡◌, ◌<◌, true, Some, None, Vec, Bool, length, set, vec_len, sym, ap, subst, arith}
 use Rattle.ptpm_site.specs.Walks.{Walked}
 use Rattle.ptpm_site.proofs.Marking.{AreTold, AreTold-all, AreTold-round, AreTold-straight, IsClosed-more, IsPassed-next}
 use Rattle.ptpm_site.proofs.loops.least_of_loops.Goals as goal

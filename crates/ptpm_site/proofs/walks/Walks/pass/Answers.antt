@@ -1,5 +1,5 @@
 -- The place has its number.
-use Rattle.std.proofs.Common.{◌≡◌, ◌<◌, ◌++◌, ◌∷◌, [], Some, length, set, ap, subst, arith}
+use Rattle.std.proofs.Common.{◌≡◌, ◌<◌, ◌++◌, ◌∷◌, [], Some, length, set, subst, arith}
 use Rattle.ptpm_site.specs.Walks.{AreNumbered}
 use Rattle.ptpm_site.proofs.Passing.{AreNumbered-pass}
 use Rattle.ptpm_site.proofs.walks.Walks.pass.Goals as goal

@@ -1,5 +1,5 @@
 -- A walk begins, goes on, and ends at a place that was passed, or that follows none.
-use Rattle.std.proofs.Common.{◌≡◌, ◌≤◌, Some, None, Option, ℕ, get_or, length, length-set, sym, ap, arith}
+use Rattle.std.proofs.Common.{◌≤◌, Option, ℕ, length, length-set, sym, ap, arith}
 use Rattle.ptpm_site.proofs.Passing.{Walked-out, Walked-round, Walking-begin, Walking-more}
 use Rattle.ptpm_site.proofs.walks.Walks.walk.Goals as goal
 

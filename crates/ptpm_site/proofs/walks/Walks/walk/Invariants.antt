@@ -1,5 +1,5 @@
 -- The walk is on its way; each step passes one of the places that were not passed.
-use Rattle.std.proofs.Common.{◌≡◌, ℕ, ◌<◌, cond, length, vec_len, sum_by}
+use Rattle.std.proofs.Common.{◌≡◌, ◌<◌, cond, length, vec_len, sum_by}
 use Rattle.std.specs.Option.{is_some}
 use Rattle.ptpm_site.proofs.Passing.{Walking}
 use Rattle.ptpm_site.proofs.walks.Walks.walk.Given as goal
