@@ -164,7 +164,7 @@ static void answer_by_ring(void) {
 int main(int argc, char **argv) {
     const char *what;
     if (argc != 4 || identity_at(argv[2], own) == NULL) usage();
-    at = open_udp(argv[1], 0, &what);
+    at = open_udp(argv[1], 0, EVERY_MESSAGE, &what);
     if (at < 0) give_up(what);
     to_size = group(&to, 0);
     if (strcmp(argv[3], "calls") == 0) answer_by_calls();

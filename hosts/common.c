@@ -6,6 +6,7 @@
 #include <errno.h>
 #include <libgen.h>
 #include <limits.h>
+#include <linux/filter.h>
 #include <net/if.h>
 #include <stdio.h>
 #include <stdlib.h>
@@ -103,6 +104,22 @@ socklen_t group(struct sockaddr_storage *to, int is_six) {
     return sizeof *four;
 }
 
+enum { UDP_HEAD = 8, MESSAGE_TYPE = 0x0f, MANAGEMENT = 0xd };
+
+/* Of datagrams, which begin with their UDP header here, those whose messageType is 0xD. An empty one has none. */
+static const struct sock_filter wanted[] = {
+    BPF_STMT(BPF_LD | BPF_B | BPF_ABS, UDP_HEAD),
+    BPF_STMT(BPF_ALU | BPF_AND | BPF_K, MESSAGE_TYPE),
+    BPF_JUMP(BPF_JMP | BPF_JEQ | BPF_K, MANAGEMENT, 1, 0),
+    BPF_STMT(BPF_RET | BPF_K, 0),
+    BPF_STMT(BPF_RET | BPF_K, 65535),
+};
+
+static int filters(int at, const char **what) {
+    const struct sock_fprog filter = { .len = sizeof wanted / sizeof *wanted, .filter = (struct sock_filter *)wanted };
+    return set_option(at, SOL_SOCKET, SO_ATTACH_FILTER, &filter, sizeof filter, what, "SO_ATTACH_FILTER");
+}
+
 static int joins_four(int at, const struct sockaddr_in *address, unsigned interface, const char **what) {
     int none = 0;
     struct sockaddr_in any = { .sin_family = AF_INET, .sin_port = htons(GENERAL_PORT) };
@@ -126,21 +143,23 @@ static int joins_six(int at, const struct sockaddr_in6 *address, unsigned interf
            && set_option(at, IPPROTO_IPV6, IPV6_MULTICAST_LOOP, &none, sizeof none, what, "IPV6_MULTICAST_LOOP");
 }
 
-static int joins(int at, const char *interface, int is_six, const char **what) {
+/* The socket hears nothing until it is bound, and by then it has its filter. */
+static int joins(int at, const char *interface, int is_six, enum messages messages, const char **what) {
     int one = 1;
     unsigned index = if_nametoindex(interface);
     struct sockaddr_storage to;
     group(&to, is_six);
-    return index != 0 && set_option(at, SOL_SOCKET, SO_REUSEADDR, &one, sizeof one, what, "SO_REUSEADDR")
+    return index != 0 && (messages == EVERY_MESSAGE || filters(at, what))
+           && set_option(at, SOL_SOCKET, SO_REUSEADDR, &one, sizeof one, what, "SO_REUSEADDR")
            && set_option(at, SOL_SOCKET, SO_BINDTODEVICE, interface, strlen(interface) + 1, what, "SO_BINDTODEVICE")
            && (is_six ? joins_six(at, (struct sockaddr_in6 *)&to, index, what)
                       : joins_four(at, (struct sockaddr_in *)&to, index, what));
 }
 
-int open_udp(const char *interface, int is_six, const char **what) {
+int open_udp(const char *interface, int is_six, enum messages messages, const char **what) {
     *what = interface;
     int at = socket(is_six ? AF_INET6 : AF_INET, SOCK_DGRAM | SOCK_CLOEXEC, 0);
-    if (at < 0 || joins(at, interface, is_six, what)) return at;
+    if (at < 0 || joins(at, interface, is_six, messages, what)) return at;
     int failure = errno;
     close(at);
     errno = failure;

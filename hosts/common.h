@@ -41,9 +41,12 @@ int wait_for(struct pollfd *waits, nfds_t count, long milliseconds);
 long milliseconds(void);
 long nanoseconds(void);
 
+/* What a socket hears. The kernel drops the rest before the program wakes, and counts it as errors of UDP. */
+enum messages { EVERY_MESSAGE, MANAGEMENT_MESSAGES };
+
 /* A socket at UDP port 320 of an interface, in the group of PTP there (IEEE 1588-2019, annexes C and D). It hears nothing of
    what this host sends. -1 if it can't be made: errno says why, and *what at which step. */
-int open_udp(const char *interface, int is_six, const char **what);
+int open_udp(const char *interface, int is_six, enum messages messages, const char **what);
 
 /* Which right it takes to open such a socket, or one of Ethernet, as a text that follows that of errno. It is empty if errno is
    about no right. */

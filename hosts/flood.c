@@ -95,7 +95,7 @@ int main(int argc, char **argv) {
     if (argc != 5 || identity_at(argv[2], request + TARGET) == NULL) usage();
     long rate = decimal(argv[3], 1000000), seconds = decimal(argv[4], 1000);
     if (rate < 0 || seconds < 1) usage();
-    at = open_udp(argv[1], 0, &what);
+    at = open_udp(argv[1], 0, EVERY_MESSAGE, &what);
     if (at < 0) give_up(what);
     setsockopt(at, SOL_SOCKET, SO_RCVBUFFORCE, &room, sizeof room);
     to_size = group(&to, 0);

@@ -73,7 +73,7 @@ int main(int argc, char **argv) {
     enum kind kind = kind_named(argv[2]);
     long rate = decimal(argv[3], 1000000), seconds = decimal(argv[4], 1000), sent = 0;
     if (rate < 1 || seconds < 1) usage();
-    int at = open_udp(argv[1], 0, &what);
+    int at = open_udp(argv[1], 0, EVERY_MESSAGE, &what);
     if (at < 0) give_up(what);
     long begin = nanoseconds(), end = begin + seconds * 1000000000;
     for (long now; (now = nanoseconds()) < end;) {

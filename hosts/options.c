@@ -54,7 +54,7 @@ static const char help[] =
     "  -o FILE             what the clock observes, like a servo: a file, which is read at the start and whenever it is\n"
     "                      written, or a pipe. Lines are for example: offset_from_master 98304, or: port 1 state 9\n"
     "  -n SECONDS          it ends by itself then\n"
-    "  -v                  a line for each datagram, and one for what it changed\n"
+    "  -v                  a line for each datagram that it hears, and one for what it changed\n"
     "  --user NAME         the user that it becomes once its sockets are open\n"
     "  --no-filter         no system call is refused, for example for a debugger\n"
     "  -h, --help          this text\n"

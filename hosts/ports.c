@@ -23,7 +23,7 @@ static int is_hurried;          /* the kernel reported a change */
 static int open_socket(struct port *port, const char **what) {
     int one = 1;
     if (transport == ETHERNET) return open_ethernet(port->name, port->station, what);
-    int at = open_udp(port->name, transport == UDP_IPV6, what);
+    int at = open_udp(port->name, transport == UDP_IPV6, MANAGEMENT_MESSAGES, what);
     if (at >= 0 && transport == UDP_IPV4) setsockopt(at, IPPROTO_IP, IP_PKTINFO, &one, sizeof one);
     if (at >= 0 && transport == UDP_IPV6) setsockopt(at, IPPROTO_IPV6, IPV6_RECVPKTINFO, &one, sizeof one);
     return at;

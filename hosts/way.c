@@ -130,7 +130,7 @@ void find_way(struct task *task) {
 
 static void open_at_interface(struct end *end) {
     const char *what;
-    end->at = is_ethernet ? open_ethernet(end->interface, end->station, &what) : open_udp(end->interface, is_six, &what);
+    end->at = is_ethernet ? open_ethernet(end->interface, end->station, &what) : open_udp(end->interface, is_six, EVERY_MESSAGE, &what);
     if (end->at < 0) refuse("nothing was sent: %s: %s%s", what, strerror(errno), right_needed(is_ethernet));
 }
 
