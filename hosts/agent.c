@@ -1,6 +1,7 @@
 #define _GNU_SOURCE
 #include "agent.h"
 #include "counts.h"
+#include "field_lines.h"
 #include "identity.h"
 #include "names.h"
 #include "observation.h"
@@ -35,13 +36,14 @@ static uint8_t domain(void) {
     return ptpm_clock_read(&clock_held, PTPM_ID_DOMAIN, 0, octets, sizeof octets, &size) == PTPM_READ ? *octets : 0;
 }
 
-/* The portState that a GET of PORT_DATA_SET shows. */
+/* The portState that a GET of PORT_DATA_SET shows, by its name. */
 static const char *state_of(size_t port) {
-    enum { PORT_STATE = 10 };
+    static struct field_lines lines;
     uint8_t octets[PTPM_MOST_READ];
     size_t size;
     if (ptpm_clock_read(&clock_held, PTPM_ID_PORT_DATA_SET, (uint16_t)port, octets, sizeof octets, &size) != PTPM_READ) return "?";
-    const char *name = state_name(octets[PORT_STATE]);
+    start_lines(&lines, PTPM_ID_PORT_DATA_SET, octets, size);
+    const char *name = value_of(&lines, "portState");
     return name != NULL ? name : "?";
 }
 

@@ -21,16 +21,6 @@ int has_no_member(uint16_t id) {
     return ptpm_field_parse(id, "", 0, octets, sizeof octets, &count, &place) == PTPM_PARSED;
 }
 
-/* Takes the members of an id, with the values of a dataField in which no bit is set. */
-static void start_members(struct field_lines *lines, uint16_t id) {
-    static const uint8_t zeros[PTPM_MOST_READ];
-    for (size_t size = 2; size < sizeof zeros; size += 2) {
-        start_lines(lines, id, zeros, size);
-        if (strncmp(lines->text, "value ", 6) != 0) return;
-    }
-    *lines->text = '\0';
-}
-
 /* The member at a place, from 0 on; whether there is one. */
 static int member_at(struct field_lines *lines, uint16_t id, size_t place, struct member *member) {
     start_members(lines, id);

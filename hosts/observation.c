@@ -1,5 +1,6 @@
 #define _GNU_SOURCE
 #include "observation.h"
+#include "field_lines.h"
 #include "identity.h"
 #include "interval.h"
 #include "names.h"
@@ -13,11 +14,11 @@
 /* How a member is written. */
 enum kind { UNSIGNED, SIGNED, INTERVAL, FLAG, IDENTITY, STATE };
 
-enum { MOST_WORDS = 5, NO_FLAG = 0xffff, INTERVAL_TEXT = 64 };
+enum { MOST_WORDS = 5, MOST_NAMES = 64, NO_FLAG = 0xffff, INTERVAL_TEXT = 64 };
 
 /* A member of a struct. It has its name there, and the standard's name, by which ptpm-manage prints it. It has its place, and the
    place of the flag that says that it is given. */
-struct member { const char *name, *printed; size_t at, size, flag; enum kind kind; };
+struct observed_member { const char *name, *printed; size_t at, size, flag; enum kind kind; };
 
 #define PLACE(what, name) offsetof(struct what, name), sizeof ((struct what *)0)->name
 #define OF_CLOCK(name, printed, kind) \
@@ -26,7 +27,7 @@ struct member { const char *name, *printed; size_t at, size, flag; enum kind kin
 #define OF_PORT(name, printed, kind) \
     { #name, printed, PLACE(ptpm_observed_port, name), offsetof(struct ptpm_observed_port, has_##name), kind }
 
-static const struct member members_of_clock[] = {
+static const struct observed_member members_of_clock[] = {
     OF_CLOCK(clock_class, "clockQuality.clockClass", UNSIGNED), OF_CLOCK(clock_accuracy, "clockQuality.clockAccuracy", UNSIGNED),
     OF_CLOCK(variance, "clockQuality.offsetScaledLogVariance", UNSIGNED), OF_CLOCK(steps_removed, "stepsRemoved", UNSIGNED),
     OF_CLOCK(offset_from_master, "offsetFromMaster", INTERVAL), OF_CLOCK(mean_path_delay, "meanDelay", INTERVAL),
@@ -40,7 +41,7 @@ static const struct member members_of_clock[] = {
 
 /* These are given together, the last two also by the one parentPortIdentity. */
 enum { PARENT_PORT_CLOCK = 6, PARENT_PORT_NUMBER };
-static const struct member members_of_grandmaster[] = {
+static const struct observed_member members_of_grandmaster[] = {
     OF_GRANDMASTER(grandmaster, "grandmasterIdentity", IDENTITY),
     OF_GRANDMASTER(grandmaster_priority1, "grandmasterPriority1", UNSIGNED),
     OF_GRANDMASTER(grandmaster_class, "grandmasterClockQuality.clockClass", UNSIGNED),
@@ -50,29 +51,45 @@ static const struct member members_of_grandmaster[] = {
     OF_GRANDMASTER(parent_port_clock, "", IDENTITY), OF_GRANDMASTER(parent_port_number, "", UNSIGNED), { 0 },
 };
 
-static const struct member members_of_port[] = {
+static const struct observed_member members_of_port[] = {
     OF_PORT(state, "portState", STATE), OF_PORT(peer_delay, "meanLinkDelay", INTERVAL), { 0 },
 };
 
-/* What ptpm-manage prints of a clock and of a port beside what is observed. Some of it managers set, and the rest stays. */
-static const char *const not_observed[] = {
-    "twoStepFlag", "slaveOnly", "numberPorts", "priority1", "priority2", "clockIdentity", "domainNumber", "logMinDelayReqInterval",
-    "logAnnounceInterval", "announceReceiptTimeout", "logSyncInterval", "delayMechanism", "logMinPdelayReqInterval", "versionNumber",
-    NULL,
-};
-
 /* The place of a member in its list, by either name; -1 if it is not there. */
-static int place_of(const struct member *members, const char *name) {
+static int place_of(const struct observed_member *members, const char *name) {
     for (int k = 0; members[k].name != NULL; k++) {
         if (strcmp(members[k].name, name) == 0 || strcmp(members[k].printed, name) == 0) return k;
     }
     return -1;
 }
 
+static int is_observed(const char *name) {
+    return place_of(members_of_clock, name) >= 0 || place_of(members_of_grandmaster, name) >= 0
+           || place_of(members_of_port, name) >= 0 || strcmp(name, "portIdentity") == 0 || strcmp(name, "parentPortIdentity") == 0;
+}
+
+/* The names by which ptpm-manage prints the members of the data sets. The library is asked for them once. */
+static const char *const *printed_names(void) {
+    static const uint16_t data_sets[] = {
+        PTPM_ID_DEFAULT_DATA_SET, PTPM_ID_CURRENT_DATA_SET, PTPM_ID_PARENT_DATA_SET, PTPM_ID_TIME_PROPERTIES_DATA_SET,
+        PTPM_ID_PORT_DATA_SET,
+    };
+    static struct field_lines lines[sizeof data_sets / sizeof *data_sets];
+    static const char *names[MOST_NAMES + 1];
+    struct member member;
+    size_t count = *names == NULL ? 0 : MOST_NAMES;
+    for (size_t i = 0; count < MOST_NAMES && i < sizeof data_sets / sizeof *data_sets; i++) {
+        start_members(&lines[i], data_sets[i]);
+        while (count < MOST_NAMES && next_member(&lines[i], &member)) names[count++] = member.name;
+    }
+    return names;
+}
+
+/* Whether a name is of what ptpm-manage prints beside what is observed. Managers set it, or it stays as it is. */
 static int is_passed_over(const char *name) {
-    int k = 0;
-    while (not_observed[k] != NULL && strcmp(not_observed[k], name) != 0) k++;
-    return not_observed[k] != NULL;
+    const char *const *printed = printed_names();
+    while (*printed != NULL && strcmp(*printed, name) != 0) printed++;
+    return *printed != NULL && !is_observed(name);
 }
 
 /* Why a line is wrong. */
@@ -107,7 +124,7 @@ static void put(void *at, size_t size, long long number) {
     }
 }
 
-static int put_number(const struct member *member, const char *name, const char *text, void *at) {
+static int put_number(const struct observed_member *member, const char *name, const char *text, void *at) {
     unsigned bits = (unsigned)(8 * member->size);
     int is_signed = member->kind != UNSIGNED;
     long long most = is_signed ? (long long)(UINT64_MAX >> (65 - bits)) : (1LL << bits) - 1;
@@ -121,7 +138,7 @@ static int put_number(const struct member *member, const char *name, const char 
 }
 
 /* In nanoseconds if the name is the one that is printed, or if the text says so, and otherwise in units of 2^-16 of them. */
-static int put_interval(const struct member *member, const char *name, const char *text, void *at) {
+static int put_interval(const struct observed_member *member, const char *name, const char *text, void *at) {
     char digits[INTERVAL_TEXT];
     int64_t interval;
     size_t size = strlen(text);
@@ -161,7 +178,7 @@ static int put_identity(const char *name, const char *text, uint8_t *at) {
     return 1;
 }
 
-static int put_kind(const struct member *member, const char *name, const char *text, uint8_t *at) {
+static int put_kind(const struct observed_member *member, const char *name, const char *text, uint8_t *at) {
     switch (member->kind) {
     case FLAG: return put_flag(name, text, at);
     case IDENTITY: return put_identity(name, text, at);
@@ -172,7 +189,7 @@ static int put_kind(const struct member *member, const char *name, const char *t
 }
 
 /* Writes a value, given by one of the member's names, at the member of a struct, and that it is given. */
-static int put_value(const struct member *member, const char *name, const char *text, void *whole) {
+static int put_value(const struct observed_member *member, const char *name, const char *text, void *whole) {
     int is_right = put_kind(member, name, text, (uint8_t *)whole + member->at);
     if (is_right && member->flag != NO_FLAG) ((uint8_t *)whole)[member->flag] = 1;
     return is_right;
@@ -184,7 +201,7 @@ static long read_port_identity(const char *text, uint8_t clock[8]) {
     return rest == NULL ? -1 : port_behind(rest, UINT16_MAX);
 }
 
-static int put_of_port(struct observation *observation, size_t port, const struct member *member, char *const *words) {
+static int put_of_port(struct observation *observation, size_t port, const struct observed_member *member, char *const *words) {
     if (port > observation->port_count) observation->port_count = port;
     return put_value(member, words[0], words[1], &observation->ports[port - 1]);
 }
