@@ -134,7 +134,7 @@ static unsigned long take_told_turn(const struct heard *heard, const struct port
 static unsigned long take_turn(struct heard *heard, const struct port *port) {
     size_t count, left;
     uint16_t ingress = port == NULL ? 1 : (uint16_t)(port - ports + 1);
-    if (port != NULL && !is_heard(heard, port)) return 0;
+    if (port != NULL && !admit_datagram(heard, port)) return 0;
     lower_hops(heard);
     struct ptpm_sent *places = places_to_send();
     if (places == NULL) {

@@ -37,7 +37,7 @@ static int not_asked(uint32_t refusal) {
 
 /* Counts a message that went out; whether it makes sense to go on. It makes none if there is no way, and none went out before;
    that is said. */
-static int is_going_on(enum sending sending, long *sent) {
+static int count_sending(enum sending sending, long *sent) {
     *sent += sending == OUT;
     if (sending != NO_WAY || *sent > 0) return 1;
     complain("nothing was sent: %s: %s", way_name(), strerror(errno));
@@ -49,7 +49,7 @@ int send_until_answered(struct session *session, const struct task *task, long *
         enum sending sending = stopped ? NONE_LEFT : send_again(&session->handle);
         if (sending == NONE_LEFT) return NOT_ANSWERED;
         if (attempt > 1) show_progress("no answer yet: attempt %d of %d", attempt, task->settings.attempts);
-        if (!is_going_on(sending, sent)) return NOT_ASKED;
+        if (!count_sending(sending, sent)) return NOT_ASKED;
         if (first_answered(&session->handle, NULL, milliseconds() + task->milliseconds) == 0) return ANSWERED;
     }
 }
@@ -171,7 +171,7 @@ int ask_every_port(const struct task *task) {
     for (int attempt = 1, quiet = 0; attempt <= task->settings.attempts && !stopped; attempt++) {
         if (quiet >= (ptpm_survey_count(&survey) > 0 ? QUIET : QUIET_AT_FIRST)) break;
         show_progress("attempt %d: %zu answers so far", attempt, ptpm_survey_count(&survey));
-        if (!is_going_on(send_out(message, size), &sent)) return NOT_ASKED;
+        if (!count_sending(send_out(message, size), &sent)) return NOT_ASKED;
         quiet = taken_in_time(task->milliseconds, &lost) > 0 ? 0 : quiet + 1;
     }
     int status = end_of_survey(task, sent, lost);

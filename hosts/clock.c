@@ -88,7 +88,7 @@ static void look_around(long now) {
     if (now < next) return;
     next = now + SECOND;
     for (size_t i = 0; unix_socket >= 0 && i < WAYS_BACK; i++) take_round(NULL, way_back_socket(i));
-    if (source >= 0 && source_has_moved()) observe_all();
+    if (source >= 0 && follow_source()) observe_all();
 }
 
 /* Runs until a signal asks for the end, or until that time comes, if it is not 0. */

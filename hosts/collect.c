@@ -142,7 +142,7 @@ static void hear_until_quiet(const struct task *task) {
 }
 
 /* Sends a message, which waits for room; whether it went out. */
-static int is_sent(const uint8_t *message, size_t size) {
+static int send_when_room(const uint8_t *message, size_t size) {
     for (int tries = 0; tries < TRIES && !stopped && !has_no_way; tries++) {
         enum sending sending = send_out(message, size);
         sent += sending == OUT;
@@ -158,7 +158,7 @@ static void ask_every(void) {
     for (int id = 0; id < COLLECTED && !stopped && !has_no_way; id++) {
         long end = milliseconds() + STEP;
         for (size_t i = 0; i < request_count; i++) {
-            if (requests[i].id == (enum collected)id) is_sent(requests[i].message, requests[i].size);
+            if (requests[i].id == (enum collected)id) send_when_room(requests[i].message, requests[i].size);
         }
         if (id + 1 < COLLECTED) hear_until(end);
     }
@@ -185,11 +185,11 @@ static size_t count_lacking(void) {
 }
 
 /* Asks one clock, and all its ports: the message of the request with its identity as the target's. Whether that went out. */
-static int is_asked_alone(const struct request *request, const struct seen_clock *clock) {
+static int ask_alone(const struct request *request, const struct seen_clock *clock) {
     static uint8_t message[PTPM_MOST_OCTETS];
     memcpy(message, request->message, request->size);
     memcpy(message + TARGET_AT, clock->identity, sizeof clock->identity);
-    return is_sent(message, request->size);
+    return send_when_room(message, request->size);
 }
 
 /* Asks each clock of these domains for what it lacks, until there is no room for more. */
@@ -200,7 +200,7 @@ static void ask_lacking(size_t count) {
         for (int id = 0; id < COLLECTED; id++) {
             const struct request *request = lacking(seen_clock(place), id);
             if (request == NULL) continue;
-            if (!is_asked_alone(request, seen_clock(place))) return;
+            if (!ask_alone(request, seen_clock(place))) return;
             if (++asked % burst != 0) continue;
             hear_until(end);
             end = milliseconds() + STEP;

@@ -115,12 +115,12 @@ static const struct sock_filter wanted[] = {
     BPF_STMT(BPF_RET | BPF_K, 65535),
 };
 
-static int filters(int at, const char **what) {
+static int filter_messages(int at, const char **what) {
     const struct sock_fprog filter = { .len = sizeof wanted / sizeof *wanted, .filter = (struct sock_filter *)wanted };
     return set_option(at, SOL_SOCKET, SO_ATTACH_FILTER, &filter, sizeof filter, what, "SO_ATTACH_FILTER");
 }
 
-static int joins_four(int at, const struct sockaddr_in *address, unsigned interface, const char **what) {
+static int join_four(int at, const struct sockaddr_in *address, unsigned interface, const char **what) {
     int none = 0;
     struct sockaddr_in any = { .sin_family = AF_INET, .sin_port = htons(GENERAL_PORT) };
     struct ip_mreqn join = { .imr_multiaddr = address->sin_addr, .imr_ifindex = (int)interface };
@@ -131,7 +131,7 @@ static int joins_four(int at, const struct sockaddr_in *address, unsigned interf
            && set_option(at, IPPROTO_IP, IP_MULTICAST_LOOP, &none, sizeof none, what, "IP_MULTICAST_LOOP");
 }
 
-static int joins_six(int at, const struct sockaddr_in6 *address, unsigned interface, const char **what) {
+static int join_six(int at, const struct sockaddr_in6 *address, unsigned interface, const char **what) {
     int one = 1, none = 0;
     struct sockaddr_in6 any = { .sin6_family = AF_INET6, .sin6_port = htons(GENERAL_PORT) };
     struct ipv6_mreq join = { .ipv6mr_multiaddr = address->sin6_addr, .ipv6mr_interface = interface };
@@ -144,22 +144,22 @@ static int joins_six(int at, const struct sockaddr_in6 *address, unsigned interf
 }
 
 /* The socket hears nothing until it is bound, and by then it has its filter. */
-static int joins(int at, const char *interface, int is_six, enum messages messages, const char **what) {
+static int join_group(int at, const char *interface, int is_six, enum messages messages, const char **what) {
     int one = 1;
     unsigned index = if_nametoindex(interface);
     struct sockaddr_storage to;
     group(&to, is_six);
-    return index != 0 && (messages == EVERY_MESSAGE || filters(at, what))
+    return index != 0 && (messages == EVERY_MESSAGE || filter_messages(at, what))
            && set_option(at, SOL_SOCKET, SO_REUSEADDR, &one, sizeof one, what, "SO_REUSEADDR")
            && set_option(at, SOL_SOCKET, SO_BINDTODEVICE, interface, strlen(interface) + 1, what, "SO_BINDTODEVICE")
-           && (is_six ? joins_six(at, (struct sockaddr_in6 *)&to, index, what)
-                      : joins_four(at, (struct sockaddr_in *)&to, index, what));
+           && (is_six ? join_six(at, (struct sockaddr_in6 *)&to, index, what)
+                      : join_four(at, (struct sockaddr_in *)&to, index, what));
 }
 
 int open_udp(const char *interface, int is_six, enum messages messages, const char **what) {
     *what = interface;
     int at = socket(is_six ? AF_INET6 : AF_INET, SOCK_DGRAM | SOCK_CLOEXEC, 0);
-    if (at < 0 || joins(at, interface, is_six, messages, what)) return at;
+    if (at < 0 || join_group(at, interface, is_six, messages, what)) return at;
     int failure = errno;
     close(at);
     errno = failure;
@@ -248,7 +248,7 @@ int open_unix_as(const char *path, mode_t mode) {
 }
 
 /* Whether files that are made from now on get the group of the file at a path. The program may lack the right to that. */
-static int takes_group_of(const char *path) {
+static int take_group_of(const char *path) {
     struct stat found;
     return stat(path, &found) == 0 && setegid(found.st_gid) == 0;
 }
@@ -261,7 +261,7 @@ int open_unix(const char *path) {
     if (dot != NULL && strlen(path) < sizeof base) {
         snprintf(base, sizeof base, "%.*s", (int)(dot - path), path);
         remove_beside(base);
-        has_its_group = takes_group_of(base);
+        has_its_group = take_group_of(base);
     }
     int at = open_unix_as(path, 0660);
     if (has_its_group && setegid(before)) give_up(path);

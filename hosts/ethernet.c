@@ -32,7 +32,8 @@ static const struct sock_filter wanted[] = {
     BPF_STMT(BPF_RET | BPF_K, 65535),
 };
 
-static int has_station(int at, unsigned index, uint8_t own[STATION]) {
+/* Reads the interface's own address; whether it could. */
+static int read_station(int at, unsigned index, uint8_t own[STATION]) {
     struct ifreq request = { 0 };
     if (if_indextoname(index, request.ifr_name) == NULL || ioctl(at, SIOCGIFHWADDR, &request)) return 0;
     memcpy(own, request.ifr_hwaddr.sa_data, STATION);
@@ -47,14 +48,14 @@ int filter_ethernet(int at, int is_management_alone) {
 }
 
 /* The socket hears nothing until it is bound, and by then it has its filter. */
-static int is_opened(int at, const char *interface, uint8_t own[STATION], const char **what) {
+static int join_group(int at, const char *interface, uint8_t own[STATION], const char **what) {
     int one = 1;
     unsigned index = if_nametoindex(interface);
     struct sockaddr_ll place = { .sll_family = AF_PACKET, .sll_protocol = htons(PTP), .sll_ifindex = (int)index };
     struct packet_mreq join = { .mr_ifindex = (int)index, .mr_type = PACKET_MR_MULTICAST, .mr_alen = STATION };
     memcpy(join.mr_address, group_station, STATION);
     *what = interface;
-    if (index == 0 || !has_station(at, index, own)) return 0;
+    if (index == 0 || !read_station(at, index, own)) return 0;
     *what = "SO_ATTACH_FILTER";
     if (!filter_ethernet(at, 1)
         || !set_option(at, SOL_PACKET, PACKET_IGNORE_OUTGOING, &one, sizeof one, what, "PACKET_IGNORE_OUTGOING")
@@ -66,7 +67,7 @@ static int is_opened(int at, const char *interface, uint8_t own[STATION], const 
 int open_ethernet(const char *interface, uint8_t own[STATION], const char **what) {
     *what = "a socket of Ethernet";
     int at = socket(AF_PACKET, SOCK_RAW | SOCK_CLOEXEC, 0);
-    if (at < 0 || is_opened(at, interface, own, what)) return at;
+    if (at < 0 || join_group(at, interface, own, what)) return at;
     int failure = errno;
     close(at);
     errno = failure;

@@ -59,7 +59,7 @@ int ask_whether_new(struct session *session, const struct task *task) {
 }
 
 /* Whether the question is answered in time; answers to a read beside it are counted. */
-static int is_answered(const struct task *task, int *readings) {
+static int hear_answer(const struct task *task, int *readings) {
     long end = milliseconds() + task->milliseconds;
     for (int place; (place = first_answered(&asking.handle, &reading, end)) >= 0;) {
         if (place == 0) return 1;
@@ -85,7 +85,7 @@ static enum finding ask_under_number(const struct task *task, uint16_t number, i
         }
         int is_read_too = attempt > 1 || task->settings.attempts == 1;
         if (is_read_too && begin_reading(&reading, task, question.id)) send_again(&reading);
-        if (is_answered(task, &readings)) return NEW;
+        if (hear_answer(task, &readings)) return NEW;
     }
     return readings > 0 ? NOT_NEW : SILENT;
 }

@@ -68,24 +68,24 @@ enum kept_found read_kept(const struct kept_file *file, uint8_t *octets, size_t 
 }
 
 /* Gives the new file the owner of the one before, as far as this user may, and its mode; whether it has that. */
-static int is_like_before(const struct stat *before, int at) {
+static int make_like_before(const struct stat *before, int at) {
     if (before->st_nlink == 0) return 1;
     if (fchown(at, before->st_uid, before->st_gid) && fchown(at, (uid_t)-1, before->st_gid)) errno = 0;    /* it is this user's then */
     return fchmod(at, before->st_mode & 0777) == 0;
 }
 
-static int is_whole(int at, const uint8_t *octets, size_t size) {
+static int write_whole(int at, const uint8_t *octets, size_t size) {
     ssize_t written = write(at, octets, size);
     if (written >= 0 && (size_t)written < size) errno = ENOSPC;
     return written == (ssize_t)size;
 }
 
 /* Writes the file that is to replace the old one; whether it could. */
-static int writes_new(const struct kept_file *file, const uint8_t *octets, size_t size) {
+static int write_new(const struct kept_file *file, const uint8_t *octets, size_t size) {
     unlinkat(file->folder, file->new_name, 0);
     int at = openat(file->folder, file->new_name, O_WRONLY | O_CREAT | O_EXCL | O_NOFOLLOW | O_CLOEXEC, file->mode);
     if (at < 0) return 0;
-    int is_written = is_like_before(&file->before, at) && is_whole(at, octets, size) && fsync(at) == 0;
+    int is_written = make_like_before(&file->before, at) && write_whole(at, octets, size) && fsync(at) == 0;
     int failure = errno;
     if (close(at) == 0 && is_written) return 1;
     if (!is_written) errno = failure;
@@ -98,14 +98,14 @@ static void remove_new(const struct kept_file *file) {
     errno = failure;
 }
 
-int has_room(const struct kept_file *file, const uint8_t *octets, size_t size) {
-    int is_written = writes_new(file, octets, size);
+int try_room(const struct kept_file *file, const uint8_t *octets, size_t size) {
+    int is_written = write_new(file, octets, size);
     remove_new(file);
     return is_written;
 }
 
 enum replaced replace_kept(const struct kept_file *file, const uint8_t *octets, size_t size) {
-    if (!writes_new(file, octets, size) || renameat(file->folder, file->new_name, file->folder, file->name)) {
+    if (!write_new(file, octets, size) || renameat(file->folder, file->new_name, file->folder, file->name)) {
         remove_new(file);
         return NOT_REPLACED;
     }

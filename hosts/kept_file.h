@@ -43,8 +43,8 @@ enum kept_found { KEPT_FILE, KEPT_NONE, KEPT_LINK, KEPT_OTHER, KEPT_UNREADABLE }
 /* Reads up to `most` octets of it; how many there are, and what is known of it. If it can't be read, errno says why. */
 enum kept_found read_kept(const struct kept_file *file, uint8_t *octets, size_t most, size_t *size, struct stat *found);
 
-/* Whether there is room for this many octets; if not, errno says why. What the file holds stays. */
-int has_room(const struct kept_file *file, const uint8_t *octets, size_t size);
+/* Tries whether there is room for this many octets; if not, errno says why. What the file holds stays. */
+int try_room(const struct kept_file *file, const uint8_t *octets, size_t size);
 
 /* What became of the file. If it is in doubt it is the new one, but may be the old one again after a loss of power. */
 enum replaced { NOT_REPLACED, IN_DOUBT, REPLACED };

@@ -26,7 +26,7 @@ void start_limits(const struct limits *given) {
     }
 }
 
-int is_heard(const struct heard *heard, const struct port *port) {
+int admit_datagram(const struct heard *heard, const struct port *port) {
     if (limits.is_any_source || transport == ETHERNET || is_on_link(port->index, &heard->sender.any)) return 1;
     kept_back.strangers++;
     return 0;
@@ -49,7 +49,7 @@ static int is_of_manager(const struct heard *heard) {
 }
 
 /* Whether a message is to be passed on at all. It is asked once of each, since it is noted. */
-static int goes_on(const struct heard *heard, const struct port *port, uint64_t now) {
+static int admit_copies(const struct heard *heard, const struct port *port, uint64_t now) {
     if (!limits.is_passed_on || limits.hops == 0 || (port == NULL && !limits.is_passed_on_from_host)) return 0;
     if (ptpm_passed_on_is_first(&passed_on, heard->octets, heard->size, now, NOTED)) return 1;
     kept_back.again++;
@@ -57,7 +57,7 @@ static int goes_on(const struct heard *heard, const struct port *port, uint64_t 
 }
 
 /* Answers to programs of this host, and to managers, are not counted. */
-static int is_answered(const struct heard *heard, const struct port *port, uint16_t ingress, uint32_t answer, uint64_t now) {
+static int admit_answer(const struct heard *heard, const struct port *port, uint16_t ingress, uint32_t answer, uint64_t now) {
     if (port == NULL || answer != PTPM_ANSWERED_UNNUMBERED || is_of_manager(heard)) return 1;
     if (ptpm_rate_take(&answers[ingress - 1], now)) return 1;
     kept_back.unanswered++;
@@ -71,10 +71,10 @@ size_t keep_back(const struct heard *heard, const struct port *port, uint16_t in
     uint64_t now = count > 0 ? time_now() : 0;
     for (size_t i = 0; i < count; i++) {
         if (sent[i].port == ingress) {
-            if (is_answered(heard, port, ingress, answer, now)) kept[left++] = &sent[i];
+            if (admit_answer(heard, port, ingress, answer, now)) kept[left++] = &sent[i];
             continue;
         }
-        if (!is_asked) is_going_on = goes_on(heard, port, now);
+        if (!is_asked) is_going_on = admit_copies(heard, port, now);
         is_asked = 1;
         if (!is_going_on) continue;
         if (ptpm_rate_take(&copies[sent[i].port - 1], now)) kept[left++] = &sent[i];

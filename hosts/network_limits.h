@@ -22,8 +22,8 @@ struct kept_back { unsigned long strangers, again, over_rate, unanswered; };
 
 void start_limits(const struct limits *given);
 
-/* Whether a datagram from a port is heard at all: it comes from an address on the link, or any may. */
-int is_heard(const struct heard *heard, const struct port *port);
+/* Whether a datagram from a port is heard at all: it comes from an address on the link, or any may. One that is not is counted. */
+int admit_datagram(const struct heard *heard, const struct port *port);
 
 /* Lowers boundaryHops (octet 45) to the most that there may be, and startingBoundaryHops (octet 44) by as much. So an answer
    has as many hops as it would have (15.4.1), and what is passed on has fewer. */

@@ -275,7 +275,7 @@ static int take_line(struct observation *observation, char *line) {
 }
 
 /* A grandmaster is given whole, or not at all. */
-static int has_whole_grandmaster(struct observation *observation) {
+static int take_grandmaster(struct observation *observation) {
     if (observation->grandmaster == 0) return 1;
     for (int k = 0; members_of_grandmaster[k].name != NULL; k++) {
         if ((observation->grandmaster >> k & 1) == 0) {
@@ -296,7 +296,7 @@ int read_observation(struct observation *observation, const char *name, char *te
         say_at_times("%s: line %d: %s", name, number, why);
         is_right = 0;
     }
-    if (is_right && !has_whole_grandmaster(observation)) {
+    if (is_right && !take_grandmaster(observation)) {
         say_at_times("%s: %s", name, why);
         is_right = 0;
     }

@@ -85,7 +85,7 @@ static struct way_back *way_to(const struct heard *heard) {
 }
 
 /* Whether a peer has read enough to get one more message. */
-static int has_room(struct way_back *way) {
+static int check_room(struct way_back *way) {
     if (++way->unchecked <= UNCHECKED) return 1;
     int octets = unread(way);
     if (octets <= way->left_by_others) way->unchecked = 1;
@@ -95,7 +95,7 @@ static int has_room(struct way_back *way) {
 int answer_peer(const struct ptpm_sent *message, const struct heard *answered) {
     if (answered->sender_size <= sizeof(sa_family_t)) return 0;         /* it has no path */
     struct way_back *way = way_to(answered);
-    return has_room(way)
+    return check_room(way)
            && sendto(way->socket, message->octets, message->size, MSG_DONTWAIT, &answered->sender.any, answered->sender_size) >= 0;
 }
 

@@ -23,7 +23,7 @@ int begin_reading(struct ptpm_session *session, const struct task *task, uint16_
     return ptpm_session_start(session, &reading.settings) == PTPM_STARTED && begin_of_task(session, &reading) == PTPM_BEGUN;
 }
 
-int is_read(struct ptpm_session *session, const struct task *task) {
+int finish_reading(struct ptpm_session *session, const struct task *task) {
     for (int attempt = 0; attempt < MOST_READINGS && !stopped; attempt++) {
         enum sending sending = send_again(session);
         if (sending == NONE_LEFT) return 0;

@@ -13,6 +13,6 @@ uint16_t port_of_nobody(uint16_t managers);
 int begin_reading(struct ptpm_session *session, const struct task *task, uint16_t id);
 
 /* Sends it until it is answered, a few times at most; whether it is. */
-int is_read(struct ptpm_session *session, const struct task *task);
+int finish_reading(struct ptpm_session *session, const struct task *task);
 
 #endif

@@ -125,7 +125,7 @@ int restore_clock(struct ptpm_clock *clock, const struct options *given) {
         tell_domain(clock);
     }
     static const uint8_t room[PTPM_CLOCK_IMAGE_OCTETS];
-    if (!has_room(&file, room, sizeof room)) refuse_file(NULL);
+    if (!try_room(&file, room, sizeof room)) refuse_file(NULL);
     return is_there;
 }
 

@@ -87,7 +87,7 @@ static void take_turn(void) {
 /* Whether there is room for a session. */
 static void see_to_room(void) {
     static const uint8_t octets[PTPM_SESSION_IMAGE_OCTETS];
-    if (!has_room(&file, octets, sizeof octets)) refuse_place();
+    if (!try_room(&file, octets, sizeof octets)) refuse_place();
 }
 
 int open_session_file(const char *at_path, int is_named, uint8_t octets[MOST_IN_FILE], size_t *size) {

@@ -17,7 +17,8 @@ enum { MOST_ARGUMENTS = 8, PART = 65536, TURN = 1000, FAULT = 1 };
 
 static char site_program[2 * PATH_MAX];
 
-static int is_program(const char *folder, size_t size) {
+/* Takes the program of a folder; whether there is one. */
+static int find_in_folder(const char *folder, size_t size) {
     struct stat found;
     snprintf(site_program, sizeof site_program, "%.*s/ptpm", (int)size, folder);
     return stat(site_program, &found) == 0 && S_ISREG(found.st_mode) && access(site_program, X_OK) == 0;
@@ -28,10 +29,10 @@ void find_site_program(void) {
     ssize_t size = readlink("/proc/self/exe", own, sizeof own - 1);
     own[size > 0 ? size : 0] = '\0';
     char *slash = strrchr(own, '/');
-    if (slash != NULL && is_program(own, (size_t)(slash - own))) return;
+    if (slash != NULL && find_in_folder(own, (size_t)(slash - own))) return;
     for (const char *path = getenv("PATH"), *next; path != NULL; path = *next == ':' ? next + 1 : NULL) {
         next = strchrnul(path, ':');
-        if (next > path && next - path < PATH_MAX && is_program(path, (size_t)(next - path))) return;
+        if (next > path && next - path < PATH_MAX && find_in_folder(path, (size_t)(next - path))) return;
     }
     refuse("nothing was asked: the program ptpm is neither beside this one nor in the PATH");
 }
@@ -54,7 +55,7 @@ static int file_of(const struct piece *lines, size_t count) {
 }
 
 /* Starts it with a standard input and output; whether it is started. */
-static int is_started(pid_t *process, char *const *arguments, int from, int to) {
+static int start_program(pid_t *process, char *const *arguments, int from, int to) {
     posix_spawn_file_actions_t files;
     posix_spawnattr_t attributes;
     sigset_t none, usual;
@@ -125,7 +126,7 @@ int run_site_program(const struct site_options *options, enum shown_as as, const
         complain("%s: %s", site_program, strerror(errno));
         return FAULT;
     }
-    int has_started = is_started(&process, arguments, input, ends[1]);
+    int has_started = start_program(&process, arguments, input, ends[1]);
     if (!has_started) complain("%s: %s", site_program, strerror(errno));
     close(input);
     close(ends[1]);

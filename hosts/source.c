@@ -94,8 +94,8 @@ static int is_of(const struct watch *watch, const struct inotify_event *event) {
     return event->wd == watch->number && event->len > 0 && strcmp(event->name, watch->name) == 0;
 }
 
-/* Whether a program that wrote to the file has closed it, or another was moved there. */
-static int is_written(void) {
+/* Reads what became of it: whether a program that wrote to the file has closed it, or another was moved there. */
+static int read_events(void) {
     _Alignas(struct inotify_event) char events[4096];
     int written = is_first;
     is_first = 0;
@@ -118,7 +118,7 @@ static int is_other(void) {
            && labs(now.tv_sec - found.st_mtim.tv_sec) > 1;
 }
 
-int source_has_moved(void) {
+int follow_source(void) {
     if (is_pipe) return 0;
     watch_folders();
     return is_other();
@@ -167,7 +167,7 @@ static void read_pipe(void) {
 int read_source(void) {
     size_t before = is_pipe ? size : 0;
     if (is_pipe) read_pipe();
-    else if (is_written() || is_other()) read_file();
+    else if (read_events() || is_other()) read_file();
     for (size_t k = before; k < size; k++) {
         if (held[k] == '\0') held[k] = 1;       /* which is no text either */
     }
@@ -192,8 +192,8 @@ static size_t size_of_text(void) {
     return is_ended ? size : 0;
 }
 
-/* Whether the text that was found is the rest of one that is too long, or empty lines. */
-static int is_let_go(void) {
+/* Whether the text that was found is let go: it is the rest of one that is too long, or empty lines. */
+static int let_go_text(void) {
     int is_rest = is_too_long;
     is_too_long = 0;
     return is_rest || (is_pipe && held[first] == '\n');
@@ -217,7 +217,7 @@ int next_text(char **text) {
     do {
         go_behind();
         taken = size_of_text();
-    } while (taken > 0 && is_let_go());
+    } while (taken > 0 && let_go_text());
     if (taken > 0) {
         held[first + (taken < size ? taken - 1 : taken)] = '\0';      /* in place of an empty line, or after all */
         *text = held + first;

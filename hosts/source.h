@@ -5,8 +5,9 @@
 /* Opens it, and answers what is to be polled. Ends the program with status 2 if there is no such file. */
 int open_source(const char *path);
 
-/* Whether it is to be read although nothing was polled: a folder that was made anew, or a link, leads to another file by now. */
-int source_has_moved(void);
+/* Watches what leads to it by now: a folder may have been made anew, and a link may lead elsewhere. Whether it is another file than
+   the one that was read, and so is to be read although nothing was polled. */
+int follow_source(void);
 
 /* Reads what has come in by now, without waiting, and answers what is to be polled from now on. That is -1 if a pipe was
    removed, and the last program that wrote to it has closed it. */

@@ -12,7 +12,7 @@
 static int tell_value(const struct task *task) {
     static struct answer answer;
     struct ptpm_session session = { 0 };
-    int is_told = begin_reading(&session, task, task->id) && is_read(&session, task);
+    int is_told = begin_reading(&session, task, task->id) && finish_reading(&session, task);
     if (is_told) {
         take_report(&session, &answer);
         complain("the clock answers reads%s", answer.told == PTPM_VALUE ? ", and has by now" : "");
