@@ -49,7 +49,7 @@ _Noreturn static void refuse_octets(enum ptpm_restored refusal) {
     refuse("nothing was asked: %s: %s: %s", answer_name(refusal), session_path(), why);
 }
 
-/* The file has no image: then a number of an earlier version. */
+/* The file has no image: then a number in its place. */
 static void start_at_number(struct session *session, const struct task *task, const uint8_t *octets, size_t size) {
     uint16_t number = 0;
     switch (read_number_line(octets, size, &task->settings, &number)) {

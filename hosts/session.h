@@ -16,7 +16,7 @@ struct session {
 enum kept { NO_FILE, AT_REST, UNDER_WAY };
 
 /* Takes the file of the task's session for this run alone. The session goes on from its image, in the task's domain; if a request
-   is under way, `earlier` becomes the task of it. A file of an earlier version has a number alone: the session starts there. If
+   is under way, `earlier` becomes the task of it. A file may have a number in place of an image: the session starts there. If
    there is no file, no session is started. Ends the program, status 2, if the file has anything else, or another session. */
 enum kept open_session(struct session *session, const struct task *task, struct task *earlier);
 
