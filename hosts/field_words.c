@@ -125,9 +125,9 @@ size_t read_field(uint16_t id, const char *named, const char *const *words, size
 }
 
 size_t read_text_field(uint16_t id, const char *named, const char *const *words, size_t count, uint8_t octets[PTPM_MOST_READ]) {
-    char text[4 * MOST_TEXT + 1], *to = text;
+    char text[4 * MOST_DESCRIPTION + 1], *to = text;
     const char *taken[MOST_FIELD_WORDS], *typed = words[count - 1];
-    if (strlen(typed) > MOST_TEXT) refuse("the text has over %d octets", MOST_TEXT);
+    if (strlen(typed) > MOST_DESCRIPTION) refuse("the text has over %d octets", MOST_DESCRIPTION);
     for (; *typed != '\0'; typed++) {
         if (*typed == '\\') to = stpcpy(to, "\\x5c");
         else *to++ = *typed;

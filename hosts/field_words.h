@@ -5,7 +5,7 @@
 #include "ptpm.h"
 
 enum {
-    MOST_TEXT = 128,            /* octets of a userDescription */
+    MOST_DESCRIPTION = 128,            /* octets of a userDescription */
     MOST_FIELD_WORDS = 20       /* names and values of members */
 };
 

@@ -20,7 +20,7 @@ enum { APART = 16384, NUMBERS = 4 };
 /* This many answers to reads, and none to the question beside them, show that its number is not new. */
 enum { ENOUGH = 5 };
 
-enum finding { NEW, NOT_NEW, SILENT, NOT_OUT };
+enum tried { NEW, NOT_NEW, SILENT, NOT_OUT };
 
 static struct session asking;
 static struct ptpm_session reading;
@@ -69,7 +69,7 @@ static int hear_answer(const struct task *task, int *readings) {
 }
 
 /* Asks under a number until it is answered, or enough reads beside it are; what went out of it is counted. */
-static enum finding ask_under_number(const struct task *task, uint16_t number, int enough, long *sent) {
+static enum tried ask_under_number(const struct task *task, uint16_t number, int enough, long *sent) {
     int readings = 0;
     struct task question = question_of(task);
     start_session(&asking, task, number);
@@ -99,26 +99,26 @@ static void wait_for_copies(long wait) {
 
 /* Finds a number of four that is new: *number is the last that was tried. The first is drawn. Otherwise it might be that of an
    earlier session, or of one of the same manager beside this one. An answer to that one would then count as one to this. */
-static enum finding find_of_four(const struct task *task, uint16_t *number, long *sent) {
-    enum finding finding = NOT_NEW;
+static enum tried find_of_four(const struct task *task, uint16_t *number, long *sent) {
+    enum tried tried = NOT_NEW;
     uint16_t first = draw_number();
     int enough = task->settings.attempts < ENOUGH ? task->settings.attempts : ENOUGH;
     wait_for_copies(task->wait);
-    for (int k = 0; k < NUMBERS && finding == NOT_NEW; k++) {
+    for (int k = 0; k < NUMBERS && tried == NOT_NEW; k++) {
         *number = (uint16_t)(first + APART * k);
-        finding = ask_under_number(task, *number, enough, sent);
+        tried = ask_under_number(task, *number, enough, sent);
     }
-    return finding;
+    return tried;
 }
 
 int begin_session(struct session *session, const struct task *task) {
     long sent = 0;
     uint16_t number;
-    enum finding finding = find_of_four(task, &number, &sent);
+    enum tried tried = find_of_four(task, &number, &sent);
     ptpm_session_stop(&asking.handle);
     ptpm_session_stop(&reading);
-    if (finding == NOT_OUT) return NOT_ASKED;
-    if (finding != NEW) return no_answer(task, FIRST_NUMBER, number, sent);
+    if (tried == NOT_OUT) return NOT_ASKED;
+    if (tried != NEW) return no_answer(task, FIRST_NUMBER, number, sent);
     start_session(session, task, (uint16_t)(number + 1));
     complain("%s is new: the session begins at number %u", session_path(), (uint16_t)(number + 1));
     return ANSWERED;

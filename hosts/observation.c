@@ -14,7 +14,7 @@
 /* How a member is written. */
 enum kind { UNSIGNED, SIGNED, INTERVAL, FLAG, IDENTITY, STATE };
 
-enum { MOST_WORDS = 5, MOST_NAMES = 64, NO_FLAG = 0xffff, INTERVAL_TEXT = 64 };
+enum { MOST_LINE_WORDS = 5, MOST_PRINTED = 64, NO_FLAG = 0xffff, INTERVAL_TEXT = 64 };
 
 /* A member of a struct. It has its name there, and the standard's name, by which ptpm-manage prints it. It has its place, and the
    place of the flag that says that it is given. */
@@ -75,12 +75,12 @@ static const char *const *printed_names(void) {
         PTPM_ID_PORT_DATA_SET,
     };
     static struct field_lines lines[sizeof data_sets / sizeof *data_sets];
-    static const char *names[MOST_NAMES + 1];
+    static const char *names[MOST_PRINTED + 1];
     struct member member;
-    size_t count = *names == NULL ? 0 : MOST_NAMES;
-    for (size_t i = 0; count < MOST_NAMES && i < sizeof data_sets / sizeof *data_sets; i++) {
+    size_t count = *names == NULL ? 0 : MOST_PRINTED;
+    for (size_t i = 0; count < MOST_PRINTED && i < sizeof data_sets / sizeof *data_sets; i++) {
         start_members(&lines[i], data_sets[i]);
-        while (count < MOST_NAMES && next_member(&lines[i], &member)) names[count++] = member.name;
+        while (count < MOST_PRINTED && next_member(&lines[i], &member)) names[count++] = member.name;
     }
     return names;
 }
@@ -261,14 +261,14 @@ static int take_member(struct observation *observation, char **words, size_t cou
 
 /* What one line says; whether it is right. */
 static int take_line(struct observation *observation, char *line) {
-    char *words[MOST_WORDS], *place = NULL;
+    char *words[MOST_LINE_WORDS], *place = NULL;
     size_t count = 0;
     if (line[strspn(line, " \t\r")] == '#') return 1;
     for (const char *at = line; *at != '\0'; at++) {
         if ((*at < ' ' || *at > '~') && *at != '\t' && *at != '\r') return wrong("it has an octet that is no ASCII text");
     }
     for (char *word = strtok_r(line, " \t\r", &place); word != NULL; word = strtok_r(NULL, " \t\r", &place)) {
-        if (count < MOST_WORDS) words[count++] = word;
+        if (count < MOST_LINE_WORDS) words[count++] = word;
     }
     if (count == 0) return 1;
     return strcmp(words[0], "port") == 0 ? take_port(observation, words, count) : take_member(observation, words, count);

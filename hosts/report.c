@@ -20,14 +20,14 @@ static int is_piece(const struct piece *piece, const char *text) {
     return piece->size == strlen(text) && memcmp(piece->at, text, piece->size) == 0;
 }
 
-static int is_named(const struct finding *finding, const char *const *names, size_t count) {
+static int is_one_of(const struct finding *finding, const char *const *names, size_t count) {
     for (size_t i = 0; i < count; i++) {
         if (is_piece(&finding->key[NAME_PART], names[i])) return 1;
     }
     return 0;
 }
 
-static int is_passing(const struct finding *finding) { return is_named(finding, passing, sizeof passing / sizeof *passing); }
+static int is_passing(const struct finding *finding) { return is_one_of(finding, passing, sizeof passing / sizeof *passing); }
 
 static void add_finding(struct report *report, const struct finding *finding) {
     struct finding *more = reallocarray(report->findings, report->count + 1, sizeof *more);
@@ -258,7 +258,7 @@ static void print_lacking(FILE *to, const char *lead, char sign, const struct re
     struct sorted keys = sort_findings(other, by_key), texts = sort_findings(other, by_text);
     for (size_t i = 0; i < report->count; i++) {
         const struct finding *finding = &report->findings[i];
-        int is_moving = is_named(finding, moving, sizeof moving / sizeof *moving);
+        int is_moving = is_one_of(finding, moving, sizeof moving / sizeof *moving);
         int is_in_other = is_piece(&finding->key[NAME_PART], changed) ? sign == '-' : has_finding(is_moving ? &keys : &texts, finding);
         if (!finding->is_left_out && !is_in_other) print_change(to, lead, sign, finding, colour);
     }

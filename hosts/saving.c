@@ -13,11 +13,11 @@
 /* Statuses of the program, and the place of a clockIdentity in the image of a clock. */
 enum { NOT_STARTED = 1, NOT_OPENED = 2, IDENTITY = 12 };
 
-enum { MOST_IN_FILE = PTPM_CLOCK_IMAGE_OCTETS + 1, LOCK_TRIES = 100 };
+enum { MOST_STATE_OCTETS = PTPM_CLOCK_IMAGE_OCTETS + 1, LOCK_TRIES = 100 };
 
 static struct kept_file file = { .folder = -1, .mode = 0600 };
 static const struct options *options;
-static uint8_t octets[MOST_IN_FILE];
+static uint8_t octets[MOST_STATE_OCTETS];
 int is_unsaved;
 static struct saves saves;
 
@@ -58,7 +58,7 @@ static void take_file(void) {
 /* Whether there is a file; its octets are in `octets`. */
 static int read_state(size_t *size) {
     struct stat found;
-    switch (read_kept(&file, octets, MOST_IN_FILE, size, &found)) {
+    switch (read_kept(&file, octets, MOST_STATE_OCTETS, size, &found)) {
     case KEPT_FILE: return 1;
     case KEPT_NONE: return 0;
     case KEPT_LINK: refuse_file("it is a link");

@@ -71,7 +71,7 @@ static void read_earlier(struct task *earlier, const struct task *task, const st
 }
 
 enum kept open_session(struct session *session, const struct task *task, struct task *earlier) {
-    static uint8_t octets[MOST_IN_FILE];
+    static uint8_t octets[MOST_SESSION_OCTETS];
     size_t size;
     int is_named = task->numbers != NULL;
     session->is_kept = 1;

@@ -90,12 +90,12 @@ static void see_to_room(void) {
     if (!try_room(&file, octets, sizeof octets)) refuse_place();
 }
 
-int open_session_file(const char *at_path, int is_named, uint8_t octets[MOST_IN_FILE], size_t *size) {
+int open_session_file(const char *at_path, int is_named, uint8_t octets[MOST_SESSION_OCTETS], size_t *size) {
     path = at_path;
     path_is_named = is_named;
     open_folder();
     take_turn();
-    switch (read_kept(&file, octets, MOST_IN_FILE, size, &file.before)) {
+    switch (read_kept(&file, octets, MOST_SESSION_OCTETS, size, &file.before)) {
     case KEPT_FILE: return 1;
     case KEPT_LINK: refuse_session_file("it is a link");
     case KEPT_OTHER: refuse_session_file("it is no file");

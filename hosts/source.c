@@ -13,11 +13,11 @@
 #include <time.h>
 #include <unistd.h>
 
-enum { MOST_TEXT = 65536 };
+enum { MOST_HELD = 65536 };
 
 /* What has come in and is not taken yet: `size` octets from `first` on. How much of it has no empty line, and how much was the
    latest text. Whether its end has come, and whether its head was let go. */
-static char held[MOST_TEXT + 1];
+static char held[MOST_HELD + 1];
 static size_t first, size, searched, taken;
 static int is_ended, is_too_long;
 
@@ -129,10 +129,10 @@ static void read_file(void) {
     int file = open_file(&found);
     ssize_t count = -1;
     first = size = searched = taken = 0;
-    while (file >= 0 && (count = read(file, held + size, MOST_TEXT - size)) > 0) size += (size_t)count;
+    while (file >= 0 && (count = read(file, held + size, MOST_HELD - size)) > 0) size += (size_t)count;
     if (count < 0) complain(strerror(errno));
-    else if (size == MOST_TEXT) complain("it has over 65,535 octets");
-    is_ended = count >= 0 && size < MOST_TEXT;
+    else if (size == MOST_HELD) complain("it has over 65,535 octets");
+    is_ended = count >= 0 && size < MOST_HELD;
     if (!is_ended) size = 0;
     if (file >= 0 || stat(path, &found) == 0) {
         device_read = found.st_dev;
@@ -157,7 +157,7 @@ static void open_again(void) {
 static void read_pipe(void) {
     memmove(held, held + first, size);
     first = 0;
-    ssize_t count = read(at, held + size, MOST_TEXT - size);
+    ssize_t count = read(at, held + size, MOST_HELD - size);
     if (count > 0) size += (size_t)count;
     if (count != 0) return;
     is_ended = 1;
@@ -224,6 +224,6 @@ int next_text(char **text) {
         return 1;
     }
     if (is_ended) is_ended = is_too_long = 0;
-    if (size == MOST_TEXT) let_go_all();
+    if (size == MOST_HELD) let_go_all();
     return 0;
 }
