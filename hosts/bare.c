@@ -7,6 +7,7 @@
 #define _GNU_SOURCE
 #include "common.h"
 #include "identity.h"
+#include "message_places.h"
 #include <errno.h>
 #include <linux/io_uring.h>
 #include <stdio.h>
@@ -17,15 +18,14 @@
 #include <sys/syscall.h>
 #include <unistd.h>
 
-/* Octets of a management message (IEEE 1588-2019, 13.3 and 15.4), and of an answer with PRIORITY1. */
-enum { SOURCE = 20, NUMBER = 30, TARGET = 34, ACTION = 46, MESSAGE = 54, ANSWER = 56, MOST = 2048, ROUND = 64 };
-enum { MANAGEMENT = 0xd, GET = 0, PORT_IDENTITY = 10 };
+/* Octets of an answer with PRIORITY1, of a datagram, and of a portIdentity; and an actionField. */
+enum { ANSWER = 56, MOST = 2048, PORT_IDENTITY = 10, GET = 0, ROUND = 64 };
 
 const char program[] = "bare";
 
 /* RESPONSE, PRIORITY1 128, by port 1. */
 static const uint8_t answer[ANSWER] = {
-    MANAGEMENT, 2, 0, ANSWER, [SOURCE + 9] = 1, [32] = 4, 0x7f, [ACTION] = 2, [48] = 0, 1, 0, 4, 0x20, 0x05, 128,
+    MANAGEMENT_TYPE, 2, 0, ANSWER, [SOURCE_PORT_AT + 1] = 1, [32] = 4, 0x7f, [ACTION_AT] = 2, [TLV_AT] = 0, 1, 0, 4, 0x20, 0x05, 128,
 };
 static uint8_t own[8];
 static struct sockaddr_storage to;
@@ -39,12 +39,12 @@ _Noreturn void usage(void) {
 
 /* Writes the answer to a datagram; whether it is a GET for this clock. */
 static int answers(const uint8_t *heard, ssize_t size, uint8_t written[ANSWER]) {
-    if (size < MESSAGE || (heard[0] & 15) != MANAGEMENT || (heard[ACTION] & 15) != GET
-        || memcmp(heard + TARGET, own, sizeof own) != 0) return 0;
+    if (size < LEAST_MESSAGE || (heard[TYPE_AT] & LOWER_HALF) != MANAGEMENT_TYPE || (heard[ACTION_AT] & LOWER_HALF) != GET
+        || memcmp(heard + TARGET_AT, own, sizeof own) != 0) return 0;
     memcpy(written, answer, ANSWER);
-    memcpy(written + SOURCE, own, sizeof own);
-    memcpy(written + NUMBER, heard + NUMBER, 2);
-    memcpy(written + TARGET, heard + SOURCE, PORT_IDENTITY);
+    memcpy(written + SOURCE_AT, own, sizeof own);
+    memcpy(written + SEQUENCE_AT, heard + SEQUENCE_AT, 2);
+    memcpy(written + TARGET_AT, heard + SOURCE_AT, PORT_IDENTITY);
     return 1;
 }
 

@@ -2,6 +2,7 @@
 #include "asking.h"
 #include "common.h"
 #include "draw.h"
+#include "message_places.h"
 #include "names.h"
 #include "notices.h"
 #include "seen.h"
@@ -18,12 +19,8 @@ enum { STEP = 50, BURST = 128, MOST_BURSTS = 16, DOMAINS_AT_ONCE = 32 };
    many time-outs at most. */
 enum { TRIES = 25, TRY = 2, MOST_TIMEOUTS = 10 };
 
-/* The places of members in a message: of the header, and of a TLV and its dataField (IEEE 1588-2019, 13.3, 15.4 and 15.5). */
-enum {
-    LENGTH_AT = 2, DOMAIN_AT = 4, CLOCK_AT = 20, PORT_AT = 28, NUMBER_AT = 30, TARGET_AT = 34, ACTION_AT = 46, TLV_AT = 48, FIELD_AT = 54,
-    PORT_COUNT_AT = FIELD_AT + 2, FIELD_PORT_AT = FIELD_AT + 8, LEAST_MESSAGE = FIELD_AT,
-};
-enum { ERROR_TLV = 2, DEFAULT_SIZE = 20, PORT_SIZE = 26 };
+/* In the answers: a tlvType (IEEE 1588-2019, 14.1.1), how many octets two data sets have, and the places of their members (15.5.3). */
+enum { ERROR_TLV = 2, DEFAULT_SIZE = 20, PORT_SIZE = 26, PORT_COUNT_AT = FIELD_AT + 2, FIELD_PORT_AT = FIELD_AT + 8 };
 
 static const uint16_t ids[COLLECTED] = {
     PTPM_ID_DEFAULT_DATA_SET, PTPM_ID_CURRENT_DATA_SET, PTPM_ID_PARENT_DATA_SET, PTPM_ID_TIME_PROPERTIES_DATA_SET,
@@ -90,7 +87,7 @@ static uint64_t sum_of(const uint8_t *message, size_t size) {
 static void take_answer(const struct request *request, const uint8_t *message) {
     size_t size = two_octets(message + LENGTH_AT);
     struct seen_answer answer = {
-        .clock = message + CLOCK_AT, .domain = request->domain, .id = request->id, .port = (uint16_t)two_octets(message + PORT_AT),
+        .clock = message + SOURCE_AT, .domain = request->domain, .id = request->id, .port = (uint16_t)two_octets(message + SOURCE_PORT_AT),
         .is_refusal = two_octets(message + TLV_AT) == ERROR_TLV, .sum = sum_of(message, size),
     };
     int has_field = !answer.is_refusal && size >= FIELD_AT;
@@ -113,7 +110,7 @@ static void take_answer(const struct request *request, const uint8_t *message) {
 static struct request *asked_under(const uint8_t *datagram, size_t size) {
     if (size < LEAST_MESSAGE) return NULL;
     for (size_t i = 0; i < request_count; i++) {
-        if (requests[i].number == two_octets(datagram + NUMBER_AT)) return &requests[i];
+        if (requests[i].number == two_octets(datagram + SEQUENCE_AT)) return &requests[i];
     }
     return NULL;
 }

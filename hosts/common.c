@@ -1,5 +1,6 @@
 #define _GNU_SOURCE
 #include "common.h"
+#include "message_places.h"
 #include "socket_option.h"
 #include <arpa/inet.h>
 #include <dirent.h>
@@ -104,13 +105,13 @@ socklen_t group(struct sockaddr_storage *to, int is_six) {
     return sizeof *four;
 }
 
-enum { UDP_HEAD = 8, MESSAGE_TYPE = 0x0f, MANAGEMENT = 0xd };
+enum { UDP_HEAD = 8 };
 
 /* Of datagrams, which begin with their UDP header here, those whose messageType is 0xD. An empty one has none. */
 static const struct sock_filter wanted[] = {
-    BPF_STMT(BPF_LD | BPF_B | BPF_ABS, UDP_HEAD),
-    BPF_STMT(BPF_ALU | BPF_AND | BPF_K, MESSAGE_TYPE),
-    BPF_JUMP(BPF_JMP | BPF_JEQ | BPF_K, MANAGEMENT, 1, 0),
+    BPF_STMT(BPF_LD | BPF_B | BPF_ABS, UDP_HEAD + TYPE_AT),
+    BPF_STMT(BPF_ALU | BPF_AND | BPF_K, LOWER_HALF),
+    BPF_JUMP(BPF_JMP | BPF_JEQ | BPF_K, MANAGEMENT_TYPE, 1, 0),
     BPF_STMT(BPF_RET | BPF_K, 0),
     BPF_STMT(BPF_RET | BPF_K, 65535),
 };

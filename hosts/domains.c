@@ -1,18 +1,20 @@
 #include "domains.h"
 #include "common.h"
+#include "message_places.h"
 #include "notices.h"
 #include "way.h"
 #include <stdio.h>
 #include <string.h>
 
-/* In a message's header and in an Announce message (IEEE 1588-2019, 13.3 and 13.5). */
-enum { ANNOUNCE = 0xb, VERSION = 2, KIND_AT = 0, VERSION_AT = 1, LENGTH_AT = 2, DOMAIN_AT = 4, ANNOUNCE_SIZE = 64 };
+/* versionPTP, and how many octets an Announce message has (IEEE 1588-2019, 13.3 and 13.5). */
+enum { VERSION = 2, ANNOUNCE_SIZE = 64 };
 
 /* The standard's default, and that of SMPTE ST 2059-2. */
 enum { USUAL = 0, USUAL_IN_STUDIOS = 127 };
 
 static int is_announce(const uint8_t *datagram, size_t size) {
-    if (size < ANNOUNCE_SIZE || (datagram[KIND_AT] & 0xf) != ANNOUNCE || (datagram[VERSION_AT] & 0xf) != VERSION) return 0;
+    if (size < ANNOUNCE_SIZE || (datagram[TYPE_AT] & LOWER_HALF) != ANNOUNCE_TYPE) return 0;
+    if ((datagram[VERSION_AT] & LOWER_HALF) != VERSION) return 0;
     size_t length = (size_t)datagram[LENGTH_AT] << 8 | datagram[LENGTH_AT + 1];
     return length >= ANNOUNCE_SIZE && length <= size;
 }

@@ -1,5 +1,6 @@
 #define _GNU_SOURCE
 #include "ethernet.h"
+#include "message_places.h"
 #include "socket_option.h"
 #include <arpa/inet.h>
 #include <errno.h>
@@ -11,7 +12,7 @@
 #include <sys/socket.h>
 #include <unistd.h>
 
-enum { PTP = 0x88f7, TAG = 0x8100, SERVICE_TAG = 0x88a8, TAG_SIZE = 4, TYPE = 12, MANAGEMENT = 0xd };
+enum { PTP = 0x88f7, TAG = 0x8100, SERVICE_TAG = 0x88a8, TAG_SIZE = 4, TYPE = 12 };
 
 static const uint8_t group_station[STATION] = { 0x01, 0x1b, 0x19, 0x00, 0x00, 0x00 };
 
@@ -23,11 +24,11 @@ static const struct sock_filter wanted[] = {
     BPF_JUMP(BPF_JMP | BPF_JEQ | BPF_K, SERVICE_TAG, 0, 7),
     BPF_STMT(BPF_LD | BPF_H | BPF_ABS, TYPE + TAG_SIZE),
     BPF_JUMP(BPF_JMP | BPF_JEQ | BPF_K, PTP, 0, 5),
-    BPF_STMT(BPF_LD | BPF_B | BPF_ABS, ETHERNET_HEAD + TAG_SIZE),
+    BPF_STMT(BPF_LD | BPF_B | BPF_ABS, ETHERNET_HEAD + TAG_SIZE + TYPE_AT),
     BPF_JUMP(BPF_JMP | BPF_JA, 1, 0, 0),
-    BPF_STMT(BPF_LD | BPF_B | BPF_ABS, ETHERNET_HEAD),
-    BPF_STMT(BPF_ALU | BPF_AND | BPF_K, 0x0f),
-    BPF_JUMP(BPF_JMP | BPF_JEQ | BPF_K, MANAGEMENT, 1, 0),
+    BPF_STMT(BPF_LD | BPF_B | BPF_ABS, ETHERNET_HEAD + TYPE_AT),
+    BPF_STMT(BPF_ALU | BPF_AND | BPF_K, LOWER_HALF),
+    BPF_JUMP(BPF_JMP | BPF_JEQ | BPF_K, MANAGEMENT_TYPE, 1, 0),
     BPF_STMT(BPF_RET | BPF_K, 0),
     BPF_STMT(BPF_RET | BPF_K, 65535),
 };

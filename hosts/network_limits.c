@@ -2,11 +2,9 @@
 #include "network_limits.h"
 #include "common.h"
 #include "links.h"
+#include "message_places.h"
 #include <string.h>
 #include <sys/random.h>
-
-/* Octets of a management message (IEEE 1588-2019, 13.3 and 15.4). */
-enum { SOURCE_CLOCK = 20, SOURCE_PORT = 28, STARTING_HOPS = 44, HOPS = 45, LEAST_MESSAGE = 54 };
 
 enum { NOTED = 1000 };     /* for how many milliseconds a message is not passed on again */
 
@@ -33,14 +31,14 @@ int admit_datagram(const struct heard *heard, const struct port *port) {
 }
 
 void lower_hops(struct heard *heard) {
-    if (heard->size < LEAST_MESSAGE || heard->octets[HOPS] <= limits.hops) return;
-    uint8_t less = (uint8_t)(heard->octets[HOPS] - limits.hops), starting = heard->octets[STARTING_HOPS];
-    heard->octets[HOPS] = (uint8_t)limits.hops;
-    heard->octets[STARTING_HOPS] = starting > less ? (uint8_t)(starting - less) : 0;
+    if (heard->size < LEAST_MESSAGE || heard->octets[HOPS_AT] <= limits.hops) return;
+    uint8_t less = (uint8_t)(heard->octets[HOPS_AT] - limits.hops), starting = heard->octets[STARTING_HOPS_AT];
+    heard->octets[HOPS_AT] = (uint8_t)limits.hops;
+    heard->octets[STARTING_HOPS_AT] = starting > less ? (uint8_t)(starting - less) : 0;
 }
 
 static int is_of_manager(const struct heard *heard) {
-    const uint8_t *source = heard->octets + SOURCE_CLOCK, *port = heard->octets + SOURCE_PORT;
+    const uint8_t *source = heard->octets + SOURCE_AT, *port = heard->octets + SOURCE_PORT_AT;
     for (size_t i = 0; i < limits.manager_count; i++) {
         const struct ptpm_manager_settings *manager = &limits.managers[i];
         if (memcmp(manager->clock, source, 8) == 0 && manager->port == (port[0] << 8 | port[1])) return 1;

@@ -5,6 +5,7 @@
    sends these. It reads nothing. */
 #define _GNU_SOURCE
 #include "common.h"
+#include "message_places.h"
 #include <stdio.h>
 #include <stdlib.h>
 #include <string.h>
@@ -12,21 +13,21 @@
 enum kind { JUNK, ANNOUNCE, FOREIGN, ALL, KINDS };
 static const char *const kinds[KINDS] = { "junk", "announce", "foreign", "all" };
 
-enum { MOST_AT_ONCE = 16, MOST_SIZE = 64, NUMBER = 30, TARGET = 34 };
+enum { MOST_AT_ONCE = 16, MOST_SIZE = 64 };
 
 const char program[] = "noise";
 
 /* What is sent of each kind (IEEE 1588-2019, 13.3, 13.5 and 15.4); a GET is one of PRIORITY1. */
 struct message { uint8_t size, octets[MOST_SIZE]; };
 #define SOURCE 0x0a, 0x0b, 0x0c, 0x0d, 0x0e, 0x0f, 0x20, 0x21
+#define GET MANAGEMENT_TYPE, 2, 0, LEAST_MESSAGE, [SOURCE_AT] = SOURCE, 0, 1, [32] = 4, 0x7f
+#define OF_PRIORITY1 0xff, 0xff, 1, 1, 0, 0, 0, 1, 0, 2, 0x20, 0x05
 static const struct message messages[KINDS] = {
     [JUNK] = { 64, { 0 } },
-    [ANNOUNCE] = { 64, { 0x0b, 2, 0, 64, [20] = SOURCE, 0, 1, [32] = 5, 1,
+    [ANNOUNCE] = { 64, { ANNOUNCE_TYPE, 2, 0, 64, [SOURCE_AT] = SOURCE, 0, 1, [32] = 5, 1,
                          [45] = 37, 0, 100, 6, 0x21, 0x4e, 0x5d, 128, SOURCE, 0, 0, 0x20 } },
-    [FOREIGN] = { 54, { 0x0d, 2, 0, 54, [20] = SOURCE, 0, 1, [32] = 4, 0x7f, [TARGET] = 0x00, 0x11, 0x22, 0xff, 0xfe, 0x44, 0x55, 0x66,
-                        0xff, 0xff, 1, 1, 0, 0, 0, 1, 0, 2, 0x20, 0x05 } },
-    [ALL] = { 54, { 0x0d, 2, 0, 54, [20] = SOURCE, 0, 1, [32] = 4, 0x7f, [TARGET] = 0xff, 0xff, 0xff, 0xff, 0xff, 0xff, 0xff, 0xff,
-                    0xff, 0xff, 1, 1, 0, 0, 0, 1, 0, 2, 0x20, 0x05 } },
+    [FOREIGN] = { LEAST_MESSAGE, { GET, [TARGET_AT] = 0x00, 0x11, 0x22, 0xff, 0xfe, 0x44, 0x55, 0x66, OF_PRIORITY1 } },
+    [ALL] = { LEAST_MESSAGE, { GET, [TARGET_AT] = 0xff, 0xff, 0xff, 0xff, 0xff, 0xff, 0xff, 0xff, OF_PRIORITY1 } },
 };
 
 _Noreturn void usage(void) {
@@ -37,9 +38,9 @@ _Noreturn void usage(void) {
 /* The n-th message of a kind: another number, and of a GET for one clock another clock each time. */
 static size_t write_message(enum kind kind, long n, uint8_t octets[MOST_SIZE]) {
     memcpy(octets, messages[kind].octets, MOST_SIZE);
-    octets[NUMBER] = (uint8_t)(n >> 8);
-    octets[NUMBER + 1] = (uint8_t)n;
-    if (kind == FOREIGN) octets[TARGET + 7] = (uint8_t)n;
+    octets[SEQUENCE_AT] = (uint8_t)(n >> 8);
+    octets[SEQUENCE_AT + 1] = (uint8_t)n;
+    if (kind == FOREIGN) octets[TARGET_AT + 7] = (uint8_t)n;
     for (int i = 0; kind == JUNK && i < MOST_SIZE; i++) octets[i] = (uint8_t)random();
     return messages[kind].size;
 }

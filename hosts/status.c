@@ -4,6 +4,7 @@
 #include "collect.h"
 #include "common.h"
 #include "identity.h"
+#include "message_places.h"
 #include "notices.h"
 #include "report.h"
 #include "seen.h"
@@ -22,7 +23,7 @@ enum { BEFORE_SECOND_LOOK = 2000, TIME_TEXT = 32 };
 enum { FINDINGS = 1 };
 
 /* The places of the domain and of the clock in a line of hexadecimal. */
-enum { DOMAIN_IN_LINE = 8, CLOCK_IN_LINE = 40, LEAST_LINE = 56 };
+enum { DOMAIN_IN_LINE = 2 * DOMAIN_AT, CLOCK_IN_LINE = 2 * SOURCE_AT, LEAST_LINE = 2 * SOURCE_PORT_AT };
 
 /* A look at the site: the answers as lines, and what they show. */
 struct look {
