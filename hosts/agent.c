@@ -59,13 +59,13 @@ void say_started(void) {
     say("%s %zu manager%s", text, options->manager_count, options->manager_count == 1 ? "" : "s");
 }
 
-/* Prints the names of members that changed. Each is that of the answer which refuses its value, without BAD_. */
+/* Prints the names of members that changed. Each has the place of the answer which refuses its value, `first` and on. */
 static void tell_changed(const char *where, uint32_t first, uint32_t members) {
     char line[1024];
     int size = snprintf(line, sizeof line, "%s", where);
     for (uint32_t i = 0; i < 32; i++) {
         if ((members >> i & 1) == 0) continue;
-        size += snprintf(line + size, sizeof line - (size_t)size, " %s", answer_name(first + i) + strlen("BAD_"));
+        size += snprintf(line + size, sizeof line - (size_t)size, " %s", refused_member(first + i));
     }
     print_line("%s", line);
 }

@@ -33,6 +33,12 @@ const char *answer_name(uint32_t answer) {
     return *name != '\0' ? name : "an answer without a name";
 }
 
+const char *refused_member(uint32_t answer) {
+    static const char lead[] = "BAD_";
+    const char *name = answer_name(answer);
+    return strncmp(name, lead, sizeof lead - 1) == 0 ? name + sizeof lead - 1 : name;
+}
+
 uint8_t state_named(const char *text) {
     enum { PORT_STATE = 10, SIZE = 26 };        /* portState in a PORT_DATA_SET, and how many octets that has (15.5.3.7) */
     uint8_t octets[SIZE] = { 0 }, *state = &octets[PORT_STATE];

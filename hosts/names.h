@@ -18,6 +18,9 @@ const char *error_name(uint16_t error);
 /* The name of why the library starts or begins nothing: that of the constant in ptpm.h, without PTPM_. */
 const char *answer_name(uint32_t answer);
 
+/* The member whose value an answer refuses, such as PRIORITY1 of PTPM_BAD_PRIORITY1. The whole name of an answer that refuses none. */
+const char *refused_member(uint32_t answer);
+
 /* The portState (8.2.15.3.1) of a name, in either case; 0 if it is none. */
 uint8_t state_named(const char *text);
 

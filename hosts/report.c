@@ -36,7 +36,8 @@ static void add_finding(struct report *report, const struct finding *finding) {
     report->findings[report->count++] = *finding;
 }
 
-/* Text: after a line `findings: N` a line for each, with the domain, the clock and the name first. */
+/* Text, in the form that docs/ptpm-site.md promises to scripts: after a line `findings: N` a line for each, with the domain, the clock
+   and the name first. One line may stand for what JSON has as several findings, so each form is read as it is. */
 
 static const char *end_of_line(const char *at, const char *end) {
     const char *found = memchr(at, '\n', (size_t)(end - at));
@@ -74,7 +75,7 @@ static void read_text(struct report *report) {
     report->tail = (struct piece){ at, (size_t)(end - at) };
 }
 
-/* JSON: objects in the list `findings` of the one object. */
+/* JSON, in the form of that page: objects in the list `findings` of the one object. */
 
 static const char *after_spaces(const char *at, const char *end) {
     while (at < end && isspace((unsigned char)*at)) at++;
