@@ -146,10 +146,10 @@ static unsigned long take_turn(struct heard *heard, const struct port *port) {
     return hand_on(heard, port, ingress, answer, places, count, &left);
 }
 
-void take_round(const struct port *port, int at) {
+void take_round(const struct port *port, int socket) {
     static struct heard heard[ROUND];
     unsigned long lost = 0;
-    size_t count = hear_round(port, at, heard);
+    size_t count = hear_round(port, socket, heard);
     for (size_t i = 0; i < count; i++) lost += take_turn(&heard[i], port);
     count_dropped(lost + send_saved());
 }

@@ -39,9 +39,9 @@ enum { UNIX_SOCKET = PORTS, SOURCE, SIGNALS, LINKS, TIMER, WAITS };
 static int polled = -1;
 static unsigned long polled_openings[PORTS];    /* which socket of each port is polled */
 
-static void wait_at(int at, uint32_t what) {
+static void wait_at(int descriptor, uint32_t what) {
     struct epoll_event event = { .events = EPOLLIN, .data.u32 = what };
-    if (at >= 0 && epoll_ctl(polled, EPOLL_CTL_ADD, at, &event) && errno != EEXIST) give_up("epoll_ctl");
+    if (descriptor >= 0 && epoll_ctl(polled, EPOLL_CTL_ADD, descriptor, &event) && errno != EEXIST) give_up("epoll_ctl");
 }
 
 static void wait_at_all(void) {

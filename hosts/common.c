@@ -116,53 +116,53 @@ static const struct sock_filter wanted[] = {
     BPF_STMT(BPF_RET | BPF_K, 65535),
 };
 
-static int filter_messages(int at, const char **what) {
+static int filter_messages(int socket, const char **what) {
     const struct sock_fprog filter = { .len = sizeof wanted / sizeof *wanted, .filter = (struct sock_filter *)wanted };
-    return set_option(at, SOL_SOCKET, SO_ATTACH_FILTER, &filter, sizeof filter, what, "SO_ATTACH_FILTER");
+    return set_option(socket, SOL_SOCKET, SO_ATTACH_FILTER, &filter, sizeof filter, what, "SO_ATTACH_FILTER");
 }
 
-static int join_four(int at, const struct sockaddr_in *address, unsigned interface, const char **what) {
+static int join_four(int socket, const struct sockaddr_in *address, unsigned interface, const char **what) {
     int none = 0;
     struct sockaddr_in any = { .sin_family = AF_INET, .sin_port = htons(GENERAL_PORT) };
     struct ip_mreqn join = { .imr_multiaddr = address->sin_addr, .imr_ifindex = (int)interface };
     *what = "UDP port 320";
-    return bind(at, (struct sockaddr *)&any, sizeof any) == 0
-           && set_option(at, IPPROTO_IP, IP_ADD_MEMBERSHIP, &join, sizeof join, what, "IP_ADD_MEMBERSHIP")
-           && set_option(at, IPPROTO_IP, IP_MULTICAST_IF, &join, sizeof join, what, "IP_MULTICAST_IF")
-           && set_option(at, IPPROTO_IP, IP_MULTICAST_LOOP, &none, sizeof none, what, "IP_MULTICAST_LOOP");
+    return bind(socket, (struct sockaddr *)&any, sizeof any) == 0
+           && set_option(socket, IPPROTO_IP, IP_ADD_MEMBERSHIP, &join, sizeof join, what, "IP_ADD_MEMBERSHIP")
+           && set_option(socket, IPPROTO_IP, IP_MULTICAST_IF, &join, sizeof join, what, "IP_MULTICAST_IF")
+           && set_option(socket, IPPROTO_IP, IP_MULTICAST_LOOP, &none, sizeof none, what, "IP_MULTICAST_LOOP");
 }
 
-static int join_six(int at, const struct sockaddr_in6 *address, unsigned interface, const char **what) {
+static int join_six(int socket, const struct sockaddr_in6 *address, unsigned interface, const char **what) {
     int one = 1, none = 0;
     struct sockaddr_in6 any = { .sin6_family = AF_INET6, .sin6_port = htons(GENERAL_PORT) };
     struct ipv6_mreq join = { .ipv6mr_multiaddr = address->sin6_addr, .ipv6mr_interface = interface };
-    if (!set_option(at, IPPROTO_IPV6, IPV6_V6ONLY, &one, sizeof one, what, "IPV6_V6ONLY")) return 0;
+    if (!set_option(socket, IPPROTO_IPV6, IPV6_V6ONLY, &one, sizeof one, what, "IPV6_V6ONLY")) return 0;
     *what = "UDP port 320";
-    return bind(at, (struct sockaddr *)&any, sizeof any) == 0
-           && set_option(at, IPPROTO_IPV6, IPV6_ADD_MEMBERSHIP, &join, sizeof join, what, "IPV6_ADD_MEMBERSHIP")
-           && set_option(at, IPPROTO_IPV6, IPV6_MULTICAST_IF, &interface, sizeof interface, what, "IPV6_MULTICAST_IF")
-           && set_option(at, IPPROTO_IPV6, IPV6_MULTICAST_LOOP, &none, sizeof none, what, "IPV6_MULTICAST_LOOP");
+    return bind(socket, (struct sockaddr *)&any, sizeof any) == 0
+           && set_option(socket, IPPROTO_IPV6, IPV6_ADD_MEMBERSHIP, &join, sizeof join, what, "IPV6_ADD_MEMBERSHIP")
+           && set_option(socket, IPPROTO_IPV6, IPV6_MULTICAST_IF, &interface, sizeof interface, what, "IPV6_MULTICAST_IF")
+           && set_option(socket, IPPROTO_IPV6, IPV6_MULTICAST_LOOP, &none, sizeof none, what, "IPV6_MULTICAST_LOOP");
 }
 
 /* The socket hears nothing until it is bound, and by then it has its filter. */
-static int join_group(int at, const char *interface, int is_six, enum messages messages, const char **what) {
+static int join_group(int socket, const char *interface, int is_six, enum messages messages, const char **what) {
     int one = 1;
     unsigned index = if_nametoindex(interface);
     struct sockaddr_storage to;
     group(&to, is_six);
-    return index != 0 && (messages == EVERY_MESSAGE || filter_messages(at, what))
-           && set_option(at, SOL_SOCKET, SO_REUSEADDR, &one, sizeof one, what, "SO_REUSEADDR")
-           && set_option(at, SOL_SOCKET, SO_BINDTODEVICE, interface, strlen(interface) + 1, what, "SO_BINDTODEVICE")
-           && (is_six ? join_six(at, (struct sockaddr_in6 *)&to, index, what)
-                      : join_four(at, (struct sockaddr_in *)&to, index, what));
+    return index != 0 && (messages == EVERY_MESSAGE || filter_messages(socket, what))
+           && set_option(socket, SOL_SOCKET, SO_REUSEADDR, &one, sizeof one, what, "SO_REUSEADDR")
+           && set_option(socket, SOL_SOCKET, SO_BINDTODEVICE, interface, strlen(interface) + 1, what, "SO_BINDTODEVICE")
+           && (is_six ? join_six(socket, (struct sockaddr_in6 *)&to, index, what)
+                      : join_four(socket, (struct sockaddr_in *)&to, index, what));
 }
 
 int open_udp(const char *interface, int is_six, enum messages messages, const char **what) {
     *what = interface;
-    int at = socket(is_six ? AF_INET6 : AF_INET, SOCK_DGRAM | SOCK_CLOEXEC, 0);
-    if (at < 0 || join_group(at, interface, is_six, messages, what)) return at;
+    int opened = socket(is_six ? AF_INET6 : AF_INET, SOCK_DGRAM | SOCK_CLOEXEC, 0);
+    if (opened < 0 || join_group(opened, interface, is_six, messages, what)) return opened;
     int failure = errno;
-    close(at);
+    close(opened);
     errno = failure;
     return -1;
 }
@@ -172,17 +172,17 @@ const char *right_needed(int is_ethernet) {
     return is_ethernet ? ": it takes root, or the capability CAP_NET_RAW" : ": it takes root, or the capability CAP_NET_BIND_SERVICE";
 }
 
-int join_again(int at, unsigned interface, int is_six) {
+int join_again(int socket, unsigned interface, int is_six) {
     struct sockaddr_storage to;
     group(&to, is_six);
     if (is_six) {
         struct ipv6_mreq join = { .ipv6mr_multiaddr = ((struct sockaddr_in6 *)&to)->sin6_addr, .ipv6mr_interface = interface };
-        setsockopt(at, IPPROTO_IPV6, IPV6_DROP_MEMBERSHIP, &join, sizeof join);
-        return setsockopt(at, IPPROTO_IPV6, IPV6_ADD_MEMBERSHIP, &join, sizeof join) == 0;
+        setsockopt(socket, IPPROTO_IPV6, IPV6_DROP_MEMBERSHIP, &join, sizeof join);
+        return setsockopt(socket, IPPROTO_IPV6, IPV6_ADD_MEMBERSHIP, &join, sizeof join) == 0;
     }
     struct ip_mreqn join = { .imr_multiaddr = ((struct sockaddr_in *)&to)->sin_addr, .imr_ifindex = (int)interface };
-    setsockopt(at, IPPROTO_IP, IP_DROP_MEMBERSHIP, &join, sizeof join);
-    return setsockopt(at, IPPROTO_IP, IP_ADD_MEMBERSHIP, &join, sizeof join) == 0;
+    setsockopt(socket, IPPROTO_IP, IP_DROP_MEMBERSHIP, &join, sizeof join);
+    return setsockopt(socket, IPPROTO_IP, IP_ADD_MEMBERSHIP, &join, sizeof join) == 0;
 }
 
 /* Removes a socket at the path if no program listens at it. */
@@ -234,18 +234,18 @@ static void remove_own(void) {
 int bind_unix(const char *path, mode_t mode) {
     if (strlen(path) >= sizeof own_path.sun_path) usage();
     strcpy(own_path.sun_path, path);
-    int at = socket(AF_UNIX, SOCK_DGRAM | SOCK_CLOEXEC, 0);
+    int opened = socket(AF_UNIX, SOCK_DGRAM | SOCK_CLOEXEC, 0);
     mode_t before = umask(~mode & 0777);
-    if (at < 0 || bind(at, (struct sockaddr *)&own_path, sizeof own_path)) give_up(path);
+    if (opened < 0 || bind(opened, (struct sockaddr *)&own_path, sizeof own_path)) give_up(path);
     umask(before);
-    return at;
+    return opened;
 }
 
 int open_unix_as(const char *path, mode_t mode) {
     remove_unheard(path);
-    int at = bind_unix(path, mode);
+    int opened = bind_unix(path, mode);
     if (lstat(path, &own_file) || atexit(remove_own)) give_up(path);
-    return at;
+    return opened;
 }
 
 /* Whether files that are made from now on get the group of the file at a path. The program may lack the right to that. */
@@ -264,7 +264,7 @@ int open_unix(const char *path) {
         remove_beside(base);
         has_its_group = take_group_of(base);
     }
-    int at = open_unix_as(path, 0660);
+    int opened = open_unix_as(path, 0660);
     if (has_its_group && setegid(before)) give_up(path);
-    return at;
+    return opened;
 }

@@ -57,7 +57,7 @@ socklen_t group(struct sockaddr_storage *to, int is_six);
 
 /* Joins that group once more at an interface whose memberships may be gone, for example since its MTU was too small. Whether it is
    done. */
-int join_again(int at, unsigned interface, int is_six);
+int join_again(int socket, unsigned interface, int is_six);
 
 /* Removes a socket at a path if no program listens at it. Beside it ptpm-manage has its own while it asks: the path, a dot and
    the number of the process. Those of processes that are gone are removed too. */

@@ -34,43 +34,43 @@ static const struct sock_filter wanted[] = {
 };
 
 /* Reads the interface's own address; whether it could. */
-static int read_station(int at, unsigned index, uint8_t own[STATION]) {
+static int read_station(int socket, unsigned index, uint8_t own[STATION]) {
     struct ifreq request = { 0 };
-    if (if_indextoname(index, request.ifr_name) == NULL || ioctl(at, SIOCGIFHWADDR, &request)) return 0;
+    if (if_indextoname(index, request.ifr_name) == NULL || ioctl(socket, SIOCGIFHWADDR, &request)) return 0;
     memcpy(own, request.ifr_hwaddr.sa_data, STATION);
     return 1;
 }
 
-int filter_ethernet(int at, int is_management_alone) {
+int filter_ethernet(int socket, int is_management_alone) {
     struct sock_fprog filter = { .len = sizeof wanted / sizeof *wanted, .filter = (struct sock_filter *)wanted };
     int none = 0;
-    return is_management_alone ? setsockopt(at, SOL_SOCKET, SO_ATTACH_FILTER, &filter, sizeof filter) == 0
-                               : setsockopt(at, SOL_SOCKET, SO_DETACH_FILTER, &none, sizeof none) == 0;
+    return is_management_alone ? setsockopt(socket, SOL_SOCKET, SO_ATTACH_FILTER, &filter, sizeof filter) == 0
+                               : setsockopt(socket, SOL_SOCKET, SO_DETACH_FILTER, &none, sizeof none) == 0;
 }
 
 /* The socket hears nothing until it is bound, and by then it has its filter. */
-static int join_group(int at, const char *interface, uint8_t own[STATION], const char **what) {
+static int join_group(int socket, const char *interface, uint8_t own[STATION], const char **what) {
     int one = 1;
     unsigned index = if_nametoindex(interface);
     struct sockaddr_ll place = { .sll_family = AF_PACKET, .sll_protocol = htons(PTP), .sll_ifindex = (int)index };
     struct packet_mreq join = { .mr_ifindex = (int)index, .mr_type = PACKET_MR_MULTICAST, .mr_alen = STATION };
     memcpy(join.mr_address, group_station, STATION);
     *what = interface;
-    if (index == 0 || !read_station(at, index, own)) return 0;
+    if (index == 0 || !read_station(socket, index, own)) return 0;
     *what = "SO_ATTACH_FILTER";
-    if (!filter_ethernet(at, 1)
-        || !set_option(at, SOL_PACKET, PACKET_IGNORE_OUTGOING, &one, sizeof one, what, "PACKET_IGNORE_OUTGOING")
-        || !set_option(at, SOL_PACKET, PACKET_ADD_MEMBERSHIP, &join, sizeof join, what, "PACKET_ADD_MEMBERSHIP")) return 0;
+    if (!filter_ethernet(socket, 1)
+        || !set_option(socket, SOL_PACKET, PACKET_IGNORE_OUTGOING, &one, sizeof one, what, "PACKET_IGNORE_OUTGOING")
+        || !set_option(socket, SOL_PACKET, PACKET_ADD_MEMBERSHIP, &join, sizeof join, what, "PACKET_ADD_MEMBERSHIP")) return 0;
     *what = "Ethertype 0x88F7";
-    return bind(at, (struct sockaddr *)&place, sizeof place) == 0;
+    return bind(socket, (struct sockaddr *)&place, sizeof place) == 0;
 }
 
 int open_ethernet(const char *interface, uint8_t own[STATION], const char **what) {
     *what = "a socket of Ethernet";
-    int at = socket(AF_PACKET, SOCK_RAW | SOCK_CLOEXEC, 0);
-    if (at < 0 || join_group(at, interface, own, what)) return at;
+    int opened = socket(AF_PACKET, SOCK_RAW | SOCK_CLOEXEC, 0);
+    if (opened < 0 || join_group(opened, interface, own, what)) return opened;
     int failure = errno;
-    close(at);
+    close(opened);
     errno = failure;
     return -1;
 }

@@ -15,7 +15,7 @@ enum { STATION = 6, ETHERNET_HEAD = 14, ETHERNET_LEAST = 60, FRAME_PARTS = 3 };
 int open_ethernet(const char *interface, uint8_t own[STATION], const char **what);
 
 /* Has a socket hear frames with management messages alone, or with every message; whether it does. */
-int filter_ethernet(int at, int is_management_alone);
+int filter_ethernet(int socket, int is_management_alone);
 
 /* The place at which the message begins in a frame, after the tags of a VLAN. 0 if the frame has none for the group or this
    address. The frame may be padded after the message. */

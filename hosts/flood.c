@@ -28,7 +28,7 @@ _Noreturn void usage(void) {
     exit(2);
 }
 
-static int at;
+static int port_socket;
 static struct sockaddr_storage to;
 static socklen_t to_size;
 static long sent;
@@ -39,7 +39,7 @@ static uint16_t ask(void) {
     request[SEQUENCE_AT] = (uint8_t)(number >> 8);
     request[SEQUENCE_AT + 1] = (uint8_t)number;
     sent_at[number] = nanoseconds();
-    sendto(at, request, sizeof request, 0, (struct sockaddr *)&to, to_size);
+    sendto(port_socket, request, sizeof request, 0, (struct sockaddr *)&to, to_size);
     return number;
 }
 
@@ -51,7 +51,7 @@ static int is_answer(const uint8_t *octets, ssize_t size) {
 /* Whether something came in. If it is an answer it is counted. */
 static int take_answer(int flags) {
     uint8_t octets[2048];
-    ssize_t size = recv(at, octets, sizeof octets, flags);
+    ssize_t size = recv(port_socket, octets, sizeof octets, flags);
     if (!is_answer(octets, size)) return size >= 0;
     long *asked = &sent_at[octets[SEQUENCE_AT] << 8 | octets[SEQUENCE_AT + 1]];
     if (*asked == 0) return 1;
@@ -75,7 +75,7 @@ static void ask_at_rate(long rate, long seconds) {
 static void ask_in_turn(long seconds) {
     const struct timeval most = { .tv_usec = 200000 };
     long end = nanoseconds() + seconds * 1000000000;
-    setsockopt(at, SOL_SOCKET, SO_RCVTIMEO, &most, sizeof most);
+    setsockopt(port_socket, SOL_SOCKET, SO_RCVTIMEO, &most, sizeof most);
     while (nanoseconds() < end) {
         uint16_t number = ask();
         while (sent_at[number] != 0 && take_answer(0)) continue;
@@ -96,9 +96,9 @@ int main(int argc, char **argv) {
     if (argc != 5 || identity_at(argv[2], request + TARGET_AT) == NULL) usage();
     long rate = decimal(argv[3], 1000000), seconds = decimal(argv[4], 1000);
     if (rate < 0 || seconds < 1) usage();
-    at = open_udp(argv[1], 0, EVERY_MESSAGE, &what);
-    if (at < 0) give_up(what);
-    setsockopt(at, SOL_SOCKET, SO_RCVBUFFORCE, &room, sizeof room);
+    port_socket = open_udp(argv[1], 0, EVERY_MESSAGE, &what);
+    if (port_socket < 0) give_up(what);
+    setsockopt(port_socket, SOL_SOCKET, SO_RCVBUFFORCE, &room, sizeof room);
     to_size = group(&to, 0);
     if (rate > 0) ask_at_rate(rate, seconds);
     else ask_in_turn(seconds);

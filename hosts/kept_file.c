@@ -52,30 +52,32 @@ void leave_no_lock(const struct kept_file *file) {
 
 enum kept_found read_kept(const struct kept_file *file, uint8_t *octets, size_t most, size_t *size, struct stat *found) {
     *size = 0;
-    int at = openat(file->folder, file->name, O_RDONLY | O_NOFOLLOW | O_NONBLOCK | O_CLOEXEC);
-    if (at < 0) return errno == ENOENT ? KEPT_NONE : errno == ELOOP ? KEPT_LINK : KEPT_UNREADABLE;
-    enum kept_found what = fstat(at, found) ? KEPT_UNREADABLE : S_ISREG(found->st_mode) ? KEPT_FILE : KEPT_OTHER;
+    int opened = openat(file->folder, file->name, O_RDONLY | O_NOFOLLOW | O_NONBLOCK | O_CLOEXEC);
+    if (opened < 0) return errno == ENOENT ? KEPT_NONE : errno == ELOOP ? KEPT_LINK : KEPT_UNREADABLE;
+    enum kept_found what = fstat(opened, found) ? KEPT_UNREADABLE : S_ISREG(found->st_mode) ? KEPT_FILE : KEPT_OTHER;
     for (ssize_t count = 1; what == KEPT_FILE && count > 0 && *size < most; *size += (size_t)count) {
-        count = read(at, octets + *size, most - *size);
+        count = read(opened, octets + *size, most - *size);
         if (count >= 0) continue;
         what = KEPT_UNREADABLE;
         break;
     }
     int failure = errno;
-    close(at);
+    close(opened);
     errno = failure;
     return what;
 }
 
 /* Gives the new file the owner of the one before, as far as this user may, and its mode; whether it has that. */
-static int make_like_before(const struct stat *before, int at) {
+static int make_like_before(const struct stat *before, int descriptor) {
     if (before->st_nlink == 0) return 1;
-    if (fchown(at, before->st_uid, before->st_gid) && fchown(at, (uid_t)-1, before->st_gid)) errno = 0;    /* it is this user's then */
-    return fchmod(at, before->st_mode & 0777) == 0;
+    if (fchown(descriptor, before->st_uid, before->st_gid) && fchown(descriptor, (uid_t)-1, before->st_gid)) {
+        errno = 0;      /* it is this user's then */
+    }
+    return fchmod(descriptor, before->st_mode & 0777) == 0;
 }
 
-static int write_whole(int at, const uint8_t *octets, size_t size) {
-    ssize_t written = write(at, octets, size);
+static int write_whole(int descriptor, const uint8_t *octets, size_t size) {
+    ssize_t written = write(descriptor, octets, size);
     if (written >= 0 && (size_t)written < size) errno = ENOSPC;
     return written == (ssize_t)size;
 }
@@ -83,11 +85,11 @@ static int write_whole(int at, const uint8_t *octets, size_t size) {
 /* Writes the file that is to replace the old one; whether it could. */
 static int write_new(const struct kept_file *file, const uint8_t *octets, size_t size) {
     unlinkat(file->folder, file->new_name, 0);
-    int at = openat(file->folder, file->new_name, O_WRONLY | O_CREAT | O_EXCL | O_NOFOLLOW | O_CLOEXEC, file->mode);
-    if (at < 0) return 0;
-    int is_written = make_like_before(&file->before, at) && write_whole(at, octets, size) && fsync(at) == 0;
+    int opened = openat(file->folder, file->new_name, O_WRONLY | O_CREAT | O_EXCL | O_NOFOLLOW | O_CLOEXEC, file->mode);
+    if (opened < 0) return 0;
+    int is_written = make_like_before(&file->before, opened) && write_whole(opened, octets, size) && fsync(opened) == 0;
     int failure = errno;
-    if (close(at) == 0 && is_written) return 1;
+    if (close(opened) == 0 && is_written) return 1;
     if (!is_written) errno = failure;
     return 0;
 }

@@ -62,9 +62,9 @@ static int open_end(const char *text) {
     int namespace = open(path, O_RDONLY);
     if (namespace < 0 || setns(namespace, CLONE_NEWNET)) give_up(path);
     close(namespace);
-    int at = open("/dev/net/tun", O_RDWR);
-    if (at < 0 || ioctl(at, TUNSETIFF, &request)) give_up("/dev/net/tun");
-    return at;
+    int opened = open("/dev/net/tun", O_RDWR);
+    if (opened < 0 || ioctl(opened, TUNSETIFF, &request)) give_up("/dev/net/tun");
+    return opened;
 }
 
 static int happens(struct way *way, long percent) { return nrand48(way->chance) % 100 < percent; }

@@ -18,13 +18,15 @@ struct network { unsigned index; sa_family_t family; uint8_t address[16], mask[1
 
 static struct network networks[MOST_NETWORKS];
 static size_t network_count;
-static int at, is_stale = 1;
+static int netlink_socket, is_stale = 1;
 
 int open_links(void) {
     struct sockaddr_nl groups = { .nl_family = AF_NETLINK, .nl_groups = RTMGRP_LINK | RTMGRP_IPV4_IFADDR | RTMGRP_IPV6_IFADDR };
-    at = socket(AF_NETLINK, SOCK_RAW | SOCK_CLOEXEC | SOCK_NONBLOCK, NETLINK_ROUTE);
-    if (at < 0 || bind(at, (struct sockaddr *)&groups, sizeof groups)) give_up("the kernel's reports of interfaces");
-    return at;
+    netlink_socket = socket(AF_NETLINK, SOCK_RAW | SOCK_CLOEXEC | SOCK_NONBLOCK, NETLINK_ROUTE);
+    if (netlink_socket < 0 || bind(netlink_socket, (struct sockaddr *)&groups, sizeof groups)) {
+        give_up("the kernel's reports of interfaces");
+    }
+    return netlink_socket;
 }
 
 /* The MTU that the kernel reports of an interface; 0 if it reports none. */
@@ -63,7 +65,7 @@ static void take_messages(const char *told, size_t size, link_taker *take) {
 void read_links(link_taker *take) {
     static _Alignas(struct nlmsghdr) char told[TOLD];
     for (;;) {
-        ssize_t size = recv(at, told, sizeof told, MSG_DONTWAIT);
+        ssize_t size = recv(netlink_socket, told, sizeof told, MSG_DONTWAIT);
         if (size > 0) {
             take_messages(told, (size_t)size, take);
         } else if (size < 0 && errno == ENOBUFS) {

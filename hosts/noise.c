@@ -46,7 +46,7 @@ static size_t write_message(enum kind kind, long n, uint8_t octets[MOST_SIZE]) {
 }
 
 /* Sends the next messages, which are due; how many went out. */
-static long send_due(int at, enum kind kind, long sent, unsigned count) {
+static long send_due(int socket, enum kind kind, long sent, unsigned count) {
     static uint8_t octets[MOST_AT_ONCE][MOST_SIZE];
     struct mmsghdr out[MOST_AT_ONCE];
     struct iovec parts[MOST_AT_ONCE];
@@ -56,7 +56,7 @@ static long send_due(int at, enum kind kind, long sent, unsigned count) {
         parts[i] = (struct iovec){ octets[i], write_message(kind, sent + i, octets[i]) };
         out[i].msg_hdr = (struct msghdr){ .msg_name = &to, .msg_namelen = size, .msg_iov = &parts[i], .msg_iovlen = 1 };
     }
-    int gone = sendmmsg(at, out, count, 0);
+    int gone = sendmmsg(socket, out, count, 0);
     if (gone < 0) give_up("sendmmsg");
     return gone;
 }
@@ -74,12 +74,12 @@ int main(int argc, char **argv) {
     enum kind kind = kind_named(argv[2]);
     long rate = decimal(argv[3], 1000000), seconds = decimal(argv[4], 1000), sent = 0;
     if (rate < 1 || seconds < 1) usage();
-    int at = open_udp(argv[1], 0, EVERY_MESSAGE, &what);
-    if (at < 0) give_up(what);
+    int port_socket = open_udp(argv[1], 0, EVERY_MESSAGE, &what);
+    if (port_socket < 0) give_up(what);
     long begin = nanoseconds(), end = begin + seconds * 1000000000;
     for (long now; (now = nanoseconds()) < end;) {
         long due = (now - begin) / 1000 * rate / 1000000 - sent;
-        if (due > 0) sent += send_due(at, kind, sent, due < MOST_AT_ONCE ? (unsigned)due : MOST_AT_ONCE);
+        if (due > 0) sent += send_due(port_socket, kind, sent, due < MOST_AT_ONCE ? (unsigned)due : MOST_AT_ONCE);
     }
     printf("sent %ld\n", sent);
     return 0;

@@ -29,10 +29,12 @@ static int meeting_socket = -1;
 
 /* A socket that has the path for a moment only: then another one has it. */
 static int open_named(const struct meeting *meeting) {
-    int room = ROOM, at = bind_unix(meeting->path, meeting->mode);
+    int room = ROOM, opened = bind_unix(meeting->path, meeting->mode);
     if (unlink(meeting->path)) give_up(meeting->path);
-    if (setsockopt(at, SOL_SOCKET, SO_SNDBUFFORCE, &room, sizeof room)) setsockopt(at, SOL_SOCKET, SO_SNDBUF, &room, sizeof room);
-    return at;
+    if (setsockopt(opened, SOL_SOCKET, SO_SNDBUFFORCE, &room, sizeof room)) {
+        setsockopt(opened, SOL_SOCKET, SO_SNDBUF, &room, sizeof room);
+    }
+    return opened;
 }
 
 int open_peers(const struct meeting *meeting) {

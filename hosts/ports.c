@@ -23,16 +23,16 @@ static int is_hurried;          /* the kernel reported a change */
 static int open_socket(struct port *port, const char **what) {
     int one = 1;
     if (transport == ETHERNET) return open_ethernet(port->name, port->station, what);
-    int at = open_udp(port->name, transport == UDP_IPV6, MANAGEMENT_MESSAGES, what);
-    if (at >= 0 && transport == UDP_IPV4) setsockopt(at, IPPROTO_IP, IP_PKTINFO, &one, sizeof one);
-    if (at >= 0 && transport == UDP_IPV6) setsockopt(at, IPPROTO_IPV6, IPV6_RECVPKTINFO, &one, sizeof one);
-    return at;
+    int opened = open_udp(port->name, transport == UDP_IPV6, MANAGEMENT_MESSAGES, what);
+    if (opened >= 0 && transport == UDP_IPV4) setsockopt(opened, IPPROTO_IP, IP_PKTINFO, &one, sizeof one);
+    if (opened >= 0 && transport == UDP_IPV6) setsockopt(opened, IPPROTO_IPV6, IPV6_RECVPKTINFO, &one, sizeof one);
+    return opened;
 }
 
 /* The MTU of the interface as its port is opened: a leave and a join that nobody needs may cost messages if a switch listens. */
-static unsigned mtu_at(int at, unsigned index) {
+static unsigned mtu_at(int socket, unsigned index) {
     struct ifreq request = { 0 };
-    if (if_indextoname(index, request.ifr_name) == NULL || ioctl(at, SIOCGIFMTU, &request)) return 0;
+    if (if_indextoname(index, request.ifr_name) == NULL || ioctl(socket, SIOCGIFMTU, &request)) return 0;
     return (unsigned)request.ifr_mtu;
 }
 
@@ -69,14 +69,14 @@ static void close_port(struct port *port) {
 static void open_other(struct port *port, unsigned index) {
     const char *what = "it is an interface of another port";
     const struct port *other = other_at(index, port);
-    int at = other == NULL ? open_socket(port, &what) : -1;
-    if (at >= 0) {
+    int opened = other == NULL ? open_socket(port, &what) : -1;
+    if (opened >= 0) {
         say("%s: the interface was made anew", port->name);
         close_port(port);
-        port->socket = at;
+        port->socket = opened;
         port->index = index;
         port->openings++;
-        port->mtu = mtu_at(at, index);
+        port->mtu = mtu_at(opened, index);
         port->refused = 0;
     } else if (port->refused != index) {
         const char *why = other == NULL ? strerror(errno) : "";

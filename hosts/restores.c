@@ -35,11 +35,11 @@ static uint32_t draw(uint32_t below) {
 static int is_drawn(uint32_t of_hundred) { return draw(100) < of_hundred; }
 
 static void lay_pages(void) {
-    int at = memfd_create("restores", MFD_CLOEXEC);
+    int memory = memfd_create("restores", MFD_CLOEXEC);
     uint8_t *all = mmap(NULL, ROOM + 2 * PAGE, PROT_NONE, MAP_PRIVATE | MAP_ANONYMOUS, -1, 0);
-    if (at < 0 || ftruncate(at, ROOM) || all == MAP_FAILED) exit(2);
-    only_read = mmap(all + PAGE, ROOM, PROT_READ, MAP_SHARED | MAP_FIXED, at, 0);
-    written = mmap(NULL, ROOM, PROT_READ | PROT_WRITE, MAP_SHARED, at, 0);
+    if (memory < 0 || ftruncate(memory, ROOM) || all == MAP_FAILED) exit(2);
+    only_read = mmap(all + PAGE, ROOM, PROT_READ, MAP_SHARED | MAP_FIXED, memory, 0);
+    written = mmap(NULL, ROOM, PROT_READ | PROT_WRITE, MAP_SHARED, memory, 0);
     if (only_read == MAP_FAILED || written == MAP_FAILED) exit(2);
 }
 

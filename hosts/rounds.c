@@ -56,7 +56,7 @@ static int take_heard(struct heard *heard, const struct port *port, struct mmsgh
     return 1;
 }
 
-size_t hear_round(const struct port *port, int at, struct heard heard[ROUND]) {
+size_t hear_round(const struct port *port, int socket, struct heard heard[ROUND]) {
     static uint8_t octets[ROUND][MOST_HEARD];
     static struct control controls[ROUND];
     static struct mmsghdr messages[ROUND];
@@ -69,7 +69,7 @@ size_t hear_round(const struct port *port, int at, struct heard heard[ROUND]) {
             .msg_control = &controls[i], .msg_controllen = sizeof controls[i],
         };
     }
-    int found = recvmmsg(at, messages, ROUND, MSG_DONTWAIT | MSG_TRUNC, NULL);
+    int found = recvmmsg(socket, messages, ROUND, MSG_DONTWAIT | MSG_TRUNC, NULL);
     used_before = found > 0 ? found : 0;
     size_t count = 0;
     for (int i = 0; i < found; i++) {
@@ -191,27 +191,27 @@ static void fill_batch(struct batch *batch, const struct port *port, const struc
 }
 
 /* One that the kernel does not take apart goes out in its parts; how many were not taken. */
-static unsigned long send_apart(int at, const struct msghdr *head) {
+static unsigned long send_apart(int socket, const struct msghdr *head) {
     unsigned long lost = 0;
     is_joining = 0;
     for (size_t i = 0; i < head->msg_iovlen; i++) {
         const struct iovec *part = &head->msg_iov[i];
-        lost += sendto(at, part->iov_base, part->iov_len, MSG_DONTWAIT, head->msg_name, head->msg_namelen) < 0;
+        lost += sendto(socket, part->iov_base, part->iov_len, MSG_DONTWAIT, head->msg_name, head->msg_namelen) < 0;
     }
     return lost;
 }
 
 /* Sends all; how many datagrams were not taken. */
-static unsigned long send_batch(int at, struct batch *batch) {
+static unsigned long send_batch(int socket, struct batch *batch) {
     unsigned long lost = 0;
     for (size_t done = 0; done < batch->count;) {
-        int taken = sendmmsg(at, batch->messages + done, (unsigned)(batch->count - done), MSG_DONTWAIT);
+        int taken = sendmmsg(socket, batch->messages + done, (unsigned)(batch->count - done), MSG_DONTWAIT);
         if (taken > 0) {
             done += (size_t)taken;
             continue;
         }
         int is_refused = batch->sizes[done] > 1 && (errno == EINVAL || errno == EIO || errno == EOPNOTSUPP);
-        lost += is_refused ? send_apart(at, &batch->messages[done].msg_hdr) : batch->sizes[done];
+        lost += is_refused ? send_apart(socket, &batch->messages[done].msg_hdr) : batch->sizes[done];
         done++;
     }
     return lost;

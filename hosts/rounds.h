@@ -35,7 +35,7 @@ struct heard {
 
 /* Takes what has come in at a port, or, if there is none, at the Unix socket; how many datagrams. They stay until the next
    round. */
-size_t hear_round(const struct port *port, int at, struct heard heard[ROUND]);
+size_t hear_round(const struct port *port, int socket, struct heard heard[ROUND]);
 
 /* The places of a turn's messages, PTPM_MOST_SENT of them. NULL if there are fewer: then what is to go out has to go first. */
 struct ptpm_sent *places_to_send(void);

@@ -55,16 +55,16 @@ _Noreturn static void refuse_turn(int lock) {
 
 /* The file of the lock, with the lock on it, until a time. Another run that had it may have removed it meanwhile. */
 static int lock_until(long end) {
-    int at = open_kept_lock(&file);
-    if (at < 0) refuse_place();
-    while (!take_kept_lock(at)) {
+    int lock = open_kept_lock(&file);
+    if (lock < 0) refuse_place();
+    while (!take_kept_lock(lock)) {
         if (errno != EAGAIN && errno != EACCES) refuse_place();
         if (stopped) end_by_signal();
-        if (milliseconds() >= end) refuse_turn(at);
-        show_progress("another run has held %s for %ld s", path, held_for(at));
+        if (milliseconds() >= end) refuse_turn(lock);
+        show_progress("another run has held %s for %ld s", path, held_for(lock));
         wait_for(NULL, 0, TRY_AGAIN);
     }
-    return at;
+    return lock;
 }
 
 /* If no session is kept, for example of a clock that is not there, no lock stays either. */
@@ -73,14 +73,14 @@ static void leave_nothing(void) { leave_no_lock(&file); }
 /* The lock goes when the program ends. Its time is that of this turn. */
 static void take_turn(void) {
     long end = milliseconds() + TURN;
-    int at = lock_until(end);
-    while (!is_kept_lock(&file, at)) {
-        if (milliseconds() >= end) refuse_turn(at);
-        close(at);
-        at = lock_until(end);
+    int lock = lock_until(end);
+    while (!is_kept_lock(&file, lock)) {
+        if (milliseconds() >= end) refuse_turn(lock);
+        close(lock);
+        lock = lock_until(end);
     }
     clear_progress();
-    futimens(at, NULL);
+    futimens(lock, NULL);
     if (atexit(leave_nothing)) refuse_place();
 }
 

@@ -39,19 +39,19 @@ void find_site_program(void) {
 
 /* A file without a name that has the lines, and is read from its beginning. -1 if there is no room for it. */
 static int file_of(const struct piece *lines, size_t count) {
-    int at = memfd_create("lines", MFD_CLOEXEC);
-    for (size_t i = 0; at >= 0 && i < count; i++) {
+    int opened = memfd_create("lines", MFD_CLOEXEC);
+    for (size_t i = 0; opened >= 0 && i < count; i++) {
         for (size_t done = 0; done < lines[i].size;) {
-            ssize_t written = write(at, lines[i].at + done, lines[i].size - done);
+            ssize_t written = write(opened, lines[i].at + done, lines[i].size - done);
             if (written <= 0) {
-                close(at);
+                close(opened);
                 return -1;
             }
             done += (size_t)written;
         }
     }
-    if (at >= 0) lseek(at, 0, SEEK_SET);
-    return at;
+    if (opened >= 0) lseek(opened, 0, SEEK_SET);
+    return opened;
 }
 
 /* Starts it with a standard input and output; whether it is started. */

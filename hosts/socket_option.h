@@ -6,9 +6,10 @@
 #include <sys/socket.h>
 
 /* Sets an option, and leaves its name in *what. Whether it was set. */
-static inline int set_option(int at, int level, int option, const void *value, size_t size, const char **what, const char *name) {
+static inline int set_option(int socket, int level, int option, const void *value, size_t size, const char **what,
+                             const char *name) {
     *what = name;
-    return setsockopt(at, level, option, value, (socklen_t)size) == 0;
+    return setsockopt(socket, level, option, value, (socklen_t)size) == 0;
 }
 
 #endif

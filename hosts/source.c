@@ -21,7 +21,7 @@ static char held[MOST_HELD + 1];
 static size_t first, size, searched, taken;
 static int is_ended, is_too_long;
 
-static int at, is_pipe, is_first = 1;
+static int polled, is_pipe, is_first = 1;
 static const char *path;
 
 /* A folder whose changes are polled, and the name in it that counts: that of the path, or of the file to which links lead. */
@@ -61,8 +61,8 @@ static void watch_folder(struct watch *watch, const char *whole) {
     strcpy(watch->name, whole);
     strcpy(watch->name, basename(watch->name));
     strcpy(watch->folder, whole);
-    int number = inotify_add_watch(at, dirname(watch->folder), IN_CLOSE_WRITE | IN_MOVED_TO);
-    if (watch->number >= 0 && number != watch->number) inotify_rm_watch(at, watch->number);
+    int number = inotify_add_watch(polled, dirname(watch->folder), IN_CLOSE_WRITE | IN_MOVED_TO);
+    if (watch->number >= 0 && number != watch->number) inotify_rm_watch(polled, watch->number);
     watch->number = number;
 }
 
@@ -75,19 +75,19 @@ static void watch_folders(void) {
 int open_source(const char *name) {
     struct stat found;
     path = name;
-    at = open_file(&found);
-    if (at < 0) give_up(path);
+    polled = open_file(&found);
+    if (polled < 0) give_up(path);
     is_pipe = S_ISFIFO(found.st_mode);
-    if (is_pipe) return at;
-    close(at);
+    if (is_pipe) return polled;
+    close(polled);
     if (!S_ISREG(found.st_mode)) {
         complain("it is neither a file nor a pipe");
         exit(2);
     }
-    at = inotify_init1(IN_NONBLOCK | IN_CLOEXEC);
-    if (at >= 0) watch_folders();
-    if (at < 0 || of_path.number < 0) give_up(path);
-    return at;
+    polled = inotify_init1(IN_NONBLOCK | IN_CLOEXEC);
+    if (polled >= 0) watch_folders();
+    if (polled < 0 || of_path.number < 0) give_up(path);
+    return polled;
 }
 
 static int is_of(const struct watch *watch, const struct inotify_event *event) {
@@ -99,7 +99,7 @@ static int read_events(void) {
     _Alignas(struct inotify_event) char events[4096];
     int written = is_first;
     is_first = 0;
-    for (ssize_t count; (count = read(at, events, sizeof events)) > 0;) {
+    for (ssize_t count; (count = read(polled, events, sizeof events)) > 0;) {
         for (char *next = events; next < events + count;) {
             const struct inotify_event *event = (const void *)next;
             written |= (event->mask & IN_Q_OVERFLOW) != 0 || is_of(&of_path, event) || is_of(&of_target, event);
@@ -149,15 +149,15 @@ static void open_again(void) {
     int is_there = again >= 0 && S_ISFIFO(found.st_mode);
     if (!is_there) complain("the pipe is gone, and nothing more is observed");
     if (!is_there && again >= 0) close(again);
-    close(at);
-    at = is_there ? again : -1;
+    close(polled);
+    polled = is_there ? again : -1;
 }
 
 /* The pipe is opened anew for the next program that writes to it, and is never without a reader. */
 static void read_pipe(void) {
     memmove(held, held + first, size);
     first = 0;
-    ssize_t count = read(at, held + size, MOST_HELD - size);
+    ssize_t count = read(polled, held + size, MOST_HELD - size);
     if (count > 0) size += (size_t)count;
     if (count != 0) return;
     is_ended = 1;
@@ -171,7 +171,7 @@ int read_source(void) {
     for (size_t k = before; k < size; k++) {
         if (held[k] == '\0') held[k] = 1;       /* which is no text either */
     }
-    return at;
+    return polled;
 }
 
 /* Empty lines at the head, which are let go together. */

@@ -16,7 +16,7 @@
 #include <unistd.h>
 
 /* A socket, and over UDP or Ethernet its interface, with that one's address on Ethernet. */
-struct end { int at; const char *interface; uint8_t station[STATION]; };
+struct end { int socket; const char *interface; uint8_t station[STATION]; };
 
 static struct sockaddr_storage clock_address;
 static socklen_t clock_size;
@@ -130,15 +130,16 @@ void find_way(struct task *task) {
 
 static void open_at_interface(struct end *end) {
     const char *what;
-    end->at = is_ethernet ? open_ethernet(end->interface, end->station, &what) : open_udp(end->interface, is_six, EVERY_MESSAGE, &what);
-    if (end->at < 0) refuse("nothing was sent: %s: %s%s", what, strerror(errno), right_needed(is_ethernet));
+    end->socket = is_ethernet ? open_ethernet(end->interface, end->station, &what)
+                              : open_udp(end->interface, is_six, EVERY_MESSAGE, &what);
+    if (end->socket < 0) refuse("nothing was sent: %s: %s%s", what, strerror(errno), right_needed(is_ethernet));
 }
 
 static void open_beside(const char *path) {
     char own_path[sizeof ((struct sockaddr_un *)0)->sun_path + 32];
     int size = snprintf(own_path, sizeof own_path, "%s.%ld", path, (long)getpid());
     if ((size_t)size >= sizeof ((struct sockaddr_un *)0)->sun_path) refuse("--unix %s: the path is too long", path);
-    ends[0].at = open_unix(own_path);
+    ends[0].socket = open_unix(own_path);
 }
 
 void open_way(const struct task *task) {
@@ -149,14 +150,15 @@ void open_way(const struct task *task) {
 void widen_way(void) {
     const int wanted = ROOM_FOR_MANY;
     for (size_t i = 0; i < end_count; i++) {
-        if (setsockopt(ends[i].at, SOL_SOCKET, SO_RCVBUFFORCE, &wanted, sizeof wanted) == 0) continue;
-        setsockopt(ends[i].at, SOL_SOCKET, SO_RCVBUF, &wanted, sizeof wanted);
+        if (setsockopt(ends[i].socket, SOL_SOCKET, SO_RCVBUFFORCE, &wanted, sizeof wanted) == 0) continue;
+        setsockopt(ends[i].socket, SOL_SOCKET, SO_RCVBUF, &wanted, sizeof wanted);
     }
 }
 
 void hear_every_kind(int is_every) {
     for (size_t i = 0; i < end_count && is_ethernet; i++) {
-        if (!filter_ethernet(ends[i].at, !is_every)) complain("%s: the filter of frames: %s", ends[i].interface, strerror(errno));
+        if (filter_ethernet(ends[i].socket, !is_every)) continue;
+        complain("%s: the filter of frames: %s", ends[i].interface, strerror(errno));
     }
 }
 
@@ -166,11 +168,11 @@ static ssize_t send_frame(const struct end *end, const uint8_t *octets, size_t s
     const struct msghdr frame = { .msg_iov = parts, .msg_iovlen = FRAME_PARTS };
     write_head(head, NULL, end->station);
     join_frame(parts, head, octets, size);
-    return sendmsg(end->at, &frame, MSG_DONTWAIT);
+    return sendmsg(end->socket, &frame, MSG_DONTWAIT);
 }
 
 static ssize_t send_datagram(const struct end *end, const uint8_t *octets, size_t size) {
-    return sendto(end->at, octets, size, MSG_DONTWAIT, (struct sockaddr *)&clock_address, clock_size);
+    return sendto(end->socket, octets, size, MSG_DONTWAIT, (struct sockaddr *)&clock_address, clock_size);
 }
 
 enum sending send_out(const uint8_t *octets, size_t size) {
@@ -186,7 +188,7 @@ enum sending send_out(const uint8_t *octets, size_t size) {
 static const struct end *next_end(long wait) {
     static size_t latest;
     struct pollfd waits[MOST_INTERFACES];
-    for (size_t i = 0; i < end_count; i++) waits[i] = (struct pollfd){ ends[i].at, POLLIN, 0 };
+    for (size_t i = 0; i < end_count; i++) waits[i] = (struct pollfd){ ends[i].socket, POLLIN, 0 };
     if (wait_for(waits, end_count, wait) <= 0) return NULL;
     do latest = (latest + 1) % end_count;
     while (waits[latest].revents == 0);
@@ -197,7 +199,7 @@ const uint8_t *hear(size_t *size, long end) {
     static uint8_t datagram[MOST_DATAGRAM];
     for (long left; (left = end - milliseconds()) > 0 && !stopped;) {
         const struct end *from = next_end(left);
-        ssize_t found = from == NULL ? -1 : recv(from->at, datagram, sizeof datagram, MSG_DONTWAIT);
+        ssize_t found = from == NULL ? -1 : recv(from->socket, datagram, sizeof datagram, MSG_DONTWAIT);
         if (found < 0) continue;
         size_t place = is_ethernet ? message_in(datagram, (size_t)found, from->station) : 0;
         if (is_ethernet && place == 0) continue;
