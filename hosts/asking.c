@@ -1,11 +1,12 @@
 #include "asking.h"
 #include "answer.h"
-#include "common.h"
 #include "exchange.h"
 #include "identity.h"
+#include "monotonic.h"
 #include "names.h"
 #include "notices.h"
 #include "session_file.h"
+#include "stopping.h"
 #include "unanswered.h"
 #include "way.h"
 #include <errno.h>

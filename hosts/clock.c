@@ -6,14 +6,15 @@
    hosts decide" in docs/architecture.md). It waits for nobody except the disk: what a peer doesn't take at once is dropped. */
 #define _GNU_SOURCE
 #include "agent.h"
-#include "common.h"
 #include "counts.h"
 #include "links.h"
+#include "monotonic.h"
 #include "options.h"
 #include "output.h"
 #include "peers.h"
 #include "ports.h"
 #include "privileges.h"
+#include "program.h"
 #include "service.h"
 #include "signals.h"
 #include "source.h"

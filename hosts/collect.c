@@ -1,11 +1,12 @@
 #include "collect.h"
 #include "asking.h"
-#include "common.h"
 #include "draw.h"
 #include "message_places.h"
+#include "monotonic.h"
 #include "names.h"
 #include "notices.h"
 #include "seen.h"
+#include "stopping.h"
 #include "way.h"
 #include <errno.h>
 #include <stdlib.h>

@@ -1,6 +1,6 @@
 #include "domains.h"
-#include "common.h"
 #include "message_places.h"
+#include "monotonic.h"
 #include "notices.h"
 #include "way.h"
 #include <stdio.h>

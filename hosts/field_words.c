@@ -1,8 +1,8 @@
 #define _GNU_SOURCE
 #include "field_words.h"
-#include "common.h"
 #include "field_lines.h"
 #include "notices.h"
+#include "program.h"
 #include <stdio.h>
 #include <stdlib.h>
 #include <string.h>

@@ -1,11 +1,12 @@
 #include "fresh_number.h"
 #include "asking.h"
-#include "common.h"
 #include "draw.h"
 #include "exchange.h"
+#include "monotonic.h"
 #include "notices.h"
 #include "reading.h"
 #include "session_file.h"
+#include "stopping.h"
 #include "unanswered.h"
 #include <errno.h>
 #include <string.h>

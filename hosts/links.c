@@ -1,6 +1,6 @@
 #define _GNU_SOURCE
 #include "links.h"
-#include "common.h"
+#include "program.h"
 #include <errno.h>
 #include <ifaddrs.h>
 #include <linux/netlink.h>

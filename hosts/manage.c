@@ -6,13 +6,14 @@
    and which findings are printed. docs/architecture.md has more of that ("What the hosts decide"). */
 #include "asking.h"
 #include "collect.h"
-#include "common.h"
 #include "draw.h"
 #include "earlier.h"
 #include "fresh_number.h"
 #include "notices.h"
+#include "program.h"
 #include "session.h"
 #include "status.h"
+#include "stopping.h"
 #include "way.h"
 #include <errno.h>
 #include <stdio.h>

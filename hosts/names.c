@@ -1,5 +1,5 @@
 #include "names.h"
-#include "common.h"
+#include "digits.h"
 #include "field_lines.h"
 #include "ptpm.h"
 #include <stddef.h>

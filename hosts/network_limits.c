@@ -1,8 +1,9 @@
 #define _GNU_SOURCE
 #include "network_limits.h"
-#include "common.h"
 #include "links.h"
 #include "message_places.h"
+#include "monotonic.h"
+#include "program.h"
 #include <string.h>
 #include <sys/random.h>
 

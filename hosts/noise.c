@@ -4,8 +4,11 @@
    are octets by chance, Announce messages of one master, GETs for clocks that are not there, or GETs for every clock. No manager
    sends these. It reads nothing. */
 #define _GNU_SOURCE
-#include "common.h"
+#include "digits.h"
 #include "message_places.h"
+#include "monotonic.h"
+#include "program.h"
+#include "udp.h"
 #include <stdio.h>
 #include <stdlib.h>
 #include <string.h>

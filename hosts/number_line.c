@@ -1,5 +1,5 @@
 #include "number_line.h"
-#include "common.h"
+#include "digits.h"
 #include "identity.h"
 #include <stdio.h>
 #include <string.h>

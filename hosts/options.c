@@ -1,8 +1,10 @@
 #define _GNU_SOURCE
 #include "options.h"
-#include "common.h"
+#include "digits.h"
 #include "identity.h"
+#include "monotonic.h"
 #include "output.h"
+#include "program.h"
 #include <getopt.h>
 #include <grp.h>
 #include <net/if.h>

@@ -1,6 +1,7 @@
 #define _GNU_SOURCE
 #include "output.h"
-#include "common.h"
+#include "monotonic.h"
+#include "program.h"
 #include "ptpm.h"
 #include <errno.h>
 #include <pthread.h>

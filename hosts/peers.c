@@ -1,6 +1,7 @@
 #define _GNU_SOURCE
 #include "peers.h"
-#include "common.h"
+#include "program.h"
+#include "unix_socket.h"
 #include <limits.h>
 #include <linux/sockios.h>
 #include <string.h>

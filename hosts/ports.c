@@ -1,8 +1,8 @@
 #define _GNU_SOURCE
 #include "ports.h"
-#include "common.h"
 #include "links.h"
 #include "output.h"
+#include "udp.h"
 #include <errno.h>
 #include <net/if.h>
 #include <netinet/in.h>

@@ -1,7 +1,8 @@
 #include "reading.h"
-#include "common.h"
 #include "draw.h"
 #include "exchange.h"
+#include "monotonic.h"
+#include "stopping.h"
 #include <unistd.h>
 
 enum { MOST_READINGS = 10 };

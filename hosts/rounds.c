@@ -1,7 +1,7 @@
 #define _GNU_SOURCE
 #include "rounds.h"
-#include "common.h"
 #include "peers.h"
+#include "udp.h"
 #include <arpa/inet.h>
 #include <errno.h>
 #include <linux/udp.h>

@@ -2,12 +2,12 @@
 #include "saving.h"
 #include "identity.h"
 #include "kept_file.h"
+#include "monotonic.h"
 #include "names.h"
 #include "output.h"
 #include <errno.h>
 #include <stdlib.h>
 #include <string.h>
-#include <time.h>
 #include <unistd.h>
 
 /* Statuses of the program, and the place of a clockIdentity in the image of a clock. */
@@ -129,11 +129,7 @@ int restore_clock(struct ptpm_clock *clock, const struct options *given) {
     return is_there;
 }
 
-static unsigned long microseconds(void) {
-    struct timespec now;
-    clock_gettime(CLOCK_MONOTONIC, &now);
-    return (unsigned long)now.tv_sec * 1000000 + (unsigned long)now.tv_nsec / 1000;
-}
+static unsigned long microseconds(void) { return (unsigned long)nanoseconds() / 1000; }
 
 static void count_save(size_t size, unsigned long time) {
     saves.made++;

@@ -1,6 +1,6 @@
 #define _GNU_SOURCE
 #include "service.h"
-#include "common.h"
+#include "digits.h"
 #include <limits.h>
 #include <stddef.h>
 #include <stdlib.h>

@@ -1,9 +1,10 @@
 #define _GNU_SOURCE
 #include "session_file.h"
 #include "asking.h"
-#include "common.h"
 #include "kept_file.h"
+#include "monotonic.h"
 #include "notices.h"
+#include "stopping.h"
 #include <errno.h>
 #include <stdlib.h>
 #include <string.h>

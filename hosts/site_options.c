@@ -1,5 +1,5 @@
 #include "site_options.h"
-#include "common.h"
+#include "digits.h"
 #include "notices.h"
 #include <stdlib.h>
 #include <string.h>

@@ -1,7 +1,7 @@
 #define _GNU_SOURCE
 #include "site_program.h"
-#include "common.h"
 #include "notices.h"
+#include "stopping.h"
 #include <errno.h>
 #include <fcntl.h>
 #include <limits.h>

@@ -1,7 +1,7 @@
 #define _GNU_SOURCE
 #include "source.h"
-#include "common.h"
 #include "output.h"
+#include "program.h"
 #include <errno.h>
 #include <fcntl.h>
 #include <libgen.h>

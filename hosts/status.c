@@ -2,13 +2,14 @@
 #include "status.h"
 #include "asking.h"
 #include "collect.h"
-#include "common.h"
+#include "digits.h"
 #include "identity.h"
 #include "message_places.h"
 #include "notices.h"
 #include "report.h"
 #include "seen.h"
 #include "site_program.h"
+#include "stopping.h"
 #include "way.h"
 #include <errno.h>
 #include <stdlib.h>

@@ -1,6 +1,6 @@
 #define _GNU_SOURCE
 #include "task.h"
-#include "common.h"
+#include "digits.h"
 #include "field_words.h"
 #include "help.h"
 #include "identity.h"

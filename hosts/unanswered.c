@@ -1,11 +1,11 @@
 #include "unanswered.h"
 #include "answer.h"
 #include "asking.h"
-#include "common.h"
 #include "identity.h"
 #include "notices.h"
 #include "reading.h"
 #include "session_file.h"
+#include "stopping.h"
 #include "way.h"
 
 /* Whether the clock answers nobody's GET, if it did not answer the manager; then what it has is said. */

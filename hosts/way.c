@@ -1,9 +1,13 @@
 #define _GNU_SOURCE
 #include "way.h"
-#include "common.h"
 #include "ethernet.h"
+#include "monotonic.h"
 #include "notices.h"
+#include "program.h"
 #include "reading.h"
+#include "stopping.h"
+#include "udp.h"
+#include "unix_socket.h"
 #include <arpa/inet.h>
 #include <errno.h>
 #include <ifaddrs.h>
