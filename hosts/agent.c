@@ -8,6 +8,7 @@
 #include "output.h"
 #include "peers.h"
 #include "saving.h"
+#include <stdbool.h>
 #include <stdio.h>
 #include <stdlib.h>
 #include <string.h>
@@ -123,7 +124,7 @@ static unsigned long take_told_turn(const struct heard *heard, const struct port
     enum ptpm_handled answer = ptpm_clock_handle_changed(&clock_held, ingress, heard->octets, heard->size, places, PTPM_MOST_SENT,
                                                          &count, &changed);
     unsigned long lost = hand_on(heard, port, ingress, answer, places, count, &left);
-    int is_done = save_changes(&clock_held);
+    bool is_done = save_changes(&clock_held);
     lost += is_done ? send_all() : drop_round();
     tell_turn(ingress, heard, answer, left - lost, count);
     if (is_done) tell_all_changed(&changed);
@@ -165,7 +166,7 @@ void observe(char *text) {
     struct observation observation;
     uint8_t left = 0;
     if (!read_observation(&observation, options->source, text)) {
-        count_observation(0);
+        count_observation(false);
         return;
     }
     enum ptpm_observed answer = ptpm_clock_observe(&clock_held, &observation.clock, observation.ports, observation.port_count,

@@ -10,6 +10,7 @@
 #include "unanswered.h"
 #include "way.h"
 #include <errno.h>
+#include <stdbool.h>
 #include <stdio.h>
 #include <string.h>
 
@@ -38,11 +39,11 @@ static int not_asked(uint32_t refusal) {
 
 /* Counts a message that went out; whether it makes sense to go on. It makes none if there is no way, and none went out before;
    that is said. */
-static int count_sending(enum sending sending, long *sent) {
+static bool count_sending(enum sending sending, long *sent) {
     *sent += sending == OUT;
-    if (sending != NO_WAY || *sent > 0) return 1;
+    if (sending != NO_WAY || *sent > 0) return true;
     complain("nothing was sent: %s: %s", way_name(), strerror(errno));
-    return 0;
+    return false;
 }
 
 int send_until_answered(struct session *session, const struct task *task, long *sent) {

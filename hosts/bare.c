@@ -11,6 +11,7 @@
 #include "udp.h"
 #include <errno.h>
 #include <linux/io_uring.h>
+#include <stdbool.h>
 #include <stdio.h>
 #include <stdlib.h>
 #include <string.h>
@@ -39,14 +40,14 @@ _Noreturn void usage(void) {
 }
 
 /* Writes the answer to a datagram; whether it is a GET for this clock. */
-static int answers(const uint8_t *heard, ssize_t size, uint8_t written[ANSWER]) {
+static bool answers(const uint8_t *heard, ssize_t size, uint8_t written[ANSWER]) {
     if (size < LEAST_MESSAGE || (heard[TYPE_AT] & LOWER_HALF) != MANAGEMENT_TYPE || (heard[ACTION_AT] & LOWER_HALF) != GET
-        || memcmp(heard + TARGET_AT, own, sizeof own) != 0) return 0;
+        || memcmp(heard + TARGET_AT, own, sizeof own) != 0) return false;
     memcpy(written, answer, ANSWER);
     memcpy(written + SOURCE_AT, own, sizeof own);
     memcpy(written + SEQUENCE_AT, heard + SEQUENCE_AT, 2);
     memcpy(written + TARGET_AT, heard + SOURCE_AT, PORT_IDENTITY);
-    return 1;
+    return true;
 }
 
 static void answer_by_calls(void) {
@@ -130,7 +131,7 @@ static void request(struct ring *ring, struct io_uring_sqe wanted) {
 /* Hands out what is requested, and waits until a receive is done; how many octets came in. */
 static ssize_t wait_for_receive(struct ring *ring, unsigned requested) {
     ssize_t size = -1;
-    for (int is_done = 0; !is_done; requested = 0) {
+    for (bool is_done = false; !is_done; requested = 0) {
         if (syscall(SYS_io_uring_enter, ring->descriptor, requested, 1, IORING_ENTER_GETEVENTS, NULL, 0) < 0) {
             give_up("io_uring_enter");
         }
@@ -139,7 +140,7 @@ static ssize_t wait_for_receive(struct ring *ring, unsigned requested) {
             const struct io_uring_cqe *one = &ring->done[head & *ring->done_mask];
             if (one->user_data != RECEIVE) continue;
             size = one->res;
-            is_done = 1;
+            is_done = true;
         }
         __atomic_store_n(ring->done_head, head, __ATOMIC_RELEASE);
     }
@@ -159,7 +160,7 @@ static void answer_by_ring(void) {
         .flags = IOSQE_CQE_SKIP_SUCCESS,
     };
     struct ring ring = open_ring();
-    for (int is_asked = 0;;) {
+    for (bool is_asked = false;;) {
         if (is_asked) request(&ring, send);
         request(&ring, receive);
         is_asked = answers(heard, wait_for_receive(&ring, is_asked ? 2 : 1), written);
@@ -169,9 +170,9 @@ static void answer_by_ring(void) {
 int main(int argc, char **argv) {
     const char *what;
     if (argc != 4 || identity_at(argv[2], own) == NULL) usage();
-    port_socket = open_udp(argv[1], 0, EVERY_MESSAGE, &what);
+    port_socket = open_udp(argv[1], false, EVERY_MESSAGE, &what);
     if (port_socket < 0) give_up(what);
-    to_size = group(&to, 0);
+    to_size = group(&to, false);
     if (strcmp(argv[3], "calls") == 0) answer_by_calls();
     if (strcmp(argv[3], "rounds") == 0) answer_in_rounds();
     if (strcmp(argv[3], "ring") == 0) answer_by_ring();

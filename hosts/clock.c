@@ -20,6 +20,7 @@
 #include "source.h"
 #include "timer.h"
 #include <errno.h>
+#include <stdbool.h>
 #include <sys/epoll.h>
 
 enum { SECOND = 1000 };
@@ -65,7 +66,7 @@ static void wait_at_ports(void) {
 }
 
 /* What has come in there; whether the program goes on. */
-static int take_event(uint32_t what) {
+static bool take_event(uint32_t what) {
     enum asked asked = NOTHING_ASKED;
     switch (what) {
     case UNIX_SOCKET: take_round(NULL, unix_socket); break;
@@ -95,7 +96,7 @@ static void look_around(long now) {
 /* Runs until a signal asks for the end, or until that time comes, if it is not 0. */
 static void run(long end) {
     struct epoll_event events[WAITS];
-    int is_going_on = 1;
+    bool is_going_on = true;
     if (source >= 0) observe_all();
     wait_at_all();
     say_started();

@@ -9,6 +9,7 @@
 #include "stopping.h"
 #include "way.h"
 #include <errno.h>
+#include <stdbool.h>
 #include <stdlib.h>
 #include <string.h>
 
@@ -42,16 +43,16 @@ static struct request requests[DOMAINS_AT_ONCE * COLLECTED];
 static size_t request_count;
 static FILE *output;
 static long sent, latest;               /* messages that went out; when an answer came that is no copy */
-static int has_no_way;
+static bool has_no_way;
 
 static unsigned two_octets(const uint8_t *at) { return (unsigned)at[0] << 8 | at[1]; }
 
 /* Starts the request of an id; whether the library would ask it. If not, that is said. */
-static int start_request(const struct task *task, uint8_t domain, enum collected id) {
+static bool start_request(const struct task *task, uint8_t domain, enum collected id) {
     static uint16_t number;
-    static int is_drawn;
+    static bool is_drawn;
     if (!is_drawn) number = draw_number();
-    is_drawn = 1;
+    is_drawn = true;
     struct request *request = &requests[request_count];
     struct ptpm_survey_settings settings = {
         .port = task->settings.port, .number = ++number, .id = ids[id], .domain = domain, .hops = task->settings.hops,
@@ -63,13 +64,13 @@ static int start_request(const struct task *task, uint8_t domain, enum collected
     }
     if (refusal != PTPM_SENT) {
         complain("nothing was asked: %s", answer_name(refusal));
-        return 0;
+        return false;
     }
     request->number = number;
     request->domain = domain;
     request->id = id;
     request_count++;
-    return 1;
+    return true;
 }
 
 static void stop_requests(void) {
@@ -91,12 +92,12 @@ static void take_answer(const struct request *request, const uint8_t *message) {
         .clock = message + SOURCE_AT, .domain = request->domain, .id = request->id, .port = (uint16_t)two_octets(message + SOURCE_PORT_AT),
         .is_refusal = two_octets(message + TLV_AT) == ERROR_TLV, .sum = sum_of(message, size),
     };
-    int has_field = !answer.is_refusal && size >= FIELD_AT;
+    bool has_field = !answer.is_refusal && size >= FIELD_AT;
     if (has_field && answer.id == DEFAULT_SET && size == FIELD_AT + DEFAULT_SIZE) {
         answer.port_count = (uint16_t)two_octets(message + PORT_COUNT_AT);
     }
     if (has_field && answer.id == PORT_SET && size == FIELD_AT + PORT_SIZE) {
-        int is_own = memcmp(message + FIELD_AT, answer.clock, 8) == 0;
+        bool is_own = memcmp(message + FIELD_AT, answer.clock, 8) == 0;
         answer.port = is_own ? (uint16_t)two_octets(message + FIELD_PORT_AT) : 0;       /* 0 is no port, and none is answered */
     }
     enum seen seen = see_answer(&answer);
@@ -140,15 +141,15 @@ static void hear_until_quiet(const struct task *task) {
 }
 
 /* Sends a message, which waits for room; whether it went out. */
-static int send_when_room(const uint8_t *message, size_t size) {
+static bool send_when_room(const uint8_t *message, size_t size) {
     for (int tries = 0; tries < TRIES && !stopped && !has_no_way; tries++) {
         enum sending sending = send_out(message, size);
         sent += sending == OUT;
         has_no_way = sending == NO_WAY && sent == 0;
-        if (sending == OUT) return 1;
+        if (sending == OUT) return true;
         if (!has_no_way) hear_until(milliseconds() + TRY);
     }
-    return 0;
+    return false;
 }
 
 /* Asks every clock, one id after the other. */
@@ -183,7 +184,7 @@ static size_t count_lacking(void) {
 }
 
 /* Asks one clock, and all its ports: the message of the request with its identity as the target's. Whether that went out. */
-static int ask_alone(const struct request *request, const struct seen_clock *clock) {
+static bool ask_alone(const struct request *request, const struct seen_clock *clock) {
     static uint8_t message[PTPM_MOST_OCTETS];
     memcpy(message, request->message, request->size);
     memcpy(message + TARGET_AT, clock->identity, sizeof clock->identity);
@@ -207,12 +208,12 @@ static void ask_lacking(size_t count) {
 }
 
 /* Asks in this many domains; whether the library would ask at all. */
-static int ask_in(const struct task *task, const uint8_t *domains, size_t count) {
+static bool ask_in(const struct task *task, const uint8_t *domains, size_t count) {
     for (size_t i = 0; i < count; i++) {
         for (int id = 0; id < COLLECTED; id++) {
             if (start_request(task, domains[i], (enum collected)id)) continue;
             stop_requests();
-            return 0;
+            return false;
         }
     }
     show_progress("%zu clocks so far; asking from domain %u on", seen_count(), domains[0]);
@@ -226,7 +227,7 @@ static int ask_in(const struct task *task, const uint8_t *domains, size_t count)
         hear_until_quiet(task);
     }
     stop_requests();
-    return 1;
+    return true;
 }
 
 static int end_of_collection(const struct task *task, const struct domains *domains) {
@@ -250,7 +251,8 @@ int collect_answers(const struct task *task, const struct domains *domains, FILE
     size_t count = 0;
     see_none();
     output = to;
-    sent = has_no_way = 0;
+    sent = 0;
+    has_no_way = false;
     for (int domain = 0; domain < DOMAINS && !stopped && !has_no_way; domain++) {
         if (domains->is_in[domain]) together[count++] = (uint8_t)domain;
         if (count < DOMAINS_AT_ONCE && (domain + 1 < DOMAINS || count == 0)) continue;

@@ -7,6 +7,7 @@
 #include <linux/filter.h>
 #include <linux/if_packet.h>
 #include <net/if.h>
+#include <stdbool.h>
 #include <string.h>
 #include <sys/ioctl.h>
 #include <sys/socket.h>
@@ -34,14 +35,14 @@ static const struct sock_filter wanted[] = {
 };
 
 /* Reads the interface's own address; whether it could. */
-static int read_station(int socket, unsigned index, uint8_t own[STATION]) {
+static bool read_station(int socket, unsigned index, uint8_t own[STATION]) {
     struct ifreq request = { 0 };
-    if (if_indextoname(index, request.ifr_name) == NULL || ioctl(socket, SIOCGIFHWADDR, &request)) return 0;
+    if (if_indextoname(index, request.ifr_name) == NULL || ioctl(socket, SIOCGIFHWADDR, &request)) return false;
     memcpy(own, request.ifr_hwaddr.sa_data, STATION);
-    return 1;
+    return true;
 }
 
-int filter_ethernet(int socket, int is_management_alone) {
+bool filter_ethernet(int socket, bool is_management_alone) {
     struct sock_fprog filter = { .len = sizeof wanted / sizeof *wanted, .filter = (struct sock_filter *)wanted };
     int none = 0;
     return is_management_alone ? setsockopt(socket, SOL_SOCKET, SO_ATTACH_FILTER, &filter, sizeof filter) == 0
@@ -49,18 +50,18 @@ int filter_ethernet(int socket, int is_management_alone) {
 }
 
 /* The socket hears nothing until it is bound, and by then it has its filter. */
-static int join_group(int socket, const char *interface, uint8_t own[STATION], const char **what) {
+static bool join_group(int socket, const char *interface, uint8_t own[STATION], const char **what) {
     int one = 1;
     unsigned index = if_nametoindex(interface);
     struct sockaddr_ll place = { .sll_family = AF_PACKET, .sll_protocol = htons(PTP), .sll_ifindex = (int)index };
     struct packet_mreq join = { .mr_ifindex = (int)index, .mr_type = PACKET_MR_MULTICAST, .mr_alen = STATION };
     memcpy(join.mr_address, group_station, STATION);
     *what = interface;
-    if (index == 0 || !read_station(socket, index, own)) return 0;
+    if (index == 0 || !read_station(socket, index, own)) return false;
     *what = "SO_ATTACH_FILTER";
-    if (!filter_ethernet(socket, 1)
+    if (!filter_ethernet(socket, true)
         || !set_option(socket, SOL_PACKET, PACKET_IGNORE_OUTGOING, &one, sizeof one, what, "PACKET_IGNORE_OUTGOING")
-        || !set_option(socket, SOL_PACKET, PACKET_ADD_MEMBERSHIP, &join, sizeof join, what, "PACKET_ADD_MEMBERSHIP")) return 0;
+        || !set_option(socket, SOL_PACKET, PACKET_ADD_MEMBERSHIP, &join, sizeof join, what, "PACKET_ADD_MEMBERSHIP")) return false;
     *what = "Ethertype 0x88F7";
     return bind(socket, (struct sockaddr *)&place, sizeof place) == 0;
 }
@@ -77,7 +78,7 @@ int open_ethernet(const char *interface, uint8_t own[STATION], const char **what
 
 static unsigned type_at(const uint8_t *frame, size_t place) { return (unsigned)frame[place] << 8 | frame[place + 1]; }
 
-int is_to_station(const uint8_t *frame, const uint8_t own[STATION]) { return memcmp(frame, own, STATION) == 0; }
+bool is_to_station(const uint8_t *frame, const uint8_t own[STATION]) { return memcmp(frame, own, STATION) == 0; }
 
 const uint8_t *station_of(const uint8_t *frame) { return frame + STATION; }
 

@@ -10,6 +10,7 @@
 #include "monotonic.h"
 #include "program.h"
 #include "udp.h"
+#include <stdbool.h>
 #include <stdio.h>
 #include <stdlib.h>
 #include <string.h>
@@ -46,23 +47,23 @@ static uint16_t ask(void) {
     return number;
 }
 
-static int is_answer(const uint8_t *octets, ssize_t size) {
+static bool is_answer(const uint8_t *octets, ssize_t size) {
     return size >= LEAST_MESSAGE && memcmp(octets + SOURCE_AT, request + TARGET_AT, IDENTITY) == 0
            && memcmp(octets + TARGET_AT, request + SOURCE_AT, IDENTITY) == 0;
 }
 
 /* Whether something came in. If it is an answer it is counted. */
-static int take_answer(int flags) {
+static bool take_answer(int flags) {
     uint8_t octets[2048];
     ssize_t size = recv(port_socket, octets, sizeof octets, flags);
     if (!is_answer(octets, size)) return size >= 0;
     long *asked = &sent_at[octets[SEQUENCE_AT] << 8 | octets[SEQUENCE_AT + 1]];
-    if (*asked == 0) return 1;
+    if (*asked == 0) return true;
     long took = (nanoseconds() - *asked) / 1000;
     times[took < MOST_TIME ? took : MOST_TIME]++;
     answered++;
     *asked = 0;
-    return 1;
+    return true;
 }
 
 /* At even times, and 0.2 seconds for the last answers. */
@@ -99,10 +100,10 @@ int main(int argc, char **argv) {
     if (argc != 5 || identity_at(argv[2], request + TARGET_AT) == NULL) usage();
     long rate = decimal(argv[3], 1000000), seconds = decimal(argv[4], 1000);
     if (rate < 0 || seconds < 1) usage();
-    port_socket = open_udp(argv[1], 0, EVERY_MESSAGE, &what);
+    port_socket = open_udp(argv[1], false, EVERY_MESSAGE, &what);
     if (port_socket < 0) give_up(what);
     setsockopt(port_socket, SOL_SOCKET, SO_RCVBUFFORCE, &room, sizeof room);
-    to_size = group(&to, 0);
+    to_size = group(&to, false);
     if (rate > 0) ask_at_rate(rate, seconds);
     else ask_in_turn(seconds);
     printf("sent %ld answered %lu median %ld p99 %ld\n", sent, answered, part(50), part(99));

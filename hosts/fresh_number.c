@@ -9,6 +9,7 @@
 #include "stopping.h"
 #include "unanswered.h"
 #include <errno.h>
+#include <stdbool.h>
 #include <string.h>
 
 /* What is asked: DEFAULT_DATA_SET, and for an id of a port PORT_DATA_SET, since some clocks answer only if the port is named. A
@@ -27,9 +28,9 @@ static struct session asking;
 static struct ptpm_session reading;
 
 /* Whether the task's id is one of a port, as the library has it: a request of it needs a port. */
-static int is_of_port(const struct task *task) {
+static bool is_of_port(const struct task *task) {
     struct ptpm_session session = { 0 };
-    int needs_port = ptpm_session_start(&session, &task->settings) == PTPM_STARTED
+    bool needs_port = ptpm_session_start(&session, &task->settings) == PTPM_STARTED
                      && ptpm_session_begin(&session, PTPM_GET, task->id, 0, task->octets, 0) == PTPM_NEEDS_PORT;
     ptpm_session_stop(&session);
     return needs_port;
@@ -38,7 +39,7 @@ static int is_of_port(const struct task *task) {
 /* The question that is asked before the task's request, with octets drawn anew. */
 static struct task question_of(const struct task *task) {
     struct task question = *task;
-    int is_port = is_of_port(task);
+    bool is_port = is_of_port(task);
     question.action = PTPM_GET;
     question.id = is_port ? PTPM_ID_PORT_DATA_SET : PTPM_ID_DEFAULT_DATA_SET;
     question.size = is_port ? OF_PORT : OF_CLOCK;
@@ -46,7 +47,7 @@ static struct task question_of(const struct task *task) {
     return question;
 }
 
-int is_question(const struct task *task) {
+bool is_question(const struct task *task) {
     return task->action == PTPM_GET && ((task->id == PTPM_ID_DEFAULT_DATA_SET && task->size == OF_CLOCK)
                                         || (task->id == PTPM_ID_PORT_DATA_SET && task->size == OF_PORT));
 }
@@ -60,13 +61,13 @@ int ask_whether_new(struct session *session, const struct task *task) {
 }
 
 /* Whether the question is answered in time; answers to a read beside it are counted. */
-static int hear_answer(const struct task *task, int *readings) {
+static bool hear_answer(const struct task *task, int *readings) {
     long end = milliseconds() + task->milliseconds;
     for (int place; (place = first_answered(&asking.handle, &reading, end)) >= 0;) {
-        if (place == 0) return 1;
+        if (place == 0) return true;
         ++*readings;
     }
-    return 0;
+    return false;
 }
 
 /* Asks under a number until it is answered, or enough reads beside it are; what went out of it is counted. */
@@ -84,7 +85,7 @@ static enum tried ask_under_number(const struct task *task, uint16_t number, int
             complain("nothing was sent: %s: %s", way_name(), strerror(errno));
             return NOT_OUT;
         }
-        int is_read_too = attempt > 1 || task->settings.attempts == 1;
+        bool is_read_too = attempt > 1 || task->settings.attempts == 1;
         if (is_read_too && begin_reading(&reading, task, question.id)) send_again(&reading);
         if (hear_answer(task, &readings)) return NEW;
     }

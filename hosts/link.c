@@ -12,6 +12,7 @@
 #include <poll.h>
 #include <sched.h>
 #include <signal.h>
+#include <stdbool.h>
 #include <stdint.h>
 #include <stdio.h>
 #include <stdlib.h>
@@ -67,7 +68,7 @@ static int open_end(const char *text) {
     return opened;
 }
 
-static int happens(struct way *way, long percent) { return nrand48(way->chance) % 100 < percent; }
+static bool happens(struct way *way, long percent) { return nrand48(way->chance) % 100 < percent; }
 
 /* A device that is down takes no frame. */
 static void send_on(const struct way *way, const struct frame *frame) {

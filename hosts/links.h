@@ -3,6 +3,7 @@
 #ifndef LINKS_H
 #define LINKS_H
 
+#include <stdbool.h>
 #include <sys/socket.h>
 
 /* What became of the interface of an index, and the MTU that it has; 0 if it isn't known. */
@@ -18,6 +19,6 @@ void read_links(link_taker *take);
 
 /* Whether an address of IPv4 or IPv6 belongs to a network at the interface: that of one of its own addresses. With IPv6 it may
    also be an address of the link. */
-int is_on_link(unsigned index, const struct sockaddr *address);
+bool is_on_link(unsigned index, const struct sockaddr *address);
 
 #endif

@@ -9,6 +9,7 @@
 #include "monotonic.h"
 #include "program.h"
 #include "udp.h"
+#include <stdbool.h>
 #include <stdio.h>
 #include <stdlib.h>
 #include <string.h>
@@ -54,7 +55,7 @@ static long send_due(int socket, enum kind kind, long sent, unsigned count) {
     struct mmsghdr out[MOST_AT_ONCE];
     struct iovec parts[MOST_AT_ONCE];
     struct sockaddr_storage to;
-    socklen_t size = group(&to, 0);
+    socklen_t size = group(&to, false);
     for (unsigned i = 0; i < count; i++) {
         parts[i] = (struct iovec){ octets[i], write_message(kind, sent + i, octets[i]) };
         out[i].msg_hdr = (struct msghdr){ .msg_name = &to, .msg_namelen = size, .msg_iov = &parts[i], .msg_iovlen = 1 };
@@ -77,7 +78,7 @@ int main(int argc, char **argv) {
     enum kind kind = kind_named(argv[2]);
     long rate = decimal(argv[3], 1000000), seconds = decimal(argv[4], 1000), sent = 0;
     if (rate < 1 || seconds < 1) usage();
-    int port_socket = open_udp(argv[1], 0, EVERY_MESSAGE, &what);
+    int port_socket = open_udp(argv[1], false, EVERY_MESSAGE, &what);
     if (port_socket < 0) give_up(what);
     long begin = nanoseconds(), end = begin + seconds * 1000000000;
     for (long now; (now = nanoseconds()) < end;) {

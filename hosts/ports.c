@@ -6,6 +6,7 @@
 #include <errno.h>
 #include <net/if.h>
 #include <netinet/in.h>
+#include <stdbool.h>
 #include <stdlib.h>
 #include <string.h>
 #include <sys/ioctl.h>
@@ -17,7 +18,7 @@ struct port ports[PORTS];
 size_t port_count;
 enum transport transport;
 
-static int is_hurried;          /* the kernel reported a change */
+static bool is_hurried;         /* the kernel reported a change */
 
 /* With UDP the kernel is to report of each datagram the address that it was sent to. */
 static int open_socket(struct port *port, const char **what) {
@@ -62,7 +63,7 @@ static void close_port(struct port *port) {
     if (port->socket >= 0) close(port->socket);
     port->socket = -1;
     port->index = 0;
-    port->is_due = 0;
+    port->is_due = false;
 }
 
 /* An interface that was gone, or another one, has the name by now. */
@@ -89,7 +90,7 @@ static void open_other(struct port *port, unsigned index) {
 static void join_port(struct port *port) {
     if (transport == ETHERNET || join_again(port->socket, port->index, transport == UDP_IPV6)) {
         if (port->refused != 0) say("%s: the interface is heard again", port->name);
-        port->is_due = 0;
+        port->is_due = false;
         port->refused = 0;
     } else if (port->refused != port->index) {
         say("%s: nothing is heard at the interface: %s", port->name, strerror(errno));
@@ -108,7 +109,7 @@ static void renew(struct port *port) {
 void renew_ports(long now) {
     static long next;
     if (!is_hurried && now < next) return;
-    is_hurried = 0;
+    is_hurried = false;
     next = now + SECOND;
     for (size_t i = 0; i < port_count; i++) renew(&ports[i]);
 }
@@ -117,12 +118,12 @@ void renew_ports(long now) {
 static void take_link(unsigned index, enum link_event event, unsigned mtu) {
     for (size_t i = 0; i < port_count; i++) {
         struct port *port = &ports[i];
-        if (port->socket < 0) is_hurried = 1;           /* it may be this one that has its name */
+        if (port->socket < 0) is_hurried = true;           /* it may be this one that has its name */
         if (port->socket < 0 || (index != 0 && port->index != index)) continue;
         if (event == LINK_GONE) close_port(port);
-        else if (mtu == 0 || mtu != port->mtu) port->is_due = 1;
+        else if (mtu == 0 || mtu != port->mtu) port->is_due = true;
         port->mtu = mtu;
-        is_hurried = 1;
+        is_hurried = true;
     }
 }
 

@@ -6,6 +6,7 @@
 #include "ports.h"
 #include "ptpm.h"
 #include <netinet/in.h>
+#include <stdbool.h>
 #include <stddef.h>
 #include <sys/socket.h>
 #include <sys/un.h>
@@ -28,7 +29,7 @@ struct heard {
     union sender sender;
     socklen_t sender_size;
     const uint8_t *station;             /* who sent it over Ethernet */
-    int is_unicast;                     /* it was sent to this host alone, and so is what is answered */
+    bool is_unicast;                    /* it was sent to this host alone, and so is what is answered */
     struct in_pktinfo own_four;         /* the address that it was sent to */
     struct in6_pktinfo own_six;
 };

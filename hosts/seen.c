@@ -1,5 +1,6 @@
 #include "seen.h"
 #include "draw.h"
+#include <stdbool.h>
 #include <string.h>
 
 /* Half of the places stay free. */
@@ -10,7 +11,8 @@ struct first_answer {
     uint64_t sum;
     uint32_t clock;                     /* its place plus one; 0 in a place that is free */
     uint16_t port;
-    uint8_t id, is_different;           /* another answer that differs came */
+    uint8_t id;
+    bool is_different;                  /* another answer that differs came */
 };
 
 static struct seen_clock clocks[MOST_CLOCKS];
@@ -69,7 +71,7 @@ static struct first_answer *place_of_answer(uint32_t clock, const struct seen_an
 
 static void note(struct seen_clock *clock, const struct seen_answer *answer) {
     clock->answered |= (uint8_t)(1 << answer->id);
-    if (answer->id == PORT_SET && answer->is_refusal) clock->are_ports_refused = 1;
+    if (answer->id == PORT_SET && answer->is_refusal) clock->are_ports_refused = true;
     else if (answer->id == PORT_SET && answer->port != 0) clock->ports++;
     if (answer->id == DEFAULT_SET && !answer->is_refusal) clock->port_count = answer->port_count;
 }
@@ -88,18 +90,18 @@ enum seen see_answer(const struct seen_answer *answer) {
         return FIRST_SEEN;
     }
     if (kept->is_different || kept->sum == answer->sum) return SEEN_BEFORE;
-    kept->is_different = 1;
+    kept->is_different = true;
     return DIFFERENT;
 }
 
-int is_seen(uint8_t domain, const uint8_t clock[8]) { return clock_places[place_of_clock(domain, clock)] != 0; }
+bool is_seen(uint8_t domain, const uint8_t clock[8]) { return clock_places[place_of_clock(domain, clock)] != 0; }
 
 size_t seen_count(void) { return clock_count; }
 
 const struct seen_clock *seen_clock(size_t place) { return &clocks[place]; }
 
-int is_lacking(const struct seen_clock *clock, enum collected id) {
-    if ((clock->answered >> id & 1) == 0) return 1;
+bool is_lacking(const struct seen_clock *clock, enum collected id) {
+    if ((clock->answered >> id & 1) == 0) return true;
     return id == PORT_SET && !clock->are_ports_refused && clock->ports < clock->port_count;
 }
 

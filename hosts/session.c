@@ -7,6 +7,7 @@
 #include "session_file.h"
 #include "session_image.h"
 #include "state_folder.h"
+#include <stdbool.h>
 #include <stdio.h>
 #include <string.h>
 
@@ -73,8 +74,8 @@ static void read_earlier(struct task *earlier, const struct task *task, const st
 enum kept open_session(struct session *session, const struct task *task, struct task *earlier) {
     static uint8_t octets[MOST_SESSION_OCTETS];
     size_t size;
-    int is_named = task->numbers != NULL;
-    session->is_kept = 1;
+    bool is_named = task->numbers != NULL;
+    session->is_kept = true;
     if (!open_session_file(is_named ? task->numbers : usual_file(&task->settings), is_named, octets, &size)) return NO_FILE;
     struct session_image image = read_image(octets, size);
     session->settings = task->settings;
@@ -121,7 +122,7 @@ void begin_request(struct session *session, const struct task *task) {
     if (session->is_kept && !save_session(session)) refuse_place();
 }
 
-int save_session(struct session *session) {
+bool save_session(struct session *session) {
     static uint8_t octets[PTPM_SESSION_IMAGE_OCTETS];
     size_t size;
     enum ptpm_saved answer = ptpm_session_image(&session->handle, octets, sizeof octets, &size);

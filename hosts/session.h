@@ -5,11 +5,12 @@
 #define SESSION_H
 
 #include "task.h"
+#include <stdbool.h>
 
 struct session {
     struct ptpm_session handle;
     struct ptpm_session_settings settings;      /* those of its start */
-    int is_kept;                                /* in a file, of a manager who is the same in each run */
+    bool is_kept;                               /* in a file, of a manager who is the same in each run */
 };
 
 /* What the file has. */
@@ -30,7 +31,7 @@ void see_to_hops(struct session *session, const struct task *task);
 void begin_request(struct session *session, const struct task *task);
 
 /* Keeps the session as it is now; whether it could. Each answer that came in has to be reported before. */
-int save_session(struct session *session);
+bool save_session(struct session *session);
 
 /* The number of the latest request. */
 uint16_t latest_number(struct session *session);

@@ -6,6 +6,7 @@
 #include "notices.h"
 #include "stopping.h"
 #include <errno.h>
+#include <stdbool.h>
 #include <stdlib.h>
 #include <string.h>
 #include <sys/stat.h>
@@ -16,7 +17,7 @@ enum { TURN = 60000, TRY_AGAIN = 10 };     /* the times in milliseconds */
 
 /* The file, and its path as it was named. */
 static const char *path;
-static int path_is_named;
+static bool path_is_named;
 static struct kept_file file = { .folder = -1, .mode = 0666 };
 
 const char *session_path(void) { return path; }
@@ -91,20 +92,20 @@ static void see_to_room(void) {
     if (!try_room(&file, octets, sizeof octets)) refuse_place();
 }
 
-int open_session_file(const char *at_path, int is_named, uint8_t octets[MOST_SESSION_OCTETS], size_t *size) {
+bool open_session_file(const char *at_path, bool is_named, uint8_t octets[MOST_SESSION_OCTETS], size_t *size) {
     path = at_path;
     path_is_named = is_named;
     open_folder();
     take_turn();
     switch (read_kept(&file, octets, MOST_SESSION_OCTETS, size, &file.before)) {
-    case KEPT_FILE: return 1;
+    case KEPT_FILE: return true;
     case KEPT_LINK: refuse_session_file("it is a link");
     case KEPT_OTHER: refuse_session_file("it is no file");
     case KEPT_UNREADABLE: refuse_place();
     case KEPT_NONE: break;
     }
     see_to_room();
-    return 0;
+    return false;
 }
 
-int write_session_file(const uint8_t *octets, size_t size) { return replace_kept(&file, octets, size) == REPLACED; }
+bool write_session_file(const uint8_t *octets, size_t size) { return replace_kept(&file, octets, size) == REPLACED; }

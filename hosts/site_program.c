@@ -6,6 +6,7 @@
 #include <fcntl.h>
 #include <limits.h>
 #include <spawn.h>
+#include <stdbool.h>
 #include <stdlib.h>
 #include <string.h>
 #include <sys/mman.h>
@@ -18,7 +19,7 @@ enum { MOST_ARGUMENTS = 8, PART = 65536, TURN = 1000, FAULT = 1 };
 static char site_program[2 * PATH_MAX];
 
 /* Takes the program of a folder; whether there is one. */
-static int find_in_folder(const char *folder, size_t size) {
+static bool find_in_folder(const char *folder, size_t size) {
     struct stat found;
     snprintf(site_program, sizeof site_program, "%.*s/ptpm", (int)size, folder);
     return stat(site_program, &found) == 0 && S_ISREG(found.st_mode) && access(site_program, X_OK) == 0;
@@ -55,14 +56,14 @@ static int file_of(const struct piece *lines, size_t count) {
 }
 
 /* Starts it with a standard input and output; whether it is started. */
-static int start_program(pid_t *process, char *const *arguments, int from, int to) {
+static bool start_program(pid_t *process, char *const *arguments, int from, int to) {
     posix_spawn_file_actions_t files;
     posix_spawnattr_t attributes;
     sigset_t none, usual;
     sigemptyset(&none);
     sigemptyset(&usual);
     sigaddset(&usual, SIGPIPE);
-    if (posix_spawn_file_actions_init(&files) != 0 || posix_spawnattr_init(&attributes) != 0) return 0;
+    if (posix_spawn_file_actions_init(&files) != 0 || posix_spawnattr_init(&attributes) != 0) return false;
     posix_spawn_file_actions_adddup2(&files, from, STDIN_FILENO);
     posix_spawn_file_actions_adddup2(&files, to, STDOUT_FILENO);
     posix_spawnattr_setsigmask(&attributes, &none);
@@ -126,7 +127,7 @@ int run_site_program(const struct site_options *options, enum shown_as as, const
         complain("%s: %s", site_program, strerror(errno));
         return FAULT;
     }
-    int has_started = start_program(&process, arguments, input, ends[1]);
+    bool has_started = start_program(&process, arguments, input, ends[1]);
     if (!has_started) complain("%s: %s", site_program, strerror(errno));
     close(input);
     close(ends[1]);

@@ -6,6 +6,7 @@
 #include <fcntl.h>
 #include <libgen.h>
 #include <limits.h>
+#include <stdbool.h>
 #include <stdlib.h>
 #include <string.h>
 #include <sys/inotify.h>
@@ -19,9 +20,10 @@ enum { MOST_HELD = 65536 };
    latest text. Whether its end has come, and whether its head was let go. */
 static char held[MOST_HELD + 1];
 static size_t first, size, searched, taken;
-static int is_ended, is_too_long;
+static bool is_ended, is_too_long;
 
-static int polled, is_pipe, is_first = 1;
+static int polled;
+static bool is_pipe, is_first = true;
 static const char *path;
 
 /* A folder whose changes are polled, and the name in it that counts: that of the path, or of the file to which links lead. */
@@ -35,15 +37,15 @@ static void complain(const char *what) { say_at_times("%s: %s", path, what); }
 
 /* Whoever owns a name in a folder, or the folder, may let the path lead anywhere. So another's file is read only if everybody
    may read it. */
-static int may_choose(const struct stat *owned, const struct stat *file) {
+static bool may_choose(const struct stat *owned, const struct stat *file) {
     return owned->st_uid == 0 || owned->st_uid == geteuid() || owned->st_uid == file->st_uid;
 }
 
-static int is_readable(int file, struct stat *found) {
+static bool is_readable(int file, struct stat *found) {
     char folder[PATH_MAX];
     struct stat name, parent;
-    if (strlen(path) >= sizeof folder || fstat(file, found) || lstat(path, &name)) return 0;
-    if (stat(dirname(strcpy(folder, path)), &parent)) return 0;
+    if (strlen(path) >= sizeof folder || fstat(file, found) || lstat(path, &name)) return false;
+    if (stat(dirname(strcpy(folder, path)), &parent)) return false;
     return (found->st_mode & S_IROTH) != 0 || (may_choose(&name, found) && may_choose(&parent, found));
 }
 
@@ -90,27 +92,27 @@ int open_source(const char *name) {
     return polled;
 }
 
-static int is_of(const struct watch *watch, const struct inotify_event *event) {
+static bool is_of(const struct watch *watch, const struct inotify_event *event) {
     return event->wd == watch->number && event->len > 0 && strcmp(event->name, watch->name) == 0;
 }
 
 /* Reads what became of it: whether a program that wrote to the file has closed it, or another was moved there. */
-static int read_events(void) {
+static bool read_events(void) {
     _Alignas(struct inotify_event) char events[4096];
-    int written = is_first;
-    is_first = 0;
+    bool is_written = is_first;
+    is_first = false;
     for (ssize_t count; (count = read(polled, events, sizeof events)) > 0;) {
         for (char *next = events; next < events + count;) {
             const struct inotify_event *event = (const void *)next;
-            written |= (event->mask & IN_Q_OVERFLOW) != 0 || is_of(&of_path, event) || is_of(&of_target, event);
+            is_written |= (event->mask & IN_Q_OVERFLOW) != 0 || is_of(&of_path, event) || is_of(&of_target, event);
             next += sizeof *event + event->len;
         }
     }
-    return written;
+    return is_written;
 }
 
 /* Whether another file is at the path than the one that was read last, and has been left alone for a second. */
-static int is_other(void) {
+static bool is_other(void) {
     struct stat found;
     struct timespec now;
     clock_gettime(CLOCK_REALTIME, &now);
@@ -118,8 +120,8 @@ static int is_other(void) {
            && labs(now.tv_sec - found.st_mtim.tv_sec) > 1;
 }
 
-int follow_source(void) {
-    if (is_pipe) return 0;
+bool follow_source(void) {
+    if (is_pipe) return false;
     watch_folders();
     return is_other();
 }
@@ -146,7 +148,7 @@ static void read_file(void) {
 static void open_again(void) {
     struct stat found;
     int again = open_file(&found);
-    int is_there = again >= 0 && S_ISFIFO(found.st_mode);
+    bool is_there = again >= 0 && S_ISFIFO(found.st_mode);
     if (!is_there) complain("the pipe is gone, and nothing more is observed");
     if (!is_there && again >= 0) close(again);
     close(polled);
@@ -160,7 +162,7 @@ static void read_pipe(void) {
     ssize_t count = read(polled, held + size, MOST_HELD - size);
     if (count > 0) size += (size_t)count;
     if (count != 0) return;
-    is_ended = 1;
+    is_ended = true;
     open_again();
 }
 
@@ -193,9 +195,9 @@ static size_t size_of_text(void) {
 }
 
 /* Whether the text that was found is let go: it is the rest of one that is too long, or empty lines. */
-static int let_go_text(void) {
-    int is_rest = is_too_long;
-    is_too_long = 0;
+static bool let_go_text(void) {
+    bool is_rest = is_too_long;
+    is_too_long = false;
     return is_rest || (is_pipe && held[first] == '\n');
 }
 
@@ -203,7 +205,7 @@ static int let_go_text(void) {
 static void let_go_all(void) {
     complain("what came in at once has over 65,535 octets");
     size = searched = 0;
-    is_too_long = 1;
+    is_too_long = true;
 }
 
 /* Drops the latest text. */
@@ -213,7 +215,7 @@ static void go_behind(void) {
     if (taken > 0) searched = 0;
 }
 
-int next_text(char **text) {
+bool next_text(char **text) {
     do {
         go_behind();
         taken = size_of_text();
@@ -221,9 +223,9 @@ int next_text(char **text) {
     if (taken > 0) {
         held[first + (taken < size ? taken - 1 : taken)] = '\0';      /* in place of an empty line, or after all */
         *text = held + first;
-        return 1;
+        return true;
     }
-    if (is_ended) is_ended = is_too_long = 0;
+    if (is_ended) is_ended = is_too_long = false;
     if (size == MOST_HELD) let_go_all();
-    return 0;
+    return false;
 }

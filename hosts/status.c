@@ -12,6 +12,7 @@
 #include "stopping.h"
 #include "way.h"
 #include <errno.h>
+#include <stdbool.h>
 #include <stdlib.h>
 #include <string.h>
 #include <time.h>
@@ -45,10 +46,10 @@ static void free_look(struct look *look) {
 }
 
 /* Whether the clock that gave a line answered this time too. */
-static int is_of_seen_clock(const char *line, size_t size) {
+static bool is_of_seen_clock(const char *line, size_t size) {
     uint8_t domain, clock[8];
     const char *domain_text = line + DOMAIN_IN_LINE, *clock_text = line + CLOCK_IN_LINE;
-    if (size < LEAST_LINE) return 0;
+    if (size < LEAST_LINE) return false;
     return read_octets(&domain_text, &domain, 1) == 1 && read_octets(&clock_text, clock, 8) == 8 && is_seen(domain, clock);
 }
 
@@ -99,9 +100,9 @@ static void look_twice(struct look *look, const struct task *task, struct domain
 }
 
 /* Whether colour is wished for: on a terminal, unless the environment says that it is not. */
-static int is_coloured(void) {
+static bool is_coloured(void) {
     const char *without = getenv("NO_COLOR"), *terminal = getenv("TERM");
-    if (without != NULL && *without != '\0') return 0;
+    if (without != NULL && *without != '\0') return false;
     return isatty(STDOUT_FILENO) && terminal != NULL && strcmp(terminal, "dumb") != 0;
 }
 
@@ -123,11 +124,11 @@ static int print_look(const struct look *look, const struct task *task) {
     return look->status;
 }
 
-static int was_seen(const struct seen_clock *clock) {
+static bool was_seen(const struct seen_clock *clock) {
     for (size_t i = 0; i < count_before; i++) {
-        if (clocks_before[i].domain == clock->domain && memcmp(clocks_before[i].identity, clock->identity, 8) == 0) return 1;
+        if (clocks_before[i].domain == clock->domain && memcmp(clocks_before[i].identity, clock->identity, 8) == 0) return true;
     }
-    return 0;
+    return false;
 }
 
 /* Prints which clocks came and which went since the look before. */
@@ -166,7 +167,7 @@ static void print_difference(const struct look *look, const struct look *earlier
 }
 
 /* Whether a look shows the site, which may have no clock by now; otherwise something failed, and that is said. */
-static int is_whole(const struct look *look) { return look->report.has_findings || look->status == NOT_ANSWERED; }
+static bool is_whole(const struct look *look) { return look->report.has_findings || look->status == NOT_ANSWERED; }
 
 /* Looks again and again, until the program is asked to end. */
 static int watch(struct look *earlier, const struct task *task, struct domains *domains) {

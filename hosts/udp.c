@@ -6,10 +6,11 @@
 #include <errno.h>
 #include <linux/filter.h>
 #include <net/if.h>
+#include <stdbool.h>
 #include <string.h>
 #include <unistd.h>
 
-socklen_t group(struct sockaddr_storage *to, int is_six) {
+socklen_t group(struct sockaddr_storage *to, bool is_six) {
     if (is_six) {
         static const struct in6_addr address = { .s6_addr = { 0xff, 0x0e, [14] = 0x01, 0x81 } };        /* ff0e::181 */
         struct sockaddr_in6 *six = (struct sockaddr_in6 *)to;
@@ -34,12 +35,12 @@ static const struct sock_filter wanted[] = {
     BPF_STMT(BPF_RET | BPF_K, 65535),
 };
 
-static int filter_messages(int socket, const char **what) {
+static bool filter_messages(int socket, const char **what) {
     const struct sock_fprog filter = { .len = sizeof wanted / sizeof *wanted, .filter = (struct sock_filter *)wanted };
     return set_option(socket, SOL_SOCKET, SO_ATTACH_FILTER, &filter, sizeof filter, what, "SO_ATTACH_FILTER");
 }
 
-static int join_four(int socket, const struct sockaddr_in *address, unsigned interface, const char **what) {
+static bool join_four(int socket, const struct sockaddr_in *address, unsigned interface, const char **what) {
     int none = 0;
     struct sockaddr_in any = { .sin_family = AF_INET, .sin_port = htons(GENERAL_PORT) };
     struct ip_mreqn join = { .imr_multiaddr = address->sin_addr, .imr_ifindex = (int)interface };
@@ -50,11 +51,11 @@ static int join_four(int socket, const struct sockaddr_in *address, unsigned int
            && set_option(socket, IPPROTO_IP, IP_MULTICAST_LOOP, &none, sizeof none, what, "IP_MULTICAST_LOOP");
 }
 
-static int join_six(int socket, const struct sockaddr_in6 *address, unsigned interface, const char **what) {
+static bool join_six(int socket, const struct sockaddr_in6 *address, unsigned interface, const char **what) {
     int one = 1, none = 0;
     struct sockaddr_in6 any = { .sin6_family = AF_INET6, .sin6_port = htons(GENERAL_PORT) };
     struct ipv6_mreq join = { .ipv6mr_multiaddr = address->sin6_addr, .ipv6mr_interface = interface };
-    if (!set_option(socket, IPPROTO_IPV6, IPV6_V6ONLY, &one, sizeof one, what, "IPV6_V6ONLY")) return 0;
+    if (!set_option(socket, IPPROTO_IPV6, IPV6_V6ONLY, &one, sizeof one, what, "IPV6_V6ONLY")) return false;
     *what = "UDP port 320";
     return bind(socket, (struct sockaddr *)&any, sizeof any) == 0
            && set_option(socket, IPPROTO_IPV6, IPV6_ADD_MEMBERSHIP, &join, sizeof join, what, "IPV6_ADD_MEMBERSHIP")
@@ -63,7 +64,7 @@ static int join_six(int socket, const struct sockaddr_in6 *address, unsigned int
 }
 
 /* The socket hears nothing until it is bound, and by then it has its filter. */
-static int join_group(int socket, const char *interface, int is_six, enum messages messages, const char **what) {
+static bool join_group(int socket, const char *interface, bool is_six, enum messages messages, const char **what) {
     int one = 1;
     unsigned index = if_nametoindex(interface);
     struct sockaddr_storage to;
@@ -75,7 +76,7 @@ static int join_group(int socket, const char *interface, int is_six, enum messag
                       : join_four(socket, (struct sockaddr_in *)&to, index, what));
 }
 
-int open_udp(const char *interface, int is_six, enum messages messages, const char **what) {
+int open_udp(const char *interface, bool is_six, enum messages messages, const char **what) {
     *what = interface;
     int opened = socket(is_six ? AF_INET6 : AF_INET, SOCK_DGRAM | SOCK_CLOEXEC, 0);
     if (opened < 0 || join_group(opened, interface, is_six, messages, what)) return opened;
@@ -85,12 +86,12 @@ int open_udp(const char *interface, int is_six, enum messages messages, const ch
     return -1;
 }
 
-const char *right_needed(int is_ethernet) {
+const char *right_needed(bool is_ethernet) {
     if (errno != EACCES && errno != EPERM) return "";
     return is_ethernet ? ": it takes root, or the capability CAP_NET_RAW" : ": it takes root, or the capability CAP_NET_BIND_SERVICE";
 }
 
-int join_again(int socket, unsigned interface, int is_six) {
+bool join_again(int socket, unsigned interface, bool is_six) {
     struct sockaddr_storage to;
     group(&to, is_six);
     if (is_six) {

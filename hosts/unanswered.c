@@ -7,12 +7,13 @@
 #include "session_file.h"
 #include "stopping.h"
 #include "way.h"
+#include <stdbool.h>
 
 /* Whether the clock answers nobody's GET, if it did not answer the manager; then what it has is said. */
-static int tell_value(const struct task *task) {
+static bool tell_value(const struct task *task) {
     static struct answer answer;
     struct ptpm_session session = { 0 };
-    int is_told = begin_reading(&session, task, task->id) && finish_reading(&session, task);
+    bool is_told = begin_reading(&session, task, task->id) && finish_reading(&session, task);
     if (is_told) {
         take_report(&session, &answer);
         complain("the clock answers reads%s", answer.told == PTPM_VALUE ? ", and has by now" : "");
@@ -66,7 +67,7 @@ static void tell_rest(const struct task *task, enum unanswered what, uint16_t nu
 
 /* What is said of the request at the end of the first line. */
 static const char *request_clause(const struct task *task, enum unanswered what) {
-    int may_change = !task->is_survey && task->action != PTPM_GET;
+    bool may_change = !task->is_survey && task->action != PTPM_GET;
     if (what == REQUEST) return may_change ? ": the request may have been carried out" : "";
     if (what == EARLIER_REQUEST && may_change) return ": an earlier request may have been carried out, and this one was not sent";
     return ": the request itself was not sent";
@@ -83,7 +84,7 @@ int no_answer(const struct task *task, enum unanswered what, uint16_t number, lo
     tell_rest(task, what, number);
     if (stopped) return BY_SIGNAL + stopped;
     if (task->is_survey && !task->is_of_clock) return NOT_ANSWERED;
-    int is_answered = (task->is_kept || task->action != PTPM_GET) && tell_value(task);
+    bool is_answered = (task->is_kept || task->action != PTPM_GET) && tell_value(task);
     if (stopped) return BY_SIGNAL + stopped;
     if (!is_answered) advise(task);
     else if (task->is_kept) tell_reason(task, what, number);

@@ -8,6 +8,7 @@
 #include "ptpm.h"
 #include "session_image.h"
 #include "text.h"
+#include <stdbool.h>
 #include <stdlib.h>
 #include <string.h>
 
@@ -49,7 +50,7 @@ static void buckets(void) {
 }
 
 /* Whether a message is passed on, and noted for a second. */
-static int note_if_first(struct ptpm_passed_on *table, const uint8_t message[ERROR_STATUS], uint64_t now) {
+static bool note_if_first(struct ptpm_passed_on *table, const uint8_t message[ERROR_STATUS], uint64_t now) {
     return ptpm_passed_on_is_first(table, message, (size_t)(message[2] << 8 | message[3]), now, TIME);
 }
 
@@ -179,13 +180,13 @@ static FILE *open_printed(void) {
     return open_memstream(&printed, &printed_size);
 }
 
-static int prints_interval(int64_t interval, const char *text) {
+static bool prints_interval(int64_t interval, const char *text) {
     FILE *to = open_printed();
     print_interval(to, interval);
     return fclose(to) == 0 && strcmp(printed, text) == 0;
 }
 
-static int reads_interval(const char *text, int64_t interval) {
+static bool reads_interval(const char *text, int64_t interval) {
     int64_t read;
     return read_interval(text, &read) && read == interval;
 }
@@ -210,7 +211,7 @@ static void intervals(void) {
     check(reads_interval("-0.1", -6554) && reads_interval("0.9999999999999999", 65536), "the nearest unit");
 }
 
-static int prints_json(const char *text, const char *json) {
+static bool prints_json(const char *text, const char *json) {
     FILE *to = open_printed();
     print_json_text(to, (const uint8_t *)text, strlen(text));
     return fclose(to) == 0 && strcmp(printed, json) == 0;

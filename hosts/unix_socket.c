@@ -7,6 +7,7 @@
 #include <libgen.h>
 #include <limits.h>
 #include <signal.h>
+#include <stdbool.h>
 #include <stdio.h>
 #include <stdlib.h>
 #include <string.h>
@@ -31,9 +32,9 @@ static void remove_unheard(const char *path) {
 }
 
 /* Whether a name is another with a dot and the number of a process after it, and there is no such process. */
-static int is_of_gone_process(const char *name, const char *base) {
+static bool is_of_gone_process(const char *name, const char *base) {
     size_t size = strlen(base);
-    if (strncmp(name, base, size) != 0 || name[size] != '.') return 0;
+    if (strncmp(name, base, size) != 0 || name[size] != '.') return false;
     long process = decimal(name + size + 1, INT_MAX);
     return process > 0 && kill((pid_t)process, 0) != 0 && errno == ESRCH;
 }
@@ -82,7 +83,7 @@ int open_unix_as(const char *path, mode_t mode) {
 }
 
 /* Whether files that are made from now on get the group of the file at a path. The program may lack the right to that. */
-static int take_group_of(const char *path) {
+static bool take_group_of(const char *path) {
     struct stat found;
     return stat(path, &found) == 0 && setegid(found.st_gid) == 0;
 }
@@ -90,7 +91,7 @@ static int take_group_of(const char *path) {
 int open_unix(const char *path) {
     char base[sizeof own_path.sun_path];
     gid_t before = getegid();
-    int has_its_group = 0;
+    bool has_its_group = false;
     const char *dot = strrchr(path, '.');
     if (dot != NULL && strlen(path) < sizeof base) {
         snprintf(base, sizeof base, "%.*s", (int)(dot - path), path);

@@ -13,6 +13,7 @@
 #include <ifaddrs.h>
 #include <net/if.h>
 #include <netdb.h>
+#include <stdbool.h>
 #include <stdio.h>
 #include <string.h>
 #include <sys/ioctl.h>
@@ -27,7 +28,7 @@ static socklen_t clock_size;
 static struct end ends[MOST_INTERFACES];
 static size_t end_count;
 static char name[MOST_INTERFACES * (IFNAMSIZ + 2) + sizeof ((struct sockaddr_un *)0)->sun_path];     /* of the way in a notice */
-static int is_six, is_ethernet;
+static bool is_six, is_ethernet;
 
 enum { MOST_DATAGRAM = 65536, ROOM_FOR_MANY = 4 << 20 };
 
@@ -45,8 +46,8 @@ static void read_address(const char *text) {
 }
 
 /* Interfaces with one MAC have the same address of IPv6 for their links: then the scope says which one it is. */
-static int is_same(const struct sockaddr *one, const struct sockaddr_storage *other) {
-    if (one == NULL || one->sa_family != other->ss_family) return 0;
+static bool is_same(const struct sockaddr *one, const struct sockaddr_storage *other) {
+    if (one == NULL || one->sa_family != other->ss_family) return false;
     if (one->sa_family == AF_INET) {
         return memcmp(&((const struct sockaddr_in *)one)->sin_addr, &((const struct sockaddr_in *)other)->sin_addr, 4) == 0;
     }
@@ -127,8 +128,8 @@ static void find_unix(const struct task *task) {
 void find_way(struct task *task) {
     if (task->path != NULL) find_unix(task);
     else find_at_interfaces(task);
-    int asks_alike = task->is_survey && !task->is_of_clock && !task->site.is_collected;       /* every clock, whoever asks */
-    int is_nobodys = !task->is_kept && (task->path != NULL || !asks_alike);
+    bool asks_alike = task->is_survey && !task->is_of_clock && !task->site.is_collected;       /* every clock, whoever asks */
+    bool is_nobodys = !task->is_kept && (task->path != NULL || !asks_alike);
     if (!task->has_manager && is_nobodys) task->settings.port = port_of_nobody(task->settings.port);
 }
 
@@ -159,7 +160,7 @@ void widen_way(void) {
     }
 }
 
-void hear_every_kind(int is_every) {
+void hear_every_kind(bool is_every) {
     for (size_t i = 0; i < end_count && is_ethernet; i++) {
         if (filter_ethernet(ends[i].socket, !is_every)) continue;
         complain("%s: the filter of frames: %s", ends[i].interface, strerror(errno));

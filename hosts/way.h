@@ -3,6 +3,7 @@
 #define WAY_H
 
 #include "task.h"
+#include <stdbool.h>
 #include <stddef.h>
 #include <stdint.h>
 
@@ -18,7 +19,7 @@ void open_way(const struct task *task);
 void widen_way(void);
 
 /* Over Ethernet, has messages of every kind come in, or, as at first, management messages alone. Elsewhere all come in. */
-void hear_every_kind(int is_every);
+void hear_every_kind(bool is_every);
 
 /* What the way is called in a notice. */
 const char *way_name(void);
