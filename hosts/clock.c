@@ -7,8 +7,8 @@
 #define _GNU_SOURCE
 #include "agent.h"
 #include "counts.h"
-#include "links.h"
 #include "monotonic.h"
+#include "netlink.h"
 #include "options.h"
 #include "output.h"
 #include "peers.h"
@@ -118,7 +118,7 @@ static void run(long end) {
 static void open_all(void) {
     signals = open_signals();
     transport = options.transport;
-    links = open_links();
+    links = open_netlink();
     timer = open_timer();
     for (size_t i = 0; i < options.interface_count; i++) open_port(options.interfaces[i]);
     if (options.meeting.path != NULL) unix_socket = open_peers(&options.meeting);

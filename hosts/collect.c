@@ -1,13 +1,13 @@
 #include "collect.h"
 #include "asking.h"
-#include "draw.h"
 #include "message_places.h"
 #include "monotonic.h"
 #include "names.h"
 #include "notices.h"
+#include "random.h"
 #include "seen.h"
 #include "stopping.h"
-#include "way.h"
+#include "transport.h"
 #include <errno.h>
 #include <stdbool.h>
 #include <stdlib.h>
@@ -43,7 +43,7 @@ static struct request requests[DOMAINS_AT_ONCE * COLLECTED];
 static size_t request_count;
 static FILE *output;
 static long sent, latest;               /* messages that went out; when an answer came that is no copy */
-static bool has_no_way;
+static bool has_no_transport;
 
 static unsigned two_octets(const uint8_t *at) { return (unsigned)at[0] << 8 | at[1]; }
 
@@ -119,7 +119,7 @@ static struct request *asked_under(const uint8_t *datagram, size_t size) {
 
 static void hear_until(long end) {
     size_t size;
-    for (const uint8_t *datagram; (datagram = hear(&size, end)) != NULL;) {
+    for (const uint8_t *datagram; (datagram = receive_message(&size, end)) != NULL;) {
         struct request *request = asked_under(datagram, size);
         if (request == NULL) continue;
         switch ((uint32_t)ptpm_survey_receive(&request->survey, datagram, size)) {
@@ -142,19 +142,19 @@ static void hear_until_quiet(const struct task *task) {
 
 /* Sends a message, which waits for room; whether it went out. */
 static bool send_when_room(const uint8_t *message, size_t size) {
-    for (int tries = 0; tries < TRIES && !stopped && !has_no_way; tries++) {
-        enum sending sending = send_out(message, size);
+    for (int tries = 0; tries < TRIES && !stopped && !has_no_transport; tries++) {
+        enum sending sending = send_message(message, size);
         sent += sending == OUT;
-        has_no_way = sending == NO_WAY && sent == 0;
+        has_no_transport = sending == NO_TRANSPORT && sent == 0;
         if (sending == OUT) return true;
-        if (!has_no_way) hear_until(milliseconds() + TRY);
+        if (!has_no_transport) hear_until(milliseconds() + TRY);
     }
     return false;
 }
 
 /* Asks every clock, one id after the other. */
 static void ask_every(void) {
-    for (int id = 0; id < COLLECTED && !stopped && !has_no_way; id++) {
+    for (int id = 0; id < COLLECTED && !stopped && !has_no_transport; id++) {
         long end = milliseconds() + STEP;
         for (size_t i = 0; i < request_count; i++) {
             if (requests[i].id == (enum collected)id) send_when_room(requests[i].message, requests[i].size);
@@ -219,7 +219,7 @@ static bool ask_in(const struct task *task, const uint8_t *domains, size_t count
     show_progress("%zu clocks so far; asking from domain %u on", seen_count(), domains[0]);
     ask_every();
     hear_until_quiet(task);
-    for (int round = 1; round <= task->settings.attempts && !stopped && !has_no_way; round++) {
+    for (int round = 1; round <= task->settings.attempts && !stopped && !has_no_transport; round++) {
         size_t lacks = count_lacking();
         if (lacks == 0) break;
         show_progress("%zu clocks so far; attempt %d for %zu answers that are missing", seen_count(), round, lacks);
@@ -235,13 +235,13 @@ static int end_of_collection(const struct task *task, const struct domains *doma
     if (unseen_answers() > 0) {
         complain("there is room for %d clocks and %d answers: %lu more answers are left out", MOST_CLOCKS, MOST_KEPT, unseen_answers());
     }
-    if (has_no_way) complain("nothing was sent: %s: %s", way_name(), strerror(errno));
+    if (has_no_transport) complain("nothing was sent: %s: %s", transport_name(), strerror(errno));
     else if (stopped && task->site.watch == 0) complain("ended by a signal: more may answer");
-    else if (sent == 0 && !stopped) complain("nothing was sent: no message is taken at %s", way_name());
-    if (has_no_way || (sent == 0 && !stopped)) return NOT_ASKED;
+    else if (sent == 0 && !stopped) complain("nothing was sent: no message is taken at %s", transport_name());
+    if (has_no_transport || (sent == 0 && !stopped)) return NOT_ASKED;
     if (stopped) return BY_SIGNAL + stopped;
     if (seen_count() > 0) return ANSWERED;
-    complain("no answer at %s in %s to %ld message%s", way_name(), domains_text(domains), sent, sent == 1 ? "" : "s");
+    complain("no answer at %s in %s to %ld message%s", transport_name(), domains_text(domains), sent, sent == 1 ? "" : "s");
     if (!task->site.is_every_domain) complain("--domain all asks in each domain in which a clock is heard");
     return NOT_ANSWERED;
 }
@@ -252,8 +252,8 @@ int collect_answers(const struct task *task, const struct domains *domains, FILE
     see_none();
     output = to;
     sent = 0;
-    has_no_way = false;
-    for (int domain = 0; domain < DOMAINS && !stopped && !has_no_way; domain++) {
+    has_no_transport = false;
+    for (int domain = 0; domain < DOMAINS && !stopped && !has_no_transport; domain++) {
         if (domains->is_in[domain]) together[count++] = (uint8_t)domain;
         if (count < DOMAINS_AT_ONCE && (domain + 1 < DOMAINS || count == 0)) continue;
         if (!ask_in(task, together, count)) return NOT_ASKED;
@@ -264,7 +264,7 @@ int collect_answers(const struct task *task, const struct domains *domains, FILE
 
 int collect(const struct task *task) {
     struct domains domains;
-    widen_way();
+    widen_transport();
     find_domains(&domains, task);
     return collect_answers(task, &domains, stdout);
 }

@@ -2,7 +2,7 @@
 #include "message_places.h"
 #include "monotonic.h"
 #include "notices.h"
-#include "way.h"
+#include "transport.h"
 #include <stdbool.h>
 #include <stdio.h>
 #include <string.h>
@@ -29,12 +29,12 @@ static int count_of(const struct domains *domains) {
 void listen_for_domains(struct domains *domains, const struct task *task, long wanted) {
     long end = milliseconds() + wanted;
     bool is_every = task->site.is_every_domain && task->path == NULL;
-    if (is_every) hear_every_kind(true);
+    if (is_every) receive_every_type(true);
     size_t size;
-    for (const uint8_t *datagram; (datagram = hear(&size, end)) != NULL;) {
+    for (const uint8_t *datagram; (datagram = receive_message(&size, end)) != NULL;) {
         if (is_every && is_announce(datagram, size)) domains->is_in[datagram[DOMAIN_AT]] = true;
     }
-    if (is_every) hear_every_kind(false);
+    if (is_every) receive_every_type(false);
 }
 
 void find_domains(struct domains *domains, const struct task *task) {

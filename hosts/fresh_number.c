@@ -1,9 +1,9 @@
 #include "fresh_number.h"
 #include "asking.h"
-#include "draw.h"
 #include "exchange.h"
 #include "monotonic.h"
 #include "notices.h"
+#include "random.h"
 #include "reading.h"
 #include "session_file.h"
 #include "stopping.h"
@@ -81,8 +81,8 @@ static enum tried ask_under_number(const struct task *task, uint16_t number, int
         if (sending == NONE_LEFT) break;
         if (attempt > 1) show_progress("no answer yet: attempt %d of %d", attempt, task->settings.attempts);
         *sent += sending == OUT;
-        if (sending == NO_WAY && *sent == 0) {
-            complain("nothing was sent: %s: %s", way_name(), strerror(errno));
+        if (sending == NO_TRANSPORT && *sent == 0) {
+            complain("nothing was sent: %s: %s", transport_name(), strerror(errno));
             return NOT_OUT;
         }
         bool is_read_too = attempt > 1 || task->settings.attempts == 1;
@@ -96,7 +96,7 @@ static enum tried ask_under_number(const struct task *task, uint16_t number, int
 static void wait_for_copies(long wait) {
     size_t size;
     if (wait >= 1000) show_progress("a new session waits %ld s, until no copy of an earlier one is on its way", wait / 1000);
-    for (long end = milliseconds() + wait; hear(&size, end) != NULL;) {}
+    for (long end = milliseconds() + wait; receive_message(&size, end) != NULL;) {}
 }
 
 /* Finds a number of four that is new: *number is the last that was tried. The first is drawn. Otherwise it might be that of an

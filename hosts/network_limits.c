@@ -1,8 +1,8 @@
 #define _GNU_SOURCE
 #include "network_limits.h"
-#include "links.h"
 #include "message_places.h"
 #include "monotonic.h"
+#include "netlink.h"
 #include "program.h"
 #include <stdbool.h>
 #include <string.h>

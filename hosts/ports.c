@@ -1,6 +1,6 @@
 #define _GNU_SOURCE
 #include "ports.h"
-#include "links.h"
+#include "netlink.h"
 #include "output.h"
 #include "udp.h"
 #include <errno.h>
@@ -127,7 +127,7 @@ static void take_link(unsigned index, enum link_event event, unsigned mtu) {
     }
 }
 
-void hear_of_links(void) { read_links(take_link); }
+void hear_of_links(void) { read_netlink(take_link); }
 
 void close_ports(void) {
     for (size_t i = 0; i < port_count; i++) close_port(&ports[i]);

@@ -1,5 +1,5 @@
 #include "seen.h"
-#include "draw.h"
+#include "random.h"
 #include <stdbool.h>
 #include <string.h>
 

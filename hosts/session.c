@@ -60,7 +60,7 @@ static void start_at_number(struct session *session, const struct task *task, co
     }
 }
 
-/* Makes the request that is under way a task of this run. It is sent by this run's way and in its domain, as often as this
+/* Makes the request that is under way a task of this run. It is sent by this run's transport and in its domain, as often as this
    run's own. */
 static void read_earlier(struct task *earlier, const struct task *task, const struct session_image *image) {
     *earlier = *task;

@@ -10,7 +10,7 @@
 #include "seen.h"
 #include "site_program.h"
 #include "stopping.h"
-#include "way.h"
+#include "transport.h"
 #include <errno.h>
 #include <stdbool.h>
 #include <stdlib.h>
@@ -194,7 +194,7 @@ int show_status(const struct task *task) {
     static struct look look;
     struct domains domains;
     find_site_program();
-    widen_way();
+    widen_transport();
     find_domains(&domains, task);
     look_twice(&look, task, &domains, NULL);
     int status = stopped ? BY_SIGNAL + stopped : print_look(&look, task);

@@ -6,7 +6,7 @@
 #include "reading.h"
 #include "session_file.h"
 #include "stopping.h"
-#include "way.h"
+#include "transport.h"
 #include <stdbool.h>
 
 /* Whether the clock answers nobody's GET, if it did not answer the manager; then what it has is said. */
@@ -76,10 +76,10 @@ static const char *request_clause(const struct task *task, enum unanswered what)
 int no_answer(const struct task *task, enum unanswered what, uint16_t number, long sent) {
     const char *end = stopped ? "ended by a signal: " : "";
     if (sent == 0) {
-        complain("%snothing was sent%s%s", end, stopped ? "" : ": no message is taken at ", stopped ? "" : way_name());
+        complain("%snothing was sent%s%s", end, stopped ? "" : ": no message is taken at ", stopped ? "" : transport_name());
         return stopped ? BY_SIGNAL + stopped : NOT_ASKED;
     }
-    complain("%sno answer at %s in domain %u to %ld message%s%s", end, way_name(), task->settings.domain, sent,
+    complain("%sno answer at %s in domain %u to %ld message%s%s", end, transport_name(), task->settings.domain, sent,
              sent == 1 ? "" : "s", request_clause(task, what));
     tell_rest(task, what, number);
     if (stopped) return BY_SIGNAL + stopped;

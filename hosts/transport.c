@@ -1,5 +1,5 @@
 #define _GNU_SOURCE
-#include "way.h"
+#include "transport.h"
 #include "ethernet.h"
 #include "monotonic.h"
 #include "notices.h"
@@ -27,12 +27,12 @@ static struct sockaddr_storage clock_address;
 static socklen_t clock_size;
 static struct end ends[MOST_INTERFACES];
 static size_t end_count;
-static char name[MOST_INTERFACES * (IFNAMSIZ + 2) + sizeof ((struct sockaddr_un *)0)->sun_path];     /* of the way in a notice */
+static char name[MOST_INTERFACES * (IFNAMSIZ + 2) + sizeof ((struct sockaddr_un *)0)->sun_path];     /* what the transport is called in a notice */
 static bool is_six, is_ethernet;
 
 enum { MOST_DATAGRAM = 65536, ROOM_FOR_MANY = 4 << 20 };
 
-const char *way_name(void) { return name; }
+const char *transport_name(void) { return name; }
 
 /* An address of IPv4 or IPv6, at the port of general messages. */
 static void read_address(const char *text) {
@@ -125,7 +125,7 @@ static void find_unix(const struct task *task) {
     snprintf(name, sizeof name, "%s", task->path);
 }
 
-void find_way(struct task *task) {
+void find_transport(struct task *task) {
     if (task->path != NULL) find_unix(task);
     else find_at_interfaces(task);
     bool asks_alike = task->is_survey && !task->is_of_clock && !task->site.is_collected;       /* every clock, whoever asks */
@@ -147,12 +147,12 @@ static void open_beside(const char *path) {
     ends[0].socket = open_unix(own_path);
 }
 
-void open_way(const struct task *task) {
+void open_transport(const struct task *task) {
     if (task->path != NULL) open_beside(task->path);
     for (size_t i = 0; i < end_count && task->path == NULL; i++) open_at_interface(&ends[i]);
 }
 
-void widen_way(void) {
+void widen_transport(void) {
     const int wanted = ROOM_FOR_MANY;
     for (size_t i = 0; i < end_count; i++) {
         if (setsockopt(ends[i].socket, SOL_SOCKET, SO_RCVBUFFORCE, &wanted, sizeof wanted) == 0) continue;
@@ -160,7 +160,7 @@ void widen_way(void) {
     }
 }
 
-void hear_every_kind(bool is_every) {
+void receive_every_type(bool is_every) {
     for (size_t i = 0; i < end_count && is_ethernet; i++) {
         if (filter_ethernet(ends[i].socket, !is_every)) continue;
         complain("%s: the filter of frames: %s", ends[i].interface, strerror(errno));
@@ -180,11 +180,11 @@ static ssize_t send_datagram(const struct end *end, const uint8_t *octets, size_
     return sendto(end->socket, octets, size, MSG_DONTWAIT, (struct sockaddr *)&clock_address, clock_size);
 }
 
-enum sending send_out(const uint8_t *octets, size_t size) {
-    enum sending sending = NO_WAY;
+enum sending send_message(const uint8_t *octets, size_t size) {
+    enum sending sending = NO_TRANSPORT;
     for (size_t i = 0; i < end_count; i++) {
         if ((is_ethernet ? send_frame(&ends[i], octets, size) : send_datagram(&ends[i], octets, size)) >= 0) sending = OUT;
-        else if (sending == NO_WAY && (errno == EAGAIN || errno == EWOULDBLOCK || errno == ENOBUFS)) sending = NO_ROOM;
+        else if (sending == NO_TRANSPORT && (errno == EAGAIN || errno == EWOULDBLOCK || errno == ENOBUFS)) sending = NO_ROOM;
     }
     return sending;
 }
@@ -200,7 +200,7 @@ static const struct end *next_end(long wait) {
     return &ends[latest];
 }
 
-const uint8_t *hear(size_t *size, long end) {
+const uint8_t *receive_message(size_t *size, long end) {
     static uint8_t datagram[MOST_DATAGRAM];
     for (long left; (left = end - milliseconds()) > 0 && !stopped;) {
         const struct end *from = next_end(left);

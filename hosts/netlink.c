@@ -1,5 +1,5 @@
 #define _GNU_SOURCE
-#include "links.h"
+#include "netlink.h"
 #include "program.h"
 #include <errno.h>
 #include <ifaddrs.h>
@@ -22,7 +22,7 @@ static size_t network_count;
 static int netlink_socket;
 static bool is_stale = true;
 
-int open_links(void) {
+int open_netlink(void) {
     struct sockaddr_nl groups = { .nl_family = AF_NETLINK, .nl_groups = RTMGRP_LINK | RTMGRP_IPV4_IFADDR | RTMGRP_IPV6_IFADDR };
     netlink_socket = socket(AF_NETLINK, SOCK_RAW | SOCK_CLOEXEC | SOCK_NONBLOCK, NETLINK_ROUTE);
     if (netlink_socket < 0 || bind(netlink_socket, (struct sockaddr *)&groups, sizeof groups)) {
@@ -64,7 +64,7 @@ static void take_messages(const char *told, size_t size, link_taker *take) {
     }
 }
 
-void read_links(link_taker *take) {
+void read_netlink(link_taker *take) {
     static _Alignas(struct nlmsghdr) char told[TOLD];
     for (;;) {
         ssize_t size = recv(netlink_socket, told, sizeof told, MSG_DONTWAIT);
