@@ -37,8 +37,8 @@ static int not_asked(uint32_t refusal) {
     return NOT_ASKED;
 }
 
-/* Counts a message that went out; whether it makes sense to go on. It makes none if there is no transport, and none went out before;
-   that is said. */
+/* Counts a message that went out; whether it makes sense to go on. It makes none if there is no transport, and none went out
+   before; that is said. */
 static bool count_sending(enum sending sending, long *sent) {
     *sent += sending == OUT;
     if (sending != NO_TRANSPORT || *sent > 0) return true;
@@ -52,7 +52,7 @@ int send_until_answered(struct session *session, const struct task *task, long *
         if (sending == NONE_LEFT) return NOT_ANSWERED;
         if (attempt > 1) show_progress("no answer yet: attempt %d of %d", attempt, task->settings.attempts);
         if (!count_sending(sending, sent)) return NOT_ASKED;
-        if (first_answered(&session->handle, NULL, milliseconds() + task->milliseconds) == 0) return ANSWERED;
+        if (first_answered(&session->handle, NULL, milliseconds() + task->timeout) == 0) return ANSWERED;
     }
 }
 
@@ -174,7 +174,7 @@ int ask_every_port(const struct task *task) {
         if (quiet >= (ptpm_survey_count(&survey) > 0 ? QUIET : QUIET_AT_FIRST)) break;
         show_progress("attempt %d: %zu answers so far", attempt, ptpm_survey_count(&survey));
         if (!count_sending(send_message(message, size), &sent)) return NOT_ASKED;
-        quiet = taken_in_time(task->milliseconds, &lost) > 0 ? 0 : quiet + 1;
+        quiet = taken_in_time(task->timeout, &lost) > 0 ? 0 : quiet + 1;
     }
     int status = end_of_survey(task, sent, lost);
     ptpm_survey_stop(&survey);

@@ -134,9 +134,9 @@ static void hear_until(long end) {
 
 /* Hears answers until none came for one time-out. */
 static void hear_until_quiet(const struct task *task) {
-    long now = milliseconds(), end = now + MOST_TIMEOUTS * task->milliseconds;
-    for (latest = now; now < end && now < latest + task->milliseconds && !stopped; now = milliseconds()) {
-        hear_until(latest + task->milliseconds < end ? latest + task->milliseconds : end);
+    long now = milliseconds(), end = now + MOST_TIMEOUTS * task->timeout;
+    for (latest = now; now < end && now < latest + task->timeout && !stopped; now = milliseconds()) {
+        hear_until(latest + task->timeout < end ? latest + task->timeout : end);
     }
 }
 

@@ -62,7 +62,7 @@ int ask_whether_new(struct session *session, const struct task *task) {
 
 /* Whether the question is answered in time; answers to a read beside it are counted. */
 static bool hear_answer(const struct task *task, int *readings) {
-    long end = milliseconds() + task->milliseconds;
+    long end = milliseconds() + task->timeout;
     for (int place; (place = first_answered(&asking.handle, &reading, end)) >= 0;) {
         if (place == 0) return true;
         ++*readings;

@@ -94,7 +94,7 @@ static void take_option(struct task *task, struct words *words, int option, cons
     case 'k': task->numbers = value; break;
     case 'w': task->wait = number("wait", value, 0, 100000); break;
     case 'a': words->attempts = number("attempts", value, 1, 255); break;
-    case 't': task->milliseconds = number("timeout", value, 1, 100000); break;
+    case 't': task->timeout = number("timeout", value, 1, 100000); break;
     case 'n': task->times = number("times", value, 1, 1000000); break;
     case GIVE_UP: task->is_letting_go = true; break;
     case 'x': task->is_in_octets = true; break;
@@ -275,7 +275,7 @@ static void read_reach(struct task *task, const struct words *words) {
 void read_task(struct task *task, int argc, char **argv) {
     struct words words = { .port = NOT_NAMED, .target_port = NOT_NAMED, .hops = NOT_NAMED, .attempts = NOT_NAMED };
     *task = (struct task){
-        .settings = { .port = 1, .target_ports = 8 }, .site = { .listen = NOT_NAMED }, .wait = 3000, .milliseconds = 200, .times = 1,
+        .settings = { .port = 1, .target_ports = 8 }, .site = { .listen = NOT_NAMED }, .wait = 3000, .timeout = 200, .times = 1,
     };
     read_words(task, &words, argc, argv);
     if (words.count == 0) refuse("it takes get, set, command or survey and a managementId, or collect or status; see ptpm-manage --help");

@@ -28,7 +28,7 @@ struct task {
     bool is_six, is_ethernet;                   /* at an interface IPv6, or IEEE 802.3, in place of IPv4 */
     const char *numbers;                        /* the file that keeps the session, or NULL */
     long wait;                                  /* how long a session waits that has no such file yet, in milliseconds */
-    long milliseconds;                          /* how long an answer is waited for */
+    long timeout;                               /* how long an answer is waited for, in milliseconds */
     long times;                                 /* how often the request is made anew */
     bool is_in_octets, is_json;                 /* answers are printed as octets; as objects of JSON */
 };

@@ -27,7 +27,8 @@ static struct sockaddr_storage clock_address;
 static socklen_t clock_size;
 static struct end ends[MOST_INTERFACES];
 static size_t end_count;
-static char name[MOST_INTERFACES * (IFNAMSIZ + 2) + sizeof ((struct sockaddr_un *)0)->sun_path];     /* what the transport is called in a notice */
+/* What the transport is called in a notice. */
+static char name[MOST_INTERFACES * (IFNAMSIZ + 2) + sizeof ((struct sockaddr_un *)0)->sun_path];
 static bool is_six, is_ethernet;
 
 enum { MOST_DATAGRAM = 65536, ROOM_FOR_MANY = 4 << 20 };

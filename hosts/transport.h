@@ -1,4 +1,5 @@
-/* The transport to the clocks that are asked, over UDP, over Ethernet or at a Unix socket: sockets, and where messages go from them. */
+/* The transport to the clocks that are asked, over UDP, over Ethernet or at a Unix socket: sockets, and where messages go from
+   them. */
 #ifndef TRANSPORT_H
 #define TRANSPORT_H
 
@@ -7,9 +8,9 @@
 #include <stddef.h>
 #include <stdint.h>
 
-/* Finds the transport that the task names. If the task names no manager, its settings get the transport's own. Over UDP and Ethernet that
-   is the interface's hardware address with ff and fe in its middle. At a Unix socket it is clock 0, like that of pmc. Its port
-   is 1, or, if no numbers are kept, one of this process. Ends the program with status 2 if there is none. */
+/* Finds the transport that the task names. If the task names no manager, its settings get the transport's own. Over UDP and
+   Ethernet that is the interface's hardware address with ff and fe in its middle. At a Unix socket it is clock 0, like that of
+   pmc. Its port is 1, or, if no numbers are kept, one of this process. Ends the program with status 2 if there is none. */
 void find_transport(struct task *task);
 
 /* Opens it. Ends the program with status 2 if it can't be opened. */
