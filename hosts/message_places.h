@@ -1,5 +1,5 @@
-/* The places of members in a message, as octets from its begin: in the header of all messages (IEEE 1588-2019, 13.3), in the head of
-   a management message (15.4), and in its TLV (15.5). */
+/* The places of members in a message, as octets from its begin. They are in the header of all messages (IEEE 1588-2019, 13.3), in
+   the head of a management message (15.4), and in its TLV (15.5). */
 #ifndef MESSAGE_PLACES_H
 #define MESSAGE_PLACES_H
 

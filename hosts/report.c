@@ -37,8 +37,8 @@ static void add_finding(struct report *report, const struct finding *finding) {
     report->findings[report->count++] = *finding;
 }
 
-/* Text, in the form that docs/ptpm-site.md promises to scripts: after a line `findings: N` a line for each, with the domain, the clock
-   and the name first. One line may stand for what JSON has as several findings, so each form is read as it is. */
+/* Text, in the form that docs/ptpm-site.md promises to scripts. After a line `findings: N` comes a line for each, with the domain,
+   the clock and the name first. One line may stand for what JSON has as several findings, so each form is read as it is. */
 
 static const char *end_of_line(const char *at, const char *end) {
     const char *found = memchr(at, '\n', (size_t)(end - at));
