@@ -1,12 +1,14 @@
 #define _GNU_SOURCE
 #include "agent.h"
 #include "counts.h"
+#include "field_lines.h"
 #include "identity.h"
 #include "names.h"
 #include "observation.h"
 #include "output.h"
 #include "peers.h"
 #include "saving.h"
+#include <stdbool.h>
 #include <stdio.h>
 #include <stdlib.h>
 #include <string.h>
@@ -35,13 +37,14 @@ static uint8_t domain(void) {
     return ptpm_clock_read(&clock_held, PTPM_ID_DOMAIN, 0, octets, sizeof octets, &size) == PTPM_READ ? *octets : 0;
 }
 
-/* The portState that a GET of PORT_DATA_SET shows. */
+/* The portState that a GET of PORT_DATA_SET shows, by its name. */
 static const char *state_of(size_t port) {
-    enum { PORT_STATE = 10 };
+    static struct field_lines lines;
     uint8_t octets[PTPM_MOST_READ];
     size_t size;
     if (ptpm_clock_read(&clock_held, PTPM_ID_PORT_DATA_SET, (uint16_t)port, octets, sizeof octets, &size) != PTPM_READ) return "?";
-    const char *name = state_name(octets[PORT_STATE]);
+    start_lines(&lines, PTPM_ID_PORT_DATA_SET, octets, size);
+    const char *name = value_of(&lines, "portState");
     return name != NULL ? name : "?";
 }
 
@@ -57,13 +60,13 @@ void say_started(void) {
     say("%s %zu manager%s", text, options->manager_count, options->manager_count == 1 ? "" : "s");
 }
 
-/* Prints the names of members that changed. Each is that of the answer which refuses its value, without BAD_. */
+/* Prints the names of members that changed. Each has the place of the answer which refuses its value, `first` and on. */
 static void tell_changed(const char *where, uint32_t first, uint32_t members) {
     char line[1024];
     int size = snprintf(line, sizeof line, "%s", where);
     for (uint32_t i = 0; i < 32; i++) {
         if ((members >> i & 1) == 0) continue;
-        size += snprintf(line + size, sizeof line - (size_t)size, " %s", answer_name(first + i) + strlen("BAD_"));
+        size += snprintf(line + size, sizeof line - (size_t)size, " %s", refused_member(first + i));
     }
     print_line("%s", line);
 }
@@ -121,7 +124,7 @@ static unsigned long take_told_turn(const struct heard *heard, const struct port
     enum ptpm_handled answer = ptpm_clock_handle_changed(&clock_held, ingress, heard->octets, heard->size, places, PTPM_MOST_SENT,
                                                          &count, &changed);
     unsigned long lost = hand_on(heard, port, ingress, answer, places, count, &left);
-    int is_done = save_changes(&clock_held);
+    bool is_done = save_changes(&clock_held);
     lost += is_done ? send_all() : drop_round();
     tell_turn(ingress, heard, answer, left - lost, count);
     if (is_done) tell_all_changed(&changed);
@@ -132,7 +135,7 @@ static unsigned long take_told_turn(const struct heard *heard, const struct port
 static unsigned long take_turn(struct heard *heard, const struct port *port) {
     size_t count, left;
     uint16_t ingress = port == NULL ? 1 : (uint16_t)(port - ports + 1);
-    if (port != NULL && !is_heard(heard, port)) return 0;
+    if (port != NULL && !admit_datagram(heard, port)) return 0;
     lower_hops(heard);
     struct ptpm_sent *places = places_to_send();
     if (places == NULL) {
@@ -144,10 +147,10 @@ static unsigned long take_turn(struct heard *heard, const struct port *port) {
     return hand_on(heard, port, ingress, answer, places, count, &left);
 }
 
-void take_round(const struct port *port, int at) {
+void take_round(const struct port *port, int socket) {
     static struct heard heard[ROUND];
     unsigned long lost = 0;
-    size_t count = hear_round(port, at, heard);
+    size_t count = hear_round(port, socket, heard);
     for (size_t i = 0; i < count; i++) lost += take_turn(&heard[i], port);
     count_dropped(lost + send_saved());
 }
@@ -163,7 +166,7 @@ void observe(char *text) {
     struct observation observation;
     uint8_t left = 0;
     if (!read_observation(&observation, options->source, text)) {
-        count_observation(0);
+        count_observation(false);
         return;
     }
     enum ptpm_observed answer = ptpm_clock_observe(&clock_held, &observation.clock, observation.ports, observation.port_count,

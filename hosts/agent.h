@@ -17,7 +17,7 @@ void say_started(void);
 
 /* Takes the datagrams that have come in at a port, or at the Unix socket if there is none. Sends their answers, and what is
    passed on. */
-void take_round(const struct port *port, int at);
+void take_round(const struct port *port, int socket);
 
 /* The clock observes what a text says, all of it or nothing. */
 void observe(char *text);

@@ -1,14 +1,16 @@
 #include "asking.h"
 #include "answer.h"
-#include "common.h"
 #include "exchange.h"
 #include "identity.h"
+#include "monotonic.h"
 #include "names.h"
 #include "notices.h"
 #include "session_file.h"
+#include "stopping.h"
+#include "transport.h"
 #include "unanswered.h"
-#include "way.h"
 #include <errno.h>
+#include <stdbool.h>
 #include <stdio.h>
 #include <string.h>
 
@@ -35,13 +37,13 @@ static int not_asked(uint32_t refusal) {
     return NOT_ASKED;
 }
 
-/* Counts a message that went out; whether it makes sense to go on. It makes none if there is no way, and none went out before;
-   that is said. */
-static int is_going_on(enum sending sending, long *sent) {
+/* Counts a message that went out; whether it makes sense to go on. It makes none if there is no transport, and none went out
+   before; that is said. */
+static bool count_sending(enum sending sending, long *sent) {
     *sent += sending == OUT;
-    if (sending != NO_WAY || *sent > 0) return 1;
-    complain("nothing was sent: %s: %s", way_name(), strerror(errno));
-    return 0;
+    if (sending != NO_TRANSPORT || *sent > 0) return true;
+    complain("nothing was sent: %s: %s", transport_name(), strerror(errno));
+    return false;
 }
 
 int send_until_answered(struct session *session, const struct task *task, long *sent) {
@@ -49,8 +51,8 @@ int send_until_answered(struct session *session, const struct task *task, long *
         enum sending sending = stopped ? NONE_LEFT : send_again(&session->handle);
         if (sending == NONE_LEFT) return NOT_ANSWERED;
         if (attempt > 1) show_progress("no answer yet: attempt %d of %d", attempt, task->settings.attempts);
-        if (!is_going_on(sending, sent)) return NOT_ASKED;
-        if (first_answered(&session->handle, NULL, milliseconds() + task->milliseconds) == 0) return ANSWERED;
+        if (!count_sending(sending, sent)) return NOT_ASKED;
+        if (first_answered(&session->handle, NULL, milliseconds() + task->timeout) == 0) return ANSWERED;
     }
 }
 
@@ -121,7 +123,7 @@ static int taken_in_time(long wait, long *lost) {
     int taken = 0;
     long end = milliseconds() + wait;
     size_t size;
-    for (const uint8_t *datagram; (datagram = hear(&size, end)) != NULL;) {
+    for (const uint8_t *datagram; (datagram = receive_message(&size, end)) != NULL;) {
         enum ptpm_survey_received became = ptpm_survey_receive(&survey, datagram, size);
         taken += became == PTPM_TAKEN;
         *lost += became == PTPM_FULL || became == PTPM_NO_MEMORY;
@@ -171,8 +173,8 @@ int ask_every_port(const struct task *task) {
     for (int attempt = 1, quiet = 0; attempt <= task->settings.attempts && !stopped; attempt++) {
         if (quiet >= (ptpm_survey_count(&survey) > 0 ? QUIET : QUIET_AT_FIRST)) break;
         show_progress("attempt %d: %zu answers so far", attempt, ptpm_survey_count(&survey));
-        if (!is_going_on(send_out(message, size), &sent)) return NOT_ASKED;
-        quiet = taken_in_time(task->milliseconds, &lost) > 0 ? 0 : quiet + 1;
+        if (!count_sending(send_message(message, size), &sent)) return NOT_ASKED;
+        quiet = taken_in_time(task->timeout, &lost) > 0 ? 0 : quiet + 1;
     }
     int status = end_of_survey(task, sent, lost);
     ptpm_survey_stop(&survey);

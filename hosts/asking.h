@@ -13,7 +13,7 @@ enum status { ANSWERED = 0, REFUSED = 1, NOT_ASKED = 2, NOT_ANSWERED = 3, NOT_WR
 int judge_request(const struct task *task);
 
 /* Sends the session's request, which is the task's, until it is answered, its attempts are used, or a signal comes in. Counts
-   what went out. ANSWERED, NOT_ANSWERED, or NOT_ASKED if there is no way, which is said then. */
+   what went out. ANSWERED, NOT_ANSWERED, or NOT_ASKED if there is no transport, which is said then. */
 int send_until_answered(struct session *session, const struct task *task, long *sent);
 
 /* Makes the task's request in a session as many times as the task says, one after the other. Each is sent until it is answered

@@ -45,7 +45,7 @@ def next_number(name):
 
 
 def number_files():
-    """The files of earlier versions: a number, alone or with the manager and the clock."""
+    """Files with a number in place of a session, alone or with the manager and the clock."""
     clock = Clock("-m", MANAGER + "/1", "-u", path, ME)
     number = os.path.join(work, "number")
     owner = f"{MANAGER}/1 {ME}"

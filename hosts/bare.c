@@ -5,10 +5,13 @@
    `rounds` makes the calls of ptpm-clock, epoll_wait, recvmmsg and sendmmsg. `ring` sends, and waits for the next datagram, in one
    call of io_uring. */
 #define _GNU_SOURCE
-#include "common.h"
 #include "identity.h"
+#include "message_places.h"
+#include "program.h"
+#include "udp.h"
 #include <errno.h>
 #include <linux/io_uring.h>
+#include <stdbool.h>
 #include <stdio.h>
 #include <stdlib.h>
 #include <string.h>
@@ -17,20 +20,19 @@
 #include <sys/syscall.h>
 #include <unistd.h>
 
-/* Octets of a management message (IEEE 1588-2019, 13.3 and 15.4), and of an answer with PRIORITY1. */
-enum { SOURCE = 20, NUMBER = 30, TARGET = 34, ACTION = 46, MESSAGE = 54, ANSWER = 56, MOST = 2048, ROUND = 64 };
-enum { MANAGEMENT = 0xd, GET = 0, PORT_IDENTITY = 10 };
+/* Octets of an answer with PRIORITY1, of a datagram, and of a portIdentity; and an actionField. */
+enum { ANSWER = 56, MOST = 2048, PORT_IDENTITY = 10, GET = 0, ROUND = 64 };
 
 const char program[] = "bare";
 
 /* RESPONSE, PRIORITY1 128, by port 1. */
 static const uint8_t answer[ANSWER] = {
-    MANAGEMENT, 2, 0, ANSWER, [SOURCE + 9] = 1, [32] = 4, 0x7f, [ACTION] = 2, [48] = 0, 1, 0, 4, 0x20, 0x05, 128,
+    MANAGEMENT_TYPE, 2, 0, ANSWER, [SOURCE_PORT_AT + 1] = 1, [32] = 4, 0x7f, [ACTION_AT] = 2, [TLV_AT] = 0, 1, 0, 4, 0x20, 0x05, 128,
 };
 static uint8_t own[8];
 static struct sockaddr_storage to;
 static socklen_t to_size;
-static int at;
+static int port_socket;
 
 _Noreturn void usage(void) {
     fputs("bare INTERFACE IDENTITY calls|rounds|ring\n", stderr);
@@ -38,21 +40,22 @@ _Noreturn void usage(void) {
 }
 
 /* Writes the answer to a datagram; whether it is a GET for this clock. */
-static int answers(const uint8_t *heard, ssize_t size, uint8_t written[ANSWER]) {
-    if (size < MESSAGE || (heard[0] & 15) != MANAGEMENT || (heard[ACTION] & 15) != GET
-        || memcmp(heard + TARGET, own, sizeof own) != 0) return 0;
+static bool answers(const uint8_t *heard, ssize_t size, uint8_t written[ANSWER]) {
+    if (size < LEAST_MESSAGE || (heard[TYPE_AT] & LOWER_HALF) != MANAGEMENT_TYPE || (heard[ACTION_AT] & LOWER_HALF) != GET
+        || memcmp(heard + TARGET_AT, own, sizeof own) != 0) return false;
     memcpy(written, answer, ANSWER);
-    memcpy(written + SOURCE, own, sizeof own);
-    memcpy(written + NUMBER, heard + NUMBER, 2);
-    memcpy(written + TARGET, heard + SOURCE, PORT_IDENTITY);
-    return 1;
+    memcpy(written + SOURCE_AT, own, sizeof own);
+    memcpy(written + SEQUENCE_AT, heard + SEQUENCE_AT, 2);
+    memcpy(written + TARGET_AT, heard + SOURCE_AT, PORT_IDENTITY);
+    return true;
 }
 
 static void answer_by_calls(void) {
     static uint8_t heard[MOST], written[ANSWER];
     for (;;) {
-        ssize_t size = recv(at, heard, sizeof heard, 0);
-        if (answers(heard, size, written)) sendto(at, written, ANSWER, MSG_DONTWAIT, (const struct sockaddr *)&to, to_size);
+        ssize_t size = recv(port_socket, heard, sizeof heard, 0);
+        if (!answers(heard, size, written)) continue;
+        sendto(port_socket, written, ANSWER, MSG_DONTWAIT, (const struct sockaddr *)&to, to_size);
     }
 }
 
@@ -68,20 +71,20 @@ static void answer_round(void) {
     static struct iovec parts[ROUND], out_parts[ROUND];
     unsigned count = 0;
     for (int i = 0; i < ROUND; i++) set_message(&in[i], &parts[i], heard[i], MOST);
-    int found = recvmmsg(at, in, ROUND, MSG_DONTWAIT, NULL);
+    int found = recvmmsg(port_socket, in, ROUND, MSG_DONTWAIT, NULL);
     for (int i = 0; i < found; i++) {
         if (!answers(heard[i], in[i].msg_len, written[count])) continue;
         set_message(&out[count], &out_parts[count], written[count], ANSWER);
         out[count].msg_hdr.msg_name = &to;
         out[count++].msg_hdr.msg_namelen = to_size;
     }
-    if (count > 0) sendmmsg(at, out, count, MSG_DONTWAIT);
+    if (count > 0) sendmmsg(port_socket, out, count, MSG_DONTWAIT);
 }
 
 static void answer_in_rounds(void) {
     struct epoll_event event = { .events = EPOLLIN };
     int polled = epoll_create1(EPOLL_CLOEXEC);
-    if (polled < 0 || epoll_ctl(polled, EPOLL_CTL_ADD, at, &event)) give_up("epoll");
+    if (polled < 0 || epoll_ctl(polled, EPOLL_CTL_ADD, port_socket, &event)) give_up("epoll");
     for (;;) {
         if (epoll_wait(polled, &event, 1, -1) > 0) answer_round();
     }
@@ -89,7 +92,7 @@ static void answer_in_rounds(void) {
 
 /* What the kernel and the program share of a ring: requests that go out, and what became of them. */
 struct ring {
-    int at;
+    int descriptor;
     unsigned *request_tail, *request_mask, *places, *done_head, *done_tail, *done_mask;
     struct io_uring_sqe *requests;
     struct io_uring_cqe *done;
@@ -110,7 +113,7 @@ static struct ring open_ring(void) {
     char *out = map_ring(ring, with.sq_off.array + with.sq_entries * sizeof(unsigned), IORING_OFF_SQ_RING);
     char *in = map_ring(ring, with.cq_off.cqes + with.cq_entries * sizeof(struct io_uring_cqe), IORING_OFF_CQ_RING);
     return (struct ring){
-        .at = ring, .request_tail = (void *)(out + with.sq_off.tail), .request_mask = (void *)(out + with.sq_off.ring_mask),
+        .descriptor = ring, .request_tail = (void *)(out + with.sq_off.tail), .request_mask = (void *)(out + with.sq_off.ring_mask),
         .places = (void *)(out + with.sq_off.array), .done_head = (void *)(in + with.cq_off.head),
         .done_tail = (void *)(in + with.cq_off.tail), .done_mask = (void *)(in + with.cq_off.ring_mask),
         .requests = (void *)map_ring(ring, with.sq_entries * sizeof(struct io_uring_sqe), IORING_OFF_SQES),
@@ -128,14 +131,16 @@ static void request(struct ring *ring, struct io_uring_sqe wanted) {
 /* Hands out what is requested, and waits until a receive is done; how many octets came in. */
 static ssize_t wait_for_receive(struct ring *ring, unsigned requested) {
     ssize_t size = -1;
-    for (int is_done = 0; !is_done; requested = 0) {
-        if (syscall(SYS_io_uring_enter, ring->at, requested, 1, IORING_ENTER_GETEVENTS, NULL, 0) < 0) give_up("io_uring_enter");
+    for (bool is_done = false; !is_done; requested = 0) {
+        if (syscall(SYS_io_uring_enter, ring->descriptor, requested, 1, IORING_ENTER_GETEVENTS, NULL, 0) < 0) {
+            give_up("io_uring_enter");
+        }
         unsigned head = *ring->done_head, tail = __atomic_load_n(ring->done_tail, __ATOMIC_ACQUIRE);
         for (; head != tail; head++) {
             const struct io_uring_cqe *one = &ring->done[head & *ring->done_mask];
             if (one->user_data != RECEIVE) continue;
             size = one->res;
-            is_done = 1;
+            is_done = true;
         }
         __atomic_store_n(ring->done_head, head, __ATOMIC_RELEASE);
     }
@@ -147,14 +152,15 @@ static void answer_by_ring(void) {
     struct iovec part = { written, ANSWER };
     struct msghdr message = { .msg_name = &to, .msg_namelen = to_size, .msg_iov = &part, .msg_iovlen = 1 };
     const struct io_uring_sqe receive = {
-        .opcode = IORING_OP_RECV, .fd = at, .addr = (uintptr_t)heard, .len = MOST, .user_data = RECEIVE,
+        .opcode = IORING_OP_RECV, .fd = port_socket, .addr = (uintptr_t)heard, .len = MOST, .user_data = RECEIVE,
     };
     const struct io_uring_sqe send = {
-        .opcode = IORING_OP_SENDMSG, .fd = at, .addr = (uintptr_t)&message, .len = 1, .user_data = SEND, .msg_flags = MSG_DONTWAIT,
+        .opcode = IORING_OP_SENDMSG, .fd = port_socket, .addr = (uintptr_t)&message, .len = 1, .user_data = SEND,
+        .msg_flags = MSG_DONTWAIT,
         .flags = IOSQE_CQE_SKIP_SUCCESS,
     };
     struct ring ring = open_ring();
-    for (int is_asked = 0;;) {
+    for (bool is_asked = false;;) {
         if (is_asked) request(&ring, send);
         request(&ring, receive);
         is_asked = answers(heard, wait_for_receive(&ring, is_asked ? 2 : 1), written);
@@ -164,9 +170,9 @@ static void answer_by_ring(void) {
 int main(int argc, char **argv) {
     const char *what;
     if (argc != 4 || identity_at(argv[2], own) == NULL) usage();
-    at = open_udp(argv[1], 0, &what);
-    if (at < 0) give_up(what);
-    to_size = group(&to, 0);
+    port_socket = open_udp(argv[1], false, EVERY_MESSAGE, &what);
+    if (port_socket < 0) give_up(what);
+    to_size = group(&to, false);
     if (strcmp(argv[3], "calls") == 0) answer_by_calls();
     if (strcmp(argv[3], "rounds") == 0) answer_in_rounds();
     if (strcmp(argv[3], "ring") == 0) answer_by_ring();

@@ -4,6 +4,7 @@
 #include "checking.h"
 #include "ptpm.h"
 #include "ptpm_memory.h"
+#include <stdbool.h>
 #include <stdlib.h>
 #include <string.h>
 
@@ -51,7 +52,7 @@ static enum ptpm_restored restore_clock(struct ptpm_clock *clock, const struct p
     return ptpm_clock_restore(clock, target, PORTS, managers, MANAGERS, image, size, &gone);
 }
 
-static int holds_clock(const struct ptpm_clock *clock) {
+static bool holds_clock(const struct ptpm_clock *clock) {
     size_t size;
     return ptpm_clock_read(clock, PTPM_ID_PRIORITY1, 0, octets, sizeof octets, &size) == PTPM_READ && octets[0] == 128;
 }

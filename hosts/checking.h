@@ -2,11 +2,12 @@
 #ifndef CHECKING_H
 #define CHECKING_H
 
+#include <stdbool.h>
 #include <stdio.h>
 
 static unsigned passed, failed;
 
-static void check(int holds, const char *what) {
+static void check(bool holds, const char *what) {
     if (holds) {
         passed++;
         return;

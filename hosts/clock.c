@@ -6,19 +6,21 @@
    hosts decide" in docs/architecture.md). It waits for nobody except the disk: what a peer doesn't take at once is dropped. */
 #define _GNU_SOURCE
 #include "agent.h"
-#include "common.h"
 #include "counts.h"
-#include "links.h"
+#include "monotonic.h"
+#include "netlink.h"
 #include "options.h"
 #include "output.h"
 #include "peers.h"
 #include "ports.h"
 #include "privileges.h"
+#include "program.h"
 #include "service.h"
 #include "signals.h"
 #include "source.h"
 #include "timer.h"
 #include <errno.h>
+#include <stdbool.h>
 #include <sys/epoll.h>
 
 enum { SECOND = 1000 };
@@ -39,9 +41,9 @@ enum { UNIX_SOCKET = PORTS, SOURCE, SIGNALS, LINKS, TIMER, WAITS };
 static int polled = -1;
 static unsigned long polled_openings[PORTS];    /* which socket of each port is polled */
 
-static void wait_at(int at, uint32_t what) {
+static void wait_at(int descriptor, uint32_t what) {
     struct epoll_event event = { .events = EPOLLIN, .data.u32 = what };
-    if (at >= 0 && epoll_ctl(polled, EPOLL_CTL_ADD, at, &event) && errno != EEXIST) give_up("epoll_ctl");
+    if (descriptor >= 0 && epoll_ctl(polled, EPOLL_CTL_ADD, descriptor, &event) && errno != EEXIST) give_up("epoll_ctl");
 }
 
 static void wait_at_all(void) {
@@ -64,7 +66,7 @@ static void wait_at_ports(void) {
 }
 
 /* What has come in there; whether the program goes on. */
-static int take_event(uint32_t what) {
+static bool take_event(uint32_t what) {
     enum asked asked = NOTHING_ASKED;
     switch (what) {
     case UNIX_SOCKET: take_round(NULL, unix_socket); break;
@@ -88,13 +90,13 @@ static void look_around(long now) {
     if (now < next) return;
     next = now + SECOND;
     for (size_t i = 0; unix_socket >= 0 && i < WAYS_BACK; i++) take_round(NULL, way_back_socket(i));
-    if (source >= 0 && source_has_moved()) observe_all();
+    if (source >= 0 && follow_source()) observe_all();
 }
 
 /* Runs until a signal asks for the end, or until that time comes, if it is not 0. */
 static void run(long end) {
     struct epoll_event events[WAITS];
-    int is_going_on = 1;
+    bool is_going_on = true;
     if (source >= 0) observe_all();
     wait_at_all();
     say_started();
@@ -116,7 +118,7 @@ static void run(long end) {
 static void open_all(void) {
     signals = open_signals();
     transport = options.transport;
-    links = open_links();
+    links = open_netlink();
     timer = open_timer();
     for (size_t i = 0; i < options.interface_count; i++) open_port(options.interfaces[i]);
     if (options.meeting.path != NULL) unix_socket = open_peers(&options.meeting);

@@ -1,12 +1,15 @@
 #include "collect.h"
 #include "asking.h"
-#include "common.h"
-#include "draw.h"
+#include "message_places.h"
+#include "monotonic.h"
 #include "names.h"
 #include "notices.h"
+#include "random.h"
 #include "seen.h"
-#include "way.h"
+#include "stopping.h"
+#include "transport.h"
 #include <errno.h>
+#include <stdbool.h>
 #include <stdlib.h>
 #include <string.h>
 
@@ -18,12 +21,8 @@ enum { STEP = 50, BURST = 128, MOST_BURSTS = 16, DOMAINS_AT_ONCE = 32 };
    many time-outs at most. */
 enum { TRIES = 25, TRY = 2, MOST_TIMEOUTS = 10 };
 
-/* The places of members in a message: of the header, and of a TLV and its dataField (IEEE 1588-2019, 13.3, 15.4 and 15.5). */
-enum {
-    LENGTH_AT = 2, DOMAIN_AT = 4, CLOCK_AT = 20, PORT_AT = 28, NUMBER_AT = 30, TARGET_AT = 34, ACTION_AT = 46, TLV_AT = 48, FIELD_AT = 54,
-    PORT_COUNT_AT = FIELD_AT + 2, FIELD_PORT_AT = FIELD_AT + 8, LEAST_MESSAGE = FIELD_AT,
-};
-enum { ERROR_TLV = 2, DEFAULT_SIZE = 20, PORT_SIZE = 26 };
+/* In the answers: a tlvType (IEEE 1588-2019, 14.1.1), how many octets two data sets have, and the places of their members (15.5.3). */
+enum { ERROR_TLV = 2, DEFAULT_SIZE = 20, PORT_SIZE = 26, PORT_COUNT_AT = FIELD_AT + 2, FIELD_PORT_AT = FIELD_AT + 8 };
 
 static const uint16_t ids[COLLECTED] = {
     PTPM_ID_DEFAULT_DATA_SET, PTPM_ID_CURRENT_DATA_SET, PTPM_ID_PARENT_DATA_SET, PTPM_ID_TIME_PROPERTIES_DATA_SET,
@@ -44,16 +43,16 @@ static struct request requests[DOMAINS_AT_ONCE * COLLECTED];
 static size_t request_count;
 static FILE *output;
 static long sent, latest;               /* messages that went out; when an answer came that is no copy */
-static int has_no_way;
+static bool has_no_transport;
 
 static unsigned two_octets(const uint8_t *at) { return (unsigned)at[0] << 8 | at[1]; }
 
 /* Starts the request of an id; whether the library would ask it. If not, that is said. */
-static int start_request(const struct task *task, uint8_t domain, enum collected id) {
+static bool start_request(const struct task *task, uint8_t domain, enum collected id) {
     static uint16_t number;
-    static int is_drawn;
+    static bool is_drawn;
     if (!is_drawn) number = draw_number();
-    is_drawn = 1;
+    is_drawn = true;
     struct request *request = &requests[request_count];
     struct ptpm_survey_settings settings = {
         .port = task->settings.port, .number = ++number, .id = ids[id], .domain = domain, .hops = task->settings.hops,
@@ -65,13 +64,13 @@ static int start_request(const struct task *task, uint8_t domain, enum collected
     }
     if (refusal != PTPM_SENT) {
         complain("nothing was asked: %s", answer_name(refusal));
-        return 0;
+        return false;
     }
     request->number = number;
     request->domain = domain;
     request->id = id;
     request_count++;
-    return 1;
+    return true;
 }
 
 static void stop_requests(void) {
@@ -90,15 +89,15 @@ static uint64_t sum_of(const uint8_t *message, size_t size) {
 static void take_answer(const struct request *request, const uint8_t *message) {
     size_t size = two_octets(message + LENGTH_AT);
     struct seen_answer answer = {
-        .clock = message + CLOCK_AT, .domain = request->domain, .id = request->id, .port = (uint16_t)two_octets(message + PORT_AT),
+        .clock = message + SOURCE_AT, .domain = request->domain, .id = request->id, .port = (uint16_t)two_octets(message + SOURCE_PORT_AT),
         .is_refusal = two_octets(message + TLV_AT) == ERROR_TLV, .sum = sum_of(message, size),
     };
-    int has_field = !answer.is_refusal && size >= FIELD_AT;
+    bool has_field = !answer.is_refusal && size >= FIELD_AT;
     if (has_field && answer.id == DEFAULT_SET && size == FIELD_AT + DEFAULT_SIZE) {
         answer.port_count = (uint16_t)two_octets(message + PORT_COUNT_AT);
     }
     if (has_field && answer.id == PORT_SET && size == FIELD_AT + PORT_SIZE) {
-        int is_own = memcmp(message + FIELD_AT, answer.clock, 8) == 0;
+        bool is_own = memcmp(message + FIELD_AT, answer.clock, 8) == 0;
         answer.port = is_own ? (uint16_t)two_octets(message + FIELD_PORT_AT) : 0;       /* 0 is no port, and none is answered */
     }
     enum seen seen = see_answer(&answer);
@@ -113,14 +112,14 @@ static void take_answer(const struct request *request, const uint8_t *message) {
 static struct request *asked_under(const uint8_t *datagram, size_t size) {
     if (size < LEAST_MESSAGE) return NULL;
     for (size_t i = 0; i < request_count; i++) {
-        if (requests[i].number == two_octets(datagram + NUMBER_AT)) return &requests[i];
+        if (requests[i].number == two_octets(datagram + SEQUENCE_AT)) return &requests[i];
     }
     return NULL;
 }
 
 static void hear_until(long end) {
     size_t size;
-    for (const uint8_t *datagram; (datagram = hear(&size, end)) != NULL;) {
+    for (const uint8_t *datagram; (datagram = receive_message(&size, end)) != NULL;) {
         struct request *request = asked_under(datagram, size);
         if (request == NULL) continue;
         switch ((uint32_t)ptpm_survey_receive(&request->survey, datagram, size)) {
@@ -135,30 +134,30 @@ static void hear_until(long end) {
 
 /* Hears answers until none came for one time-out. */
 static void hear_until_quiet(const struct task *task) {
-    long now = milliseconds(), end = now + MOST_TIMEOUTS * task->milliseconds;
-    for (latest = now; now < end && now < latest + task->milliseconds && !stopped; now = milliseconds()) {
-        hear_until(latest + task->milliseconds < end ? latest + task->milliseconds : end);
+    long now = milliseconds(), end = now + MOST_TIMEOUTS * task->timeout;
+    for (latest = now; now < end && now < latest + task->timeout && !stopped; now = milliseconds()) {
+        hear_until(latest + task->timeout < end ? latest + task->timeout : end);
     }
 }
 
 /* Sends a message, which waits for room; whether it went out. */
-static int is_sent(const uint8_t *message, size_t size) {
-    for (int tries = 0; tries < TRIES && !stopped && !has_no_way; tries++) {
-        enum sending sending = send_out(message, size);
+static bool send_when_room(const uint8_t *message, size_t size) {
+    for (int tries = 0; tries < TRIES && !stopped && !has_no_transport; tries++) {
+        enum sending sending = send_message(message, size);
         sent += sending == OUT;
-        has_no_way = sending == NO_WAY && sent == 0;
-        if (sending == OUT) return 1;
-        if (!has_no_way) hear_until(milliseconds() + TRY);
+        has_no_transport = sending == NO_TRANSPORT && sent == 0;
+        if (sending == OUT) return true;
+        if (!has_no_transport) hear_until(milliseconds() + TRY);
     }
-    return 0;
+    return false;
 }
 
 /* Asks every clock, one id after the other. */
 static void ask_every(void) {
-    for (int id = 0; id < COLLECTED && !stopped && !has_no_way; id++) {
+    for (int id = 0; id < COLLECTED && !stopped && !has_no_transport; id++) {
         long end = milliseconds() + STEP;
         for (size_t i = 0; i < request_count; i++) {
-            if (requests[i].id == (enum collected)id) is_sent(requests[i].message, requests[i].size);
+            if (requests[i].id == (enum collected)id) send_when_room(requests[i].message, requests[i].size);
         }
         if (id + 1 < COLLECTED) hear_until(end);
     }
@@ -185,11 +184,11 @@ static size_t count_lacking(void) {
 }
 
 /* Asks one clock, and all its ports: the message of the request with its identity as the target's. Whether that went out. */
-static int is_asked_alone(const struct request *request, const struct seen_clock *clock) {
+static bool ask_alone(const struct request *request, const struct seen_clock *clock) {
     static uint8_t message[PTPM_MOST_OCTETS];
     memcpy(message, request->message, request->size);
     memcpy(message + TARGET_AT, clock->identity, sizeof clock->identity);
-    return is_sent(message, request->size);
+    return send_when_room(message, request->size);
 }
 
 /* Asks each clock of these domains for what it lacks, until there is no room for more. */
@@ -200,7 +199,7 @@ static void ask_lacking(size_t count) {
         for (int id = 0; id < COLLECTED; id++) {
             const struct request *request = lacking(seen_clock(place), id);
             if (request == NULL) continue;
-            if (!is_asked_alone(request, seen_clock(place))) return;
+            if (!ask_alone(request, seen_clock(place))) return;
             if (++asked % burst != 0) continue;
             hear_until(end);
             end = milliseconds() + STEP;
@@ -209,18 +208,18 @@ static void ask_lacking(size_t count) {
 }
 
 /* Asks in this many domains; whether the library would ask at all. */
-static int ask_in(const struct task *task, const uint8_t *domains, size_t count) {
+static bool ask_in(const struct task *task, const uint8_t *domains, size_t count) {
     for (size_t i = 0; i < count; i++) {
         for (int id = 0; id < COLLECTED; id++) {
             if (start_request(task, domains[i], (enum collected)id)) continue;
             stop_requests();
-            return 0;
+            return false;
         }
     }
     show_progress("%zu clocks so far; asking from domain %u on", seen_count(), domains[0]);
     ask_every();
     hear_until_quiet(task);
-    for (int round = 1; round <= task->settings.attempts && !stopped && !has_no_way; round++) {
+    for (int round = 1; round <= task->settings.attempts && !stopped && !has_no_transport; round++) {
         size_t lacks = count_lacking();
         if (lacks == 0) break;
         show_progress("%zu clocks so far; attempt %d for %zu answers that are missing", seen_count(), round, lacks);
@@ -228,7 +227,7 @@ static int ask_in(const struct task *task, const uint8_t *domains, size_t count)
         hear_until_quiet(task);
     }
     stop_requests();
-    return 1;
+    return true;
 }
 
 static int end_of_collection(const struct task *task, const struct domains *domains) {
@@ -236,13 +235,13 @@ static int end_of_collection(const struct task *task, const struct domains *doma
     if (unseen_answers() > 0) {
         complain("there is room for %d clocks and %d answers: %lu more answers are left out", MOST_CLOCKS, MOST_KEPT, unseen_answers());
     }
-    if (has_no_way) complain("nothing was sent: %s: %s", way_name(), strerror(errno));
+    if (has_no_transport) complain("nothing was sent: %s: %s", transport_name(), strerror(errno));
     else if (stopped && task->site.watch == 0) complain("ended by a signal: more may answer");
-    else if (sent == 0 && !stopped) complain("nothing was sent: no message is taken at %s", way_name());
-    if (has_no_way || (sent == 0 && !stopped)) return NOT_ASKED;
+    else if (sent == 0 && !stopped) complain("nothing was sent: no message is taken at %s", transport_name());
+    if (has_no_transport || (sent == 0 && !stopped)) return NOT_ASKED;
     if (stopped) return BY_SIGNAL + stopped;
     if (seen_count() > 0) return ANSWERED;
-    complain("no answer at %s in %s to %ld message%s", way_name(), domains_text(domains), sent, sent == 1 ? "" : "s");
+    complain("no answer at %s in %s to %ld message%s", transport_name(), domains_text(domains), sent, sent == 1 ? "" : "s");
     if (!task->site.is_every_domain) complain("--domain all asks in each domain in which a clock is heard");
     return NOT_ANSWERED;
 }
@@ -252,8 +251,9 @@ int collect_answers(const struct task *task, const struct domains *domains, FILE
     size_t count = 0;
     see_none();
     output = to;
-    sent = has_no_way = 0;
-    for (int domain = 0; domain < DOMAINS && !stopped && !has_no_way; domain++) {
+    sent = 0;
+    has_no_transport = false;
+    for (int domain = 0; domain < DOMAINS && !stopped && !has_no_transport; domain++) {
         if (domains->is_in[domain]) together[count++] = (uint8_t)domain;
         if (count < DOMAINS_AT_ONCE && (domain + 1 < DOMAINS || count == 0)) continue;
         if (!ask_in(task, together, count)) return NOT_ASKED;
@@ -264,7 +264,7 @@ int collect_answers(const struct task *task, const struct domains *domains, FILE
 
 int collect(const struct task *task) {
     struct domains domains;
-    widen_way();
+    widen_transport();
     find_domains(&domains, task);
     return collect_answers(task, &domains, stdout);
 }

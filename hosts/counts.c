@@ -3,6 +3,7 @@
 #include "network_limits.h"
 #include "output.h"
 #include "saving.h"
+#include <stdbool.h>
 
 enum { ANSWERS = 128 };
 
@@ -14,7 +15,7 @@ void count_answer(uint32_t answer) {
 
 void count_dropped(unsigned long messages) { dropped += messages; }
 
-void count_observation(int is_observed) {
+void count_observation(bool is_observed) {
     if (is_observed) observed++;
     else not_observed++;
 }

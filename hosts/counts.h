@@ -2,6 +2,7 @@
 #ifndef COUNTS_H
 #define COUNTS_H
 
+#include <stdbool.h>
 #include <stdint.h>
 
 void count_answer(uint32_t answer);
@@ -9,7 +10,7 @@ void count_answer(uint32_t answer);
 /* Messages that no socket took. */
 void count_dropped(unsigned long messages);
 
-void count_observation(int is_observed);
+void count_observation(bool is_observed);
 
 /* A line for each count that is not 0. */
 void print_counts(void);

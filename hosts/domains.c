@@ -1,18 +1,21 @@
 #include "domains.h"
-#include "common.h"
+#include "message_places.h"
+#include "monotonic.h"
 #include "notices.h"
-#include "way.h"
+#include "transport.h"
+#include <stdbool.h>
 #include <stdio.h>
 #include <string.h>
 
-/* In a message's header and in an Announce message (IEEE 1588-2019, 13.3 and 13.5). */
-enum { ANNOUNCE = 0xb, VERSION = 2, KIND_AT = 0, VERSION_AT = 1, LENGTH_AT = 2, DOMAIN_AT = 4, ANNOUNCE_SIZE = 64 };
+/* versionPTP, and how many octets an Announce message has (IEEE 1588-2019, 13.3 and 13.5). */
+enum { VERSION = 2, ANNOUNCE_SIZE = 64 };
 
 /* The standard's default, and that of SMPTE ST 2059-2. */
 enum { USUAL = 0, USUAL_IN_STUDIOS = 127 };
 
-static int is_announce(const uint8_t *datagram, size_t size) {
-    if (size < ANNOUNCE_SIZE || (datagram[KIND_AT] & 0xf) != ANNOUNCE || (datagram[VERSION_AT] & 0xf) != VERSION) return 0;
+static bool is_announce(const uint8_t *datagram, size_t size) {
+    if (size < ANNOUNCE_SIZE || (datagram[TYPE_AT] & LOWER_HALF) != ANNOUNCE_TYPE) return false;
+    if ((datagram[VERSION_AT] & LOWER_HALF) != VERSION) return false;
     size_t length = (size_t)datagram[LENGTH_AT] << 8 | datagram[LENGTH_AT + 1];
     return length >= ANNOUNCE_SIZE && length <= size;
 }
@@ -25,13 +28,13 @@ static int count_of(const struct domains *domains) {
 
 void listen_for_domains(struct domains *domains, const struct task *task, long wanted) {
     long end = milliseconds() + wanted;
-    int is_every = task->site.is_every_domain && task->path == NULL;
-    if (is_every) hear_every_kind(1);
+    bool is_every = task->site.is_every_domain && task->path == NULL;
+    if (is_every) receive_every_type(true);
     size_t size;
-    for (const uint8_t *datagram; (datagram = hear(&size, end)) != NULL;) {
-        if (is_every && is_announce(datagram, size)) domains->is_in[datagram[DOMAIN_AT]] = 1;
+    for (const uint8_t *datagram; (datagram = receive_message(&size, end)) != NULL;) {
+        if (is_every && is_announce(datagram, size)) domains->is_in[datagram[DOMAIN_AT]] = true;
     }
-    if (is_every) hear_every_kind(0);
+    if (is_every) receive_every_type(false);
 }
 
 void find_domains(struct domains *domains, const struct task *task) {
@@ -40,11 +43,11 @@ void find_domains(struct domains *domains, const struct task *task) {
     if (site->is_every_domain && task->path == NULL) {
         show_progress("listening for Announce messages");
         listen_for_domains(domains, task, site->listen);
-        domains->is_in[USUAL] = domains->is_in[USUAL_IN_STUDIOS] = 1;
+        domains->is_in[USUAL] = domains->is_in[USUAL_IN_STUDIOS] = true;
         return;
     }
     int first = site->is_every_domain ? 0 : site->first_domain, last = site->is_every_domain ? DOMAINS - 1 : site->last_domain;
-    for (int i = first; i <= last; i++) domains->is_in[i] = 1;
+    for (int i = first; i <= last; i++) domains->is_in[i] = true;
 }
 
 const char *domains_text(const struct domains *domains) {

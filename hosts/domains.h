@@ -3,8 +3,9 @@
 #define DOMAINS_H
 
 #include "task.h"
+#include <stdbool.h>
 
-struct domains { uint8_t is_in[DOMAINS]; };
+struct domains { bool is_in[DOMAINS]; };
 
 /* Finds them. With `all` it listens for Announce messages as long as the task says, and adds 0 and 127. At a Unix socket none
    comes in: there it takes each of the 256. */

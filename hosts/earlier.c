@@ -5,6 +5,7 @@
 #include "names.h"
 #include "notices.h"
 #include "unanswered.h"
+#include <stdbool.h>
 #include <stdio.h>
 
 static void say_let_go(const struct task *earlier, uint16_t number) {
@@ -37,7 +38,7 @@ static int finish(struct session *session, const struct task *earlier) {
 }
 
 int settle_earlier(struct session *session, const struct task *earlier, const struct task *task) {
-    int is_own = is_question(earlier);
+    bool is_own = is_question(earlier);
     if (!is_own && !task->is_letting_go) return finish(session, earlier);
     uint32_t answer = ptpm_session_give_up(&session->handle);
     if (answer != PTPM_GIVEN_UP && is_own) return finish(session, earlier);

@@ -1,17 +1,19 @@
 #define _GNU_SOURCE
 #include "ethernet.h"
+#include "message_places.h"
 #include "socket_option.h"
 #include <arpa/inet.h>
 #include <errno.h>
 #include <linux/filter.h>
 #include <linux/if_packet.h>
 #include <net/if.h>
+#include <stdbool.h>
 #include <string.h>
 #include <sys/ioctl.h>
 #include <sys/socket.h>
 #include <unistd.h>
 
-enum { PTP = 0x88f7, TAG = 0x8100, SERVICE_TAG = 0x88a8, TAG_SIZE = 4, TYPE = 12, MANAGEMENT = 0xd };
+enum { PTP = 0x88f7, TAG = 0x8100, SERVICE_TAG = 0x88a8, TAG_SIZE = 4, TYPE = 12 };
 
 static const uint8_t group_station[STATION] = { 0x01, 0x1b, 0x19, 0x00, 0x00, 0x00 };
 
@@ -23,59 +25,60 @@ static const struct sock_filter wanted[] = {
     BPF_JUMP(BPF_JMP | BPF_JEQ | BPF_K, SERVICE_TAG, 0, 7),
     BPF_STMT(BPF_LD | BPF_H | BPF_ABS, TYPE + TAG_SIZE),
     BPF_JUMP(BPF_JMP | BPF_JEQ | BPF_K, PTP, 0, 5),
-    BPF_STMT(BPF_LD | BPF_B | BPF_ABS, ETHERNET_HEAD + TAG_SIZE),
+    BPF_STMT(BPF_LD | BPF_B | BPF_ABS, ETHERNET_HEAD + TAG_SIZE + TYPE_AT),
     BPF_JUMP(BPF_JMP | BPF_JA, 1, 0, 0),
-    BPF_STMT(BPF_LD | BPF_B | BPF_ABS, ETHERNET_HEAD),
-    BPF_STMT(BPF_ALU | BPF_AND | BPF_K, 0x0f),
-    BPF_JUMP(BPF_JMP | BPF_JEQ | BPF_K, MANAGEMENT, 1, 0),
+    BPF_STMT(BPF_LD | BPF_B | BPF_ABS, ETHERNET_HEAD + TYPE_AT),
+    BPF_STMT(BPF_ALU | BPF_AND | BPF_K, LOWER_HALF),
+    BPF_JUMP(BPF_JMP | BPF_JEQ | BPF_K, MANAGEMENT_TYPE, 1, 0),
     BPF_STMT(BPF_RET | BPF_K, 0),
     BPF_STMT(BPF_RET | BPF_K, 65535),
 };
 
-static int has_station(int at, unsigned index, uint8_t own[STATION]) {
+/* Reads the interface's own address; whether it could. */
+static bool read_station(int socket, unsigned index, uint8_t own[STATION]) {
     struct ifreq request = { 0 };
-    if (if_indextoname(index, request.ifr_name) == NULL || ioctl(at, SIOCGIFHWADDR, &request)) return 0;
+    if (if_indextoname(index, request.ifr_name) == NULL || ioctl(socket, SIOCGIFHWADDR, &request)) return false;
     memcpy(own, request.ifr_hwaddr.sa_data, STATION);
-    return 1;
+    return true;
 }
 
-int filter_ethernet(int at, int is_management_alone) {
+bool filter_ethernet(int socket, bool is_management_alone) {
     struct sock_fprog filter = { .len = sizeof wanted / sizeof *wanted, .filter = (struct sock_filter *)wanted };
     int none = 0;
-    return is_management_alone ? setsockopt(at, SOL_SOCKET, SO_ATTACH_FILTER, &filter, sizeof filter) == 0
-                               : setsockopt(at, SOL_SOCKET, SO_DETACH_FILTER, &none, sizeof none) == 0;
+    return is_management_alone ? setsockopt(socket, SOL_SOCKET, SO_ATTACH_FILTER, &filter, sizeof filter) == 0
+                               : setsockopt(socket, SOL_SOCKET, SO_DETACH_FILTER, &none, sizeof none) == 0;
 }
 
 /* The socket hears nothing until it is bound, and by then it has its filter. */
-static int is_opened(int at, const char *interface, uint8_t own[STATION], const char **what) {
+static bool join_group(int socket, const char *interface, uint8_t own[STATION], const char **what) {
     int one = 1;
     unsigned index = if_nametoindex(interface);
     struct sockaddr_ll place = { .sll_family = AF_PACKET, .sll_protocol = htons(PTP), .sll_ifindex = (int)index };
     struct packet_mreq join = { .mr_ifindex = (int)index, .mr_type = PACKET_MR_MULTICAST, .mr_alen = STATION };
     memcpy(join.mr_address, group_station, STATION);
     *what = interface;
-    if (index == 0 || !has_station(at, index, own)) return 0;
+    if (index == 0 || !read_station(socket, index, own)) return false;
     *what = "SO_ATTACH_FILTER";
-    if (!filter_ethernet(at, 1)
-        || !set_option(at, SOL_PACKET, PACKET_IGNORE_OUTGOING, &one, sizeof one, what, "PACKET_IGNORE_OUTGOING")
-        || !set_option(at, SOL_PACKET, PACKET_ADD_MEMBERSHIP, &join, sizeof join, what, "PACKET_ADD_MEMBERSHIP")) return 0;
+    if (!filter_ethernet(socket, true)
+        || !set_option(socket, SOL_PACKET, PACKET_IGNORE_OUTGOING, &one, sizeof one, what, "PACKET_IGNORE_OUTGOING")
+        || !set_option(socket, SOL_PACKET, PACKET_ADD_MEMBERSHIP, &join, sizeof join, what, "PACKET_ADD_MEMBERSHIP")) return false;
     *what = "Ethertype 0x88F7";
-    return bind(at, (struct sockaddr *)&place, sizeof place) == 0;
+    return bind(socket, (struct sockaddr *)&place, sizeof place) == 0;
 }
 
 int open_ethernet(const char *interface, uint8_t own[STATION], const char **what) {
     *what = "a socket of Ethernet";
-    int at = socket(AF_PACKET, SOCK_RAW | SOCK_CLOEXEC, 0);
-    if (at < 0 || is_opened(at, interface, own, what)) return at;
+    int opened = socket(AF_PACKET, SOCK_RAW | SOCK_CLOEXEC, 0);
+    if (opened < 0 || join_group(opened, interface, own, what)) return opened;
     int failure = errno;
-    close(at);
+    close(opened);
     errno = failure;
     return -1;
 }
 
 static unsigned type_at(const uint8_t *frame, size_t place) { return (unsigned)frame[place] << 8 | frame[place + 1]; }
 
-int is_to_station(const uint8_t *frame, const uint8_t own[STATION]) { return memcmp(frame, own, STATION) == 0; }
+bool is_to_station(const uint8_t *frame, const uint8_t own[STATION]) { return memcmp(frame, own, STATION) == 0; }
 
 const uint8_t *station_of(const uint8_t *frame) { return frame + STATION; }
 

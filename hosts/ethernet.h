@@ -2,6 +2,7 @@
 #ifndef ETHERNET_H
 #define ETHERNET_H
 
+#include <stdbool.h>
 #include <stddef.h>
 #include <stdint.h>
 #include <sys/uio.h>
@@ -15,14 +16,14 @@ enum { STATION = 6, ETHERNET_HEAD = 14, ETHERNET_LEAST = 60, FRAME_PARTS = 3 };
 int open_ethernet(const char *interface, uint8_t own[STATION], const char **what);
 
 /* Has a socket hear frames with management messages alone, or with every message; whether it does. */
-int filter_ethernet(int at, int is_management_alone);
+bool filter_ethernet(int socket, bool is_management_alone);
 
 /* The place at which the message begins in a frame, after the tags of a VLAN. 0 if the frame has none for the group or this
    address. The frame may be padded after the message. */
 size_t message_in(const uint8_t *frame, size_t size, const uint8_t own[STATION]);
 
 /* Whether a frame is to this address alone. */
-int is_to_station(const uint8_t *frame, const uint8_t own[STATION]);
+bool is_to_station(const uint8_t *frame, const uint8_t own[STATION]);
 
 /* Who sent a frame. */
 const uint8_t *station_of(const uint8_t *frame);

@@ -3,7 +3,7 @@
 #define EXCHANGE_H
 
 #include "task.h"
-#include "way.h"
+#include "transport.h"
 
 /* Begins the task's request at the port that it names, for an id of the clock too: some clocks answer only then. If it names
    none, or every port, such an id is asked of every port. What the library answers. */

@@ -3,6 +3,7 @@
 #define FIELD_LINES_H
 
 #include "ptpm.h"
+#include <stdbool.h>
 
 /* A member: its name in the standard, and its value as a text. The only one is `value`, with the octets in hexadecimal, if they
    are no dataField of the id or it has no member. */
@@ -13,10 +14,16 @@ struct field_lines { char text[PTPM_MOST_FIELD_TEXT + 1], *rest; };
 /* Takes the members of a dataField. */
 void start_lines(struct field_lines *lines, uint16_t id, const uint8_t *octets, size_t size);
 
+/* Takes the members of an id, with the values of a dataField in which no bit is set. There is none if the id has no dataField. */
+void start_members(struct field_lines *lines, uint16_t id);
+
 /* The next member; whether there is one. Its texts stay until the lines are started again. */
-int next_member(struct field_lines *lines, struct member *member);
+bool next_member(struct field_lines *lines, struct member *member);
 
 /* Whether the member has this name. */
-int is_named(const struct member *member, const char *name);
+bool is_named(const struct member *member, const char *name);
+
+/* The value of the next member that has this name; NULL if there is none. */
+const char *value_of(struct field_lines *lines, const char *name);
 
 #endif

@@ -1,43 +1,34 @@
 #define _GNU_SOURCE
 #include "field_words.h"
-#include "common.h"
 #include "field_lines.h"
 #include "notices.h"
+#include "program.h"
+#include <stdbool.h>
 #include <stdio.h>
 #include <stdlib.h>
 #include <string.h>
 #include <strings.h>
 
-int has_text(uint16_t id) { return id == PTPM_ID_USER_DESCRIPTION; }
+bool has_text(uint16_t id) { return id == PTPM_ID_USER_DESCRIPTION; }
 
-int can_only_be_read(uint16_t id) {
+bool can_only_be_read(uint16_t id) {
     return id == PTPM_ID_DEFAULT_DATA_SET || id == PTPM_ID_CURRENT_DATA_SET || id == PTPM_ID_PARENT_DATA_SET ||
            id == PTPM_ID_TIME_PROPERTIES_DATA_SET || id == PTPM_ID_PORT_DATA_SET;
 }
 
-int has_no_member(uint16_t id) {
+bool has_no_member(uint16_t id) {
     uint8_t octets[PTPM_MOST_READ];
     size_t count, place;
     return ptpm_field_parse(id, "", 0, octets, sizeof octets, &count, &place) == PTPM_PARSED;
 }
 
-/* Takes the members of an id, with the values of a dataField in which no bit is set. */
-static void start_members(struct field_lines *lines, uint16_t id) {
-    static const uint8_t zeros[PTPM_MOST_READ];
-    for (size_t size = 2; size < sizeof zeros; size += 2) {
-        start_lines(lines, id, zeros, size);
-        if (strncmp(lines->text, "value ", 6) != 0) return;
-    }
-    *lines->text = '\0';
-}
-
 /* The member at a place, from 0 on; whether there is one. */
-static int member_at(struct field_lines *lines, uint16_t id, size_t place, struct member *member) {
+static bool member_at(struct field_lines *lines, uint16_t id, size_t place, struct member *member) {
     start_members(lines, id);
     while (next_member(lines, member)) {
-        if (place-- == 0) return 1;
+        if (place-- == 0) return true;
     }
-    return 0;
+    return false;
 }
 
 static size_t count_members(uint16_t id) {
@@ -48,19 +39,19 @@ static size_t count_members(uint16_t id) {
     return count;
 }
 
-int takes_value(uint16_t id) { return count_members(id) == 1 && !has_text(id); }
+bool takes_value(uint16_t id) { return count_members(id) == 1 && !has_text(id); }
 
-int is_member(uint16_t id, const char *word) {
+bool is_member(uint16_t id, const char *word) {
     struct field_lines lines;
     struct member member;
     for (start_members(&lines, id); next_member(&lines, &member);) {
-        if (strcasecmp(word, member.name) == 0) return 1;
+        if (strcasecmp(word, member.name) == 0) return true;
     }
-    return 0;
+    return false;
 }
 
 /* Whether a word alone is the value of the one member of an id. */
-static int is_value(uint16_t id, const char *word) {
+static bool is_value(uint16_t id, const char *word) {
     uint8_t octets[PTPM_MOST_READ];
     size_t count, place;
     return ptpm_field_parse(id, word, strlen(word) + 1, octets, sizeof octets, &count, &place) == PTPM_PARSED;
@@ -68,7 +59,7 @@ static int is_value(uint16_t id, const char *word) {
 
 size_t most_words(uint16_t id, const char *first) {
     size_t members = count_members(id);
-    int is_one_word = members == 0 || (!is_member(id, first) && is_value(id, first));
+    bool is_one_word = members == 0 || (!is_member(id, first) && is_value(id, first));
     return is_one_word ? 1 : 2 * members;
 }
 
@@ -135,9 +126,9 @@ size_t read_field(uint16_t id, const char *named, const char *const *words, size
 }
 
 size_t read_text_field(uint16_t id, const char *named, const char *const *words, size_t count, uint8_t octets[PTPM_MOST_READ]) {
-    char text[4 * MOST_TEXT + 1], *to = text;
+    char text[4 * MOST_DESCRIPTION + 1], *to = text;
     const char *taken[MOST_FIELD_WORDS], *typed = words[count - 1];
-    if (strlen(typed) > MOST_TEXT) refuse("the text has over %d octets", MOST_TEXT);
+    if (strlen(typed) > MOST_DESCRIPTION) refuse("the text has over %d octets", MOST_DESCRIPTION);
     for (; *typed != '\0'; typed++) {
         if (*typed == '\\') to = stpcpy(to, "\\x5c");
         else *to++ = *typed;

@@ -3,26 +3,27 @@
 #define FIELD_WORDS_H
 
 #include "ptpm.h"
+#include <stdbool.h>
 
 enum {
-    MOST_TEXT = 128,            /* octets of a userDescription */
+    MOST_DESCRIPTION = 128,            /* octets of a userDescription */
     MOST_FIELD_WORDS = 20       /* names and values of members */
 };
 
 /* Whether an id has a text, and nothing else. */
-int has_text(uint16_t id);
+bool has_text(uint16_t id);
 
 /* Whether an id has one member, which is no text, so that a SET takes its value as a word. */
-int takes_value(uint16_t id);
+bool takes_value(uint16_t id);
 
 /* Whether the standard has a GET of the id alone. */
-int can_only_be_read(uint16_t id);
+bool can_only_be_read(uint16_t id);
 
 /* Whether a SET of the id has a dataField without octets. */
-int has_no_member(uint16_t id);
+bool has_no_member(uint16_t id);
 
 /* Whether a word is the name of a member of the id, in either case. */
-int is_member(uint16_t id, const char *word);
+bool is_member(uint16_t id, const char *word);
 
 /* How many words a SET of the id takes at most: one, or a name and a value for each member. The first of them decides. */
 size_t most_words(uint16_t id, const char *first);

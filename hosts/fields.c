@@ -5,6 +5,7 @@
 #include "checking.h"
 #include "ptpm.h"
 #include <ctype.h>
+#include <stdbool.h>
 #include <stdio.h>
 #include <string.h>
 
@@ -21,8 +22,9 @@ static const struct { uint16_t id; uint8_t bits; } sole[] = {
 /* The words of lines, a zero octet after each; how many octets they have. */
 static size_t words_of(uint16_t id, const uint8_t *octets, size_t size, char words[PTPM_MOST_FIELD_TEXT]) {
     size_t length = ptpm_field_text(id, octets, size, words, PTPM_MOST_FIELD_TEXT);
-    for (size_t i = 0, is_name = 1; i < length; i++) {
-        int is_end = words[i] == '\n' || (words[i] == ' ' && is_name);
+    bool is_name = true;
+    for (size_t i = 0; i < length; i++) {
+        bool is_end = words[i] == '\n' || (words[i] == ' ' && is_name);
         if (words[i] == '\n' || words[i] == ' ') is_name = words[i] == '\n';
         if (is_end) words[i] = '\0';
     }
@@ -30,7 +32,7 @@ static size_t words_of(uint16_t id, const uint8_t *octets, size_t size, char wor
 }
 
 /* Whether words are read as this dataField. */
-static int are_read(uint16_t id, const char *words, size_t length, const uint8_t *octets, size_t size) {
+static bool are_read(uint16_t id, const char *words, size_t length, const uint8_t *octets, size_t size) {
     uint8_t found[PTPM_MOST_READ];
     size_t count, member;
     return ptpm_field_parse(id, words, length, found, sizeof found, &count, &member) == PTPM_PARSED && count == size &&
@@ -38,16 +40,16 @@ static int are_read(uint16_t id, const char *words, size_t length, const uint8_t
 }
 
 /* Whether a dataField comes back from its words. */
-static int comes_back(uint16_t id, const uint8_t *octets, size_t size) {
+static bool comes_back(uint16_t id, const uint8_t *octets, size_t size) {
     char words[PTPM_MOST_FIELD_TEXT];
     return are_read(id, words, words_of(id, octets, size, words), octets, size);
 }
 
 /* Whether it comes back from the value without the name, and with the name in upper case. */
-static int comes_back_from_value(uint16_t id, const uint8_t *octets, size_t size) {
+static bool comes_back_from_value(uint16_t id, const uint8_t *octets, size_t size) {
     char words[PTPM_MOST_FIELD_TEXT];
     size_t length = words_of(id, octets, size, words), name = strlen(words) + 1;
-    if (!are_read(id, words + name, length - name, octets, size)) return 0;
+    if (!are_read(id, words + name, length - name, octets, size)) return false;
     for (char *at = words; *at != '\0'; at++) *at = (char)toupper((unsigned char)*at);
     return are_read(id, words, length, octets, size);
 }

@@ -4,20 +4,25 @@
    answered, and in how many microseconds the middle one and 99 of a hundred were. With a RATE of 0 it waits for each answer
    before it asks again. */
 #define _GNU_SOURCE
-#include "common.h"
+#include "digits.h"
 #include "identity.h"
+#include "message_places.h"
+#include "monotonic.h"
+#include "program.h"
+#include "udp.h"
+#include <stdbool.h>
 #include <stdio.h>
 #include <stdlib.h>
 #include <string.h>
 
-enum { NUMBERS = 65536, MESSAGE = 54, SOURCE = 20, TARGET = 34, NUMBER = 30, MOST_TIME = 1000000, IDENTITY = 8 };
+enum { NUMBERS = 65536, MOST_TIME = 1000000, IDENTITY = 8 };
 
 const char program[] = "flood";
 
 /* A GET of PRIORITY1 by 0a0b0c0d0e0f1011/1 to every port (IEEE 1588-2019, 13.3 and 15.4). */
-static uint8_t request[MESSAGE] = {
-    0x0d, 0x02, 0, MESSAGE, [20] = 0x0a, 0x0b, 0x0c, 0x0d, 0x0e, 0x0f, 0x10, 0x11, 0, 1, [32] = 4, 0x7f,
-    [42] = 0xff, 0xff, 1, 1, 0, 0, 0, 1, 0, 2, 0x20, 0x05,
+static uint8_t request[LEAST_MESSAGE] = {
+    MANAGEMENT_TYPE, 2, 0, LEAST_MESSAGE, [SOURCE_AT] = 0x0a, 0x0b, 0x0c, 0x0d, 0x0e, 0x0f, 0x10, 0x11, 0, 1, [32] = 4, 0x7f,
+    [TARGET_AT + IDENTITY] = 0xff, 0xff, 1, 1, 0, 0, 0, 1, 0, 2, 0x20, 0x05,
 };
 static long sent_at[NUMBERS];                   /* nanoseconds; 0: answered, or not asked */
 static unsigned long answered, times[MOST_TIME + 1];         /* how many answers took this many microseconds */
@@ -27,7 +32,7 @@ _Noreturn void usage(void) {
     exit(2);
 }
 
-static int at;
+static int port_socket;
 static struct sockaddr_storage to;
 static socklen_t to_size;
 static long sent;
@@ -35,30 +40,30 @@ static long sent;
 /* Asks under the next number. */
 static uint16_t ask(void) {
     uint16_t number = (uint16_t)sent++;
-    request[NUMBER] = (uint8_t)(number >> 8);
-    request[NUMBER + 1] = (uint8_t)number;
+    request[SEQUENCE_AT] = (uint8_t)(number >> 8);
+    request[SEQUENCE_AT + 1] = (uint8_t)number;
     sent_at[number] = nanoseconds();
-    sendto(at, request, sizeof request, 0, (struct sockaddr *)&to, to_size);
+    sendto(port_socket, request, sizeof request, 0, (struct sockaddr *)&to, to_size);
     return number;
 }
 
-static int is_answer(const uint8_t *octets, ssize_t size) {
-    return size >= MESSAGE && memcmp(octets + SOURCE, request + TARGET, IDENTITY) == 0
-           && memcmp(octets + TARGET, request + SOURCE, IDENTITY) == 0;
+static bool is_answer(const uint8_t *octets, ssize_t size) {
+    return size >= LEAST_MESSAGE && memcmp(octets + SOURCE_AT, request + TARGET_AT, IDENTITY) == 0
+           && memcmp(octets + TARGET_AT, request + SOURCE_AT, IDENTITY) == 0;
 }
 
 /* Whether something came in. If it is an answer it is counted. */
-static int take_answer(int flags) {
+static bool take_answer(int flags) {
     uint8_t octets[2048];
-    ssize_t size = recv(at, octets, sizeof octets, flags);
+    ssize_t size = recv(port_socket, octets, sizeof octets, flags);
     if (!is_answer(octets, size)) return size >= 0;
-    long *asked = &sent_at[octets[NUMBER] << 8 | octets[NUMBER + 1]];
-    if (*asked == 0) return 1;
+    long *asked = &sent_at[octets[SEQUENCE_AT] << 8 | octets[SEQUENCE_AT + 1]];
+    if (*asked == 0) return true;
     long took = (nanoseconds() - *asked) / 1000;
     times[took < MOST_TIME ? took : MOST_TIME]++;
     answered++;
     *asked = 0;
-    return 1;
+    return true;
 }
 
 /* At even times, and 0.2 seconds for the last answers. */
@@ -74,7 +79,7 @@ static void ask_at_rate(long rate, long seconds) {
 static void ask_in_turn(long seconds) {
     const struct timeval most = { .tv_usec = 200000 };
     long end = nanoseconds() + seconds * 1000000000;
-    setsockopt(at, SOL_SOCKET, SO_RCVTIMEO, &most, sizeof most);
+    setsockopt(port_socket, SOL_SOCKET, SO_RCVTIMEO, &most, sizeof most);
     while (nanoseconds() < end) {
         uint16_t number = ask();
         while (sent_at[number] != 0 && take_answer(0)) continue;
@@ -92,13 +97,13 @@ static long part(unsigned long percent) {
 int main(int argc, char **argv) {
     const char *what;
     int room = 1 << 24;
-    if (argc != 5 || identity_at(argv[2], request + TARGET) == NULL) usage();
+    if (argc != 5 || identity_at(argv[2], request + TARGET_AT) == NULL) usage();
     long rate = decimal(argv[3], 1000000), seconds = decimal(argv[4], 1000);
     if (rate < 0 || seconds < 1) usage();
-    at = open_udp(argv[1], 0, &what);
-    if (at < 0) give_up(what);
-    setsockopt(at, SOL_SOCKET, SO_RCVBUFFORCE, &room, sizeof room);
-    to_size = group(&to, 0);
+    port_socket = open_udp(argv[1], false, EVERY_MESSAGE, &what);
+    if (port_socket < 0) give_up(what);
+    setsockopt(port_socket, SOL_SOCKET, SO_RCVBUFFORCE, &room, sizeof room);
+    to_size = group(&to, false);
     if (rate > 0) ask_at_rate(rate, seconds);
     else ask_in_turn(seconds);
     printf("sent %ld answered %lu median %ld p99 %ld\n", sent, answered, part(50), part(99));

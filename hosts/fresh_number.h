@@ -6,6 +6,7 @@
 #define FRESH_NUMBER_H
 
 #include "session.h"
+#include <stdbool.h>
 
 /* What is asked before a task's request is a GET of a data set with drawn octets. A GET's dataField is ignored, but belongs to
    what makes a repeat. So it is answered if its number is new, and else not at all. Then the number after it is new too. */
@@ -15,7 +16,7 @@
 int ask_whether_new(struct session *session, const struct task *task);
 
 /* Whether a request is such a question. */
-int is_question(const struct task *task);
+bool is_question(const struct task *task);
 
 /* Starts the task's session if there is no file of it, at the number after one that is new. That one is drawn, or up to three
    times 16384 ahead of a drawn one. First it waits as long as the task says. Copies of what an earlier session sent may be on

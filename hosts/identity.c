@@ -1,5 +1,5 @@
 #include "identity.h"
-#include "common.h"
+#include "digits.h"
 #include <stdio.h>
 
 const char *identity_at(const char *text, uint8_t identity[8]) {

@@ -1,4 +1,5 @@
 #include "interval.h"
+#include <stdbool.h>
 
 /* Bits of a fraction, as many digits as all its values have, and 10 to that power. */
 enum { FRACTION_BITS = 16, FRACTION_DIGITS = 16 };
@@ -36,19 +37,20 @@ static uint64_t units_of(uint64_t fraction, int digits) {
     return units + (2 * fraction >= whole_fraction);
 }
 
-int read_interval(const char *text, int64_t *interval) {
+bool read_interval(const char *text, int64_t *interval) {
     enum { MOST_DIGITS = 15 };      /* 2^47 nanoseconds have as many */
     uint64_t whole, fraction = 0;
-    int is_below = *text == '-', digits = 0;
+    bool is_below = *text == '-';
+    int digits = 0;
     text += is_below;
-    if (read_digits(&text, MOST_DIGITS, &whole) == 0) return 0;
+    if (read_digits(&text, MOST_DIGITS, &whole) == 0) return false;
     if (*text == '.') {
         text++;
-        if ((digits = read_digits(&text, FRACTION_DIGITS, &fraction)) == 0) return 0;
+        if ((digits = read_digits(&text, FRACTION_DIGITS, &fraction)) == 0) return false;
     }
-    if (*text != '\0' || whole > (uint64_t)1 << 47) return 0;
+    if (*text != '\0' || whole > (uint64_t)1 << 47) return false;
     uint64_t size = (whole << FRACTION_BITS) + units_of(fraction, digits);
-    if (size > (uint64_t)INT64_MAX + (uint64_t)is_below) return 0;
+    if (size > (uint64_t)INT64_MAX + (uint64_t)is_below) return false;
     *interval = is_below ? (int64_t)-size : (int64_t)size;
-    return 1;
+    return true;
 }

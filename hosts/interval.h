@@ -2,6 +2,7 @@
 #ifndef INTERVAL_H
 #define INTERVAL_H
 
+#include <stdbool.h>
 #include <stdint.h>
 #include <stdio.h>
 
@@ -10,6 +11,6 @@ void print_interval(FILE *to, int64_t interval);
 
 /* The TimeInterval that is nearest to a text. The text has digits, with at most sixteen more after a dot, and begins with a hyphen
    if it is below 0. Whether it is such a text, and in range. */
-int read_interval(const char *text, int64_t *interval);
+bool read_interval(const char *text, int64_t *interval);
 
 #endif

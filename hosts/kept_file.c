@@ -2,16 +2,17 @@
 #include "kept_file.h"
 #include <errno.h>
 #include <fcntl.h>
+#include <stdbool.h>
 #include <stdio.h>
 #include <string.h>
 #include <unistd.h>
 
-int open_kept_folder(struct kept_file *file, const char *path) {
+bool open_kept_folder(struct kept_file *file, const char *path) {
     char text[4096] = ".";
     const char *slash = strrchr(path, '/'), *last = slash == NULL ? path : slash + 1;
     size_t size = (size_t)(last - path);
     errno = EINVAL;
-    if (*last == '\0' || strlen(last) + sizeof ".lock" > KEPT_NAME || size >= sizeof text) return 0;
+    if (*last == '\0' || strlen(last) + sizeof ".lock" > KEPT_NAME || size >= sizeof text) return false;
     if (size > 0) {
         memcpy(text, path, size);
         text[size] = '\0';
@@ -29,7 +30,7 @@ int open_kept_lock(const struct kept_file *file) {
     return openat(file->folder, file->lock_name, O_RDWR | O_CREAT | O_NOFOLLOW | O_NONBLOCK | O_CLOEXEC, file->mode & 0660);
 }
 
-int take_kept_lock(int lock) {
+bool take_kept_lock(int lock) {
     struct flock whole = { .l_type = F_WRLCK, .l_whence = SEEK_SET };
     return fcntl(lock, F_SETLK, &whole) == 0;
 }
@@ -39,7 +40,7 @@ pid_t kept_lock_owner(int lock) {
     return fcntl(lock, F_GETLK, &other) || other.l_type == F_UNLCK || other.l_pid < 0 ? 0 : other.l_pid;
 }
 
-int is_kept_lock(const struct kept_file *file, int lock) {
+bool is_kept_lock(const struct kept_file *file, int lock) {
     struct stat own, found;
     return fstat(lock, &own) == 0 && fstatat(file->folder, file->lock_name, &found, AT_SYMLINK_NOFOLLOW) == 0
            && own.st_dev == found.st_dev && own.st_ino == found.st_ino;
@@ -52,44 +53,46 @@ void leave_no_lock(const struct kept_file *file) {
 
 enum kept_found read_kept(const struct kept_file *file, uint8_t *octets, size_t most, size_t *size, struct stat *found) {
     *size = 0;
-    int at = openat(file->folder, file->name, O_RDONLY | O_NOFOLLOW | O_NONBLOCK | O_CLOEXEC);
-    if (at < 0) return errno == ENOENT ? KEPT_NONE : errno == ELOOP ? KEPT_LINK : KEPT_UNREADABLE;
-    enum kept_found what = fstat(at, found) ? KEPT_UNREADABLE : S_ISREG(found->st_mode) ? KEPT_FILE : KEPT_OTHER;
+    int opened = openat(file->folder, file->name, O_RDONLY | O_NOFOLLOW | O_NONBLOCK | O_CLOEXEC);
+    if (opened < 0) return errno == ENOENT ? KEPT_NONE : errno == ELOOP ? KEPT_LINK : KEPT_UNREADABLE;
+    enum kept_found what = fstat(opened, found) ? KEPT_UNREADABLE : S_ISREG(found->st_mode) ? KEPT_FILE : KEPT_OTHER;
     for (ssize_t count = 1; what == KEPT_FILE && count > 0 && *size < most; *size += (size_t)count) {
-        count = read(at, octets + *size, most - *size);
+        count = read(opened, octets + *size, most - *size);
         if (count >= 0) continue;
         what = KEPT_UNREADABLE;
         break;
     }
     int failure = errno;
-    close(at);
+    close(opened);
     errno = failure;
     return what;
 }
 
 /* Gives the new file the owner of the one before, as far as this user may, and its mode; whether it has that. */
-static int is_like_before(const struct stat *before, int at) {
-    if (before->st_nlink == 0) return 1;
-    if (fchown(at, before->st_uid, before->st_gid) && fchown(at, (uid_t)-1, before->st_gid)) errno = 0;    /* it is this user's then */
-    return fchmod(at, before->st_mode & 0777) == 0;
+static bool make_like_before(const struct stat *before, int descriptor) {
+    if (before->st_nlink == 0) return true;
+    if (fchown(descriptor, before->st_uid, before->st_gid) && fchown(descriptor, (uid_t)-1, before->st_gid)) {
+        errno = 0;      /* it is this user's then */
+    }
+    return fchmod(descriptor, before->st_mode & 0777) == 0;
 }
 
-static int is_whole(int at, const uint8_t *octets, size_t size) {
-    ssize_t written = write(at, octets, size);
+static bool write_whole(int descriptor, const uint8_t *octets, size_t size) {
+    ssize_t written = write(descriptor, octets, size);
     if (written >= 0 && (size_t)written < size) errno = ENOSPC;
     return written == (ssize_t)size;
 }
 
 /* Writes the file that is to replace the old one; whether it could. */
-static int writes_new(const struct kept_file *file, const uint8_t *octets, size_t size) {
+static bool write_new(const struct kept_file *file, const uint8_t *octets, size_t size) {
     unlinkat(file->folder, file->new_name, 0);
-    int at = openat(file->folder, file->new_name, O_WRONLY | O_CREAT | O_EXCL | O_NOFOLLOW | O_CLOEXEC, file->mode);
-    if (at < 0) return 0;
-    int is_written = is_like_before(&file->before, at) && is_whole(at, octets, size) && fsync(at) == 0;
+    int opened = openat(file->folder, file->new_name, O_WRONLY | O_CREAT | O_EXCL | O_NOFOLLOW | O_CLOEXEC, file->mode);
+    if (opened < 0) return false;
+    bool is_written = make_like_before(&file->before, opened) && write_whole(opened, octets, size) && fsync(opened) == 0;
     int failure = errno;
-    if (close(at) == 0 && is_written) return 1;
+    if (close(opened) == 0 && is_written) return true;
     if (!is_written) errno = failure;
-    return 0;
+    return false;
 }
 
 static void remove_new(const struct kept_file *file) {
@@ -98,14 +101,14 @@ static void remove_new(const struct kept_file *file) {
     errno = failure;
 }
 
-int has_room(const struct kept_file *file, const uint8_t *octets, size_t size) {
-    int is_written = writes_new(file, octets, size);
+bool try_room(const struct kept_file *file, const uint8_t *octets, size_t size) {
+    bool is_written = write_new(file, octets, size);
     remove_new(file);
     return is_written;
 }
 
 enum replaced replace_kept(const struct kept_file *file, const uint8_t *octets, size_t size) {
-    if (!writes_new(file, octets, size) || renameat(file->folder, file->new_name, file->folder, file->name)) {
+    if (!write_new(file, octets, size) || renameat(file->folder, file->new_name, file->folder, file->name)) {
         remove_new(file);
         return NOT_REPLACED;
     }

@@ -5,6 +5,7 @@
 #include "checking.h"
 #include "ptpm.h"
 #include <ctype.h>
+#include <stdbool.h>
 #include <stdio.h>
 #include <stdlib.h>
 #include <string.h>
@@ -27,7 +28,7 @@ static size_t octets_of(const char *text, uint8_t *octets) {
     return size;
 }
 
-static int is_text(const uint8_t *octets, size_t size, const char *text) {
+static bool is_text(const uint8_t *octets, size_t size, const char *text) {
     uint8_t wanted[PTPM_MOST_OCTETS];
     return octets_of(text, wanted) == size && memcmp(octets, wanted, size) == 0;
 }
@@ -41,7 +42,7 @@ static const char *message(unsigned domain, const char *source, unsigned number,
     return text;
 }
 
-static int reads(uint16_t id, uint16_t port, const char *wanted) {
+static bool reads(uint16_t id, uint16_t port, const char *wanted) {
     const struct ptpm_clock *held = &clock_held;
     uint8_t octets[PTPM_MOST_READ];
     size_t size;
@@ -139,7 +140,7 @@ static void flags(void) {
 
 /* Which value of the parent data set is given, and which is the clock's own. */
 static void given_values(void) {
-    static const struct { size_t place; int has_grandmaster; const char *name, *wanted; } cases[] = {
+    static const struct { size_t place; bool has_grandmaster; const char *name, *wanted; } cases[] = {
         { offsetof(struct ptpm_clock_settings, has_parent_port), 0, "has_parent_port",
           PARENT "7172" "0000" "5152" "21222324" "434422313246" ME },
         { offsetof(struct ptpm_clock_settings, has_grandmaster), 1, "has_grandmaster",
@@ -164,11 +165,11 @@ static void given_values(void) {
 }
 
 /* Whether PORT_DATA_SET of port 1 has these two lines. */
-static int shows(const char *state, const char *mechanism) {
+static bool shows(const char *state, const char *mechanism) {
     uint8_t octets[PTPM_MOST_READ];
     char text[PTPM_MOST_FIELD_TEXT + 1], states[64], mechanisms[64];
     size_t size = 0;
-    if (ptpm_clock_read(&clock_held, PTPM_ID_PORT_DATA_SET, 1, octets, sizeof octets, &size) != PTPM_READ) return 0;
+    if (ptpm_clock_read(&clock_held, PTPM_ID_PORT_DATA_SET, 1, octets, sizeof octets, &size) != PTPM_READ) return false;
     text[ptpm_field_text(PTPM_ID_PORT_DATA_SET, octets, size, text, PTPM_MOST_FIELD_TEXT)] = 0;
     snprintf(states, sizeof states, "portState %s\n", state);
     snprintf(mechanisms, sizeof mechanisms, "delayMechanism %s\n", mechanism);
@@ -603,7 +604,7 @@ static void tables(void) {
     check(rate.rate == 2 && rate.left == 4 && rate.time == 303, "what is left");
 }
 
-static int has_name(uint32_t number, const char *name) {
+static bool has_name(uint32_t number, const char *name) {
     char text[PTPM_MOST_NAME];
     size_t size = ptpm_answer_name(number, text, sizeof text);
     return size == strlen(name) && memcmp(text, name, size) == 0;

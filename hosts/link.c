@@ -12,6 +12,7 @@
 #include <poll.h>
 #include <sched.h>
 #include <signal.h>
+#include <stdbool.h>
 #include <stdint.h>
 #include <stdio.h>
 #include <stdlib.h>
@@ -62,12 +63,12 @@ static int open_end(const char *text) {
     int namespace = open(path, O_RDONLY);
     if (namespace < 0 || setns(namespace, CLONE_NEWNET)) give_up(path);
     close(namespace);
-    int at = open("/dev/net/tun", O_RDWR);
-    if (at < 0 || ioctl(at, TUNSETIFF, &request)) give_up("/dev/net/tun");
-    return at;
+    int opened = open("/dev/net/tun", O_RDWR);
+    if (opened < 0 || ioctl(opened, TUNSETIFF, &request)) give_up("/dev/net/tun");
+    return opened;
 }
 
-static int happens(struct way *way, long percent) { return nrand48(way->chance) % 100 < percent; }
+static bool happens(struct way *way, long percent) { return nrand48(way->chance) % 100 < percent; }
 
 /* A device that is down takes no frame. */
 static void send_on(const struct way *way, const struct frame *frame) {

@@ -6,14 +6,15 @@
    and which findings are printed. docs/architecture.md has more of that ("What the hosts decide"). */
 #include "asking.h"
 #include "collect.h"
-#include "common.h"
-#include "draw.h"
 #include "earlier.h"
 #include "fresh_number.h"
 #include "notices.h"
+#include "program.h"
+#include "random.h"
 #include "session.h"
 #include "status.h"
-#include "way.h"
+#include "stopping.h"
+#include "transport.h"
 #include <errno.h>
 #include <stdio.h>
 #include <string.h>
@@ -28,7 +29,7 @@ static int ask_in_session(struct session *session, const struct task *task) {
     static struct task earlier;
     int status = ANSWERED;
     enum kept kept = open_session(session, task, &earlier);
-    open_way(task);
+    open_transport(task);
     if (kept == NO_FILE) {
         status = begin_session(session, task);
     } else {
@@ -42,12 +43,12 @@ static int ask_in_session(struct session *session, const struct task *task) {
 /* Asks it. */
 static int ask(struct task *task) {
     static struct session session;
-    find_way(task);
+    find_transport(task);
     int status = task->is_survey ? ANSWERED : judge_request(task);
     if (status != ANSWERED) return status;
     if (task->is_kept) return ask_in_session(&session, task);
     task->settings.first = draw_number();
-    open_way(task);
+    open_transport(task);
     if (task->site.is_collected) return task->site.is_shown ? show_status(task) : collect(task);
     if (task->is_survey) return ask_every_port(task);
     start_session(&session, task, task->settings.first);

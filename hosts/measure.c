@@ -5,6 +5,7 @@
    datagram, and how many messages it made, of how many octets; of `start` its name alone. Status 2 if the words are not
    understood, 1 if the clock does not start. */
 #include "ptpm.h"
+#include <stdbool.h>
 #include <stdio.h>
 #include <stdlib.h>
 #include <string.h>

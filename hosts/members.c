@@ -5,6 +5,7 @@
 #include "interval.h"
 #include "text.h"
 #include <inttypes.h>
+#include <stdbool.h>
 #include <stdlib.h>
 #include <string.h>
 
@@ -15,7 +16,7 @@ void print_octets(FILE *to, const char *lead, const uint8_t *octets, size_t size
 }
 
 /* Whether the member is a text, a PTPText (5.3.9). Its characters are printed as the locale has them. */
-static int is_text(const struct member *member) { return is_named(member, "userDescription"); }
+static bool is_text(const struct member *member) { return is_named(member, "userDescription"); }
 
 void print_members(FILE *to, const char *lead, uint16_t id, const uint8_t *octets, size_t size) {
     struct field_lines lines;
@@ -32,7 +33,7 @@ void print_members(FILE *to, const char *lead, uint16_t id, const uint8_t *octet
 /* The standard's name of a state or a delayMechanism: the value, if it is a word. Else that of a mechanism that no clock of this
    project has, or `reserved`. */
 static const char *word_of(const struct member *member) {
-    int is_number = *member->value >= '0' && *member->value <= '9', is_mechanism = is_named(member, "delayMechanism");
+    bool is_number = *member->value >= '0' && *member->value <= '9', is_mechanism = is_named(member, "delayMechanism");
     if (!is_number) return member->value;
     if (is_mechanism && strcmp(member->value, "3") == 0) return "COMMON_P2P";
     return is_mechanism && strcmp(member->value, "4") == 0 ? "SPECIAL" : "reserved";
@@ -70,7 +71,7 @@ static size_t structure_size(const char *name) {
 
 /* The name of a member, and what comes before it. The members of a structure come one after the other. The answer is how long the
    name of this member's structure is, 0 if it is in none. `before` is that of the member before it. */
-static size_t print_name_as_json(FILE *to, const char *name, int is_first, size_t before) {
+static size_t print_name_as_json(FILE *to, const char *name, bool is_first, size_t before) {
     size_t structure = structure_size(name);
     if (before > 0 && structure == 0) putc('}', to);
     if (!is_first) putc(',', to);
@@ -84,7 +85,7 @@ void print_members_as_json(FILE *to, uint16_t id, const uint8_t *octets, size_t 
     struct member member;
     size_t structure = 0;
     start_lines(&lines, id, octets, size);
-    for (int is_first = 1; next_member(&lines, &member); is_first = 0) {
+    for (bool is_first = true; next_member(&lines, &member); is_first = false) {
         if (is_named(&member, "value")) {
             print_octets_as_json(to, octets, size);
             return;

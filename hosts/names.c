@@ -1,5 +1,6 @@
 #include "names.h"
-#include "common.h"
+#include "digits.h"
+#include "field_lines.h"
 #include "ptpm.h"
 #include <stddef.h>
 #include <string.h>
@@ -32,18 +33,20 @@ const char *answer_name(uint32_t answer) {
     return *name != '\0' ? name : "an answer without a name";
 }
 
-enum { FIRST_STATE = 1, LAST_STATE = 9 };
-static const char *const states[] = {
-    "INITIALIZING", "FAULTY", "DISABLED", "LISTENING", "PRE_MASTER", "MASTER", "PASSIVE", "UNCALIBRATED", "SLAVE",
-};
-
-const char *state_name(uint8_t state) {
-    return state >= FIRST_STATE && state <= LAST_STATE ? states[state - FIRST_STATE] : NULL;
+const char *refused_member(uint32_t answer) {
+    static const char lead[] = "BAD_";
+    const char *name = answer_name(answer);
+    return strncmp(name, lead, sizeof lead - 1) == 0 ? name + sizeof lead - 1 : name;
 }
 
 uint8_t state_named(const char *text) {
-    for (uint8_t state = FIRST_STATE; state <= LAST_STATE; state++) {
-        if (strcasecmp(text, states[state - FIRST_STATE]) == 0) return state;
+    enum { PORT_STATE = 10, SIZE = 26 };        /* portState in a PORT_DATA_SET, and how many octets that has (15.5.3.7) */
+    uint8_t octets[SIZE] = { 0 }, *state = &octets[PORT_STATE];
+    for (*state = PTPM_STATE_INITIALIZING; *state <= PTPM_STATE_SLAVE; (*state)++) {
+        struct field_lines lines;
+        start_lines(&lines, PTPM_ID_PORT_DATA_SET, octets, SIZE);
+        const char *name = value_of(&lines, "portState");
+        if (name != NULL && strcasecmp(text, name) == 0) return *state;
     }
     return 0;
 }

@@ -1,5 +1,5 @@
-/* Names for numbers, and numbers for names: the library's, and those of the states of a port. A name that was given stays until
-   the next call of its function. */
+/* Names for numbers, and numbers for names, as the library has them. A name that was given stays until the next call of its
+   function. */
 #ifndef NAMES_H
 #define NAMES_H
 
@@ -18,10 +18,10 @@ const char *error_name(uint16_t error);
 /* The name of why the library starts or begins nothing: that of the constant in ptpm.h, without PTPM_. */
 const char *answer_name(uint32_t answer);
 
-/* The name of a portState (8.2.15.3.1); NULL if the standard has none. */
-const char *state_name(uint8_t state);
+/* The member whose value an answer refuses, such as PRIORITY1 of PTPM_BAD_PRIORITY1. The whole name of an answer that refuses none. */
+const char *refused_member(uint32_t answer);
 
-/* The portState of a name, in either case; 0 if it is none. */
+/* The portState (8.2.15.3.1) of a name, in either case; 0 if it is none. */
 uint8_t state_named(const char *text);
 
 #endif

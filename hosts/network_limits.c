@@ -1,12 +1,12 @@
 #define _GNU_SOURCE
 #include "network_limits.h"
-#include "common.h"
-#include "links.h"
+#include "message_places.h"
+#include "monotonic.h"
+#include "netlink.h"
+#include "program.h"
+#include <stdbool.h>
 #include <string.h>
 #include <sys/random.h>
-
-/* Octets of a management message (IEEE 1588-2019, 13.3 and 15.4). */
-enum { SOURCE_CLOCK = 20, SOURCE_PORT = 28, STARTING_HOPS = 44, HOPS = 45, LEAST_MESSAGE = 54 };
 
 enum { NOTED = 1000 };     /* for how many milliseconds a message is not passed on again */
 
@@ -26,56 +26,56 @@ void start_limits(const struct limits *given) {
     }
 }
 
-int is_heard(const struct heard *heard, const struct port *port) {
-    if (limits.is_any_source || transport == ETHERNET || is_on_link(port->index, &heard->sender.any)) return 1;
+bool admit_datagram(const struct heard *heard, const struct port *port) {
+    if (limits.is_any_source || transport == ETHERNET || is_on_link(port->index, &heard->sender.any)) return true;
     kept_back.strangers++;
-    return 0;
+    return false;
 }
 
 void lower_hops(struct heard *heard) {
-    if (heard->size < LEAST_MESSAGE || heard->octets[HOPS] <= limits.hops) return;
-    uint8_t less = (uint8_t)(heard->octets[HOPS] - limits.hops), starting = heard->octets[STARTING_HOPS];
-    heard->octets[HOPS] = (uint8_t)limits.hops;
-    heard->octets[STARTING_HOPS] = starting > less ? (uint8_t)(starting - less) : 0;
+    if (heard->size < LEAST_MESSAGE || heard->octets[HOPS_AT] <= limits.hops) return;
+    uint8_t less = (uint8_t)(heard->octets[HOPS_AT] - limits.hops), starting = heard->octets[STARTING_HOPS_AT];
+    heard->octets[HOPS_AT] = (uint8_t)limits.hops;
+    heard->octets[STARTING_HOPS_AT] = starting > less ? (uint8_t)(starting - less) : 0;
 }
 
-static int is_of_manager(const struct heard *heard) {
-    const uint8_t *source = heard->octets + SOURCE_CLOCK, *port = heard->octets + SOURCE_PORT;
+static bool is_of_manager(const struct heard *heard) {
+    const uint8_t *source = heard->octets + SOURCE_AT, *port = heard->octets + SOURCE_PORT_AT;
     for (size_t i = 0; i < limits.manager_count; i++) {
         const struct ptpm_manager_settings *manager = &limits.managers[i];
-        if (memcmp(manager->clock, source, 8) == 0 && manager->port == (port[0] << 8 | port[1])) return 1;
+        if (memcmp(manager->clock, source, 8) == 0 && manager->port == (port[0] << 8 | port[1])) return true;
     }
-    return 0;
+    return false;
 }
 
 /* Whether a message is to be passed on at all. It is asked once of each, since it is noted. */
-static int goes_on(const struct heard *heard, const struct port *port, uint64_t now) {
-    if (!limits.is_passed_on || limits.hops == 0 || (port == NULL && !limits.is_passed_on_from_host)) return 0;
-    if (ptpm_passed_on_is_first(&passed_on, heard->octets, heard->size, now, NOTED)) return 1;
+static bool admit_copies(const struct heard *heard, const struct port *port, uint64_t now) {
+    if (!limits.is_passed_on || limits.hops == 0 || (port == NULL && !limits.is_passed_on_from_host)) return false;
+    if (ptpm_passed_on_is_first(&passed_on, heard->octets, heard->size, now, NOTED)) return true;
     kept_back.again++;
-    return 0;
+    return false;
 }
 
 /* Answers to programs of this host, and to managers, are not counted. */
-static int is_answered(const struct heard *heard, const struct port *port, uint16_t ingress, uint32_t answer, uint64_t now) {
-    if (port == NULL || answer != PTPM_ANSWERED_UNNUMBERED || is_of_manager(heard)) return 1;
-    if (ptpm_rate_take(&answers[ingress - 1], now)) return 1;
+static bool admit_answer(const struct heard *heard, const struct port *port, uint16_t ingress, uint32_t answer, uint64_t now) {
+    if (port == NULL || answer != PTPM_ANSWERED_UNNUMBERED || is_of_manager(heard)) return true;
+    if (ptpm_rate_take(&answers[ingress - 1], now)) return true;
     kept_back.unanswered++;
-    return 0;
+    return false;
 }
 
 size_t keep_back(const struct heard *heard, const struct port *port, uint16_t ingress, uint32_t answer,
                  const struct ptpm_sent *sent, size_t count, const struct ptpm_sent *kept[PTPM_MOST_SENT]) {
     size_t left = 0;
-    int is_asked = 0, is_going_on = 0;
+    bool is_asked = false, is_going_on = false;
     uint64_t now = count > 0 ? time_now() : 0;
     for (size_t i = 0; i < count; i++) {
         if (sent[i].port == ingress) {
-            if (is_answered(heard, port, ingress, answer, now)) kept[left++] = &sent[i];
+            if (admit_answer(heard, port, ingress, answer, now)) kept[left++] = &sent[i];
             continue;
         }
-        if (!is_asked) is_going_on = goes_on(heard, port, now);
-        is_asked = 1;
+        if (!is_asked) is_going_on = admit_copies(heard, port, now);
+        is_asked = true;
         if (!is_going_on) continue;
         if (ptpm_rate_take(&copies[sent[i].port - 1], now)) kept[left++] = &sent[i];
         else kept_back.over_rate++;

@@ -6,13 +6,14 @@
 #include "ports.h"
 #include "ptpm.h"
 #include "rounds.h"
+#include <stdbool.h>
 
 struct limits {
     long hops;                          /* by how many clocks a message is passed on at most, this one included */
     long rate;                          /* how many messages a port passes on a second, and how many answers strangers get there */
-    int is_passed_on;                   /* messages are passed on between the ports */
-    int is_passed_on_from_host;         /* and those of programs of this host */
-    int is_any_source;                  /* also from addresses that are not on the link */
+    bool is_passed_on;                  /* messages are passed on between the ports */
+    bool is_passed_on_from_host;        /* and those of programs of this host */
+    bool is_any_source;                 /* also from addresses that are not on the link */
     const struct ptpm_manager_settings *managers;
     size_t manager_count;
 };
@@ -22,8 +23,8 @@ struct kept_back { unsigned long strangers, again, over_rate, unanswered; };
 
 void start_limits(const struct limits *given);
 
-/* Whether a datagram from a port is heard at all: it comes from an address on the link, or any may. */
-int is_heard(const struct heard *heard, const struct port *port);
+/* Whether a datagram from a port is heard at all: it comes from an address on the link, or any may. One that is not is counted. */
+bool admit_datagram(const struct heard *heard, const struct port *port);
 
 /* Lowers boundaryHops (octet 45) to the most that there may be, and startingBoundaryHops (octet 44) by as much. So an answer
    has as many hops as it would have (15.4.1), and what is passed on has fewer. */

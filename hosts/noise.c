@@ -4,7 +4,12 @@
    are octets by chance, Announce messages of one master, GETs for clocks that are not there, or GETs for every clock. No manager
    sends these. It reads nothing. */
 #define _GNU_SOURCE
-#include "common.h"
+#include "digits.h"
+#include "message_places.h"
+#include "monotonic.h"
+#include "program.h"
+#include "udp.h"
+#include <stdbool.h>
 #include <stdio.h>
 #include <stdlib.h>
 #include <string.h>
@@ -12,21 +17,21 @@
 enum kind { JUNK, ANNOUNCE, FOREIGN, ALL, KINDS };
 static const char *const kinds[KINDS] = { "junk", "announce", "foreign", "all" };
 
-enum { MOST_AT_ONCE = 16, MOST_SIZE = 64, NUMBER = 30, TARGET = 34 };
+enum { MOST_AT_ONCE = 16, MOST_SIZE = 64 };
 
 const char program[] = "noise";
 
 /* What is sent of each kind (IEEE 1588-2019, 13.3, 13.5 and 15.4); a GET is one of PRIORITY1. */
 struct message { uint8_t size, octets[MOST_SIZE]; };
 #define SOURCE 0x0a, 0x0b, 0x0c, 0x0d, 0x0e, 0x0f, 0x20, 0x21
+#define GET MANAGEMENT_TYPE, 2, 0, LEAST_MESSAGE, [SOURCE_AT] = SOURCE, 0, 1, [32] = 4, 0x7f
+#define OF_PRIORITY1 0xff, 0xff, 1, 1, 0, 0, 0, 1, 0, 2, 0x20, 0x05
 static const struct message messages[KINDS] = {
     [JUNK] = { 64, { 0 } },
-    [ANNOUNCE] = { 64, { 0x0b, 2, 0, 64, [20] = SOURCE, 0, 1, [32] = 5, 1,
+    [ANNOUNCE] = { 64, { ANNOUNCE_TYPE, 2, 0, 64, [SOURCE_AT] = SOURCE, 0, 1, [32] = 5, 1,
                          [45] = 37, 0, 100, 6, 0x21, 0x4e, 0x5d, 128, SOURCE, 0, 0, 0x20 } },
-    [FOREIGN] = { 54, { 0x0d, 2, 0, 54, [20] = SOURCE, 0, 1, [32] = 4, 0x7f, [TARGET] = 0x00, 0x11, 0x22, 0xff, 0xfe, 0x44, 0x55, 0x66,
-                        0xff, 0xff, 1, 1, 0, 0, 0, 1, 0, 2, 0x20, 0x05 } },
-    [ALL] = { 54, { 0x0d, 2, 0, 54, [20] = SOURCE, 0, 1, [32] = 4, 0x7f, [TARGET] = 0xff, 0xff, 0xff, 0xff, 0xff, 0xff, 0xff, 0xff,
-                    0xff, 0xff, 1, 1, 0, 0, 0, 1, 0, 2, 0x20, 0x05 } },
+    [FOREIGN] = { LEAST_MESSAGE, { GET, [TARGET_AT] = 0x00, 0x11, 0x22, 0xff, 0xfe, 0x44, 0x55, 0x66, OF_PRIORITY1 } },
+    [ALL] = { LEAST_MESSAGE, { GET, [TARGET_AT] = 0xff, 0xff, 0xff, 0xff, 0xff, 0xff, 0xff, 0xff, OF_PRIORITY1 } },
 };
 
 _Noreturn void usage(void) {
@@ -37,25 +42,25 @@ _Noreturn void usage(void) {
 /* The n-th message of a kind: another number, and of a GET for one clock another clock each time. */
 static size_t write_message(enum kind kind, long n, uint8_t octets[MOST_SIZE]) {
     memcpy(octets, messages[kind].octets, MOST_SIZE);
-    octets[NUMBER] = (uint8_t)(n >> 8);
-    octets[NUMBER + 1] = (uint8_t)n;
-    if (kind == FOREIGN) octets[TARGET + 7] = (uint8_t)n;
+    octets[SEQUENCE_AT] = (uint8_t)(n >> 8);
+    octets[SEQUENCE_AT + 1] = (uint8_t)n;
+    if (kind == FOREIGN) octets[TARGET_AT + 7] = (uint8_t)n;
     for (int i = 0; kind == JUNK && i < MOST_SIZE; i++) octets[i] = (uint8_t)random();
     return messages[kind].size;
 }
 
 /* Sends the next messages, which are due; how many went out. */
-static long send_due(int at, enum kind kind, long sent, unsigned count) {
+static long send_due(int socket, enum kind kind, long sent, unsigned count) {
     static uint8_t octets[MOST_AT_ONCE][MOST_SIZE];
     struct mmsghdr out[MOST_AT_ONCE];
     struct iovec parts[MOST_AT_ONCE];
     struct sockaddr_storage to;
-    socklen_t size = group(&to, 0);
+    socklen_t size = group(&to, false);
     for (unsigned i = 0; i < count; i++) {
         parts[i] = (struct iovec){ octets[i], write_message(kind, sent + i, octets[i]) };
         out[i].msg_hdr = (struct msghdr){ .msg_name = &to, .msg_namelen = size, .msg_iov = &parts[i], .msg_iovlen = 1 };
     }
-    int gone = sendmmsg(at, out, count, 0);
+    int gone = sendmmsg(socket, out, count, 0);
     if (gone < 0) give_up("sendmmsg");
     return gone;
 }
@@ -73,12 +78,12 @@ int main(int argc, char **argv) {
     enum kind kind = kind_named(argv[2]);
     long rate = decimal(argv[3], 1000000), seconds = decimal(argv[4], 1000), sent = 0;
     if (rate < 1 || seconds < 1) usage();
-    int at = open_udp(argv[1], 0, &what);
-    if (at < 0) give_up(what);
+    int port_socket = open_udp(argv[1], false, EVERY_MESSAGE, &what);
+    if (port_socket < 0) give_up(what);
     long begin = nanoseconds(), end = begin + seconds * 1000000000;
     for (long now; (now = nanoseconds()) < end;) {
         long due = (now - begin) / 1000 * rate / 1000000 - sent;
-        if (due > 0) sent += send_due(at, kind, sent, due < MOST_AT_ONCE ? (unsigned)due : MOST_AT_ONCE);
+        if (due > 0) sent += send_due(port_socket, kind, sent, due < MOST_AT_ONCE ? (unsigned)due : MOST_AT_ONCE);
     }
     printf("sent %ld\n", sent);
     return 0;

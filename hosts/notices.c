@@ -1,10 +1,11 @@
 #include "notices.h"
 #include <stdarg.h>
+#include <stdbool.h>
 #include <stdio.h>
 #include <stdlib.h>
 #include <unistd.h>
 
-static int is_quiet, is_shown;
+static bool is_quiet, is_shown;
 
 static void say(const char *format, va_list values) {
     clear_progress();
@@ -28,7 +29,7 @@ _Noreturn void refuse(const char *format, ...) {
     exit(2);
 }
 
-void be_quiet(void) { is_quiet = 1; }
+void be_quiet(void) { is_quiet = true; }
 
 void show_progress(const char *format, ...) {
     va_list values;
@@ -38,11 +39,11 @@ void show_progress(const char *format, ...) {
     vfprintf(stderr, format, values);
     va_end(values);
     fflush(stderr);
-    is_shown = 1;
+    is_shown = true;
 }
 
 void clear_progress(void) {
     if (is_shown) fputs("\r\033[K", stderr);
     if (is_shown) fflush(stderr);
-    is_shown = 0;
+    is_shown = false;
 }

@@ -1,15 +1,16 @@
 #include "number_line.h"
-#include "common.h"
+#include "digits.h"
 #include "identity.h"
+#include <stdbool.h>
 #include <stdio.h>
 #include <string.h>
 
 enum { DIGITS = 5, OWNER = 2 * IDENTITY_TEXT + 8, LINE = DIGITS + OWNER + 2 };
 
 /* Whether a text names a manager and a clock: a blank, the manager, a blank, and the clock. */
-static int names_owner(const char *text) {
+static bool names_owner(const char *text) {
     static const char decimals[] = "0123456789", hexadecimals[] = "0123456789abcdef";
-    if (text[0] != ' ' || strspn(text + 1, hexadecimals) != 16 || text[17] != '/') return 0;
+    if (text[0] != ' ' || strspn(text + 1, hexadecimals) != 16 || text[17] != '/') return false;
     size_t digits = strspn(text + 18, decimals);
     const char *clock = text + 18 + digits;
     return digits > 0 && digits <= DIGITS && clock[0] == ' ' && strspn(clock + 1, hexadecimals) == 16 && clock[17] == '\0';

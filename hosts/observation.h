@@ -3,6 +3,7 @@
 #define OBSERVATION_H
 
 #include "ptpm.h"
+#include <stdbool.h>
 #include <stddef.h>
 
 enum { OBSERVED_PORTS = 8 };
@@ -19,6 +20,6 @@ struct observation {
    ptpm_observed_port. Or the lines are as ptpm-manage prints them, those of a port after its portIdentity. An empty line and one
    that begins with # say nothing. Of two lines about one member the later counts. Whether every line is right. If one is wrong
    there is no observation, and each wrong one is said on standard error, after `name` and its number. */
-int read_observation(struct observation *observation, const char *name, char *text);
+bool read_observation(struct observation *observation, const char *name, char *text);
 
 #endif

@@ -1,13 +1,16 @@
 #define _GNU_SOURCE
 #include "options.h"
-#include "common.h"
+#include "digits.h"
 #include "identity.h"
+#include "monotonic.h"
 #include "output.h"
+#include "program.h"
 #include <getopt.h>
 #include <grp.h>
 #include <net/if.h>
 #include <pwd.h>
 #include <stdarg.h>
+#include <stdbool.h>
 #include <stdio.h>
 #include <stdlib.h>
 #include <string.h>
@@ -54,7 +57,7 @@ static const char help[] =
     "  -o FILE             what the clock observes, like a servo: a file, which is read at the start and whenever it is\n"
     "                      written, or a pipe. Lines are for example: offset_from_master 98304, or: port 1 state 9\n"
     "  -n SECONDS          it ends by itself then\n"
-    "  -v                  a line for each datagram, and one for what it changed\n"
+    "  -v                  a line for each datagram that it hears, and one for what it changed\n"
     "  --user NAME         the user that it becomes once its sockets are open\n"
     "  --no-filter         no system call is refused, for example for a debugger\n"
     "  -h, --help          this text\n"
@@ -124,12 +127,12 @@ static void take_limit(struct options *options, int option) {
     switch (option) {
     case HOPS: options->limits.hops = number("--hops", 0, 255); break;
     case RATE: options->limits.rate = number("--rate", 1, MOST_RATE); break;
-    case NO_FORWARD: options->limits.is_passed_on = 0; break;
-    case ANY_SOURCE: options->limits.is_any_source = 1; break;
+    case NO_FORWARD: options->limits.is_passed_on = false; break;
+    case ANY_SOURCE: options->limits.is_any_source = true; break;
     case USER: take_user(&options->privileges); break;
     case UNIX_GROUP: options->meeting.group = group_named(); break;
     case UNIX_MODE: options->meeting.mode = mode(); break;
-    case NO_FILTER: options->privileges.is_unfiltered = 1; break;
+    case NO_FILTER: options->privileges.is_unfiltered = true; break;
     default: usage();
     }
 }
@@ -138,14 +141,14 @@ static void take_option(struct options *options, int option) {
     switch (option) {
     case '2': options->transport = ETHERNET; break;
     case '6': options->transport = UDP_IPV6; break;
-    case 'f': options->limits.is_passed_on_from_host = 1; break;
-    case 'v': options->is_told = 1; break;
+    case 'f': options->limits.is_passed_on_from_host = true; break;
+    case 'v': options->is_told = true; break;
     case 'u': options->meeting.path = optarg; break;
     case 's': options->state = optarg; break;
     case 'o': options->source = optarg; break;
     case 'd':
         options->settings.domain = (uint8_t)number("-d", 0, 255);
-        options->has_domain = 1;
+        options->has_domain = true;
         break;
     case 'n': options->end = milliseconds() + number("-n", 0, 1000000) * SECOND; break;
     case 'm':
@@ -171,7 +174,7 @@ static void refuse_twice(char *const *given, size_t count) {
     }
 }
 
-static void judge(const struct options *options, int has_two_ways) {
+static void judge(const struct options *options, bool has_two_ways) {
     if (options->interface_count > PORTS) refuse("it takes eight interfaces at most");
     if (options->interface_count == 0 && options->meeting.path == NULL) {
         refuse("an interface is missing, or a Unix socket: -u PATH");
@@ -181,9 +184,9 @@ static void judge(const struct options *options, int has_two_ways) {
 }
 
 void read_options(struct options *options, int argc, char **argv) {
-    int has_two = 0, has_six = 0;
+    bool has_two = false, has_six = false;
     ptpm_clock_defaults(&options->settings);
-    options->limits = (struct limits){ .hops = HOPS_AT_FIRST, .rate = RATE_AT_FIRST, .is_passed_on = 1 };
+    options->limits = (struct limits){ .hops = HOPS_AT_FIRST, .rate = RATE_AT_FIRST, .is_passed_on = true };
     options->meeting = (struct meeting){ .mode = MODE_AT_FIRST, .group = (gid_t)-1 };
     for (int option; (option = getopt_long(argc, argv, "26fu:m:d:s:o:n:vh", names, NULL)) != -1;) {
         has_two |= option == '2';

@@ -7,6 +7,7 @@
 #include "ports.h"
 #include "privileges.h"
 #include "ptpm.h"
+#include <stdbool.h>
 
 enum { MANAGERS = 16 };
 
@@ -21,9 +22,9 @@ struct options {
     struct limits limits;
     struct privileges privileges;
     const char *state;                  /* the file that the clock is saved to, or NULL */
-    int has_domain;                     /* -d is given */
+    bool has_domain;                    /* -d is given */
     const char *source;                 /* what the clock observes: a file, a pipe, or NULL */
-    int is_told;                        /* a line for each datagram */
+    bool is_told;                       /* a line for each datagram */
     long end;                           /* when it ends by itself, in milliseconds; 0 if it doesn't */
 };
 

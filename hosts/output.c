@@ -1,10 +1,12 @@
 #define _GNU_SOURCE
 #include "output.h"
-#include "common.h"
+#include "monotonic.h"
+#include "program.h"
 #include "ptpm.h"
 #include <errno.h>
 #include <pthread.h>
 #include <stdarg.h>
+#include <stdbool.h>
 #include <stdio.h>
 #include <string.h>
 #include <time.h>
@@ -14,7 +16,8 @@ enum { ROOM = 262144, LINE = 2048, TIMES_A_SECOND = 10 };
 
 /* The lines that wait for one stream, the oldest at `first`. */
 struct stream {
-    int file, is_started, is_ended;
+    int file;
+    bool is_started, is_ended;
     size_t first, size;
     pthread_t thread;
     unsigned long lost;
@@ -41,7 +44,7 @@ static void *write_all(void *given) {
         size_t size = stream->size < ROOM - stream->first ? stream->size : ROOM - stream->first;
         pthread_mutex_unlock(&stream->lock);
         ssize_t count = write(stream->file, stream->octets + stream->first, size);
-        int is_again = count < 0 && (errno == EAGAIN || errno == EINTR);
+        bool is_again = count < 0 && (errno == EAGAIN || errno == EINTR);
         if (is_again) nanosleep(&(struct timespec){ .tv_nsec = 10000000 }, NULL);      /* another program made it non-blocking */
         pthread_mutex_lock(&stream->lock);
         if (count < 0 && !is_again) count = (ssize_t)size;
@@ -56,7 +59,7 @@ static void *write_all(void *given) {
 static void start_stream(struct stream *stream) {
     errno = pthread_create(&stream->thread, NULL, write_all, stream);
     if (errno != 0) give_up("a thread that writes");
-    stream->is_started = 1;
+    stream->is_started = true;
 }
 
 void start_output(void) {
@@ -128,8 +131,8 @@ static void end_stream(struct stream *stream, const struct timespec *end) {
     if (!stream->is_started) return;
     pthread_mutex_lock(&stream->lock);
     while (stream->size > 0 && pthread_cond_timedwait(&stream->is_empty, &stream->lock, end) == 0) continue;
-    int is_written = stream->size == 0;
-    stream->is_ended = 1;
+    bool is_written = stream->size == 0;
+    stream->is_ended = true;
     pthread_cond_signal(&stream->has_more);
     pthread_mutex_unlock(&stream->lock);
     if (is_written) pthread_join(stream->thread, NULL);

@@ -1,8 +1,10 @@
 #define _GNU_SOURCE
 #include "peers.h"
-#include "common.h"
+#include "program.h"
+#include "unix_socket.h"
 #include <limits.h>
 #include <linux/sockios.h>
+#include <stdbool.h>
 #include <string.h>
 #include <sys/ioctl.h>
 #include <unistd.h>
@@ -29,10 +31,12 @@ static int meeting_socket = -1;
 
 /* A socket that has the path for a moment only: then another one has it. */
 static int open_named(const struct meeting *meeting) {
-    int room = ROOM, at = bind_unix(meeting->path, meeting->mode);
+    int room = ROOM, opened = bind_unix(meeting->path, meeting->mode);
     if (unlink(meeting->path)) give_up(meeting->path);
-    if (setsockopt(at, SOL_SOCKET, SO_SNDBUFFORCE, &room, sizeof room)) setsockopt(at, SOL_SOCKET, SO_SNDBUF, &room, sizeof room);
-    return at;
+    if (setsockopt(opened, SOL_SOCKET, SO_SNDBUFFORCE, &room, sizeof room)) {
+        setsockopt(opened, SOL_SOCKET, SO_SNDBUF, &room, sizeof room);
+    }
+    return opened;
 }
 
 int open_peers(const struct meeting *meeting) {
@@ -51,7 +55,7 @@ static int unread(const struct way_back *way) {
     return ioctl(way->socket, SIOCOUTQ, &octets) == 0 ? octets : 0;
 }
 
-static int has(const struct way_back *way, const struct heard *heard) {
+static bool has(const struct way_back *way, const struct heard *heard) {
     return way->size == heard->sender_size && memcmp(&way->peer, &heard->sender, way->size) == 0;
 }
 
@@ -85,17 +89,17 @@ static struct way_back *way_to(const struct heard *heard) {
 }
 
 /* Whether a peer has read enough to get one more message. */
-static int has_room(struct way_back *way) {
-    if (++way->unchecked <= UNCHECKED) return 1;
+static bool check_room(struct way_back *way) {
+    if (++way->unchecked <= UNCHECKED) return true;
     int octets = unread(way);
     if (octets <= way->left_by_others) way->unchecked = 1;
     return octets < way->left_by_others + SHARE;
 }
 
-int answer_peer(const struct ptpm_sent *message, const struct heard *answered) {
-    if (answered->sender_size <= sizeof(sa_family_t)) return 0;         /* it has no path */
+bool answer_peer(const struct ptpm_sent *message, const struct heard *answered) {
+    if (answered->sender_size <= sizeof(sa_family_t)) return false;         /* it has no path */
     struct way_back *way = way_to(answered);
-    return has_room(way)
+    return check_room(way)
            && sendto(way->socket, message->octets, message->size, MSG_DONTWAIT, &answered->sender.any, answered->sender_size) >= 0;
 }
 

@@ -4,6 +4,7 @@
 #define PEERS_H
 
 #include "rounds.h"
+#include <stdbool.h>
 
 /* The path that the socket is to have, its mode, and its group; with -1 that is the program's. */
 struct meeting { const char *path; mode_t mode; gid_t group; };
@@ -19,7 +20,7 @@ int open_peers(const struct meeting *meeting);
 int way_back_socket(size_t place);
 
 /* Sends a message to who sent what it answers; whether it was taken. All that is sent comes from the path of the Unix socket. */
-int answer_peer(const struct ptpm_sent *message, const struct heard *answered);
+bool answer_peer(const struct ptpm_sent *message, const struct heard *answered);
 
 void close_peers(void);
 

@@ -1,11 +1,12 @@
 #define _GNU_SOURCE
 #include "ports.h"
-#include "common.h"
-#include "links.h"
+#include "netlink.h"
 #include "output.h"
+#include "udp.h"
 #include <errno.h>
 #include <net/if.h>
 #include <netinet/in.h>
+#include <stdbool.h>
 #include <stdlib.h>
 #include <string.h>
 #include <sys/ioctl.h>
@@ -17,22 +18,22 @@ struct port ports[PORTS];
 size_t port_count;
 enum transport transport;
 
-static int is_hurried;          /* the kernel reported a change */
+static bool is_hurried;         /* the kernel reported a change */
 
 /* With UDP the kernel is to report of each datagram the address that it was sent to. */
 static int open_socket(struct port *port, const char **what) {
     int one = 1;
     if (transport == ETHERNET) return open_ethernet(port->name, port->station, what);
-    int at = open_udp(port->name, transport == UDP_IPV6, what);
-    if (at >= 0 && transport == UDP_IPV4) setsockopt(at, IPPROTO_IP, IP_PKTINFO, &one, sizeof one);
-    if (at >= 0 && transport == UDP_IPV6) setsockopt(at, IPPROTO_IPV6, IPV6_RECVPKTINFO, &one, sizeof one);
-    return at;
+    int opened = open_udp(port->name, transport == UDP_IPV6, MANAGEMENT_MESSAGES, what);
+    if (opened >= 0 && transport == UDP_IPV4) setsockopt(opened, IPPROTO_IP, IP_PKTINFO, &one, sizeof one);
+    if (opened >= 0 && transport == UDP_IPV6) setsockopt(opened, IPPROTO_IPV6, IPV6_RECVPKTINFO, &one, sizeof one);
+    return opened;
 }
 
 /* The MTU of the interface as its port is opened: a leave and a join that nobody needs may cost messages if a switch listens. */
-static unsigned mtu_at(int at, unsigned index) {
+static unsigned mtu_at(int socket, unsigned index) {
     struct ifreq request = { 0 };
-    if (if_indextoname(index, request.ifr_name) == NULL || ioctl(at, SIOCGIFMTU, &request)) return 0;
+    if (if_indextoname(index, request.ifr_name) == NULL || ioctl(socket, SIOCGIFMTU, &request)) return 0;
     return (unsigned)request.ifr_mtu;
 }
 
@@ -62,21 +63,21 @@ static void close_port(struct port *port) {
     if (port->socket >= 0) close(port->socket);
     port->socket = -1;
     port->index = 0;
-    port->is_due = 0;
+    port->is_due = false;
 }
 
 /* An interface that was gone, or another one, has the name by now. */
 static void open_other(struct port *port, unsigned index) {
     const char *what = "it is an interface of another port";
     const struct port *other = other_at(index, port);
-    int at = other == NULL ? open_socket(port, &what) : -1;
-    if (at >= 0) {
+    int opened = other == NULL ? open_socket(port, &what) : -1;
+    if (opened >= 0) {
         say("%s: the interface was made anew", port->name);
         close_port(port);
-        port->socket = at;
+        port->socket = opened;
         port->index = index;
         port->openings++;
-        port->mtu = mtu_at(at, index);
+        port->mtu = mtu_at(opened, index);
         port->refused = 0;
     } else if (port->refused != index) {
         const char *why = other == NULL ? strerror(errno) : "";
@@ -89,7 +90,7 @@ static void open_other(struct port *port, unsigned index) {
 static void join_port(struct port *port) {
     if (transport == ETHERNET || join_again(port->socket, port->index, transport == UDP_IPV6)) {
         if (port->refused != 0) say("%s: the interface is heard again", port->name);
-        port->is_due = 0;
+        port->is_due = false;
         port->refused = 0;
     } else if (port->refused != port->index) {
         say("%s: nothing is heard at the interface: %s", port->name, strerror(errno));
@@ -108,7 +109,7 @@ static void renew(struct port *port) {
 void renew_ports(long now) {
     static long next;
     if (!is_hurried && now < next) return;
-    is_hurried = 0;
+    is_hurried = false;
     next = now + SECOND;
     for (size_t i = 0; i < port_count; i++) renew(&ports[i]);
 }
@@ -117,16 +118,16 @@ void renew_ports(long now) {
 static void take_link(unsigned index, enum link_event event, unsigned mtu) {
     for (size_t i = 0; i < port_count; i++) {
         struct port *port = &ports[i];
-        if (port->socket < 0) is_hurried = 1;           /* it may be this one that has its name */
+        if (port->socket < 0) is_hurried = true;           /* it may be this one that has its name */
         if (port->socket < 0 || (index != 0 && port->index != index)) continue;
         if (event == LINK_GONE) close_port(port);
-        else if (mtu == 0 || mtu != port->mtu) port->is_due = 1;
+        else if (mtu == 0 || mtu != port->mtu) port->is_due = true;
         port->mtu = mtu;
-        is_hurried = 1;
+        is_hurried = true;
     }
 }
 
-void hear_of_links(void) { read_links(take_link); }
+void hear_of_links(void) { read_netlink(take_link); }
 
 void close_ports(void) {
     for (size_t i = 0; i < port_count; i++) close_port(&ports[i]);

@@ -3,6 +3,7 @@
 #define PORTS_H
 
 #include "ethernet.h"
+#include <stdbool.h>
 #include <stddef.h>
 #include <stdint.h>
 
@@ -18,7 +19,7 @@ struct port {
     unsigned index;             /* the kernel's number of the interface */
     uint8_t station[STATION];   /* its address on Ethernet */
     unsigned mtu, refused;      /* as the kernel reported last; the index at which it could not be opened */
-    int is_due;                 /* it may not be in its group any more */
+    bool is_due;                /* it may not be in its group any more */
     unsigned long openings;     /* how many sockets it had */
 };
 

@@ -1,6 +1,6 @@
 #define _GNU_SOURCE
 #include "privileges.h"
-#include "common.h"
+#include "program.h"
 #include <asm/ioctls.h>
 #include <errno.h>
 #include <grp.h>

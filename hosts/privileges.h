@@ -2,6 +2,7 @@
 #ifndef PRIVILEGES_H
 #define PRIVILEGES_H
 
+#include <stdbool.h>
 #include <sys/types.h>
 
 struct privileges {
@@ -9,7 +10,7 @@ struct privileges {
     uid_t user;
     gid_t group;
     gid_t socket_group;         /* that of the Unix socket, in which it is then too; -1 if none was given */
-    int is_unfiltered;          /* it may call all of the system */
+    bool is_unfiltered;         /* it may call all of the system */
 };
 
 /* What it takes to open a port's socket once more, if its interface is made anew. */

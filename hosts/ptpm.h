@@ -225,7 +225,7 @@ enum {
     PTPM_CHANGED_TIME_TRACEABLE = 1 << 27, PTPM_CHANGED_FREQUENCY_TRACEABLE = 1 << 28, PTPM_CHANGED_TIME_SOURCE = 1 << 29
 };
 
-/* Members of a port, in the order of PTPM_BAD_STATE to PTPM_BAD_LOG_MIN_PDELAY; and the names that these had before. */
+/* Members of a port, in the order of PTPM_BAD_STATE to PTPM_BAD_LOG_MIN_PDELAY; each has a second name without PORT. */
 enum {
     PTPM_CHANGED_PORT_STATE = 1 << 0, PTPM_CHANGED_PORT_LOG_MIN_DELAY_REQ = 1 << 1, PTPM_CHANGED_PORT_PEER_DELAY = 1 << 2,
     PTPM_CHANGED_PORT_LOG_ANNOUNCE = 1 << 3, PTPM_CHANGED_PORT_RECEIPT_TIMEOUT = 1 << 4, PTPM_CHANGED_PORT_LOG_SYNC = 1 << 5,

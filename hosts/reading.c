@@ -1,7 +1,9 @@
 #include "reading.h"
-#include "common.h"
-#include "draw.h"
 #include "exchange.h"
+#include "monotonic.h"
+#include "random.h"
+#include "stopping.h"
+#include <stdbool.h>
 #include <unistd.h>
 
 enum { MOST_READINGS = 10 };
@@ -11,7 +13,7 @@ uint16_t port_of_nobody(uint16_t managers) {
     return port == managers ? (uint16_t)(port + 1) : port;
 }
 
-int begin_reading(struct ptpm_session *session, const struct task *task, uint16_t id) {
+bool begin_reading(struct ptpm_session *session, const struct task *task, uint16_t id) {
     static struct task reading;
     reading = *task;
     reading.action = PTPM_GET;
@@ -23,11 +25,11 @@ int begin_reading(struct ptpm_session *session, const struct task *task, uint16_
     return ptpm_session_start(session, &reading.settings) == PTPM_STARTED && begin_of_task(session, &reading) == PTPM_BEGUN;
 }
 
-int is_read(struct ptpm_session *session, const struct task *task) {
+bool finish_reading(struct ptpm_session *session, const struct task *task) {
     for (int attempt = 0; attempt < MOST_READINGS && !stopped; attempt++) {
         enum sending sending = send_again(session);
-        if (sending == NONE_LEFT) return 0;
-        if (sending != NO_WAY && first_answered(session, NULL, milliseconds() + task->milliseconds) == 0) return 1;
+        if (sending == NONE_LEFT) return false;
+        if (sending != NO_TRANSPORT && first_answered(session, NULL, milliseconds() + task->timeout) == 0) return true;
     }
-    return 0;
+    return false;
 }

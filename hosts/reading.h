@@ -4,15 +4,16 @@
 #define READING_H
 
 #include "task.h"
+#include <stdbool.h>
 
 /* The portNumber at which nobody asks on behalf of this process; not the one that is given. */
 uint16_t port_of_nobody(uint16_t managers);
 
 /* Begins a GET of this id, at the task's clock and port, under a drawn number; whether it is begun. Its session takes the place
    of the one that the handle holds. */
-int begin_reading(struct ptpm_session *session, const struct task *task, uint16_t id);
+bool begin_reading(struct ptpm_session *session, const struct task *task, uint16_t id);
 
 /* Sends it until it is answered, a few times at most; whether it is. */
-int is_read(struct ptpm_session *session, const struct task *task);
+bool finish_reading(struct ptpm_session *session, const struct task *task);
 
 #endif

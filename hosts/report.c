@@ -1,6 +1,7 @@
 #define _GNU_SOURCE
 #include "report.h"
 #include <ctype.h>
+#include <stdbool.h>
 #include <stdlib.h>
 #include <string.h>
 
@@ -16,18 +17,18 @@ static const char *const moving[] = { "offset", "delay" };
 
 static const char red[] = "\033[31m", green[] = "\033[32m", plain[] = "\033[0m";
 
-static int is_piece(const struct piece *piece, const char *text) {
+static bool is_piece(const struct piece *piece, const char *text) {
     return piece->size == strlen(text) && memcmp(piece->at, text, piece->size) == 0;
 }
 
-static int is_named(const struct finding *finding, const char *const *names, size_t count) {
+static bool is_one_of(const struct finding *finding, const char *const *names, size_t count) {
     for (size_t i = 0; i < count; i++) {
-        if (is_piece(&finding->key[NAME_PART], names[i])) return 1;
+        if (is_piece(&finding->key[NAME_PART], names[i])) return true;
     }
-    return 0;
+    return false;
 }
 
-static int is_passing(const struct finding *finding) { return is_named(finding, passing, sizeof passing / sizeof *passing); }
+static bool is_passing(const struct finding *finding) { return is_one_of(finding, passing, sizeof passing / sizeof *passing); }
 
 static void add_finding(struct report *report, const struct finding *finding) {
     struct finding *more = reallocarray(report->findings, report->count + 1, sizeof *more);
@@ -36,25 +37,26 @@ static void add_finding(struct report *report, const struct finding *finding) {
     report->findings[report->count++] = *finding;
 }
 
-/* Text: after a line `findings: N` a line for each, with the domain, the clock and the name first. */
+/* Text, in the form that docs/ptpm-site.md promises to scripts. After a line `findings: N` comes a line for each, with the domain,
+   the clock and the name first. One line may stand for what JSON has as several findings, so each form is read as it is. */
 
 static const char *end_of_line(const char *at, const char *end) {
     const char *found = memchr(at, '\n', (size_t)(end - at));
     return found == NULL ? end : found + 1;
 }
 
-static int read_line(struct finding *finding, const char *at, const char *end) {
+static bool read_line(struct finding *finding, const char *at, const char *end) {
     const char *next = at;
-    if (at == end || !isdigit((unsigned char)*at)) return 0;
+    if (at == end || !isdigit((unsigned char)*at)) return false;
     finding->whole = (struct piece){ at, (size_t)(end - at) - (end[-1] == '\n') };
     for (int part = 0; part < KEY_PARTS; part++) {
         const char *first = next;
         while (next < end && !isspace((unsigned char)*next)) next++;
         finding->key[part] = (struct piece){ first, (size_t)(next - first) };
-        if (next == first) return 0;
-        if (part + 1 < KEY_PARTS && *next++ != ' ') return 0;
+        if (next == first) return false;
+        if (part + 1 < KEY_PARTS && *next++ != ' ') return false;
     }
-    return 1;
+    return true;
 }
 
 static void read_text(struct report *report) {
@@ -62,7 +64,7 @@ static void read_text(struct report *report) {
     const char *at = report->text, *end = at + report->size;
     while (at < end && strncmp(at, heading, sizeof heading - 1) != 0) at = end_of_line(at, end);
     if (at == end) return;
-    report->has_findings = 1;
+    report->has_findings = true;
     report->head.size = (size_t)(at - report->text);
     at = end_of_line(at, end);
     for (const char *next; at < end; at = next) {
@@ -74,7 +76,7 @@ static void read_text(struct report *report) {
     report->tail = (struct piece){ at, (size_t)(end - at) };
 }
 
-/* JSON: objects in the list `findings` of the one object. */
+/* JSON, in the form of that page: objects in the list `findings` of the one object. */
 
 static const char *after_spaces(const char *at, const char *end) {
     while (at < end && isspace((unsigned char)*at)) at++;
@@ -104,36 +106,36 @@ static const char *after_value(const char *at, const char *end) {
 }
 
 /* A member of an object, without quotes if it is a string; whether there is one. */
-static int find_member(struct piece *member, const char *at, const char *end, const char *name) {
+static bool find_member(struct piece *member, const char *at, const char *end, const char *name) {
     at = after_spaces(at, end);
-    if (at == end || *at != '{') return 0;
+    if (at == end || *at != '{') return false;
     for (at = after_spaces(at + 1, end); at < end && *at == '"';) {
         const char *after = after_string(at, end);
         struct piece key = { at + 1, (size_t)(after - at) - 2 };
         after = after_spaces(after, end);
-        if (after == end || *after != ':') return 0;
+        if (after == end || *after != ':') return false;
         after = after_spaces(after + 1, end);
         at = after_value(after, end);
         if (is_piece(&key, name)) {
             const char *last = at;
             while (last > after && isspace((unsigned char)last[-1])) last--;
-            int is_string = *after == '"' && last - after >= 2;
+            bool is_string = *after == '"' && last - after >= 2;
             *member = (struct piece){ after + is_string, (size_t)(last - after) - 2 * (size_t)is_string };
-            return 1;
+            return true;
         }
         if (at < end && *at == ',') at = after_spaces(at + 1, end);
     }
-    return 0;
+    return false;
 }
 
-static int read_object(struct finding *finding, const char *at, const char *end) {
+static bool read_object(struct finding *finding, const char *at, const char *end) {
     static const char *const names[KEY_PARTS] = { "domainNumber", "clockIdentity", "finding" };
     while (end > at && isspace((unsigned char)end[-1])) end--;
     finding->whole = (struct piece){ at, (size_t)(end - at) };
     for (int part = 0; part < KEY_PARTS; part++) {
-        if (!find_member(&finding->key[part], at, end, names[part])) return 0;
+        if (!find_member(&finding->key[part], at, end, names[part])) return false;
     }
-    return 1;
+    return true;
 }
 
 static void read_json(struct report *report) {
@@ -141,7 +143,7 @@ static void read_json(struct report *report) {
     const char *end = report->text + report->size;
     if (!find_member(&list, report->text, end, "findings") || list.size < 2 || *list.at != '[') return;
     const char *at = after_spaces(list.at + 1, end);
-    report->has_findings = 1;
+    report->has_findings = true;
     report->head.size = (size_t)(list.at + 1 - report->text);
     while (at < end && *at == '{') {
         struct finding finding = { 0 };
@@ -167,11 +169,11 @@ void free_report(struct report *report) {
     *report = (struct report){ 0 };
 }
 
-int has_passing_finding(const struct report *report) {
+bool has_passing_finding(const struct report *report) {
     for (size_t i = 0; i < report->count; i++) {
-        if (is_passing(&report->findings[i])) return 1;
+        if (is_passing(&report->findings[i])) return true;
     }
-    return 0;
+    return false;
 }
 
 static int compare_pieces(const struct piece *one, const struct piece *other) {
@@ -203,7 +205,7 @@ static struct sorted sort_findings(const struct report *report, int (*order)(con
     return sorted;
 }
 
-static int has_finding(const struct sorted *sorted, const struct finding *finding) {
+static bool has_finding(const struct sorted *sorted, const struct finding *finding) {
     return sorted->count > 0 && bsearch(&finding, sorted->at, sorted->count, sizeof *sorted->at, sorted->order) != NULL;
 }
 
@@ -226,7 +228,7 @@ static void print_piece(FILE *to, const struct piece *piece) {
     if (piece->size > 0) fwrite(piece->at, 1, piece->size, to);
 }
 
-void print_report_text(FILE *to, const struct report *report, int is_coloured) {
+void print_report_text(FILE *to, const struct report *report, bool is_coloured) {
     const char *between = "\n";
     print_piece(to, &report->head);
     if (!report->has_findings) return;
@@ -258,15 +260,15 @@ static void print_lacking(FILE *to, const char *lead, char sign, const struct re
     struct sorted keys = sort_findings(other, by_key), texts = sort_findings(other, by_text);
     for (size_t i = 0; i < report->count; i++) {
         const struct finding *finding = &report->findings[i];
-        int is_moving = is_named(finding, moving, sizeof moving / sizeof *moving);
-        int is_in_other = is_piece(&finding->key[NAME_PART], changed) ? sign == '-' : has_finding(is_moving ? &keys : &texts, finding);
+        bool is_moving = is_one_of(finding, moving, sizeof moving / sizeof *moving);
+        bool is_in_other = is_piece(&finding->key[NAME_PART], changed) ? sign == '-' : has_finding(is_moving ? &keys : &texts, finding);
         if (!finding->is_left_out && !is_in_other) print_change(to, lead, sign, finding, colour);
     }
     free(keys.at);
     free(texts.at);
 }
 
-void print_changes(FILE *to, const char *lead, const struct report *report, const struct report *earlier, int is_coloured) {
+void print_changes(FILE *to, const char *lead, const struct report *report, const struct report *earlier, bool is_coloured) {
     print_lacking(to, lead, '-', earlier, report, is_coloured ? green : NULL);
     print_lacking(to, lead, '+', report, earlier, is_coloured ? red : NULL);
 }

@@ -2,6 +2,7 @@
 #ifndef REPORT_H
 #define REPORT_H
 
+#include <stdbool.h>
 #include <stddef.h>
 #include <stdio.h>
 
@@ -10,13 +11,13 @@ struct piece { const char *at; size_t size; };
 
 /* A finding: all of it; its domain, its clock and its name, which together are its key; and whether it is left out. */
 enum { DOMAIN_PART, CLOCK_PART, NAME_PART, KEY_PARTS };
-struct finding { struct piece whole, key[KEY_PARTS]; int is_left_out; };
+struct finding { struct piece whole, key[KEY_PARTS]; bool is_left_out; };
 
 /* A report. Its findings are between `head` and `tail`. If it has no place for findings, `head` is all of it. */
 struct report {
     char *text;
     size_t size;
-    int is_json, has_findings;
+    bool is_json, has_findings;
     struct piece head, tail;
     struct finding *findings;
     size_t count;
@@ -29,7 +30,7 @@ void read_report(struct report *report);
 void free_report(struct report *report);
 
 /* Whether a report has a finding that may be of one moment alone: while a change goes through a site its clocks do not agree. */
-int has_passing_finding(const struct report *report);
+bool has_passing_finding(const struct report *report);
 
 /* Leaves out of a report each such finding whose key is not in an earlier one. */
 void leave_out_passing(struct report *report, const struct report *earlier);
@@ -38,9 +39,9 @@ void leave_out_passing(struct report *report, const struct report *earlier);
 size_t findings_left(const struct report *report);
 
 /* Prints it without what is left out, its findings in colour if so wished. */
-void print_report_text(FILE *to, const struct report *report, int is_coloured);
+void print_report_text(FILE *to, const struct report *report, bool is_coloured);
 
 /* Prints the findings that came since an earlier report, and those that went, a line each after `lead`. */
-void print_changes(FILE *to, const char *lead, const struct report *report, const struct report *earlier, int is_coloured);
+void print_changes(FILE *to, const char *lead, const struct report *report, const struct report *earlier, bool is_coloured);
 
 #endif

@@ -6,6 +6,7 @@
 #include "checking.h"
 #include "ptpm.h"
 #include <malloc.h>
+#include <stdbool.h>
 #include <stdlib.h>
 #include <string.h>
 #include <sys/mman.h>
@@ -32,19 +33,19 @@ static uint32_t draw(uint32_t below) {
     return (uint32_t)((state >> 32) % below);
 }
 
-static int is_drawn(uint32_t of_hundred) { return draw(100) < of_hundred; }
+static bool is_drawn(uint32_t of_hundred) { return draw(100) < of_hundred; }
 
 static void lay_pages(void) {
-    int at = memfd_create("restores", MFD_CLOEXEC);
+    int memory = memfd_create("restores", MFD_CLOEXEC);
     uint8_t *all = mmap(NULL, ROOM + 2 * PAGE, PROT_NONE, MAP_PRIVATE | MAP_ANONYMOUS, -1, 0);
-    if (at < 0 || ftruncate(at, ROOM) || all == MAP_FAILED) exit(2);
-    only_read = mmap(all + PAGE, ROOM, PROT_READ, MAP_SHARED | MAP_FIXED, at, 0);
-    written = mmap(NULL, ROOM, PROT_READ | PROT_WRITE, MAP_SHARED, at, 0);
+    if (memory < 0 || ftruncate(memory, ROOM) || all == MAP_FAILED) exit(2);
+    only_read = mmap(all + PAGE, ROOM, PROT_READ, MAP_SHARED | MAP_FIXED, memory, 0);
+    written = mmap(NULL, ROOM, PROT_READ | PROT_WRITE, MAP_SHARED, memory, 0);
     if (only_read == MAP_FAILED || written == MAP_FAILED) exit(2);
 }
 
 /* Octets at the end of these pages, or at their beginning, aligned to two octets if they have to be. */
-static const uint8_t *lay(const void *octets, size_t size, int is_at_end) {
+static const uint8_t *lay(const void *octets, size_t size, bool is_at_end) {
     size_t place = is_at_end ? ROOM - size : 0;
     memcpy(written + place, octets, size);
     return only_read + place;
@@ -144,7 +145,7 @@ static size_t damage(uint8_t *octets, size_t size) {
 }
 
 /* Whether that may be the answer: the first refusal that holds, of those that can be seen at the head. */
-static int may_be(enum ptpm_restored answer, const uint8_t *image, size_t size) {
+static bool may_be(enum ptpm_restored answer, const uint8_t *image, size_t size) {
     if (size < HEAD || memcmp(image, "ptpm", 4) != 0) return answer == PTPM_NOT_AN_IMAGE;
     if (image[VERSION] != 1) return answer == PTPM_OTHER_VERSION;
     if (image[KIND] != 1) return answer == PTPM_OTHER_KIND;
@@ -152,7 +153,7 @@ static int may_be(enum ptpm_restored answer, const uint8_t *image, size_t size) 
     return answer == PTPM_DAMAGED || answer == PTPM_OTHER_PORTS || answer == PTPM_RESTORED;
 }
 
-static int has_image(const struct ptpm_clock *clock, const uint8_t *image, size_t size) {
+static bool has_image(const struct ptpm_clock *clock, const uint8_t *image, size_t size) {
     static uint8_t own[PTPM_CLOCK_IMAGE_OCTETS];
     size_t found;
     return ptpm_clock_image(clock, own, sizeof own, &found) == PTPM_SAVED && found == size && memcmp(own, image, size) == 0;
@@ -171,7 +172,7 @@ static void restore(struct ptpm_clock *clock, const struct base *base) {
     size_t gone = 7, managers_size = base->manager_count * sizeof *base->managers;
     memcpy(octets, base->image, base->size);
     size_t size = damage(octets, base->size);
-    int is_at_end = is_drawn(50);
+    bool is_at_end = is_drawn(50);
     if (size + managers_size + PAGE > ROOM) return;
     const uint8_t *image = lay(octets, size, is_at_end), *managers = lay(base->managers, managers_size, !is_at_end);
     enum ptpm_restored answer = ptpm_clock_restore(clock, identity, base->port_count, (const void *)managers, base->manager_count, image,

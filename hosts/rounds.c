@@ -1,10 +1,11 @@
 #define _GNU_SOURCE
 #include "rounds.h"
-#include "common.h"
 #include "peers.h"
+#include "udp.h"
 #include <arpa/inet.h>
 #include <errno.h>
 #include <linux/udp.h>
+#include <stdbool.h>
 #include <string.h>
 
 enum { PLACES = ROUND + PTPM_MOST_SENT, LEAST_JOINED = 8, MOST_JOINED = 64, MOST_OCTETS = 60000 };
@@ -32,31 +33,31 @@ static void take_control(struct heard *heard, struct msghdr *head) {
 }
 
 /* Finds the message of a frame; whether there is one. */
-static int take_frame(struct heard *heard, const struct port *port) {
+static bool take_frame(struct heard *heard, const struct port *port) {
     size_t place = message_in(heard->octets, heard->size, port->station);
-    if (place == 0) return 0;
+    if (place == 0) return false;
     heard->station = station_of(heard->octets);
     heard->is_unicast = is_to_station(heard->octets, port->station);
     heard->octets += place;
     heard->size -= place;
     heard->whole -= place;
-    return 1;
+    return true;
 }
 
-static int take_heard(struct heard *heard, const struct port *port, struct mmsghdr *message) {
+static bool take_heard(struct heard *heard, const struct port *port, struct mmsghdr *message) {
     heard->whole = message->msg_len;
     heard->size = heard->whole < MOST_HEARD ? heard->whole : MOST_HEARD;
     heard->sender_size = message->msg_hdr.msg_namelen;
     if (heard->sender_size > sizeof heard->sender.peer) heard->sender_size = sizeof heard->sender.peer;     /* a path has no end */
     heard->station = NULL;
     heard->is_unicast = port == NULL;
-    if (port == NULL) return 1;
+    if (port == NULL) return true;
     if (transport == ETHERNET) return take_frame(heard, port);
     take_control(heard, &message->msg_hdr);
-    return 1;
+    return true;
 }
 
-size_t hear_round(const struct port *port, int at, struct heard heard[ROUND]) {
+size_t hear_round(const struct port *port, int socket, struct heard heard[ROUND]) {
     static uint8_t octets[ROUND][MOST_HEARD];
     static struct control controls[ROUND];
     static struct mmsghdr messages[ROUND];
@@ -69,7 +70,7 @@ size_t hear_round(const struct port *port, int at, struct heard heard[ROUND]) {
             .msg_control = &controls[i], .msg_controllen = sizeof controls[i],
         };
     }
-    int found = recvmmsg(at, messages, ROUND, MSG_DONTWAIT | MSG_TRUNC, NULL);
+    int found = recvmmsg(socket, messages, ROUND, MSG_DONTWAIT | MSG_TRUNC, NULL);
     used_before = found > 0 ? found : 0;
     size_t count = 0;
     for (int i = 0; i < found; i++) {
@@ -134,7 +135,7 @@ struct batch {
 };
 
 /* The kernel may not take datagrams together, for example if an interface can't send them so. */
-static int is_joining = 1;
+static bool is_joining = true;
 
 static void add_frame(struct batch *batch, const struct port *port, const struct outgoing *out) {
     struct iovec *parts = &batch->parts[batch->part_count];
@@ -156,7 +157,7 @@ static void add_datagram(struct batch *batch, const struct outgoing *out) {
 }
 
 /* Whether a datagram may go out together with the one before it: both go to the group, and have one size. */
-static int goes_with(const struct outgoing *one, const struct outgoing *other) {
+static bool goes_with(const struct outgoing *one, const struct outgoing *other) {
     return one->answered == NULL && other->answered == NULL && one->message->size == other->message->size;
 }
 
@@ -191,27 +192,27 @@ static void fill_batch(struct batch *batch, const struct port *port, const struc
 }
 
 /* One that the kernel does not take apart goes out in its parts; how many were not taken. */
-static unsigned long send_apart(int at, const struct msghdr *head) {
+static unsigned long send_apart(int socket, const struct msghdr *head) {
     unsigned long lost = 0;
-    is_joining = 0;
+    is_joining = false;
     for (size_t i = 0; i < head->msg_iovlen; i++) {
         const struct iovec *part = &head->msg_iov[i];
-        lost += sendto(at, part->iov_base, part->iov_len, MSG_DONTWAIT, head->msg_name, head->msg_namelen) < 0;
+        lost += sendto(socket, part->iov_base, part->iov_len, MSG_DONTWAIT, head->msg_name, head->msg_namelen) < 0;
     }
     return lost;
 }
 
 /* Sends all; how many datagrams were not taken. */
-static unsigned long send_batch(int at, struct batch *batch) {
+static unsigned long send_batch(int socket, struct batch *batch) {
     unsigned long lost = 0;
     for (size_t done = 0; done < batch->count;) {
-        int taken = sendmmsg(at, batch->messages + done, (unsigned)(batch->count - done), MSG_DONTWAIT);
+        int taken = sendmmsg(socket, batch->messages + done, (unsigned)(batch->count - done), MSG_DONTWAIT);
         if (taken > 0) {
             done += (size_t)taken;
             continue;
         }
-        int is_refused = batch->sizes[done] > 1 && (errno == EINVAL || errno == EIO || errno == EOPNOTSUPP);
-        lost += is_refused ? send_apart(at, &batch->messages[done].msg_hdr) : batch->sizes[done];
+        bool is_refused = batch->sizes[done] > 1 && (errno == EINVAL || errno == EIO || errno == EOPNOTSUPP);
+        lost += is_refused ? send_apart(socket, &batch->messages[done].msg_hdr) : batch->sizes[done];
         done++;
     }
     return lost;

@@ -6,6 +6,7 @@
 #include "ports.h"
 #include "ptpm.h"
 #include <netinet/in.h>
+#include <stdbool.h>
 #include <stddef.h>
 #include <sys/socket.h>
 #include <sys/un.h>
@@ -28,14 +29,14 @@ struct heard {
     union sender sender;
     socklen_t sender_size;
     const uint8_t *station;             /* who sent it over Ethernet */
-    int is_unicast;                     /* it was sent to this host alone, and so is what is answered */
+    bool is_unicast;                    /* it was sent to this host alone, and so is what is answered */
     struct in_pktinfo own_four;         /* the address that it was sent to */
     struct in6_pktinfo own_six;
 };
 
 /* Takes what has come in at a port, or, if there is none, at the Unix socket; how many datagrams. They stay until the next
    round. */
-size_t hear_round(const struct port *port, int at, struct heard heard[ROUND]);
+size_t hear_round(const struct port *port, int socket, struct heard heard[ROUND]);
 
 /* The places of a turn's messages, PTPM_MOST_SENT of them. NULL if there are fewer: then what is to go out has to go first. */
 struct ptpm_sent *places_to_send(void);

@@ -2,23 +2,24 @@
 #include "saving.h"
 #include "identity.h"
 #include "kept_file.h"
+#include "monotonic.h"
 #include "names.h"
 #include "output.h"
 #include <errno.h>
+#include <stdbool.h>
 #include <stdlib.h>
 #include <string.h>
-#include <time.h>
 #include <unistd.h>
 
 /* Statuses of the program, and the place of a clockIdentity in the image of a clock. */
 enum { NOT_STARTED = 1, NOT_OPENED = 2, IDENTITY = 12 };
 
-enum { MOST_IN_FILE = PTPM_CLOCK_IMAGE_OCTETS + 1, LOCK_TRIES = 100 };
+enum { MOST_STATE_OCTETS = PTPM_CLOCK_IMAGE_OCTETS + 1, LOCK_TRIES = 100 };
 
 static struct kept_file file = { .folder = -1, .mode = 0600 };
 static const struct options *options;
-static uint8_t octets[MOST_IN_FILE];
-int is_unsaved;
+static uint8_t octets[MOST_STATE_OCTETS];
+bool is_unsaved;
 static struct saves saves;
 
 _Noreturn static void end_with(int status) {
@@ -56,11 +57,11 @@ static void take_file(void) {
 }
 
 /* Whether there is a file; its octets are in `octets`. */
-static int read_state(size_t *size) {
+static bool read_state(size_t *size) {
     struct stat found;
-    switch (read_kept(&file, octets, MOST_IN_FILE, size, &found)) {
-    case KEPT_FILE: return 1;
-    case KEPT_NONE: return 0;
+    switch (read_kept(&file, octets, MOST_STATE_OCTETS, size, &found)) {
+    case KEPT_FILE: return true;
+    case KEPT_NONE: return false;
     case KEPT_LINK: refuse_file("it is a link");
     case KEPT_OTHER: refuse_file("it is no file");
     case KEPT_UNREADABLE: break;
@@ -112,28 +113,24 @@ static void tell_domain(const struct ptpm_clock *clock) {
     say("%s: -d %u counts at the first start alone: the clock is in domain %u", options->state, options->settings.domain, *field);
 }
 
-int restore_clock(struct ptpm_clock *clock, const struct options *given) {
+bool restore_clock(struct ptpm_clock *clock, const struct options *given) {
     size_t size;
     options = given;
-    if (options->state == NULL) return 0;
+    if (options->state == NULL) return false;
     if (!open_kept_folder(&file, options->state)) refuse_file(errno == EINVAL ? "no name of a file" : NULL);
     take_file();
     if (atexit(leave_nothing)) refuse_file(NULL);
-    int is_there = read_state(&size);
+    bool is_there = read_state(&size);
     if (is_there) {
         tell_gone(restore(clock, size));
         tell_domain(clock);
     }
     static const uint8_t room[PTPM_CLOCK_IMAGE_OCTETS];
-    if (!has_room(&file, room, sizeof room)) refuse_file(NULL);
+    if (!try_room(&file, room, sizeof room)) refuse_file(NULL);
     return is_there;
 }
 
-static unsigned long microseconds(void) {
-    struct timespec now;
-    clock_gettime(CLOCK_MONOTONIC, &now);
-    return (unsigned long)now.tv_sec * 1000000 + (unsigned long)now.tv_nsec / 1000;
-}
+static unsigned long microseconds(void) { return (unsigned long)nanoseconds() / 1000; }
 
 static void count_save(size_t size, unsigned long time) {
     saves.made++;
@@ -162,16 +159,16 @@ void note_change(void) { is_unsaved = options->state != NULL; }
 
 /* After a save in doubt the store holds what was to be saved, but may lose it with the power. So no message leaves before it is
    saved. */
-int save_changes(struct ptpm_clock *clock) {
+bool save_changes(struct ptpm_clock *clock) {
     size_t size;
-    if (!is_unsaved) return 1;
+    if (!is_unsaved) return true;
     enum replaced answer = save(clock);
     is_unsaved = answer == IN_DOUBT;
-    if (answer == REPLACED) return 1;
+    if (answer == REPLACED) return true;
     say_at_times("%s: nothing is answered: %s", options->state, strerror(errno));
     if (!read_state(&size)) refuse_file("it is gone");
     restore(clock, size);
-    return 0;
+    return false;
 }
 
 const struct saves *told_saves(void) { return &saves; }

@@ -5,25 +5,26 @@
 
 #include "options.h"
 #include "ptpm.h"
+#include <stdbool.h>
 
 /* Takes the file for this program alone, and reads it: whether there was one, so that its clock is in the handle. Ends the
    program with status 1, and says why, if the library refuses what the file has. It does so with status 2 if the file is a link
    or no file, is another program's, or can't be read or written. What the file has stays then. */
-int restore_clock(struct ptpm_clock *clock, const struct options *options);
+bool restore_clock(struct ptpm_clock *clock, const struct options *options);
 
 /* Saves the clock once, with the rights that the program keeps; ends it with status 2 if it can't. */
 void save_at_start(struct ptpm_clock *clock);
 
 /* Whether there is something to save: a turn has changed it, or the last save is in doubt. Each turn looks at it, so it is no
    call. */
-extern int is_unsaved;
+extern bool is_unsaved;
 
 /* Notes that a turn has changed what is to be saved. */
 void note_change(void);
 
 /* Saves what is not saved; whether there is nothing to save after that. If a save fails, the clock is the one that the file
    has, and standard error says why. Then nothing that waits is to be sent. Ends the program if the file can't be read then. */
-int save_changes(struct ptpm_clock *clock);
+bool save_changes(struct ptpm_clock *clock);
 
 /* Saves that were made and that failed, and how many microseconds those that were made took. */
 struct saves { unsigned long made, failed, least, most, all; };

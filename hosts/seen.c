@@ -1,21 +1,23 @@
 #include "seen.h"
-#include "draw.h"
+#include "random.h"
+#include <stdbool.h>
 #include <string.h>
 
 /* Half of the places stay free. */
 enum { CLOCK_PLACES = 2 * MOST_CLOCKS, ANSWER_PLACES = 2 * MOST_KEPT };
 
 /* The first answer of a clock's port to an id. */
-struct kept {
+struct first_answer {
     uint64_t sum;
     uint32_t clock;                     /* its place plus one; 0 in a place that is free */
     uint16_t port;
-    uint8_t id, is_different;           /* another answer that differs came */
+    uint8_t id;
+    bool is_different;                  /* another answer that differs came */
 };
 
 static struct seen_clock clocks[MOST_CLOCKS];
 static uint32_t clock_places[CLOCK_PLACES];         /* of a clock, plus one */
-static struct kept answers[ANSWER_PLACES];
+static struct first_answer answers[ANSWER_PLACES];
 static size_t clock_count, answer_count;
 static unsigned long not_kept;
 static uint64_t seed;                               /* which nobody else knows, so that nobody fills one place again and again */
@@ -58,10 +60,10 @@ static uint32_t number_of_clock(const struct seen_answer *answer) {
     return clock_places[place];
 }
 
-static struct kept *place_of_answer(uint32_t clock, const struct seen_answer *answer) {
+static struct first_answer *place_of_answer(uint32_t clock, const struct seen_answer *answer) {
     size_t place = mix((uint64_t)clock << 32 | (uint32_t)answer->id << 16 | answer->port) % ANSWER_PLACES;
     for (; answers[place].clock != 0; place = (place + 1) % ANSWER_PLACES) {
-        const struct kept *one = &answers[place];
+        const struct first_answer *one = &answers[place];
         if (one->clock == clock && one->id == answer->id && one->port == answer->port) break;
     }
     return &answers[place];
@@ -69,37 +71,37 @@ static struct kept *place_of_answer(uint32_t clock, const struct seen_answer *an
 
 static void note(struct seen_clock *clock, const struct seen_answer *answer) {
     clock->answered |= (uint8_t)(1 << answer->id);
-    if (answer->id == PORT_SET && answer->is_refusal) clock->are_ports_refused = 1;
+    if (answer->id == PORT_SET && answer->is_refusal) clock->are_ports_refused = true;
     else if (answer->id == PORT_SET && answer->port != 0) clock->ports++;
     if (answer->id == DEFAULT_SET && !answer->is_refusal) clock->port_count = answer->port_count;
 }
 
 enum seen see_answer(const struct seen_answer *answer) {
     uint32_t clock = number_of_clock(answer);
-    struct kept *kept = clock == 0 ? NULL : place_of_answer(clock, answer);
+    struct first_answer *kept = clock == 0 ? NULL : place_of_answer(clock, answer);
     if (kept == NULL || (kept->clock == 0 && answer_count == MOST_KEPT)) {
         not_kept++;
         return NO_PLACE;
     }
     if (kept->clock == 0) {
         answer_count++;
-        *kept = (struct kept){ .sum = answer->sum, .clock = clock, .port = answer->port, .id = (uint8_t)answer->id };
+        *kept = (struct first_answer){ .sum = answer->sum, .clock = clock, .port = answer->port, .id = (uint8_t)answer->id };
         note(&clocks[clock - 1], answer);
         return FIRST_SEEN;
     }
     if (kept->is_different || kept->sum == answer->sum) return SEEN_BEFORE;
-    kept->is_different = 1;
+    kept->is_different = true;
     return DIFFERENT;
 }
 
-int is_seen(uint8_t domain, const uint8_t clock[8]) { return clock_places[place_of_clock(domain, clock)] != 0; }
+bool is_seen(uint8_t domain, const uint8_t clock[8]) { return clock_places[place_of_clock(domain, clock)] != 0; }
 
 size_t seen_count(void) { return clock_count; }
 
 const struct seen_clock *seen_clock(size_t place) { return &clocks[place]; }
 
-int is_lacking(const struct seen_clock *clock, enum collected id) {
-    if ((clock->answered >> id & 1) == 0) return 1;
+bool is_lacking(const struct seen_clock *clock, enum collected id) {
+    if ((clock->answered >> id & 1) == 0) return true;
     return id == PORT_SET && !clock->are_ports_refused && clock->ports < clock->port_count;
 }
 

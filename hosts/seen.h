@@ -3,6 +3,7 @@
 #ifndef SEEN_H
 #define SEEN_H
 
+#include <stdbool.h>
 #include <stddef.h>
 #include <stdint.h>
 
@@ -15,7 +16,7 @@ enum collected { DEFAULT_SET, CURRENT_SET, PARENT_SET, TIME_SET, PORT_SET, DESCR
 struct seen_clock {
     uint8_t identity[8], domain;
     uint8_t answered;                   /* a bit for each of what is collected: an answer or a refusal came */
-    uint8_t are_ports_refused;          /* by an error in place of a PORT_DATA_SET */
+    bool are_ports_refused;             /* by an error in place of a PORT_DATA_SET */
     uint16_t port_count, ports;         /* numberPorts, 0 until it is known; how many of them gave a PORT_DATA_SET */
 };
 
@@ -25,7 +26,7 @@ struct seen_answer {
     uint8_t domain;
     enum collected id;
     uint16_t port;                      /* that gave it, or of a PORT_DATA_SET the port that it describes */
-    int is_refusal;
+    bool is_refusal;
     uint16_t port_count;                /* of a DEFAULT_DATA_SET */
     uint64_t sum;
 };
@@ -41,14 +42,14 @@ void see_none(void);
 enum seen see_answer(const struct seen_answer *answer);
 
 /* Whether a clock was seen in a domain. */
-int is_seen(uint8_t domain, const uint8_t clock[8]);
+bool is_seen(uint8_t domain, const uint8_t clock[8]);
 
 /* The clocks, in the order in which they came. */
 size_t seen_count(void);
 const struct seen_clock *seen_clock(size_t place);
 
 /* Whether it lacks an answer: one to the id, or that of one of its ports. */
-int is_lacking(const struct seen_clock *clock, enum collected id);
+bool is_lacking(const struct seen_clock *clock, enum collected id);
 
 /* How many answers found no room. */
 unsigned long unseen_answers(void);

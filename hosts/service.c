@@ -1,6 +1,6 @@
 #define _GNU_SOURCE
 #include "service.h"
-#include "common.h"
+#include "digits.h"
 #include <limits.h>
 #include <stddef.h>
 #include <stdlib.h>
@@ -11,7 +11,7 @@
 
 static struct sockaddr_un told = { .sun_family = AF_UNIX };
 static socklen_t size;
-static int at = -1;
+static int service_socket = -1;
 static long every, next;        /* milliseconds; 0: nobody watches */
 
 /* A path, or a name after @ that is in no folder. */
@@ -21,13 +21,14 @@ void open_service(void) {
     strcpy(told.sun_path, name);
     size = (socklen_t)(offsetof(struct sockaddr_un, sun_path) + strlen(name) + (*name == '/'));
     if (*name == '@') told.sun_path[0] = '\0';
-    at = socket(AF_UNIX, SOCK_DGRAM | SOCK_CLOEXEC, 0);
+    service_socket = socket(AF_UNIX, SOCK_DGRAM | SOCK_CLOEXEC, 0);
     long time = watched == NULL ? -1 : decimal(watched, LONG_MAX / 10 - 1);
     if (time > 0 && (process == NULL || decimal(process, INT_MAX) == getpid())) every = time / 2000 > 0 ? time / 2000 : 1;
 }
 
 static void say_state(const char *state) {
-    if (at >= 0) sendto(at, state, strlen(state), MSG_DONTWAIT | MSG_NOSIGNAL, (const struct sockaddr *)&told, size);
+    if (service_socket < 0) return;
+    sendto(service_socket, state, strlen(state), MSG_DONTWAIT | MSG_NOSIGNAL, (const struct sockaddr *)&told, size);
 }
 
 void tell_ready(void) { say_state("READY=1"); }

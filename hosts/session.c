@@ -7,6 +7,7 @@
 #include "session_file.h"
 #include "session_image.h"
 #include "state_folder.h"
+#include <stdbool.h>
 #include <stdio.h>
 #include <string.h>
 
@@ -49,7 +50,7 @@ _Noreturn static void refuse_octets(enum ptpm_restored refusal) {
     refuse("nothing was asked: %s: %s: %s", answer_name(refusal), session_path(), why);
 }
 
-/* The file has no image: then a number of an earlier version. */
+/* The file has no image: then a number in its place. */
 static void start_at_number(struct session *session, const struct task *task, const uint8_t *octets, size_t size) {
     uint16_t number = 0;
     switch (read_number_line(octets, size, &task->settings, &number)) {
@@ -59,7 +60,7 @@ static void start_at_number(struct session *session, const struct task *task, co
     }
 }
 
-/* Makes the request that is under way a task of this run. It is sent by this run's way and in its domain, as often as this
+/* Makes the request that is under way a task of this run. It is sent by this run's transport and in its domain, as often as this
    run's own. */
 static void read_earlier(struct task *earlier, const struct task *task, const struct session_image *image) {
     *earlier = *task;
@@ -71,10 +72,10 @@ static void read_earlier(struct task *earlier, const struct task *task, const st
 }
 
 enum kept open_session(struct session *session, const struct task *task, struct task *earlier) {
-    static uint8_t octets[MOST_IN_FILE];
+    static uint8_t octets[MOST_SESSION_OCTETS];
     size_t size;
-    int is_named = task->numbers != NULL;
-    session->is_kept = 1;
+    bool is_named = task->numbers != NULL;
+    session->is_kept = true;
     if (!open_session_file(is_named ? task->numbers : usual_file(&task->settings), is_named, octets, &size)) return NO_FILE;
     struct session_image image = read_image(octets, size);
     session->settings = task->settings;
@@ -121,7 +122,7 @@ void begin_request(struct session *session, const struct task *task) {
     if (session->is_kept && !save_session(session)) refuse_place();
 }
 
-int save_session(struct session *session) {
+bool save_session(struct session *session) {
     static uint8_t octets[PTPM_SESSION_IMAGE_OCTETS];
     size_t size;
     enum ptpm_saved answer = ptpm_session_image(&session->handle, octets, sizeof octets, &size);

@@ -5,18 +5,19 @@
 #define SESSION_H
 
 #include "task.h"
+#include <stdbool.h>
 
 struct session {
     struct ptpm_session handle;
     struct ptpm_session_settings settings;      /* those of its start */
-    int is_kept;                                /* in a file, of a manager who is the same in each run */
+    bool is_kept;                               /* in a file, of a manager who is the same in each run */
 };
 
 /* What the file has. */
 enum kept { NO_FILE, AT_REST, UNDER_WAY };
 
 /* Takes the file of the task's session for this run alone. The session goes on from its image, in the task's domain; if a request
-   is under way, `earlier` becomes the task of it. A file of an earlier version has a number alone: the session starts there. If
+   is under way, `earlier` becomes the task of it. A file may have a number in place of an image: the session starts there. If
    there is no file, no session is started. Ends the program, status 2, if the file has anything else, or another session. */
 enum kept open_session(struct session *session, const struct task *task, struct task *earlier);
 
@@ -30,7 +31,7 @@ void see_to_hops(struct session *session, const struct task *task);
 void begin_request(struct session *session, const struct task *task);
 
 /* Keeps the session as it is now; whether it could. Each answer that came in has to be reported before. */
-int save_session(struct session *session);
+bool save_session(struct session *session);
 
 /* The number of the latest request. */
 uint16_t latest_number(struct session *session);

@@ -1,10 +1,12 @@
 #define _GNU_SOURCE
 #include "session_file.h"
 #include "asking.h"
-#include "common.h"
 #include "kept_file.h"
+#include "monotonic.h"
 #include "notices.h"
+#include "stopping.h"
 #include <errno.h>
+#include <stdbool.h>
 #include <stdlib.h>
 #include <string.h>
 #include <sys/stat.h>
@@ -15,7 +17,7 @@ enum { TURN = 60000, TRY_AGAIN = 10 };     /* the times in milliseconds */
 
 /* The file, and its path as it was named. */
 static const char *path;
-static int path_is_named;
+static bool path_is_named;
 static struct kept_file file = { .folder = -1, .mode = 0666 };
 
 const char *session_path(void) { return path; }
@@ -55,16 +57,16 @@ _Noreturn static void refuse_turn(int lock) {
 
 /* The file of the lock, with the lock on it, until a time. Another run that had it may have removed it meanwhile. */
 static int lock_until(long end) {
-    int at = open_kept_lock(&file);
-    if (at < 0) refuse_place();
-    while (!take_kept_lock(at)) {
+    int lock = open_kept_lock(&file);
+    if (lock < 0) refuse_place();
+    while (!take_kept_lock(lock)) {
         if (errno != EAGAIN && errno != EACCES) refuse_place();
         if (stopped) end_by_signal();
-        if (milliseconds() >= end) refuse_turn(at);
-        show_progress("another run has held %s for %ld s", path, held_for(at));
+        if (milliseconds() >= end) refuse_turn(lock);
+        show_progress("another run has held %s for %ld s", path, held_for(lock));
         wait_for(NULL, 0, TRY_AGAIN);
     }
-    return at;
+    return lock;
 }
 
 /* If no session is kept, for example of a clock that is not there, no lock stays either. */
@@ -73,37 +75,37 @@ static void leave_nothing(void) { leave_no_lock(&file); }
 /* The lock goes when the program ends. Its time is that of this turn. */
 static void take_turn(void) {
     long end = milliseconds() + TURN;
-    int at = lock_until(end);
-    while (!is_kept_lock(&file, at)) {
-        if (milliseconds() >= end) refuse_turn(at);
-        close(at);
-        at = lock_until(end);
+    int lock = lock_until(end);
+    while (!is_kept_lock(&file, lock)) {
+        if (milliseconds() >= end) refuse_turn(lock);
+        close(lock);
+        lock = lock_until(end);
     }
     clear_progress();
-    futimens(at, NULL);
+    futimens(lock, NULL);
     if (atexit(leave_nothing)) refuse_place();
 }
 
 /* Whether there is room for a session. */
 static void see_to_room(void) {
     static const uint8_t octets[PTPM_SESSION_IMAGE_OCTETS];
-    if (!has_room(&file, octets, sizeof octets)) refuse_place();
+    if (!try_room(&file, octets, sizeof octets)) refuse_place();
 }
 
-int open_session_file(const char *at_path, int is_named, uint8_t octets[MOST_IN_FILE], size_t *size) {
+bool open_session_file(const char *at_path, bool is_named, uint8_t octets[MOST_SESSION_OCTETS], size_t *size) {
     path = at_path;
     path_is_named = is_named;
     open_folder();
     take_turn();
-    switch (read_kept(&file, octets, MOST_IN_FILE, size, &file.before)) {
-    case KEPT_FILE: return 1;
+    switch (read_kept(&file, octets, MOST_SESSION_OCTETS, size, &file.before)) {
+    case KEPT_FILE: return true;
     case KEPT_LINK: refuse_session_file("it is a link");
     case KEPT_OTHER: refuse_session_file("it is no file");
     case KEPT_UNREADABLE: refuse_place();
     case KEPT_NONE: break;
     }
     see_to_room();
-    return 0;
+    return false;
 }
 
-int write_session_file(const uint8_t *octets, size_t size) { return replace_kept(&file, octets, size) == REPLACED; }
+bool write_session_file(const uint8_t *octets, size_t size) { return replace_kept(&file, octets, size) == REPLACED; }

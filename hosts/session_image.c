@@ -1,4 +1,5 @@
 #include "session_image.h"
+#include <stdbool.h>
 #include <string.h>
 
 /* The places of the members, from the mark at the head on. Numbers of two octets have the higher one first. */
@@ -14,7 +15,7 @@ static uint16_t number_at(const uint8_t *octets, size_t place) { return (uint16_
 
 static void read_request(struct session_image *image, const uint8_t *octets, size_t size) {
     if (size < OCTETS || number_at(octets, SIZE) > size - OCTETS) return;
-    image->is_under_way = 1;
+    image->is_under_way = true;
     image->action = octets[ACTION];
     image->id = number_at(octets, ID);
     image->port = number_at(octets, PORT) == EVERY_PORT ? 0 : number_at(octets, PORT);

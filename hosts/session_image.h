@@ -3,6 +3,7 @@
 #ifndef SESSION_IMAGE_H
 #define SESSION_IMAGE_H
 
+#include <stdbool.h>
 #include <stddef.h>
 #include <stdint.h>
 
@@ -11,7 +12,7 @@ struct session_image {
     uint16_t manager_port, ports;               /* the manager's portNumber, and how many ports the clock has */
     uint16_t first;                             /* the sequenceId of the session's first request */
     uint8_t hops;
-    int is_under_way;                           /* the latest request has no answer yet, and is what follows */
+    bool is_under_way;                          /* the latest request has no answer yet, and is what follows */
     uint8_t action;
     uint16_t id, port;                          /* the clock's, of an id of a port; else 0 */
     size_t size;

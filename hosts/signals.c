@@ -1,5 +1,5 @@
 #include "signals.h"
-#include "common.h"
+#include "program.h"
 #include <signal.h>
 #include <sys/signalfd.h>
 #include <unistd.h>

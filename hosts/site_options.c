@@ -1,6 +1,7 @@
 #include "site_options.h"
-#include "common.h"
+#include "digits.h"
 #include "notices.h"
+#include <stdbool.h>
 #include <stdlib.h>
 #include <string.h>
 #include <strings.h>
@@ -21,20 +22,20 @@ static const char *limit(const char *option, const char *text) {
     return text;
 }
 
-int take_site_option(struct site_options *options, int option, const char *value) {
+bool take_site_option(struct site_options *options, int option, const char *value) {
     static const char *const names[] = { "--listen", "--draw", "--max-offset", "--max-delay", "--once", "--watch" };
-    if (option < LISTEN || option > WATCH) return 0;
+    if (option < LISTEN || option > WATCH) return false;
     const char *name = names[option - LISTEN];
     switch ((enum site_option)option) {
     case LISTEN: options->listen = seconds(name, value, 0); break;
     case WATCH: options->watch = seconds(name, value, 1); break;
     case MAX_OFFSET: options->max_offset = limit(name, value); break;
     case MAX_DELAY: options->max_delay = limit(name, value); break;
-    case DRAW: options->is_drawn = 1; break;
-    case ONCE: options->is_once = 1; break;
+    case DRAW: options->is_drawn = true; break;
+    case ONCE: options->is_once = true; break;
     }
     if (option != LISTEN) options->given = name;
-    return 1;
+    return true;
 }
 
 void read_domains(struct site_options *options, const char *text) {

@@ -1,11 +1,12 @@
 #define _GNU_SOURCE
 #include "site_program.h"
-#include "common.h"
 #include "notices.h"
+#include "stopping.h"
 #include <errno.h>
 #include <fcntl.h>
 #include <limits.h>
 #include <spawn.h>
+#include <stdbool.h>
 #include <stdlib.h>
 #include <string.h>
 #include <sys/mman.h>
@@ -17,7 +18,8 @@ enum { MOST_ARGUMENTS = 8, PART = 65536, TURN = 1000, FAULT = 1 };
 
 static char site_program[2 * PATH_MAX];
 
-static int is_program(const char *folder, size_t size) {
+/* Takes the program of a folder; whether there is one. */
+static bool find_in_folder(const char *folder, size_t size) {
     struct stat found;
     snprintf(site_program, sizeof site_program, "%.*s/ptpm", (int)size, folder);
     return stat(site_program, &found) == 0 && S_ISREG(found.st_mode) && access(site_program, X_OK) == 0;
@@ -28,40 +30,40 @@ void find_site_program(void) {
     ssize_t size = readlink("/proc/self/exe", own, sizeof own - 1);
     own[size > 0 ? size : 0] = '\0';
     char *slash = strrchr(own, '/');
-    if (slash != NULL && is_program(own, (size_t)(slash - own))) return;
+    if (slash != NULL && find_in_folder(own, (size_t)(slash - own))) return;
     for (const char *path = getenv("PATH"), *next; path != NULL; path = *next == ':' ? next + 1 : NULL) {
         next = strchrnul(path, ':');
-        if (next > path && next - path < PATH_MAX && is_program(path, (size_t)(next - path))) return;
+        if (next > path && next - path < PATH_MAX && find_in_folder(path, (size_t)(next - path))) return;
     }
     refuse("nothing was asked: the program ptpm is neither beside this one nor in the PATH");
 }
 
 /* A file without a name that has the lines, and is read from its beginning. -1 if there is no room for it. */
 static int file_of(const struct piece *lines, size_t count) {
-    int at = memfd_create("lines", MFD_CLOEXEC);
-    for (size_t i = 0; at >= 0 && i < count; i++) {
+    int opened = memfd_create("lines", MFD_CLOEXEC);
+    for (size_t i = 0; opened >= 0 && i < count; i++) {
         for (size_t done = 0; done < lines[i].size;) {
-            ssize_t written = write(at, lines[i].at + done, lines[i].size - done);
+            ssize_t written = write(opened, lines[i].at + done, lines[i].size - done);
             if (written <= 0) {
-                close(at);
+                close(opened);
                 return -1;
             }
             done += (size_t)written;
         }
     }
-    if (at >= 0) lseek(at, 0, SEEK_SET);
-    return at;
+    if (opened >= 0) lseek(opened, 0, SEEK_SET);
+    return opened;
 }
 
 /* Starts it with a standard input and output; whether it is started. */
-static int is_started(pid_t *process, char *const *arguments, int from, int to) {
+static bool start_program(pid_t *process, char *const *arguments, int from, int to) {
     posix_spawn_file_actions_t files;
     posix_spawnattr_t attributes;
     sigset_t none, usual;
     sigemptyset(&none);
     sigemptyset(&usual);
     sigaddset(&usual, SIGPIPE);
-    if (posix_spawn_file_actions_init(&files) != 0 || posix_spawnattr_init(&attributes) != 0) return 0;
+    if (posix_spawn_file_actions_init(&files) != 0 || posix_spawnattr_init(&attributes) != 0) return false;
     posix_spawn_file_actions_adddup2(&files, from, STDIN_FILENO);
     posix_spawn_file_actions_adddup2(&files, to, STDOUT_FILENO);
     posix_spawnattr_setsigmask(&attributes, &none);
@@ -125,7 +127,7 @@ int run_site_program(const struct site_options *options, enum shown_as as, const
         complain("%s: %s", site_program, strerror(errno));
         return FAULT;
     }
-    int has_started = is_started(&process, arguments, input, ends[1]);
+    bool has_started = start_program(&process, arguments, input, ends[1]);
     if (!has_started) complain("%s: %s", site_program, strerror(errno));
     close(input);
     close(ends[1]);

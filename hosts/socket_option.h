@@ -2,13 +2,15 @@
 #ifndef SOCKET_OPTION_H
 #define SOCKET_OPTION_H
 
+#include <stdbool.h>
 #include <stddef.h>
 #include <sys/socket.h>
 
 /* Sets an option, and leaves its name in *what. Whether it was set. */
-static inline int set_option(int at, int level, int option, const void *value, size_t size, const char **what, const char *name) {
+static inline bool set_option(int socket, int level, int option, const void *value, size_t size, const char **what,
+                             const char *name) {
     *what = name;
-    return setsockopt(at, level, option, value, (socklen_t)size) == 0;
+    return setsockopt(socket, level, option, value, (socklen_t)size) == 0;
 }
 
 #endif

@@ -1,11 +1,12 @@
 #define _GNU_SOURCE
 #include "source.h"
-#include "common.h"
 #include "output.h"
+#include "program.h"
 #include <errno.h>
 #include <fcntl.h>
 #include <libgen.h>
 #include <limits.h>
+#include <stdbool.h>
 #include <stdlib.h>
 #include <string.h>
 #include <sys/inotify.h>
@@ -13,15 +14,16 @@
 #include <time.h>
 #include <unistd.h>
 
-enum { MOST_TEXT = 65536 };
+enum { MOST_HELD = 65536 };
 
 /* What has come in and is not taken yet: `size` octets from `first` on. How much of it has no empty line, and how much was the
    latest text. Whether its end has come, and whether its head was let go. */
-static char held[MOST_TEXT + 1];
+static char held[MOST_HELD + 1];
 static size_t first, size, searched, taken;
-static int is_ended, is_too_long;
+static bool is_ended, is_too_long;
 
-static int at, is_pipe, is_first = 1;
+static int polled;
+static bool is_pipe, is_first = true;
 static const char *path;
 
 /* A folder whose changes are polled, and the name in it that counts: that of the path, or of the file to which links lead. */
@@ -35,15 +37,15 @@ static void complain(const char *what) { say_at_times("%s: %s", path, what); }
 
 /* Whoever owns a name in a folder, or the folder, may let the path lead anywhere. So another's file is read only if everybody
    may read it. */
-static int may_choose(const struct stat *owned, const struct stat *file) {
+static bool may_choose(const struct stat *owned, const struct stat *file) {
     return owned->st_uid == 0 || owned->st_uid == geteuid() || owned->st_uid == file->st_uid;
 }
 
-static int is_readable(int file, struct stat *found) {
+static bool is_readable(int file, struct stat *found) {
     char folder[PATH_MAX];
     struct stat name, parent;
-    if (strlen(path) >= sizeof folder || fstat(file, found) || lstat(path, &name)) return 0;
-    if (stat(dirname(strcpy(folder, path)), &parent)) return 0;
+    if (strlen(path) >= sizeof folder || fstat(file, found) || lstat(path, &name)) return false;
+    if (stat(dirname(strcpy(folder, path)), &parent)) return false;
     return (found->st_mode & S_IROTH) != 0 || (may_choose(&name, found) && may_choose(&parent, found));
 }
 
@@ -61,8 +63,8 @@ static void watch_folder(struct watch *watch, const char *whole) {
     strcpy(watch->name, whole);
     strcpy(watch->name, basename(watch->name));
     strcpy(watch->folder, whole);
-    int number = inotify_add_watch(at, dirname(watch->folder), IN_CLOSE_WRITE | IN_MOVED_TO);
-    if (watch->number >= 0 && number != watch->number) inotify_rm_watch(at, watch->number);
+    int number = inotify_add_watch(polled, dirname(watch->folder), IN_CLOSE_WRITE | IN_MOVED_TO);
+    if (watch->number >= 0 && number != watch->number) inotify_rm_watch(polled, watch->number);
     watch->number = number;
 }
 
@@ -75,42 +77,42 @@ static void watch_folders(void) {
 int open_source(const char *name) {
     struct stat found;
     path = name;
-    at = open_file(&found);
-    if (at < 0) give_up(path);
+    polled = open_file(&found);
+    if (polled < 0) give_up(path);
     is_pipe = S_ISFIFO(found.st_mode);
-    if (is_pipe) return at;
-    close(at);
+    if (is_pipe) return polled;
+    close(polled);
     if (!S_ISREG(found.st_mode)) {
         complain("it is neither a file nor a pipe");
         exit(2);
     }
-    at = inotify_init1(IN_NONBLOCK | IN_CLOEXEC);
-    if (at >= 0) watch_folders();
-    if (at < 0 || of_path.number < 0) give_up(path);
-    return at;
+    polled = inotify_init1(IN_NONBLOCK | IN_CLOEXEC);
+    if (polled >= 0) watch_folders();
+    if (polled < 0 || of_path.number < 0) give_up(path);
+    return polled;
 }
 
-static int is_of(const struct watch *watch, const struct inotify_event *event) {
+static bool is_of(const struct watch *watch, const struct inotify_event *event) {
     return event->wd == watch->number && event->len > 0 && strcmp(event->name, watch->name) == 0;
 }
 
-/* Whether a program that wrote to the file has closed it, or another was moved there. */
-static int is_written(void) {
+/* Reads what became of it: whether a program that wrote to the file has closed it, or another was moved there. */
+static bool read_events(void) {
     _Alignas(struct inotify_event) char events[4096];
-    int written = is_first;
-    is_first = 0;
-    for (ssize_t count; (count = read(at, events, sizeof events)) > 0;) {
+    bool is_written = is_first;
+    is_first = false;
+    for (ssize_t count; (count = read(polled, events, sizeof events)) > 0;) {
         for (char *next = events; next < events + count;) {
             const struct inotify_event *event = (const void *)next;
-            written |= (event->mask & IN_Q_OVERFLOW) != 0 || is_of(&of_path, event) || is_of(&of_target, event);
+            is_written |= (event->mask & IN_Q_OVERFLOW) != 0 || is_of(&of_path, event) || is_of(&of_target, event);
             next += sizeof *event + event->len;
         }
     }
-    return written;
+    return is_written;
 }
 
 /* Whether another file is at the path than the one that was read last, and has been left alone for a second. */
-static int is_other(void) {
+static bool is_other(void) {
     struct stat found;
     struct timespec now;
     clock_gettime(CLOCK_REALTIME, &now);
@@ -118,8 +120,8 @@ static int is_other(void) {
            && labs(now.tv_sec - found.st_mtim.tv_sec) > 1;
 }
 
-int source_has_moved(void) {
-    if (is_pipe) return 0;
+bool follow_source(void) {
+    if (is_pipe) return false;
     watch_folders();
     return is_other();
 }
@@ -129,10 +131,10 @@ static void read_file(void) {
     int file = open_file(&found);
     ssize_t count = -1;
     first = size = searched = taken = 0;
-    while (file >= 0 && (count = read(file, held + size, MOST_TEXT - size)) > 0) size += (size_t)count;
+    while (file >= 0 && (count = read(file, held + size, MOST_HELD - size)) > 0) size += (size_t)count;
     if (count < 0) complain(strerror(errno));
-    else if (size == MOST_TEXT) complain("it has over 65,535 octets");
-    is_ended = count >= 0 && size < MOST_TEXT;
+    else if (size == MOST_HELD) complain("it has over 65,535 octets");
+    is_ended = count >= 0 && size < MOST_HELD;
     if (!is_ended) size = 0;
     if (file >= 0 || stat(path, &found) == 0) {
         device_read = found.st_dev;
@@ -146,32 +148,32 @@ static void read_file(void) {
 static void open_again(void) {
     struct stat found;
     int again = open_file(&found);
-    int is_there = again >= 0 && S_ISFIFO(found.st_mode);
+    bool is_there = again >= 0 && S_ISFIFO(found.st_mode);
     if (!is_there) complain("the pipe is gone, and nothing more is observed");
     if (!is_there && again >= 0) close(again);
-    close(at);
-    at = is_there ? again : -1;
+    close(polled);
+    polled = is_there ? again : -1;
 }
 
 /* The pipe is opened anew for the next program that writes to it, and is never without a reader. */
 static void read_pipe(void) {
     memmove(held, held + first, size);
     first = 0;
-    ssize_t count = read(at, held + size, MOST_TEXT - size);
+    ssize_t count = read(polled, held + size, MOST_HELD - size);
     if (count > 0) size += (size_t)count;
     if (count != 0) return;
-    is_ended = 1;
+    is_ended = true;
     open_again();
 }
 
 int read_source(void) {
     size_t before = is_pipe ? size : 0;
     if (is_pipe) read_pipe();
-    else if (is_written() || is_other()) read_file();
+    else if (read_events() || is_other()) read_file();
     for (size_t k = before; k < size; k++) {
         if (held[k] == '\0') held[k] = 1;       /* which is no text either */
     }
-    return at;
+    return polled;
 }
 
 /* Empty lines at the head, which are let go together. */
@@ -192,10 +194,10 @@ static size_t size_of_text(void) {
     return is_ended ? size : 0;
 }
 
-/* Whether the text that was found is the rest of one that is too long, or empty lines. */
-static int is_let_go(void) {
-    int is_rest = is_too_long;
-    is_too_long = 0;
+/* Whether the text that was found is let go: it is the rest of one that is too long, or empty lines. */
+static bool let_go_text(void) {
+    bool is_rest = is_too_long;
+    is_too_long = false;
     return is_rest || (is_pipe && held[first] == '\n');
 }
 
@@ -203,7 +205,7 @@ static int is_let_go(void) {
 static void let_go_all(void) {
     complain("what came in at once has over 65,535 octets");
     size = searched = 0;
-    is_too_long = 1;
+    is_too_long = true;
 }
 
 /* Drops the latest text. */
@@ -213,17 +215,17 @@ static void go_behind(void) {
     if (taken > 0) searched = 0;
 }
 
-int next_text(char **text) {
+bool next_text(char **text) {
     do {
         go_behind();
         taken = size_of_text();
-    } while (taken > 0 && is_let_go());
+    } while (taken > 0 && let_go_text());
     if (taken > 0) {
         held[first + (taken < size ? taken - 1 : taken)] = '\0';      /* in place of an empty line, or after all */
         *text = held + first;
-        return 1;
+        return true;
     }
-    if (is_ended) is_ended = is_too_long = 0;
-    if (size == MOST_TEXT) let_go_all();
-    return 0;
+    if (is_ended) is_ended = is_too_long = false;
+    if (size == MOST_HELD) let_go_all();
+    return false;
 }

@@ -2,11 +2,14 @@
 #ifndef SOURCE_H
 #define SOURCE_H
 
+#include <stdbool.h>
+
 /* Opens it, and answers what is to be polled. Ends the program with status 2 if there is no such file. */
 int open_source(const char *path);
 
-/* Whether it is to be read although nothing was polled: a folder that was made anew, or a link, leads to another file by now. */
-int source_has_moved(void);
+/* Watches what leads to it by now: a folder may have been made anew, and a link may lead elsewhere. Whether it is another file than
+   the one that was read, and so is to be read although nothing was polled. */
+bool follow_source(void);
 
 /* Reads what has come in by now, without waiting, and answers what is to be polled from now on. That is -1 if a pipe was
    removed, and the last program that wrote to it has closed it. */
@@ -19,6 +22,6 @@ int read_source(void);
    to it has closed it.
 
    A text of 65,536 octets or more, and a file that can't be read, is said on standard error, and is none. */
-int next_text(char **text);
+bool next_text(char **text);
 
 #endif

@@ -2,14 +2,17 @@
 #include "status.h"
 #include "asking.h"
 #include "collect.h"
-#include "common.h"
+#include "digits.h"
 #include "identity.h"
+#include "message_places.h"
 #include "notices.h"
 #include "report.h"
 #include "seen.h"
 #include "site_program.h"
-#include "way.h"
+#include "stopping.h"
+#include "transport.h"
 #include <errno.h>
+#include <stdbool.h>
 #include <stdlib.h>
 #include <string.h>
 #include <time.h>
@@ -22,7 +25,7 @@ enum { BEFORE_SECOND_LOOK = 2000, TIME_TEXT = 32 };
 enum { FINDINGS = 1 };
 
 /* The places of the domain and of the clock in a line of hexadecimal. */
-enum { DOMAIN_IN_LINE = 8, CLOCK_IN_LINE = 40, LEAST_LINE = 56 };
+enum { DOMAIN_IN_LINE = 2 * DOMAIN_AT, CLOCK_IN_LINE = 2 * SOURCE_AT, LEAST_LINE = 2 * SOURCE_PORT_AT };
 
 /* A look at the site: the answers as lines, and what they show. */
 struct look {
@@ -43,10 +46,10 @@ static void free_look(struct look *look) {
 }
 
 /* Whether the clock that gave a line answered this time too. */
-static int is_of_seen_clock(const char *line, size_t size) {
+static bool is_of_seen_clock(const char *line, size_t size) {
     uint8_t domain, clock[8];
     const char *domain_text = line + DOMAIN_IN_LINE, *clock_text = line + CLOCK_IN_LINE;
-    if (size < LEAST_LINE) return 0;
+    if (size < LEAST_LINE) return false;
     return read_octets(&domain_text, &domain, 1) == 1 && read_octets(&clock_text, clock, 8) == 8 && is_seen(domain, clock);
 }
 
@@ -97,9 +100,9 @@ static void look_twice(struct look *look, const struct task *task, struct domain
 }
 
 /* Whether colour is wished for: on a terminal, unless the environment says that it is not. */
-static int is_coloured(void) {
+static bool is_coloured(void) {
     const char *without = getenv("NO_COLOR"), *terminal = getenv("TERM");
-    if (without != NULL && *without != '\0') return 0;
+    if (without != NULL && *without != '\0') return false;
     return isatty(STDOUT_FILENO) && terminal != NULL && strcmp(terminal, "dumb") != 0;
 }
 
@@ -121,11 +124,11 @@ static int print_look(const struct look *look, const struct task *task) {
     return look->status;
 }
 
-static int was_seen(const struct seen_clock *clock) {
+static bool was_seen(const struct seen_clock *clock) {
     for (size_t i = 0; i < count_before; i++) {
-        if (clocks_before[i].domain == clock->domain && memcmp(clocks_before[i].identity, clock->identity, 8) == 0) return 1;
+        if (clocks_before[i].domain == clock->domain && memcmp(clocks_before[i].identity, clock->identity, 8) == 0) return true;
     }
-    return 0;
+    return false;
 }
 
 /* Prints which clocks came and which went since the look before. */
@@ -164,7 +167,7 @@ static void print_difference(const struct look *look, const struct look *earlier
 }
 
 /* Whether a look shows the site, which may have no clock by now; otherwise something failed, and that is said. */
-static int is_whole(const struct look *look) { return look->report.has_findings || look->status == NOT_ANSWERED; }
+static bool is_whole(const struct look *look) { return look->report.has_findings || look->status == NOT_ANSWERED; }
 
 /* Looks again and again, until the program is asked to end. */
 static int watch(struct look *earlier, const struct task *task, struct domains *domains) {
@@ -191,7 +194,7 @@ int show_status(const struct task *task) {
     static struct look look;
     struct domains domains;
     find_site_program();
-    widen_way();
+    widen_transport();
     find_domains(&domains, task);
     look_twice(&look, task, &domains, NULL);
     int status = stopped ? BY_SIGNAL + stopped : print_look(&look, task);

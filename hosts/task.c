@@ -1,12 +1,13 @@
 #define _GNU_SOURCE
 #include "task.h"
-#include "common.h"
+#include "digits.h"
 #include "field_words.h"
 #include "help.h"
 #include "identity.h"
 #include "names.h"
 #include "notices.h"
 #include <getopt.h>
+#include <stdbool.h>
 #include <stdio.h>
 #include <stdlib.h>
 #include <string.h>
@@ -40,7 +41,8 @@ static const struct option options[] = {
 /* The words of the command line, and what options say that a later option may change. */
 struct words {
     const char *at[MOST_WORDS + 1], *domain;
-    int count, is_text, has_target, is_every_port;
+    int count;
+    bool is_text, has_target, is_every_port;
     long port, target_port, hops, attempts;
 };
 
@@ -53,7 +55,7 @@ static long number(const char *option, const char *text, long least, long most) 
 /* The clock that is asked, and the port after it, if one is named there. */
 static void read_target(struct task *task, struct words *words, const char *text) {
     const char *rest = identity_at(text, task->settings.target);
-    words->has_target = 1;
+    words->has_target = true;
     if (rest == NULL) refuse("--target %s: it takes aabbccfffeddee01 or aabbcc.fffe.ddee01, and after it -1 for port 1", text);
     words->target_port = *rest == '\0' ? NOT_NAMED : port_behind(rest, 65535);
     if (*rest != '\0' && words->target_port < 0) refuse("--target %s: %s is no port", text, rest);
@@ -69,7 +71,7 @@ static void read_manager(struct task *task, const char *text) {
     long port = rest == NULL ? -1 : port_behind(rest, 65534);
     if (port < 0) refuse("--manager %s: it takes aabbccfffeddee01/1 or aabbcc.fffe.ddee01-1", text);
     task->settings.port = (uint16_t)port;
-    task->has_manager = 1;
+    task->has_manager = true;
 }
 
 static void take_interface(struct task *task, const char *name) {
@@ -81,8 +83,8 @@ static void take_option(struct task *task, struct words *words, int option, cons
     switch (option) {
     case 'i': take_interface(task, value); break;
     case UDP: task->address = value; break;
-    case '6': task->is_six = 1; break;
-    case '2': task->is_ethernet = 1; break;
+    case '6': task->is_six = true; break;
+    case '2': task->is_ethernet = true; break;
     case 'u': task->path = value; break;
     case 'T': read_target(task, words, value); break;
     case 'p': read_port(words, value); break;
@@ -92,12 +94,12 @@ static void take_option(struct task *task, struct words *words, int option, cons
     case 'k': task->numbers = value; break;
     case 'w': task->wait = number("wait", value, 0, 100000); break;
     case 'a': words->attempts = number("attempts", value, 1, 255); break;
-    case 't': task->milliseconds = number("timeout", value, 1, 100000); break;
+    case 't': task->timeout = number("timeout", value, 1, 100000); break;
     case 'n': task->times = number("times", value, 1, 1000000); break;
-    case GIVE_UP: task->is_letting_go = 1; break;
-    case 'x': task->is_in_octets = 1; break;
-    case JSON: task->is_json = 1; break;
-    case TEXT: words->is_text = 1; break;
+    case GIVE_UP: task->is_letting_go = true; break;
+    case 'x': task->is_in_octets = true; break;
+    case JSON: task->is_json = true; break;
+    case TEXT: words->is_text = true; break;
     case 'q': be_quiet(); break;
     case 'h': help(); break;
     case VERSION: version(); break;
@@ -111,9 +113,9 @@ static void take_word(struct words *words, const char *word) {
 }
 
 /* After `set ID`, and after the name of one of its members, comes a value. It may be below 0: it is no option there. */
-static int is_value(const struct words *words, const char *word) {
-    if (word[0] != '-' || word[1] < '0' || word[1] > '9') return 0;
-    if (words->count < 2 || strcasecmp(words->at[0], "set") != 0) return 0;
+static bool is_value(const struct words *words, const char *word) {
+    if (word[0] != '-' || word[1] < '0' || word[1] > '9') return false;
+    if (words->count < 2 || strcasecmp(words->at[0], "set") != 0) return false;
     long id = id_named(words->at[1]);
     return words->count == 2 || (id >= 0 && is_member((uint16_t)id, words->at[words->count - 1]));
 }
@@ -156,7 +158,7 @@ static void read_every_port(struct task *task, const struct words *words) {
     if (task->has_manager || task->numbers != NULL) {
         refuse("--port all asks by no manager: it takes no --manager and no --numbers");
     }
-    task->is_survey = task->is_of_clock = 1;
+    task->is_survey = task->is_of_clock = true;
 }
 
 static void read_id(struct task *task, const char *text) {
@@ -180,12 +182,12 @@ static void read_octets_of(struct task *task, const char *text) {
 }
 
 /* Whether the words of a value are what an answer prints, or the value of the one member, and no dataField in hexadecimal. */
-static int are_members(const struct task *task, const char *const *value, size_t count) {
-    if (task->action != PTPM_SET || task->is_in_octets) return 0;
+static bool are_members(const struct task *task, const char *const *value, size_t count) {
+    if (task->action != PTPM_SET || task->is_in_octets) return false;
     return count > 1 || takes_value(task->id) || is_member(task->id, value[0]);
 }
 
-static void judge_count(const struct task *task, const char *const *value, size_t count, int is_text) {
+static void judge_count(const struct task *task, const char *const *value, size_t count, bool is_text) {
     size_t most = is_text || are_members(task, value, count) ? most_words(task->id, value[0]) : 1;
     if (count > most) refuse("%s: there is a word too many; see ptpm-manage --help", value[most]);
 }
@@ -193,8 +195,8 @@ static void judge_count(const struct task *task, const char *const *value, size_
 static void read_value(struct task *task, const struct words *words) {
     const char *id = words->at[1], *const *value = words->at + 2;
     size_t count = words->count > 2 ? (size_t)words->count - 2 : 0;
-    int is_set = !task->is_survey && task->action == PTPM_SET;
-    int is_read_only = is_set && can_only_be_read(task->id);
+    bool is_set = !task->is_survey && task->action == PTPM_SET;
+    bool is_read_only = is_set && can_only_be_read(task->id);
     if (is_read_only && (count != 1 || is_member(task->id, value[0]))) refuse("set %s: the id can only be read", id);
     if (count == 0 && is_set && !has_no_member(task->id)) refuse("set %s: it takes a value after it", id);
     if (count == 0) return;
@@ -216,7 +218,7 @@ static void judge(const struct task *task, const struct words *words) {
     }
     if (task->address != NULL && task->interface_count > 1) refuse("--udp takes one --interface at most");
     if (task->is_ethernet && (task->address != NULL || task->is_six)) refuse("--ethernet excludes --udp and --ipv6");
-    int asks_one = !task->is_survey || task->is_of_clock;
+    bool asks_one = !task->is_survey || task->is_of_clock;
     if (!asks_one && words->has_target) refuse("%s asks every clock: it takes no --target", words->at[0]);
     if (asks_one && !words->has_target) refuse("--target is missing: the clock that is asked; survey asks every clock");
     if (words->is_every_port && words->target_port >= 0) refuse("--port all names every port, and --target names one");
@@ -235,8 +237,8 @@ static void judge_json(const struct task *task) {
 
 /* Whether who asks is the same in each run, so that a clock may have kept an answer of his. It never keeps one to a GET to
    every clock. A GET by nobody needs none. At a Unix socket clock 0 asks at another port each time. */
-static int is_by_one_manager(const struct task *task) {
-    if (task->is_survey) return 0;
+static bool is_by_one_manager(const struct task *task) {
+    if (task->is_survey) return false;
     return task->numbers != NULL || task->has_manager || (task->path == NULL && task->action != PTPM_GET);
 }
 
@@ -259,7 +261,7 @@ static void read_asked(struct task *task, const struct words *words) {
 /* The domains, hops and attempts that the options name, or else those of what is asked. Of several interfaces the last counts, but a
    whole site is asked at all of them. */
 static void read_reach(struct task *task, const struct words *words) {
-    int is_site = task->site.is_collected;
+    bool is_site = task->site.is_collected;
     struct ptpm_session_settings *settings = &task->settings;
     if (words->domain != NULL && is_site) read_domains(&task->site, words->domain);
     else if (words->domain != NULL) settings->domain = (uint8_t)number("domain", words->domain, 0, 255);
@@ -273,7 +275,7 @@ static void read_reach(struct task *task, const struct words *words) {
 void read_task(struct task *task, int argc, char **argv) {
     struct words words = { .port = NOT_NAMED, .target_port = NOT_NAMED, .hops = NOT_NAMED, .attempts = NOT_NAMED };
     *task = (struct task){
-        .settings = { .port = 1, .target_ports = 8 }, .site = { .listen = NOT_NAMED }, .wait = 3000, .milliseconds = 200, .times = 1,
+        .settings = { .port = 1, .target_ports = 8 }, .site = { .listen = NOT_NAMED }, .wait = 3000, .timeout = 200, .times = 1,
     };
     read_words(task, &words, argc, argv);
     if (words.count == 0) refuse("it takes get, set, command or survey and a managementId, or collect or status; see ptpm-manage --help");

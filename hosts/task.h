@@ -4,13 +4,14 @@
 
 #include "ptpm.h"
 #include "site_options.h"
+#include <stdbool.h>
 #include <stdint.h>
 
 enum { MOST_INTERFACES = 8 };
 
 struct task {
-    int is_survey;                              /* every clock is asked, or one, at every port */
-    int is_of_clock;                            /* a survey of one clock */
+    bool is_survey;                             /* every clock is asked, or one, at every port */
+    bool is_of_clock;                           /* a survey of one clock */
     struct site_options site;                   /* of a survey that collects, and what is shown of it */
     uint8_t action;                             /* PTPM_GET, PTPM_SET or PTPM_COMMAND, if it is no survey */
     uint16_t id;
@@ -18,18 +19,18 @@ struct task {
     size_t size;
     uint8_t octets[PTPM_MOST_OCTETS];           /* the dataField */
     struct ptpm_session_settings settings;      /* the number of the first request is 0 until one is drawn */
-    int has_manager;                            /* whether settings name the manager */
-    int is_kept;                                /* by a manager who is the same in each run: a file keeps his session */
-    int is_letting_go;                          /* what an earlier run asked without an answer is not finished */
+    bool has_manager;                           /* whether settings name the manager */
+    bool is_kept;                               /* by a manager who is the same in each run: a file keeps his session */
+    bool is_letting_go;                         /* what an earlier run asked without an answer is not finished */
     const char *interfaces[MOST_INTERFACES];    /* the way: interfaces; `collect` and `status` alone may have several, */
     int interface_count;
     const char *address, *path;                 /* an address, with one of these or none, or a Unix socket */
-    int is_six, is_ethernet;                    /* at an interface IPv6, or IEEE 802.3, in place of IPv4 */
+    bool is_six, is_ethernet;                   /* at an interface IPv6, or IEEE 802.3, in place of IPv4 */
     const char *numbers;                        /* the file that keeps the session, or NULL */
     long wait;                                  /* how long a session waits that has no such file yet, in milliseconds */
-    long milliseconds;                          /* how long an answer is waited for */
+    long timeout;                               /* how long an answer is waited for, in milliseconds */
     long times;                                 /* how often the request is made anew */
-    int is_in_octets, is_json;                  /* answers are printed as octets; as objects of JSON */
+    bool is_in_octets, is_json;                 /* answers are printed as octets; as objects of JSON */
 };
 
 /* Reads it from a command line. Ends the program with status 2 if it is none, and with 0 after --help and --version. */

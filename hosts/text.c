@@ -2,6 +2,7 @@
 #include "text.h"
 #include <langinfo.h>
 #include <locale.h>
+#include <stdbool.h>
 #include <string.h>
 
 /* How many octets the character at the head has, and its number; 0 if there is no well-formed one (RFC 3629). */
@@ -19,38 +20,38 @@ static size_t character(const uint8_t *octets, size_t size, uint32_t *number) {
 }
 
 /* Control characters, and those that are unseen, such as fillers, or turn the direction of what follows them. */
-static int is_shown(uint32_t number) {
+static bool is_shown(uint32_t number) {
     static const struct { uint32_t first, last; } hidden[] = {
         { 0, 0x1f }, { '\\', '\\' }, { 0x7f, 0x9f }, { 0xad, 0xad }, { 0x34f, 0x34f }, { 0x61c, 0x61c }, { 0x115f, 0x1160 },
         { 0x17b4, 0x17b5 }, { 0x180b, 0x180f }, { 0x200b, 0x200f }, { 0x2028, 0x202e }, { 0x2060, 0x206f }, { 0x2800, 0x2800 },
         { 0x3164, 0x3164 }, { 0xfe00, 0xfe0f }, { 0xfeff, 0xfeff }, { 0xffa0, 0xffa0 }, { 0xfff9, 0xfffb }, { 0xe0000, 0x10ffff },
     };
     for (size_t i = 0; i < sizeof hidden / sizeof *hidden; i++) {
-        if (number >= hidden[i].first && number <= hidden[i].last) return 0;
+        if (number >= hidden[i].first && number <= hidden[i].last) return false;
     }
-    return 1;
+    return true;
 }
 
 /* Whether the user's locale reads UTF-8. Any other may take an octet from 0x80 to 0x9f for a control character. */
-static int reads_utf8(void) {
-    static int is_read, is_asked;
+static bool reads_utf8(void) {
+    static bool is_read, is_asked;
     if (is_asked) return is_read;
     locale_t locale = newlocale(LC_CTYPE_MASK, "", (locale_t)0);
-    is_asked = 1;
+    is_asked = true;
     is_read = locale != (locale_t)0 && strcmp(nl_langinfo_l(CODESET, locale), "UTF-8") == 0;
     if (locale != (locale_t)0) freelocale(locale);
     return is_read;
 }
 
-static int has_control(const uint8_t *octets, size_t size) {
+static bool has_control(const uint8_t *octets, size_t size) {
     for (size_t i = 0; i < size; i++) {
-        if (octets[i] >= 0x80 && octets[i] <= 0x9f) return 1;
+        if (octets[i] >= 0x80 && octets[i] <= 0x9f) return true;
     }
-    return 0;
+    return false;
 }
 
 /* Whether a character is printed as it is. It has `count` octets, 0 if it is none. */
-static int is_plain_character(const uint8_t *octets, size_t count, uint32_t number) {
+static bool is_plain_character(const uint8_t *octets, size_t count, uint32_t number) {
     return count > 0 && is_shown(number) && (reads_utf8() || !has_control(octets, count));
 }
 
@@ -58,7 +59,7 @@ void print_text(FILE *to, const uint8_t *octets, size_t size) {
     for (size_t i = 0; i < size;) {
         uint32_t number = 0;
         size_t count = character(octets + i, size - i, &number);
-        int is_plain = is_plain_character(octets + i, count, number);
+        bool is_plain = is_plain_character(octets + i, count, number);
         if (count == 0) count = 1;
         for (size_t k = i; k < i + count; k++) {
             if (is_plain) putc(octets[k], to);

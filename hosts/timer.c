@@ -1,7 +1,8 @@
 #define _GNU_SOURCE
 #include "timer.h"
-#include "common.h"
+#include "program.h"
 #include <limits.h>
+#include <stdint.h>
 #include <sys/timerfd.h>
 #include <unistd.h>
 

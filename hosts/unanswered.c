@@ -1,18 +1,19 @@
 #include "unanswered.h"
 #include "answer.h"
 #include "asking.h"
-#include "common.h"
 #include "identity.h"
 #include "notices.h"
 #include "reading.h"
 #include "session_file.h"
-#include "way.h"
+#include "stopping.h"
+#include "transport.h"
+#include <stdbool.h>
 
 /* Whether the clock answers nobody's GET, if it did not answer the manager; then what it has is said. */
-static int tell_value(const struct task *task) {
+static bool tell_value(const struct task *task) {
     static struct answer answer;
     struct ptpm_session session = { 0 };
-    int is_told = begin_reading(&session, task, task->id) && is_read(&session, task);
+    bool is_told = begin_reading(&session, task, task->id) && finish_reading(&session, task);
     if (is_told) {
         take_report(&session, &answer);
         complain("the clock answers reads%s", answer.told == PTPM_VALUE ? ", and has by now" : "");
@@ -25,11 +26,11 @@ static int tell_value(const struct task *task) {
 }
 
 /* Why a clock that answers reads may drop what this manager asks. */
-static void tell_reason(const struct task *task, enum asked asked, uint16_t number) {
+static void tell_reason(const struct task *task, enum unanswered what, uint16_t number) {
     char manager[IDENTITY_TEXT];
     unsigned port = task->settings.port;
     write_identity(manager, task->settings.clock);
-    switch (asked) {
+    switch (what) {
     case REQUEST:
         complain("it dropped the request, since a copy of manager %s/%u asks too, or each answer was lost", manager, port);
         break;
@@ -54,38 +55,38 @@ static void advise(const struct task *task) {
 }
 
 /* What becomes of a request that stays in the session's file. */
-static void tell_rest(const struct task *task, enum asked asked, uint16_t number) {
+static void tell_rest(const struct task *task, enum unanswered what, uint16_t number) {
     const char *words = task_words(task);
     if (!task->is_kept) return;
-    if (asked == REQUEST) {
+    if (what == REQUEST) {
         complain("the next run sends %s again, under number %u, before its own; --give-up lets it go", words, number);
-    } else if (asked == EARLIER_REQUEST) {
+    } else if (what == EARLIER_REQUEST) {
         complain("%s of an earlier run, number %u, comes before it; --give-up lets it go", words, number);
     }
 }
 
 /* What is said of the request at the end of the first line. */
-static const char *request_clause(const struct task *task, enum asked asked) {
-    int may_change = !task->is_survey && task->action != PTPM_GET;
-    if (asked == REQUEST) return may_change ? ": the request may have been carried out" : "";
-    if (asked == EARLIER_REQUEST && may_change) return ": an earlier request may have been carried out, and this one was not sent";
+static const char *request_clause(const struct task *task, enum unanswered what) {
+    bool may_change = !task->is_survey && task->action != PTPM_GET;
+    if (what == REQUEST) return may_change ? ": the request may have been carried out" : "";
+    if (what == EARLIER_REQUEST && may_change) return ": an earlier request may have been carried out, and this one was not sent";
     return ": the request itself was not sent";
 }
 
-int no_answer(const struct task *task, enum asked asked, uint16_t number, long sent) {
+int no_answer(const struct task *task, enum unanswered what, uint16_t number, long sent) {
     const char *end = stopped ? "ended by a signal: " : "";
     if (sent == 0) {
-        complain("%snothing was sent%s%s", end, stopped ? "" : ": no message is taken at ", stopped ? "" : way_name());
+        complain("%snothing was sent%s%s", end, stopped ? "" : ": no message is taken at ", stopped ? "" : transport_name());
         return stopped ? BY_SIGNAL + stopped : NOT_ASKED;
     }
-    complain("%sno answer at %s in domain %u to %ld message%s%s", end, way_name(), task->settings.domain, sent,
-             sent == 1 ? "" : "s", request_clause(task, asked));
-    tell_rest(task, asked, number);
+    complain("%sno answer at %s in domain %u to %ld message%s%s", end, transport_name(), task->settings.domain, sent,
+             sent == 1 ? "" : "s", request_clause(task, what));
+    tell_rest(task, what, number);
     if (stopped) return BY_SIGNAL + stopped;
     if (task->is_survey && !task->is_of_clock) return NOT_ANSWERED;
-    int is_answered = (task->is_kept || task->action != PTPM_GET) && tell_value(task);
+    bool is_answered = (task->is_kept || task->action != PTPM_GET) && tell_value(task);
     if (stopped) return BY_SIGNAL + stopped;
     if (!is_answered) advise(task);
-    else if (task->is_kept) tell_reason(task, asked, number);
+    else if (task->is_kept) tell_reason(task, what, number);
     return NOT_ANSWERED;
 }

@@ -6,10 +6,10 @@
 
 /* What was sent: the task's request; the request of an earlier run, which is the task here; or a question before the task's
    request. It asks whether the next number of a session is new, or which number of a new session is. */
-enum asked { REQUEST, EARLIER_REQUEST, NUMBER, FIRST_NUMBER };
+enum unanswered { REQUEST, EARLIER_REQUEST, NUMBER, FIRST_NUMBER };
 
 /* Says what is known of it, after this many messages of it went out under the number. Nobody knows which of them came in. If a
    clock may have dropped them, nobody reads its value, and what it has is said. The program's status. */
-int no_answer(const struct task *task, enum asked asked, uint16_t number, long sent);
+int no_answer(const struct task *task, enum unanswered what, uint16_t number, long sent);
 
 #endif

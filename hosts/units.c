@@ -8,6 +8,7 @@
 #include "ptpm.h"
 #include "session_image.h"
 #include "text.h"
+#include <stdbool.h>
 #include <stdlib.h>
 #include <string.h>
 
@@ -49,7 +50,7 @@ static void buckets(void) {
 }
 
 /* Whether a message is passed on, and noted for a second. */
-static int is_first(struct ptpm_passed_on *table, const uint8_t message[ERROR_STATUS], uint64_t now) {
+static bool note_if_first(struct ptpm_passed_on *table, const uint8_t message[ERROR_STATUS], uint64_t now) {
     return ptpm_passed_on_is_first(table, message, (size_t)(message[2] << 8 | message[3]), now, TIME);
 }
 
@@ -65,32 +66,32 @@ static void passing_on(void) {
     uint8_t message[ERROR_STATUS] = { 0x0d, 0x12, 0, MESSAGE };
     message[49] = 1;
     message[51] = 2;
-    check(is_first(&table, message, NOW), "a message that was not passed on");
-    check(!is_first(&table, message, NOW) && !is_first(&table, message, NOW + 999), "the same in the second after it");
+    check(note_if_first(&table, message, NOW), "a message that was not passed on");
+    check(!note_if_first(&table, message, NOW) && !note_if_first(&table, message, NOW + 999), "the same in the second after it");
     for (size_t i = 0; i < sizeof fields / sizeof *fields; i++) {
         message[fields[i].octet] ^= 1;
-        check(is_first(&table, message, NOW) && !is_first(&table, message, NOW), fields[i].name);
+        check(note_if_first(&table, message, NOW) && !note_if_first(&table, message, NOW), fields[i].name);
         message[fields[i].octet] ^= 1;
     }
     for (size_t i = 0; i < sizeof others / sizeof *others; i++) {
         message[others[i]] ^= 1;
-        check(!is_first(&table, message, NOW), "the same message with another octet that is not compared");
+        check(!note_if_first(&table, message, NOW), "the same message with another octet that is not compared");
         message[others[i]] ^= 1;
     }
-    check(is_first(&table, message, NOW + 1000) && !is_first(&table, message, NOW + 1999), "a second later it is passed on again");
-    check(!is_first(&table, message, NOW + 1500) && is_first(&table, message, NOW + 2000), "what is kept back is not noted again");
+    check(note_if_first(&table, message, NOW + 1000) && !note_if_first(&table, message, NOW + 1999), "a second later it is passed on again");
+    check(!note_if_first(&table, message, NOW + 1500) && note_if_first(&table, message, NOW + 2000), "what is kept back is not noted again");
     message[0] = 0x0c;
-    check(!is_first(&table, message, NOW), "no management message");
+    check(!note_if_first(&table, message, NOW), "no management message");
     memcpy(message, (const uint8_t[]){ 0x0d, 0x12, 0, ERROR_STATUS }, 4);
     message[46] = 2;
     message[49] = 2;                            /* an error status, whose id follows the error */
     message[51] = 8;
     message[55] = 7;
-    check(is_first(&table, message, NOW) && !is_first(&table, message, NOW), "an error status");
+    check(note_if_first(&table, message, NOW) && !note_if_first(&table, message, NOW), "an error status");
     message[55] ^= 1;
-    check(is_first(&table, message, NOW), "an error status of another id");
+    check(note_if_first(&table, message, NOW), "an error status of another id");
     message[53] ^= 1;
-    check(!is_first(&table, message, NOW), "another error of the same id");
+    check(!note_if_first(&table, message, NOW), "another error of the same id");
 }
 
 /* The table keeps a second's messages at the rates that there are, and passes on none that it can't note. */
@@ -103,19 +104,19 @@ static void many_messages(void) {
     for (unsigned i = 0; i < 2000; i++) {
         message[30] = (uint8_t)(i >> 8);
         message[31] = (uint8_t)i;
-        first += (unsigned)is_first(&table, message, NOW);
+        first += (unsigned)note_if_first(&table, message, NOW);
     }
     for (unsigned i = 0; i < 2000; i++) {
         message[30] = (uint8_t)(i >> 8);
         message[31] = (uint8_t)i;
-        again += (unsigned)is_first(&table, message, NOW + 500);
+        again += (unsigned)note_if_first(&table, message, NOW + 500);
     }
     check(first >= 1990 && again == 0, "2,000 messages in a second, and each again");
     for (unsigned i = 0; i < 60000; i++) {
         message[30] = (uint8_t)(i >> 8);
         message[31] = (uint8_t)i;
         message[20] = 1;
-        late += (unsigned)is_first(&table, message, NOW + 600);
+        late += (unsigned)note_if_first(&table, message, NOW + 600);
     }
     check(late + first <= PLACES, "no more messages than there are places");
 }
@@ -179,13 +180,13 @@ static FILE *open_printed(void) {
     return open_memstream(&printed, &printed_size);
 }
 
-static int prints_interval(int64_t interval, const char *text) {
+static bool prints_interval(int64_t interval, const char *text) {
     FILE *to = open_printed();
     print_interval(to, interval);
     return fclose(to) == 0 && strcmp(printed, text) == 0;
 }
 
-static int reads_interval(const char *text, int64_t interval) {
+static bool reads_interval(const char *text, int64_t interval) {
     int64_t read;
     return read_interval(text, &read) && read == interval;
 }
@@ -210,7 +211,7 @@ static void intervals(void) {
     check(reads_interval("-0.1", -6554) && reads_interval("0.9999999999999999", 65536), "the nearest unit");
 }
 
-static int prints_json(const char *text, const char *json) {
+static bool prints_json(const char *text, const char *json) {
     FILE *to = open_printed();
     print_json_text(to, (const uint8_t *)text, strlen(text));
     return fclose(to) == 0 && strcmp(printed, json) == 0;

@@ -105,7 +105,7 @@ PTPM_CHANGED_TIME_TRACEABLE = 1 << 27
 PTPM_CHANGED_FREQUENCY_TRACEABLE = 1 << 28
 PTPM_CHANGED_TIME_SOURCE = 1 << 29
 
-# Members of a port that changed; and the names that these had before.
+# Members of a port that changed; each has a second name without PORT.
 PTPM_CHANGED_PORT_STATE = 1 << 0
 PTPM_CHANGED_PORT_LOG_MIN_DELAY_REQ = 1 << 1
 PTPM_CHANGED_PORT_PEER_DELAY = 1 << 2

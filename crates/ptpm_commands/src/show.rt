@@ -8,6 +8,7 @@ ghost use Rattle.ptpm_data.specs.ManagementId.{row_of};
 ghost use Rattle.ptpm_commands.specs.Faults.{IsAtLine, IsAtSomeLine, is_of_line, is_outside};
 ghost use Rattle.ptpm_commands.specs.Show.{AreShown, IsShown, action_lines, body_lines, column_lines, data_lines, error_named, field_lines, header_lines, identity_lines, message_lines, message_of, named_line, object_line, read_as, row_name, sdo_line, value_lines};
 
+use crate::columns::Row;
 use crate::faults::{Fault, tell};
 use crate::lines::Lines;
 use ptpm_codec::{ErrorId, View, view};
@@ -146,27 +147,17 @@ fn show_next<R: Read + Drop, O: Write>(
         return Ok(false);
     }
     let row = lines.row(alloc, number)?;
-    if let Some(datagram) = &row.datagram {
-        show_at(
-            alloc,
-            number,
-            form,
-            row.columns.as_slice(),
-            datagram.as_slice(),
-            out,
-        )?;
-    }
+    show_row(alloc, number, form, &row, out)?;
     lines.flush_before_wait(out)?;
     Ok(true)
 }
 
-/// Prints the message of a datagram in the line of this number, which a fault of it names.
-fn show_at<O: Write>(
+/// Prints the message of the line of this number, if it has one. A fault of the line names it.
+fn show_row<O: Write>(
     alloc: Global,
     number: u64,
     form: Values,
-    columns: &[&str],
-    datagram: &[u8],
+    row: &Row<'_>,
     out: &mut O,
 ) -> Result<(), Fault>
     ensures shown { OnOk result (AreShown form (O.contents out.old) (O.contents out.new)) }
@@ -174,7 +165,16 @@ fn show_at<O: Write>(
     ensures unprinted { IfErr result
         (λ e. is_of_line e ≡ true → O.contents out.new ≡ O.contents out.old) }
 {
-    match show_datagram(alloc, form, columns, datagram, out) {
+    let Some(datagram) = &row.datagram else {
+        return Ok(());
+    };
+    match show_datagram(
+        alloc,
+        form,
+        row.columns.as_slice(),
+        datagram.as_slice(),
+        out,
+    ) {
         Ok(()) => Ok(()),
         Err(fault) => Err(fault.at_line(number)),
     }

@@ -80,7 +80,7 @@ pub const PTPM_CHANGED_TIME_TRACEABLE: u32 = 1 << 27;
 pub const PTPM_CHANGED_FREQUENCY_TRACEABLE: u32 = 1 << 28;
 pub const PTPM_CHANGED_TIME_SOURCE: u32 = 1 << 29;
 
-// Members of a port that changed; and the names that these had before.
+// Members of a port that changed; each has a second name without PORT.
 pub const PTPM_CHANGED_PORT_STATE: u8 = 1 << 0;
 pub const PTPM_CHANGED_PORT_LOG_MIN_DELAY_REQ: u8 = 1 << 1;
 pub const PTPM_CHANGED_PORT_PEER_DELAY: u8 = 1 << 2;

@@ -1,14 +1,19 @@
 #define _GNU_SOURCE
-#include "way.h"
-#include "common.h"
+#include "transport.h"
 #include "ethernet.h"
+#include "monotonic.h"
 #include "notices.h"
+#include "program.h"
 #include "reading.h"
+#include "stopping.h"
+#include "udp.h"
+#include "unix_socket.h"
 #include <arpa/inet.h>
 #include <errno.h>
 #include <ifaddrs.h>
 #include <net/if.h>
 #include <netdb.h>
+#include <stdbool.h>
 #include <stdio.h>
 #include <string.h>
 #include <sys/ioctl.h>
@@ -16,18 +21,19 @@
 #include <unistd.h>
 
 /* A socket, and over UDP or Ethernet its interface, with that one's address on Ethernet. */
-struct end { int at; const char *interface; uint8_t station[STATION]; };
+struct end { int socket; const char *interface; uint8_t station[STATION]; };
 
 static struct sockaddr_storage clock_address;
 static socklen_t clock_size;
 static struct end ends[MOST_INTERFACES];
 static size_t end_count;
-static char name[MOST_INTERFACES * (IFNAMSIZ + 2) + sizeof ((struct sockaddr_un *)0)->sun_path];     /* of the way in a notice */
-static int is_six, is_ethernet;
+/* What the transport is called in a notice. */
+static char name[MOST_INTERFACES * (IFNAMSIZ + 2) + sizeof ((struct sockaddr_un *)0)->sun_path];
+static bool is_six, is_ethernet;
 
 enum { MOST_DATAGRAM = 65536, ROOM_FOR_MANY = 4 << 20 };
 
-const char *way_name(void) { return name; }
+const char *transport_name(void) { return name; }
 
 /* An address of IPv4 or IPv6, at the port of general messages. */
 static void read_address(const char *text) {
@@ -41,8 +47,8 @@ static void read_address(const char *text) {
 }
 
 /* Interfaces with one MAC have the same address of IPv6 for their links: then the scope says which one it is. */
-static int is_same(const struct sockaddr *one, const struct sockaddr_storage *other) {
-    if (one == NULL || one->sa_family != other->ss_family) return 0;
+static bool is_same(const struct sockaddr *one, const struct sockaddr_storage *other) {
+    if (one == NULL || one->sa_family != other->ss_family) return false;
     if (one->sa_family == AF_INET) {
         return memcmp(&((const struct sockaddr_in *)one)->sin_addr, &((const struct sockaddr_in *)other)->sin_addr, 4) == 0;
     }
@@ -120,43 +126,45 @@ static void find_unix(const struct task *task) {
     snprintf(name, sizeof name, "%s", task->path);
 }
 
-void find_way(struct task *task) {
+void find_transport(struct task *task) {
     if (task->path != NULL) find_unix(task);
     else find_at_interfaces(task);
-    int asks_alike = task->is_survey && !task->is_of_clock && !task->site.is_collected;       /* every clock, whoever asks */
-    int is_nobodys = !task->is_kept && (task->path != NULL || !asks_alike);
+    bool asks_alike = task->is_survey && !task->is_of_clock && !task->site.is_collected;       /* every clock, whoever asks */
+    bool is_nobodys = !task->is_kept && (task->path != NULL || !asks_alike);
     if (!task->has_manager && is_nobodys) task->settings.port = port_of_nobody(task->settings.port);
 }
 
 static void open_at_interface(struct end *end) {
     const char *what;
-    end->at = is_ethernet ? open_ethernet(end->interface, end->station, &what) : open_udp(end->interface, is_six, &what);
-    if (end->at < 0) refuse("nothing was sent: %s: %s%s", what, strerror(errno), right_needed(is_ethernet));
+    end->socket = is_ethernet ? open_ethernet(end->interface, end->station, &what)
+                              : open_udp(end->interface, is_six, EVERY_MESSAGE, &what);
+    if (end->socket < 0) refuse("nothing was sent: %s: %s%s", what, strerror(errno), right_needed(is_ethernet));
 }
 
 static void open_beside(const char *path) {
     char own_path[sizeof ((struct sockaddr_un *)0)->sun_path + 32];
     int size = snprintf(own_path, sizeof own_path, "%s.%ld", path, (long)getpid());
     if ((size_t)size >= sizeof ((struct sockaddr_un *)0)->sun_path) refuse("--unix %s: the path is too long", path);
-    ends[0].at = open_unix(own_path);
+    ends[0].socket = open_unix(own_path);
 }
 
-void open_way(const struct task *task) {
+void open_transport(const struct task *task) {
     if (task->path != NULL) open_beside(task->path);
     for (size_t i = 0; i < end_count && task->path == NULL; i++) open_at_interface(&ends[i]);
 }
 
-void widen_way(void) {
+void widen_transport(void) {
     const int wanted = ROOM_FOR_MANY;
     for (size_t i = 0; i < end_count; i++) {
-        if (setsockopt(ends[i].at, SOL_SOCKET, SO_RCVBUFFORCE, &wanted, sizeof wanted) == 0) continue;
-        setsockopt(ends[i].at, SOL_SOCKET, SO_RCVBUF, &wanted, sizeof wanted);
+        if (setsockopt(ends[i].socket, SOL_SOCKET, SO_RCVBUFFORCE, &wanted, sizeof wanted) == 0) continue;
+        setsockopt(ends[i].socket, SOL_SOCKET, SO_RCVBUF, &wanted, sizeof wanted);
     }
 }
 
-void hear_every_kind(int is_every) {
+void receive_every_type(bool is_every) {
     for (size_t i = 0; i < end_count && is_ethernet; i++) {
-        if (!filter_ethernet(ends[i].at, !is_every)) complain("%s: the filter of frames: %s", ends[i].interface, strerror(errno));
+        if (filter_ethernet(ends[i].socket, !is_every)) continue;
+        complain("%s: the filter of frames: %s", ends[i].interface, strerror(errno));
     }
 }
 
@@ -166,18 +174,18 @@ static ssize_t send_frame(const struct end *end, const uint8_t *octets, size_t s
     const struct msghdr frame = { .msg_iov = parts, .msg_iovlen = FRAME_PARTS };
     write_head(head, NULL, end->station);
     join_frame(parts, head, octets, size);
-    return sendmsg(end->at, &frame, MSG_DONTWAIT);
+    return sendmsg(end->socket, &frame, MSG_DONTWAIT);
 }
 
 static ssize_t send_datagram(const struct end *end, const uint8_t *octets, size_t size) {
-    return sendto(end->at, octets, size, MSG_DONTWAIT, (struct sockaddr *)&clock_address, clock_size);
+    return sendto(end->socket, octets, size, MSG_DONTWAIT, (struct sockaddr *)&clock_address, clock_size);
 }
 
-enum sending send_out(const uint8_t *octets, size_t size) {
-    enum sending sending = NO_WAY;
+enum sending send_message(const uint8_t *octets, size_t size) {
+    enum sending sending = NO_TRANSPORT;
     for (size_t i = 0; i < end_count; i++) {
         if ((is_ethernet ? send_frame(&ends[i], octets, size) : send_datagram(&ends[i], octets, size)) >= 0) sending = OUT;
-        else if (sending == NO_WAY && (errno == EAGAIN || errno == EWOULDBLOCK || errno == ENOBUFS)) sending = NO_ROOM;
+        else if (sending == NO_TRANSPORT && (errno == EAGAIN || errno == EWOULDBLOCK || errno == ENOBUFS)) sending = NO_ROOM;
     }
     return sending;
 }
@@ -186,18 +194,18 @@ enum sending send_out(const uint8_t *octets, size_t size) {
 static const struct end *next_end(long wait) {
     static size_t latest;
     struct pollfd waits[MOST_INTERFACES];
-    for (size_t i = 0; i < end_count; i++) waits[i] = (struct pollfd){ ends[i].at, POLLIN, 0 };
+    for (size_t i = 0; i < end_count; i++) waits[i] = (struct pollfd){ ends[i].socket, POLLIN, 0 };
     if (wait_for(waits, end_count, wait) <= 0) return NULL;
     do latest = (latest + 1) % end_count;
     while (waits[latest].revents == 0);
     return &ends[latest];
 }
 
-const uint8_t *hear(size_t *size, long end) {
+const uint8_t *receive_message(size_t *size, long end) {
     static uint8_t datagram[MOST_DATAGRAM];
     for (long left; (left = end - milliseconds()) > 0 && !stopped;) {
         const struct end *from = next_end(left);
-        ssize_t found = from == NULL ? -1 : recv(from->at, datagram, sizeof datagram, MSG_DONTWAIT);
+        ssize_t found = from == NULL ? -1 : recv(from->socket, datagram, sizeof datagram, MSG_DONTWAIT);
         if (found < 0) continue;
         size_t place = is_ethernet ? message_in(datagram, (size_t)found, from->station) : 0;
         if (is_ethernet && place == 0) continue;

@@ -1,4 +1,4 @@
-#include "draw.h"
+#include "random.h"
 #include "notices.h"
 #include <errno.h>
 #include <string.h>

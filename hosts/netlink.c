@@ -1,12 +1,13 @@
 #define _GNU_SOURCE
-#include "links.h"
-#include "common.h"
+#include "netlink.h"
+#include "program.h"
 #include <errno.h>
 #include <ifaddrs.h>
 #include <linux/netlink.h>
 #include <linux/rtnetlink.h>
 #include <net/if.h>
 #include <netinet/in.h>
+#include <stdbool.h>
 #include <stdio.h>
 #include <string.h>
 #include <unistd.h>
@@ -18,13 +19,16 @@ struct network { unsigned index; sa_family_t family; uint8_t address[16], mask[1
 
 static struct network networks[MOST_NETWORKS];
 static size_t network_count;
-static int at, is_stale = 1;
+static int netlink_socket;
+static bool is_stale = true;
 
-int open_links(void) {
+int open_netlink(void) {
     struct sockaddr_nl groups = { .nl_family = AF_NETLINK, .nl_groups = RTMGRP_LINK | RTMGRP_IPV4_IFADDR | RTMGRP_IPV6_IFADDR };
-    at = socket(AF_NETLINK, SOCK_RAW | SOCK_CLOEXEC | SOCK_NONBLOCK, NETLINK_ROUTE);
-    if (at < 0 || bind(at, (struct sockaddr *)&groups, sizeof groups)) give_up("the kernel's reports of interfaces");
-    return at;
+    netlink_socket = socket(AF_NETLINK, SOCK_RAW | SOCK_CLOEXEC | SOCK_NONBLOCK, NETLINK_ROUTE);
+    if (netlink_socket < 0 || bind(netlink_socket, (struct sockaddr *)&groups, sizeof groups)) {
+        give_up("the kernel's reports of interfaces");
+    }
+    return netlink_socket;
 }
 
 /* The MTU that the kernel reports of an interface; 0 if it reports none. */
@@ -35,7 +39,7 @@ static unsigned mtu_of(const struct nlmsghdr *message) {
     while (next + sizeof(struct rtattr) <= end) {
         const struct rtattr *attribute = (const void *)next;
         if (attribute->rta_len < sizeof *attribute) break;
-        int is_mtu = attribute->rta_type == IFLA_MTU && next + RTA_LENGTH(sizeof mtu) <= end;
+        bool is_mtu = attribute->rta_type == IFLA_MTU && next + RTA_LENGTH(sizeof mtu) <= end;
         if (is_mtu) memcpy(&mtu, next + RTA_LENGTH(0), sizeof mtu);
         next += RTA_ALIGN(attribute->rta_len);
     }
@@ -44,8 +48,8 @@ static unsigned mtu_of(const struct nlmsghdr *message) {
 
 static void take_message(const struct nlmsghdr *message, link_taker *take) {
     const struct ifinfomsg *link = NLMSG_DATA(message);
-    int is_gone = message->nlmsg_type == RTM_DELLINK;
-    is_stale = 1;
+    bool is_gone = message->nlmsg_type == RTM_DELLINK;
+    is_stale = true;
     if (!is_gone && message->nlmsg_type != RTM_NEWLINK) return;
     if (message->nlmsg_len < NLMSG_LENGTH(sizeof *link) || link->ifi_family != AF_UNSPEC) return;    /* such as a bridge's of its ports */
     take((unsigned)link->ifi_index, is_gone ? LINK_GONE : LINK_CHANGED, mtu_of(message));
@@ -60,14 +64,14 @@ static void take_messages(const char *told, size_t size, link_taker *take) {
     }
 }
 
-void read_links(link_taker *take) {
+void read_netlink(link_taker *take) {
     static _Alignas(struct nlmsghdr) char told[TOLD];
     for (;;) {
-        ssize_t size = recv(at, told, sizeof told, MSG_DONTWAIT);
+        ssize_t size = recv(netlink_socket, told, sizeof told, MSG_DONTWAIT);
         if (size > 0) {
             take_messages(told, (size_t)size, take);
         } else if (size < 0 && errno == ENOBUFS) {
-            is_stale = 1;
+            is_stale = true;
             take(0, LINK_CHANGED, 0);
         } else {
             return;
@@ -87,7 +91,7 @@ static void add_network(const struct ifaddrs *one) {
     size_t size, mask_size;
     char name[IF_NAMESIZE];
     if (one->ifa_addr == NULL || one->ifa_netmask == NULL || network_count == MOST_NETWORKS) return;
-    int is_pair = (one->ifa_flags & IFF_POINTOPOINT) && one->ifa_dstaddr != NULL;       /* whose other end is meant */
+    bool is_pair = (one->ifa_flags & IFF_POINTOPOINT) && one->ifa_dstaddr != NULL;       /* whose other end is meant */
     const uint8_t *address = octets_of(is_pair ? one->ifa_dstaddr : one->ifa_addr, &size);
     const uint8_t *mask = octets_of(one->ifa_netmask, &mask_size);
     if (size == 0 || mask_size != size) return;
@@ -104,28 +108,28 @@ static void add_network(const struct ifaddrs *one) {
 /* If the kernel can't be asked, what it reported before stays. */
 static void read_networks(void) {
     struct ifaddrs *all;
-    is_stale = 0;
+    is_stale = false;
     if (getifaddrs(&all) != 0) return;
     network_count = 0;
     for (const struct ifaddrs *one = all; one != NULL; one = one->ifa_next) add_network(one);
     freeifaddrs(all);
 }
 
-static int is_in(const struct network *network, const uint8_t *address, size_t size) {
+static bool is_in(const struct network *network, const uint8_t *address, size_t size) {
     for (size_t i = 0; i < size; i++) {
-        if ((network->address[i] ^ address[i]) & network->mask[i]) return 0;
+        if ((network->address[i] ^ address[i]) & network->mask[i]) return false;
     }
-    return 1;
+    return true;
 }
 
-int is_on_link(unsigned index, const struct sockaddr *address) {
+bool is_on_link(unsigned index, const struct sockaddr *address) {
     size_t size;
     const uint8_t *octets = octets_of(address, &size);
-    if (size == 16 && octets[0] == 0xfe && (octets[1] & 0xc0) == 0x80) return 1;
+    if (size == 16 && octets[0] == 0xfe && (octets[1] & 0xc0) == 0x80) return true;
     if (is_stale) read_networks();
     for (size_t i = 0; i < network_count; i++) {
         const struct network *network = &networks[i];
-        if (network->index == index && network->family == address->sa_family && is_in(network, octets, size)) return 1;
+        if (network->index == index && network->family == address->sa_family && is_in(network, octets, size)) return true;
     }
-    return 0;
+    return false;
 }

@@ -1,6 +1,6 @@
 /* Octets that nobody can have foreseen. */
-#ifndef DRAW_H
-#define DRAW_H
+#ifndef RANDOM_H
+#define RANDOM_H
 
 #include <stddef.h>
 #include <stdint.h>

@@ -1,8 +1,9 @@
 /* What the kernel reports of this host's interfaces (rtnetlink): that one went, came or has another MTU, and which addresses are on
    its link. */
-#ifndef LINKS_H
-#define LINKS_H
+#ifndef NETLINK_H
+#define NETLINK_H
 
+#include <stdbool.h>
 #include <sys/socket.h>
 
 /* What became of the interface of an index, and the MTU that it has; 0 if it isn't known. */
@@ -10,14 +11,14 @@ enum link_event { LINK_GONE, LINK_CHANGED };
 typedef void link_taker(unsigned index, enum link_event event, unsigned mtu);
 
 /* What is to be polled. Ends the program with status 2 if the kernel reports nothing. */
-int open_links(void);
+int open_netlink(void);
 
 /* Reads what the kernel has reported by now, and hands on each event of an interface. If it reported more than was kept, each
    interface may have changed: index 0. */
-void read_links(link_taker *take);
+void read_netlink(link_taker *take);
 
 /* Whether an address of IPv4 or IPv6 belongs to a network at the interface: that of one of its own addresses. With IPv6 it may
    also be an address of the link. */
-int is_on_link(unsigned index, const struct sockaddr *address);
+bool is_on_link(unsigned index, const struct sockaddr *address);
 
 #endif

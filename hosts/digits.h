@@ -1,0 +1,14 @@
+/* Numbers and octets in the words of a command line or of a file. */
+#ifndef DIGITS_H
+#define DIGITS_H
+
+#include <stddef.h>
+#include <stdint.h>
+
+/* A number of decimal digits alone, at most `most`; -1 if the text is none. */
+long decimal(const char *text, long most);
+
+/* Two hexadecimal digits in either case an octet, as many as there are up to `most`; how many octets they are. */
+size_t read_octets(const char **text, uint8_t *octets, size_t most);
+
+#endif

@@ -1,0 +1,26 @@
+/* The places of members in a message, as octets from its begin. They are in the header of all messages (IEEE 1588-2019, 13.3), in
+   the head of a management message (15.4), and in its TLV (15.5). */
+#ifndef MESSAGE_PLACES_H
+#define MESSAGE_PLACES_H
+
+enum {
+    TYPE_AT = 0,                /* messageType, in the lower half of the octet */
+    VERSION_AT = 1,             /* versionPTP, in the lower half */
+    LENGTH_AT = 2,              /* messageLength */
+    DOMAIN_AT = 4,              /* domainNumber */
+    SOURCE_AT = 20,             /* sourcePortIdentity, a clockIdentity */
+    SOURCE_PORT_AT = 28,        /* and its portNumber */
+    SEQUENCE_AT = 30,           /* sequenceId */
+    TARGET_AT = 34,             /* targetPortIdentity, a clockIdentity and a portNumber */
+    STARTING_HOPS_AT = 44,      /* startingBoundaryHops */
+    HOPS_AT = 45,               /* boundaryHops */
+    ACTION_AT = 46,             /* actionField, in the lower half */
+    TLV_AT = 48,                /* tlvType */
+    FIELD_AT = 54,              /* dataField */
+    LEAST_MESSAGE = FIELD_AT    /* how many octets a management message with one TLV has at least */
+};
+
+/* A half of an octet, and messageTypes. */
+enum { LOWER_HALF = 0x0f, ANNOUNCE_TYPE = 0xb, MANAGEMENT_TYPE = 0xd };
+
+#endif

@@ -1,0 +1,14 @@
+/* What each program has of its own, and how it ends if something went wrong. */
+#ifndef PROGRAM_H
+#define PROGRAM_H
+
+/* The program's own: its name, which comes before what it says on standard error. */
+extern const char program[];
+
+/* The program's own: it says how the program is called, and ends it with status 2. */
+_Noreturn void usage(void);
+
+/* Says what went wrong, with the text of errno, and ends the program with status 2. */
+_Noreturn void give_up(const char *what);
+
+#endif

@@ -1,0 +1,36 @@
+#define _GNU_SOURCE
+#include "stopping.h"
+#include <time.h>
+
+volatile sig_atomic_t stopped;
+static sigset_t while_waiting;
+
+static void stop(int number) { stopped = number; }
+
+void catch_signals(void) {
+    static const int numbers[] = { SIGHUP, SIGINT, SIGTERM };
+    struct sigaction on_end = { .sa_handler = stop }, before;
+    sigset_t held;
+    signal(SIGPIPE, SIG_IGN);
+    sigemptyset(&held);
+    for (size_t i = 0; i < sizeof numbers / sizeof *numbers; i++) {
+        if (sigaction(numbers[i], NULL, &before) == 0 && before.sa_handler == SIG_IGN) continue;
+        sigaction(numbers[i], &on_end, NULL);
+        sigaddset(&held, numbers[i]);
+    }
+    sigprocmask(SIG_BLOCK, &held, &while_waiting);
+}
+
+/* ppoll lets no signal in if it finds something at once, and in a flood it does so each time. */
+static void let_signals_in(void) {
+    sigset_t held;
+    sigprocmask(SIG_SETMASK, &while_waiting, &held);
+    sigprocmask(SIG_SETMASK, &held, NULL);
+}
+
+int wait_for(struct pollfd *waits, nfds_t count, long most) {
+    struct timespec time = { .tv_sec = most / 1000, .tv_nsec = most % 1000 * 1000000 };
+    int found = ppoll(waits, count, &time, &while_waiting);
+    if (found > 0) let_signals_in();
+    return found;
+}

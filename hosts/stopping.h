@@ -1,0 +1,18 @@
+/* Signals that ask a program to end, and waits that they end. */
+#ifndef STOPPING_H
+#define STOPPING_H
+
+#include <poll.h>
+#include <signal.h>
+
+/* The signal that asks the program to end, SIGHUP, SIGINT or SIGTERM; 0 before it. */
+extern volatile sig_atomic_t stopped;
+
+/* From now on these signals set `stopped`, and come in while `wait_for` waits and not elsewhere. One that was ignored when the
+   program began stays so. If nobody reads what the program prints, a write fails, and no SIGPIPE ends it. */
+void catch_signals(void);
+
+/* poll, for this many milliseconds at most, and until a signal comes in. */
+int wait_for(struct pollfd *waits, nfds_t count, long milliseconds);
+
+#endif

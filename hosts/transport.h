@@ -1,0 +1,38 @@
+/* The transport to the clocks that are asked, over UDP, over Ethernet or at a Unix socket: sockets, and where messages go from
+   them. */
+#ifndef TRANSPORT_H
+#define TRANSPORT_H
+
+#include "task.h"
+#include <stdbool.h>
+#include <stddef.h>
+#include <stdint.h>
+
+/* Finds the transport that the task names. If the task names no manager, its settings get the transport's own. Over UDP and
+   Ethernet that is the interface's hardware address with ff and fe in its middle. At a Unix socket it is clock 0, like that of
+   pmc. Its port is 1, or, if no numbers are kept, one of this process. Ends the program with status 2 if there is none. */
+void find_transport(struct task *task);
+
+/* Opens it. Ends the program with status 2 if it can't be opened. */
+void open_transport(const struct task *task);
+
+/* Gives its socket room for the answers of many clocks, 4 MiB as far as the system allows. */
+void widen_transport(void);
+
+/* Over Ethernet, has messages of every type come in, or, as at first, management messages alone. Elsewhere all come in. */
+void receive_every_type(bool is_every);
+
+/* What it is called in a notice. */
+const char *transport_name(void);
+
+/* What became of a message: of a request NONE_LEFT, if its attempts are used. */
+enum sending { OUT, NO_ROOM, NO_TRANSPORT, NONE_LEFT };
+
+/* Hands a message to the socket, and waits for no room there. If it answers NO_TRANSPORT, errno says why. */
+enum sending send_message(const uint8_t *octets, size_t size);
+
+/* The next message that comes in before a time. It stays until the next call, and octets may follow it. NULL if none does, or a
+   signal asks the program to end. */
+const uint8_t *receive_message(size_t *size, long end);
+
+#endif

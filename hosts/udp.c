@@ -1,0 +1,105 @@
+#define _GNU_SOURCE
+#include "udp.h"
+#include "message_places.h"
+#include "socket_option.h"
+#include <arpa/inet.h>
+#include <errno.h>
+#include <linux/filter.h>
+#include <net/if.h>
+#include <stdbool.h>
+#include <string.h>
+#include <unistd.h>
+
+socklen_t group(struct sockaddr_storage *to, bool is_six) {
+    if (is_six) {
+        static const struct in6_addr address = { .s6_addr = { 0xff, 0x0e, [14] = 0x01, 0x81 } };        /* ff0e::181 */
+        struct sockaddr_in6 *six = (struct sockaddr_in6 *)to;
+        *six = (struct sockaddr_in6){ .sin6_family = AF_INET6, .sin6_port = htons(GENERAL_PORT), .sin6_addr = address };
+        return sizeof *six;
+    }
+    struct sockaddr_in *four = (struct sockaddr_in *)to;
+    *four = (struct sockaddr_in){
+        .sin_family = AF_INET, .sin_port = htons(GENERAL_PORT), .sin_addr.s_addr = htonl(0xe0000181),      /* 224.0.1.129 */
+    };
+    return sizeof *four;
+}
+
+enum { UDP_HEAD = 8 };
+
+/* Of datagrams, which begin with their UDP header here, those whose messageType is 0xD. An empty one has none. */
+static const struct sock_filter wanted[] = {
+    BPF_STMT(BPF_LD | BPF_B | BPF_ABS, UDP_HEAD + TYPE_AT),
+    BPF_STMT(BPF_ALU | BPF_AND | BPF_K, LOWER_HALF),
+    BPF_JUMP(BPF_JMP | BPF_JEQ | BPF_K, MANAGEMENT_TYPE, 1, 0),
+    BPF_STMT(BPF_RET | BPF_K, 0),
+    BPF_STMT(BPF_RET | BPF_K, 65535),
+};
+
+static bool filter_messages(int socket, const char **what) {
+    const struct sock_fprog filter = { .len = sizeof wanted / sizeof *wanted, .filter = (struct sock_filter *)wanted };
+    return set_option(socket, SOL_SOCKET, SO_ATTACH_FILTER, &filter, sizeof filter, what, "SO_ATTACH_FILTER");
+}
+
+static bool join_four(int socket, const struct sockaddr_in *address, unsigned interface, const char **what) {
+    int none = 0;
+    struct sockaddr_in any = { .sin_family = AF_INET, .sin_port = htons(GENERAL_PORT) };
+    struct ip_mreqn join = { .imr_multiaddr = address->sin_addr, .imr_ifindex = (int)interface };
+    *what = "UDP port 320";
+    return bind(socket, (struct sockaddr *)&any, sizeof any) == 0
+           && set_option(socket, IPPROTO_IP, IP_ADD_MEMBERSHIP, &join, sizeof join, what, "IP_ADD_MEMBERSHIP")
+           && set_option(socket, IPPROTO_IP, IP_MULTICAST_IF, &join, sizeof join, what, "IP_MULTICAST_IF")
+           && set_option(socket, IPPROTO_IP, IP_MULTICAST_LOOP, &none, sizeof none, what, "IP_MULTICAST_LOOP");
+}
+
+static bool join_six(int socket, const struct sockaddr_in6 *address, unsigned interface, const char **what) {
+    int one = 1, none = 0;
+    struct sockaddr_in6 any = { .sin6_family = AF_INET6, .sin6_port = htons(GENERAL_PORT) };
+    struct ipv6_mreq join = { .ipv6mr_multiaddr = address->sin6_addr, .ipv6mr_interface = interface };
+    if (!set_option(socket, IPPROTO_IPV6, IPV6_V6ONLY, &one, sizeof one, what, "IPV6_V6ONLY")) return false;
+    *what = "UDP port 320";
+    return bind(socket, (struct sockaddr *)&any, sizeof any) == 0
+           && set_option(socket, IPPROTO_IPV6, IPV6_ADD_MEMBERSHIP, &join, sizeof join, what, "IPV6_ADD_MEMBERSHIP")
+           && set_option(socket, IPPROTO_IPV6, IPV6_MULTICAST_IF, &interface, sizeof interface, what, "IPV6_MULTICAST_IF")
+           && set_option(socket, IPPROTO_IPV6, IPV6_MULTICAST_LOOP, &none, sizeof none, what, "IPV6_MULTICAST_LOOP");
+}
+
+/* The socket hears nothing until it is bound, and by then it has its filter. */
+static bool join_group(int socket, const char *interface, bool is_six, enum messages messages, const char **what) {
+    int one = 1;
+    unsigned index = if_nametoindex(interface);
+    struct sockaddr_storage to;
+    group(&to, is_six);
+    return index != 0 && (messages == EVERY_MESSAGE || filter_messages(socket, what))
+           && set_option(socket, SOL_SOCKET, SO_REUSEADDR, &one, sizeof one, what, "SO_REUSEADDR")
+           && set_option(socket, SOL_SOCKET, SO_BINDTODEVICE, interface, strlen(interface) + 1, what, "SO_BINDTODEVICE")
+           && (is_six ? join_six(socket, (struct sockaddr_in6 *)&to, index, what)
+                      : join_four(socket, (struct sockaddr_in *)&to, index, what));
+}
+
+int open_udp(const char *interface, bool is_six, enum messages messages, const char **what) {
+    *what = interface;
+    int opened = socket(is_six ? AF_INET6 : AF_INET, SOCK_DGRAM | SOCK_CLOEXEC, 0);
+    if (opened < 0 || join_group(opened, interface, is_six, messages, what)) return opened;
+    int failure = errno;
+    close(opened);
+    errno = failure;
+    return -1;
+}
+
+const char *right_needed(bool is_ethernet) {
+    if (errno != EACCES && errno != EPERM) return "";
+    return is_ethernet ? ": it takes root, or the capability CAP_NET_RAW" : ": it takes root, or the capability CAP_NET_BIND_SERVICE";
+}
+
+bool join_again(int socket, unsigned interface, bool is_six) {
+    struct sockaddr_storage to;
+    group(&to, is_six);
+    if (is_six) {
+        struct ipv6_mreq join = { .ipv6mr_multiaddr = ((struct sockaddr_in6 *)&to)->sin6_addr, .ipv6mr_interface = interface };
+        setsockopt(socket, IPPROTO_IPV6, IPV6_DROP_MEMBERSHIP, &join, sizeof join);
+        return setsockopt(socket, IPPROTO_IPV6, IPV6_ADD_MEMBERSHIP, &join, sizeof join) == 0;
+    }
+    struct ip_mreqn join = { .imr_multiaddr = ((struct sockaddr_in *)&to)->sin_addr, .imr_ifindex = (int)interface };
+    setsockopt(socket, IPPROTO_IP, IP_DROP_MEMBERSHIP, &join, sizeof join);
+    return setsockopt(socket, IPPROTO_IP, IP_ADD_MEMBERSHIP, &join, sizeof join) == 0;
+}

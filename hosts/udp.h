@@ -1,0 +1,29 @@
+/* The socket of a port over UDP. */
+#ifndef UDP_H
+#define UDP_H
+
+#include <stdbool.h>
+#include <sys/socket.h>
+
+/* UDP port of all messages except those of events. */
+enum { GENERAL_PORT = 320 };
+
+/* What a socket hears. The kernel drops the rest before the program wakes, and counts it as errors of UDP. */
+enum messages { EVERY_MESSAGE, MANAGEMENT_MESSAGES };
+
+/* A socket at UDP port 320 of an interface, in the group of PTP there (IEEE 1588-2019, annexes C and D). It hears nothing of
+   what this host sends. -1 if it can't be made: errno says why, and *what at which step. */
+int open_udp(const char *interface, bool is_six, enum messages messages, const char **what);
+
+/* Which right it takes to open such a socket, or one of Ethernet, as a text that follows that of errno. It is empty if errno is
+   about no right. */
+const char *right_needed(bool is_ethernet);
+
+/* The address of that group, and its size. */
+socklen_t group(struct sockaddr_storage *to, bool is_six);
+
+/* Joins that group once more at an interface whose memberships may be gone, for example since its MTU was too small. Whether it is
+   done. */
+bool join_again(int socket, unsigned interface, bool is_six);
+
+#endif

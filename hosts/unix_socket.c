@@ -1,0 +1,104 @@
+#define _GNU_SOURCE
+#include "unix_socket.h"
+#include "digits.h"
+#include "program.h"
+#include <dirent.h>
+#include <errno.h>
+#include <libgen.h>
+#include <limits.h>
+#include <signal.h>
+#include <stdbool.h>
+#include <stdio.h>
+#include <stdlib.h>
+#include <string.h>
+#include <sys/socket.h>
+#include <sys/stat.h>
+#include <sys/un.h>
+#include <unistd.h>
+
+static struct sockaddr_un own_path = { .sun_family = AF_UNIX };
+static struct stat own_file;
+
+/* Removes a socket at the path if no program listens at it. */
+static void remove_unheard(const char *path) {
+    struct sockaddr_un address = { .sun_family = AF_UNIX };
+    struct stat found;
+    if (strlen(path) >= sizeof address.sun_path || lstat(path, &found) || !S_ISSOCK(found.st_mode)) return;
+    strcpy(address.sun_path, path);
+    int probe = socket(AF_UNIX, SOCK_DGRAM | SOCK_CLOEXEC, 0);
+    if (probe < 0) give_up(path);
+    if (connect(probe, (const struct sockaddr *)&address, sizeof address) && errno == ECONNREFUSED) unlink(path);
+    close(probe);
+}
+
+/* Whether a name is another with a dot and the number of a process after it, and there is no such process. */
+static bool is_of_gone_process(const char *name, const char *base) {
+    size_t size = strlen(base);
+    if (strncmp(name, base, size) != 0 || name[size] != '.') return false;
+    long process = decimal(name + size + 1, INT_MAX);
+    return process > 0 && kill((pid_t)process, 0) != 0 && errno == ESRCH;
+}
+
+/* Removes the sockets that programs which are gone left beside the one at a path. */
+static void remove_beside(const char *path) {
+    char folder[PATH_MAX], name[PATH_MAX], beside[2 * PATH_MAX];
+    if (strlen(path) >= PATH_MAX) return;
+    const char *base = basename(strcpy(name, path)), *parent = dirname(strcpy(folder, path));
+    DIR *all = opendir(parent);
+    for (const struct dirent *one; all != NULL && (one = readdir(all)) != NULL;) {
+        if (!is_of_gone_process(one->d_name, base)) continue;
+        snprintf(beside, sizeof beside, "%s/%s", parent, one->d_name);
+        remove_unheard(beside);
+    }
+    if (all != NULL) closedir(all);
+}
+
+void remove_left_over(const char *path) {
+    remove_unheard(path);
+    remove_beside(path);
+}
+
+/* What is at the path by now may be another program's. */
+static void remove_own(void) {
+    struct stat found;
+    if (lstat(own_path.sun_path, &found) || found.st_dev != own_file.st_dev || found.st_ino != own_file.st_ino) return;
+    unlink(own_path.sun_path);
+}
+
+int bind_unix(const char *path, mode_t mode) {
+    if (strlen(path) >= sizeof own_path.sun_path) usage();
+    strcpy(own_path.sun_path, path);
+    int opened = socket(AF_UNIX, SOCK_DGRAM | SOCK_CLOEXEC, 0);
+    mode_t before = umask(~mode & 0777);
+    if (opened < 0 || bind(opened, (struct sockaddr *)&own_path, sizeof own_path)) give_up(path);
+    umask(before);
+    return opened;
+}
+
+int open_unix_as(const char *path, mode_t mode) {
+    remove_unheard(path);
+    int opened = bind_unix(path, mode);
+    if (lstat(path, &own_file) || atexit(remove_own)) give_up(path);
+    return opened;
+}
+
+/* Whether files that are made from now on get the group of the file at a path. The program may lack the right to that. */
+static bool take_group_of(const char *path) {
+    struct stat found;
+    return stat(path, &found) == 0 && setegid(found.st_gid) == 0;
+}
+
+int open_unix(const char *path) {
+    char base[sizeof own_path.sun_path];
+    gid_t before = getegid();
+    bool has_its_group = false;
+    const char *dot = strrchr(path, '.');
+    if (dot != NULL && strlen(path) < sizeof base) {
+        snprintf(base, sizeof base, "%.*s", (int)(dot - path), path);
+        remove_beside(base);
+        has_its_group = take_group_of(base);
+    }
+    int opened = open_unix_as(path, 0660);
+    if (has_its_group && setegid(before)) give_up(path);
+    return opened;
+}
