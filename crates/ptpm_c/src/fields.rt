@@ -7,11 +7,11 @@ ghost use Rattle.ptpm_host.specs.Names.{id_at, no_id};
 ghost use Rattle.ptpm_host.specs.declared.refusal.ParseRefusal.{ParseRefusal};
 ghost use Rattle.ptpm_host.specs.declared.refusal.ParseRefusal.TheVariants.{NotWords};
 ghost use Rattle.ptpm_host.specs.Parsing.{IsParsed};
-ghost use Rattle.ptpm_host.specs.Texts.{IsHandedOut};
+ghost use Rattle.ptpm_host.specs.Texts.{HandsOut};
 ghost use Rattle.ptpm_host.specs.Words.{AreWords, most_words};
 ghost use Rattle.ptpm_members.specs.FieldText.{field_text};
 
-use ptpm_host::{NO_ID, hand_out_text, id_at, parse_field, parse_number};
+use ptpm_host::{NO_ID, hand_out_lines, id_at, parse_field, parse_number};
 use ptpm_members::FieldText;
 
 /// The managementId at this place of this profile's, which are in ascending order and counted from 0. 65,536, which is no id, past
@@ -29,17 +29,19 @@ pub extern "C" fn ptpm_id_at(place: usize) -> u32
 
 /// Leaves the members of a dataField of this id at the head of `text`, a line each, the member's name in the standard and its
 /// value, and answers how many octets they have. If the octets are no dataField of the id, one line has them in hexadecimal. 0 if
-/// there is no room for all lines; what `text` holds then is not said. What comes after the lines stays.
+/// there is no room for all lines, and then alone; what `text` holds then is not said. What comes after the lines stays.
 #[unsafe(no_mangle)]
 pub extern "C" fn ptpm_field_text(id: u16, octets: &[u8], text: &mut [u8]) -> usize
-    ensures { result ≢ 0 → IsHandedOut (field_text [] id octets.now) result text.old text.new }
+    ensures lines { result ≢ 0
+        → HandsOut (field_text [] id octets.now) (Some result) text.old text.new }
+    ensures no_room { result ≡ 0 → length text.old < length (field_text [] id octets.now) }
 {
-    let members = FieldText {
+    let lines = FieldText {
         lead: "",
         id,
         octets,
     };
-    hand_out_text(members, text).unwrap_or(0)
+    hand_out_lines(&lines, text).unwrap_or(0)
 }
 
 /// Leaves the dataField that words mean for a SET of this id at the head of `octets`, `count` octets: 0, or the number of the

@@ -1,3 +1,4 @@
+pub mod CellLemmas
 pub mod FreshClock
 pub mod IdentityTextLemmas
 pub mod Naming

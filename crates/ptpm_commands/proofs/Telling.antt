@@ -15,7 +15,7 @@ use Rattle.ptpm_table.specs.Outbox.{sent}
 use Rattle.ptpm_commands.specs.Answer.{answered, answered_each, sent_line, sent_lines, state_behind}
 use Rattle.ptpm_commands.specs.Ids.{id_line, letter, row_line, scope_text, table_lines}
 use Rattle.ptpm_commands.specs.declared.show.Values.{Values}
-use Rattle.ptpm_commands.specs.Show.{AreShown, message_lines, named_line}
+use Rattle.ptpm_commands.specs.Show.{AreShown, message_lines, named_line, row_lines}
 use Rattle.ptpm_script.specs.OctetText.{text_of_octets}
 
 -- ---- at a clock
@@ -119,21 +119,21 @@ all-rows = refl
 -- ---- messages that are shown
 
 pub shown-none : (form : Values) (before : Option (List ℕ)) → AreShown form before before
-shown-none form before = record { messages = []; printed = Appends-nil before }
+shown-none form before = record { rows = []; printed = Appends-nil before }
 
-pub shown-one : (form : Values) (before after : Option (List ℕ)) (m : Message)
-    → Appends before after (message_lines form m)
+pub shown-one : (form : Values) (before after : Option (List ℕ)) (columns : List (List ℕ)) (m : Message)
+    → Appends before after (message_lines form columns m)
     → AreShown form before after
-shown-one form before after m wrote = record {
-  messages = m ∷ [];
-  printed = subst (Appends before after) (sym (append-nil (message_lines form m))) wrote;
+shown-one form before after columns m wrote = record {
+  rows = (columns, m) ∷ [];
+  printed = subst (Appends before after) (sym (append-nil (message_lines form columns m))) wrote;
 }
 
 pub shown-both : (form : Values) (a b c : Option (List ℕ)) → AreShown form a b → AreShown form b c → AreShown form a c
 shown-both form a b c p q = record {
-  messages = p.messages ++ q.messages;
-  printed = subst (Appends a c) (sym (flat_map-append (message_lines form) p.messages q.messages)) (Appends-trans a b c _ _ p.printed q.printed);
+  rows = p.rows ++ q.rows;
+  printed = subst (Appends a c) (sym (flat_map-append (row_lines form) p.rows q.rows)) (Appends-trans a b c _ _ p.printed q.printed);
 }
 
 pub shown-kept : (form : Values) (a b c : Option (List ℕ)) → AreShown form a b → Keeps b c → AreShown form a c
-shown-kept form a b c p kept = record { messages = p.messages; printed = Appends-kept a b c _ p.printed kept }
+shown-kept form a b c p kept = record { rows = p.rows; printed = Appends-kept a b c _ p.printed kept }

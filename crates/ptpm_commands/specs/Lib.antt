@@ -1,4 +1,5 @@
 pub mod Answer
+pub mod Columns
 pub mod DatagramLine
 pub mod Faults
 pub mod FreshClock

@@ -85,16 +85,24 @@ body_lines form m =
 
 -- ---- the whole
 
-abbrev pub field_lines : Values → Message → List ℕ
-field_lines form m = header_lines m ++ body_lines form m
+-- what came before the octets of a message in its line, a line for each column
+abbrev pub column_line : List ℕ → List ℕ
+column_line column = line (codes "column ") column
 
-abbrev pub object_line : Message → List ℕ
-object_line m = message_text m ++ 10 ∷ []
+unfoldable pub column_lines : List (List ℕ) → List ℕ
+column_lines columns = flat_map column_line columns
 
-abbrev pub message_lines : Values → Message → List ℕ
-message_lines values.Octets m = field_lines values.Octets m
-message_lines values.Members m = field_lines values.Members m
-message_lines values.Json m = object_line m
+abbrev pub field_lines : Values → List (List ℕ) → Message → List ℕ
+field_lines form columns m = column_lines columns ++ header_lines m ++ body_lines form m
+
+abbrev pub object_line : List (List ℕ) → Message → List ℕ
+object_line columns m = message_text columns m ++ 10 ∷ []
+
+-- a message, and the columns that came with it
+abbrev pub message_lines : Values → List (List ℕ) → Message → List ℕ
+message_lines values.Octets columns m = field_lines values.Octets columns m
+message_lines values.Members columns m = field_lines values.Members columns m
+message_lines values.Json columns m = object_line columns m
 
 -- the message of a datagram, or why it holds none
 abbrev pub read_as : Result Message DecodeError → Result Message Fault
@@ -109,11 +117,14 @@ message_by (Err error) = Err faults.BadHex
 abbrev pub message_of : List ℕ → Result Message Fault
 message_of digits = message_by (decode_of digits)
 
--- a writer took the lines of a message that was read
-abbrev pub IsShown : Values → Result Message Fault → Option (List ℕ) → Option (List ℕ) → Type 0
-IsShown form read before after = (m : Message) × ((read ≡ Ok m) × Appends before after (message_lines form m))
+-- a writer took the lines of a message that was read, with these columns
+abbrev pub IsShown : Values → List (List ℕ) → Result Message Fault → Option (List ℕ) → Option (List ℕ) → Type 0
+IsShown form columns read before after = (m : Message) × ((read ≡ Ok m) × Appends before after (message_lines form columns m))
 
--- a writer took the lines of some messages
+abbrev pub row_lines : Values → List (List ℕ) × Message → List ℕ
+row_lines form row = message_lines form row.0 row.1
+
+-- a writer took the lines of some messages, each with its columns
 pub record AreShown (form : Values) (before after : Option (List ℕ)) : Type 0 where
-  pub messages : List Message
-  pub printed : Appends before after (flat_map (message_lines form) messages)
+  pub rows : List (List (List ℕ) × Message)
+  pub printed : Appends before after (flat_map (row_lines form) rows)

@@ -3,6 +3,7 @@
 
 pub mod answer;
 mod clock;
+mod columns;
 mod datagram_line;
 mod faults;
 mod identity_text;

@@ -4,6 +4,7 @@ ghost use Rattle.std.specs.Prelude.{◌≡◌, IfErr, OnOk, true};
 ghost use Rattle.std.specs.Io.KnownBytes.{Keeps};
 ghost use Rattle.ptpm_commands.specs.Faults.{IsAtLine, is_outside};
 
+use crate::columns::{Row, row_of};
 use crate::datagram_line::datagram_of;
 use crate::faults::Fault;
 use std::alloc::Global;
@@ -85,6 +86,17 @@ impl<R: Read + Drop> Lines<R> {
     /// Whether the next line, its end too, is at hand, so that reading it waits for nothing.
     fn has_next(&self) -> bool {
         self.reader.buffer().contains(&b'\n')
+    }
+
+    /// The columns and the datagram of the line that was read last, which has this number.
+    pub(crate) fn row(&self, alloc: Global, number: u64) -> Result<Row<'_>, Fault>
+        ensures { IfErr result (λ e. IsAtLine number e) }
+    {
+        let row = match std::str::from_utf8(self.line.as_slice()) {
+            Ok(line) => row_of(alloc, line),
+            Err(_) => Err(Fault::BadHex),
+        };
+        row.map_err(|fault| fault.at_line(number))
     }
 
     /// The datagram of the line that was read last, which has this number; `None` if the line is `nothing`.

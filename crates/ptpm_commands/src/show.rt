@@ -1,13 +1,14 @@
 //! `ptpm show`: the fields of a message, a line each or as an object of JSON.
 
-ghost use Rattle.std.specs.Prelude.{◌≡◌, ◌≢◌, ◌≤◌, Err, IfErr, OnOk, codes, false, true};
+ghost use Rattle.std.specs.Prelude.{◌≡◌, ◌≢◌, ◌≤◌, [], Err, IfErr, OnOk, codes, false, map, true};
 ghost use Rattle.std.specs.Io.KnownBytes.{Appends};
 ghost use Rattle.ptpm_codec.specs.Message.{error_of, id_of, octets_of, text_of};
 ghost use Rattle.ptpm_codec.specs.Reading.{reading};
 ghost use Rattle.ptpm_data.specs.ManagementId.{row_of};
 ghost use Rattle.ptpm_commands.specs.Faults.{IsAtLine, IsAtSomeLine, is_of_line, is_outside};
-ghost use Rattle.ptpm_commands.specs.Show.{AreShown, IsShown, action_lines, body_lines, data_lines, error_named, field_lines, header_lines, identity_lines, message_lines, message_of, named_line, object_line, read_as, row_name, sdo_line, value_lines};
+ghost use Rattle.ptpm_commands.specs.Show.{AreShown, IsShown, action_lines, body_lines, column_lines, data_lines, error_named, field_lines, header_lines, identity_lines, message_lines, message_of, named_line, object_line, read_as, row_name, sdo_line, value_lines};
 
+use crate::columns::Row;
 use crate::faults::{Fault, tell};
 use crate::lines::Lines;
 use ptpm_codec::{ErrorId, View, view};
@@ -33,7 +34,7 @@ pub enum Values {
 /// Prints the message that the text spells in hexadecimal, its dataField by its octets.
 pub fn show<O: Write>(alloc: Global, text: &str, out: &mut O) -> Result<(), Fault>
     ensures shown { OnOk result
-        (IsShown Values.Octets (message_of text.now) (O.contents out.old) (O.contents out.new)) }
+        (IsShown Values.Octets [] (message_of text.now) (O.contents out.old) (O.contents out.new)) }
     ensures fault { IfErr result (λ e. is_outside e ≡ false → message_of text.now ≡ Err e) }
     ensures unprinted { IfErr result
         (λ e. e ≢ Fault.WriteFault → O.contents out.new ≡ O.contents out.old) }
@@ -44,13 +45,13 @@ pub fn show<O: Write>(alloc: Global, text: &str, out: &mut O) -> Result<(), Faul
 /// Prints the message that the text spells in hexadecimal.
 pub fn show_as<O: Write>(alloc: Global, form: Values, text: &str, out: &mut O) -> Result<(), Fault>
     ensures shown { OnOk result
-        (IsShown form (message_of text.now) (O.contents out.old) (O.contents out.new)) }
+        (IsShown form [] (message_of text.now) (O.contents out.old) (O.contents out.new)) }
     ensures fault { IfErr result (λ e. is_outside e ≡ false → message_of text.now ≡ Err e) }
     ensures unprinted { IfErr result
         (λ e. e ≢ Fault.WriteFault → O.contents out.new ≡ O.contents out.old) }
 {
     let datagram = hex::decode(alloc, text)?;
-    show_datagram(alloc, form, datagram.as_slice(), out)
+    show_datagram(alloc, form, &[], datagram.as_slice(), out)
 }
 
 /// Prints the message of each line of a reader, one after another, each dataField by its octets. A line that is `nothing` is
@@ -67,8 +68,8 @@ pub fn show_lines<R: Read + Drop, O: Write>(
     show_lines_as(alloc, Values::Octets, reader, out)
 }
 
-/// Prints the message of each line of a reader, one after another. A line that is `nothing` is passed over; the first that
-/// holds no management message is a fault.
+/// Prints the message of each line of a reader, one after another, and the columns of its line: the texts before each of its
+/// tabs. A line that is `nothing` is passed over; the first that holds no management message is a fault.
 pub fn show_lines_as<R: Read + Drop, O: Write>(
     alloc: Global,
     form: Values,
@@ -145,19 +146,18 @@ fn show_next<R: Read + Drop, O: Write>(
     if !lines.read(number)? {
         return Ok(false);
     }
-    if let Some(datagram) = lines.datagram(alloc, number)? {
-        show_at(alloc, number, form, datagram.as_slice(), out)?;
-    }
+    let row = lines.row(alloc, number)?;
+    show_row(alloc, number, form, &row, out)?;
     lines.flush_before_wait(out)?;
     Ok(true)
 }
 
-/// Prints the message of a datagram in the line of this number, which a fault of it names.
-fn show_at<O: Write>(
+/// Prints the message of the line of this number, if it has one. A fault of the line names it.
+fn show_row<O: Write>(
     alloc: Global,
     number: u64,
     form: Values,
-    datagram: &[u8],
+    row: &Row<'_>,
     out: &mut O,
 ) -> Result<(), Fault>
     ensures shown { OnOk result (AreShown form (O.contents out.old) (O.contents out.new)) }
@@ -165,7 +165,16 @@ fn show_at<O: Write>(
     ensures unprinted { IfErr result
         (λ e. is_of_line e ≡ true → O.contents out.new ≡ O.contents out.old) }
 {
-    match show_datagram(alloc, form, datagram, out) {
+    let Some(datagram) = &row.datagram else {
+        return Ok(());
+    };
+    match show_datagram(
+        alloc,
+        form,
+        row.columns.as_slice(),
+        datagram.as_slice(),
+        out,
+    ) {
         Ok(()) => Ok(()),
         Err(fault) => Err(fault.at_line(number)),
     }
@@ -174,65 +183,90 @@ fn show_at<O: Write>(
 fn show_datagram<O: Write>(
     alloc: Global,
     form: Values,
+    columns: &[&str],
     datagram: &[u8],
     out: &mut O,
 ) -> Result<(), Fault>
     ensures shown { OnOk result
-        (IsShown form (read_as (reading datagram.now)) (O.contents out.old) (O.contents out.new)) }
+        (IsShown form (map (λ c. c.now) columns.now) (read_as (reading datagram.now)) (O.contents out.old) (O.contents out.new)) }
     ensures fault { IfErr result
         (λ e. is_outside e ≡ false → read_as (reading datagram.now) ≡ Err e) }
     ensures unprinted { IfErr result
         (λ e. e ≢ Fault.WriteFault → O.contents out.new ≡ O.contents out.old) }
 {
     let message = view(datagram)?;
-    show_message(alloc, form, &message, out)?;
+    show_message(alloc, form, columns, &message, out)?;
     Ok(())
 }
 
 fn show_message<O: Write>(
     alloc: Global,
     form: Values,
+    columns: &[&str],
     message: &View<'_>,
     out: &mut O,
 ) -> Result<(), Fault>
     requires { message.now.sdo ≤ 4095 }
     ensures shown { OnOk result (Appends (O.contents out.old) (O.contents out.new)
-        (message_lines form message.now)) }
+        (message_lines form (map (λ c. c.now) columns.now) message.now)) }
     ensures fault { IfErr result (λ e. is_outside e ≡ true) }
     ensures unprinted { IfErr result
         (λ e. e ≢ Fault.WriteFault → O.contents out.new ≡ O.contents out.old) }
 {
     match form {
-        Values::Octets => show_fields(Values::Octets, message, out),
-        Values::Members => show_fields(Values::Members, message, out),
-        Values::Json => show_object(alloc, message, out),
+        Values::Octets => show_fields(Values::Octets, columns, message, out),
+        Values::Members => show_fields(Values::Members, columns, message, out),
+        Values::Json => show_object(alloc, columns, message, out),
     }
 }
 
 /// Prints a message as one object of JSON, in a line.
-fn show_object<O: Write>(alloc: Global, message: &View<'_>, out: &mut O) -> Result<(), Fault>
+fn show_object<O: Write>(
+    alloc: Global,
+    columns: &[&str],
+    message: &View<'_>,
+    out: &mut O,
+) -> Result<(), Fault>
     ensures shown { OnOk result (Appends (O.contents out.old) (O.contents out.new)
-        (object_line message.now)) }
+        (object_line (map (λ c. c.now) columns.now) message.now)) }
     ensures fault { IfErr result (λ e. is_outside e ≡ true) }
     ensures unprinted { IfErr result
         (λ e. e ≢ Fault.WriteFault → O.contents out.new ≡ O.contents out.old) }
 {
-    let text = message_text(alloc, message)?;
+    let text = message_text(alloc, columns, message)?;
     writeln!(out, "{}", text.as_str())?;
     Ok(())
 }
 
-/// Prints the fields of a message, a line each.
-fn show_fields<O: Write>(form: Values, message: &View<'_>, out: &mut O) -> Result<(), Fault>
+/// Prints columns, and the fields of a message, a line each.
+fn show_fields<O: Write>(
+    form: Values,
+    columns: &[&str],
+    message: &View<'_>,
+    out: &mut O,
+) -> Result<(), Fault>
     requires { message.now.sdo ≤ 4095 }
     ensures shown { OnOk result (Appends (O.contents out.old) (O.contents out.new)
-        (field_lines form message.now)) }
+        (field_lines form (map (λ c. c.now) columns.now) message.now)) }
     ensures fault { IfErr result (λ e. is_outside e ≡ true) }
     ensures unprinted { IfErr result
         (λ e. e ≢ Fault.WriteFault → O.contents out.new ≡ O.contents out.old) }
 {
+    show_columns(columns, out)?;
     show_header(message, out)?;
     show_body(form, message, out)?;
+    Ok(())
+}
+
+/// What came before the octets of a message in its line.
+#[tactic(auto, unfolding(crate::specs::Show::column_lines))]
+fn show_columns<O: Write>(columns: &[&str], out: &mut O) -> io::Result<()>
+    ensures { OnOk result (Appends (O.contents out.old) (O.contents out.new)
+        (column_lines (map (λ c. c.now) columns.now))) }
+{
+    for column in columns {
+        writeln!(out, "column {column}")?;
+    }
     Ok(())
 }
 

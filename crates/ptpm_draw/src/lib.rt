@@ -12,8 +12,6 @@ mod picture;
 mod shapes;
 mod sizes;
 mod strokes;
-#[cfg(test)]
-mod tests;
 mod text;
 mod words;
 

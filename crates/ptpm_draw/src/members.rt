@@ -2,7 +2,8 @@
 
 use crate::changes::Change;
 use ptpm_codec::OutOfMemory;
-use ptpm_data::{DataSets, Member, Value};
+use ptpm_data::{DataSets, Layout, Member as DataSetMember, Value};
+use ptpm_members::{Field, Form, Member, fields};
 use ptpm_script::Hexadecimal;
 use std::alloc::Global;
 use std::fmt;
@@ -18,139 +19,26 @@ enum DataSet {
     Port,
 }
 
-/// How a member is written in a dataField.
-#[derive(Clone, Copy)]
-enum Kind {
-    /// A number without a sign, in this many octets.
-    Unsigned(usize),
-    /// A number in two's complement.
-    Signed(usize),
-    /// These bits of an octet.
-    Flag(u8),
-    Identity,
-    PortIdentity,
-    /// A PTPText, whose first octet says how many others it has (5.3.9).
-    Text,
-}
+/// Those that have a clock's members.
+const OF_CLOCK: [DataSet; 5] = [
+    DataSet::UserDescription,
+    DataSet::Default,
+    DataSet::Current,
+    DataSet::Parent,
+    DataSet::TimeProperties,
+];
+
+/// That which has a port's members.
+const OF_PORT: [DataSet; 1] = [DataSet::Port];
 
 /// A member, and where its value is: in which dataField, from which octet on, and how.
-type Field = (Member, DataSet, usize, Kind);
-
-/// The members of a clock, in the order of the bits of `ClockMembers`.
-const CLOCK_FIELDS: [Field; 30] = [
-    (Member::Identity, DataSet::Default, 10, Kind::Identity),
-    (Member::Domain, DataSet::Default, 18, Kind::Unsigned(1)),
-    (
-        Member::UserDescription,
-        DataSet::UserDescription,
-        1,
-        Kind::Text,
-    ),
-    (Member::TwoStep, DataSet::Default, 0, Kind::Flag(1)),
-    (Member::Priority1, DataSet::Default, 4, Kind::Unsigned(1)),
-    (Member::ClockClass, DataSet::Default, 5, Kind::Unsigned(1)),
-    (
-        Member::ClockAccuracy,
-        DataSet::Default,
-        6,
-        Kind::Unsigned(1),
-    ),
-    (Member::Variance, DataSet::Default, 7, Kind::Unsigned(2)),
-    (Member::Priority2, DataSet::Default, 9, Kind::Unsigned(1)),
-    (Member::StepsRemoved, DataSet::Current, 0, Kind::Unsigned(2)),
-    (
-        Member::OffsetFromMaster,
-        DataSet::Current,
-        2,
-        Kind::Signed(8),
-    ),
-    (Member::MeanPathDelay, DataSet::Current, 10, Kind::Signed(8)),
-    (Member::ParentPort, DataSet::Parent, 0, Kind::PortIdentity),
-    (Member::ParentStats, DataSet::Parent, 10, Kind::Flag(1)),
-    (
-        Member::ObservedVariance,
-        DataSet::Parent,
-        12,
-        Kind::Unsigned(2),
-    ),
-    (Member::ObservedRate, DataSet::Parent, 14, Kind::Signed(4)),
-    (
-        Member::GrandmasterPriority1,
-        DataSet::Parent,
-        18,
-        Kind::Unsigned(1),
-    ),
-    (
-        Member::GrandmasterClass,
-        DataSet::Parent,
-        19,
-        Kind::Unsigned(1),
-    ),
-    (
-        Member::GrandmasterAccuracy,
-        DataSet::Parent,
-        20,
-        Kind::Unsigned(1),
-    ),
-    (
-        Member::GrandmasterVariance,
-        DataSet::Parent,
-        21,
-        Kind::Unsigned(2),
-    ),
-    (
-        Member::GrandmasterPriority2,
-        DataSet::Parent,
-        23,
-        Kind::Unsigned(1),
-    ),
-    (Member::Grandmaster, DataSet::Parent, 24, Kind::Identity),
-    (
-        Member::UtcOffset,
-        DataSet::TimeProperties,
-        0,
-        Kind::Signed(2),
-    ),
-    (Member::Leap61, DataSet::TimeProperties, 2, Kind::Flag(1)),
-    (Member::Leap59, DataSet::TimeProperties, 2, Kind::Flag(2)),
-    (Member::UtcValid, DataSet::TimeProperties, 2, Kind::Flag(4)),
-    (
-        Member::PtpTimescale,
-        DataSet::TimeProperties,
-        2,
-        Kind::Flag(8),
-    ),
-    (
-        Member::TimeTraceable,
-        DataSet::TimeProperties,
-        2,
-        Kind::Flag(16),
-    ),
-    (
-        Member::FrequencyTraceable,
-        DataSet::TimeProperties,
-        2,
-        Kind::Flag(32),
-    ),
-    (
-        Member::TimeSource,
-        DataSet::TimeProperties,
-        3,
-        Kind::Unsigned(1),
-    ),
-];
-
-/// The members of a port, in the order of the bits of `PortMembers`.
-const PORT_FIELDS: [Field; 8] = [
-    (Member::State, DataSet::Port, 10, Kind::Unsigned(1)),
-    (Member::LogMinDelayReq, DataSet::Port, 11, Kind::Signed(1)),
-    (Member::PeerDelay, DataSet::Port, 12, Kind::Signed(8)),
-    (Member::LogAnnounce, DataSet::Port, 20, Kind::Signed(1)),
-    (Member::ReceiptTimeout, DataSet::Port, 21, Kind::Unsigned(1)),
-    (Member::LogSync, DataSet::Port, 22, Kind::Signed(1)),
-    (Member::DelayMechanism, DataSet::Port, 23, Kind::Unsigned(1)),
-    (Member::LogMinPdelay, DataSet::Port, 24, Kind::Signed(1)),
-];
+#[derive(Clone, Copy)]
+struct Place {
+    member: DataSetMember,
+    data_set: DataSet,
+    start: u8,
+    form: Form,
+}
 
 /// The members that an event changed, one a text: those of the clock, and then those of each port, after its number.
 pub(crate) fn member_texts(
@@ -160,36 +48,95 @@ pub(crate) fn member_texts(
     let mut texts = Vec::new(alloc);
     if let Some(change) = change {
         let bits = change.members.clock.0;
-        push_texts(alloc, &change.sets, 0, bits, &CLOCK_FIELDS, &mut texts)?;
+        push_texts(alloc, &change.sets, 0, bits, &OF_CLOCK, &mut texts)?;
         for port in 1..9 {
             let bits = u32::from(change.members.ports[port as usize - 1].0);
-            push_texts(alloc, &change.sets, port, bits, &PORT_FIELDS, &mut texts)?;
+            push_texts(alloc, &change.sets, port, bits, &OF_PORT, &mut texts)?;
         }
     }
     Ok(texts)
 }
 
-/// Pushes the texts of the fields whose bits are set, the lowest bit for the first; of a port, or of the clock by 0.
+/// Pushes the texts of the members whose bits are set, the lowest bit first; of a port, or of the clock by 0.
 fn push_texts(
     alloc: Global,
     sets: &DataSets,
     port: u16,
     bits: u32,
-    fields: &[Field],
+    data_sets: &[DataSet],
     texts: &mut Vec<String>,
 ) -> Result<(), OutOfMemory> {
-    let mut bit = 1u32;
-    for (member, data_set, start, kind) in fields {
-        if bits & bit != 0 {
-            let mut octets = Value::new();
-            lay(sets, *data_set, port, &mut octets);
-            let value = value_text(*kind, *start, octets.as_slice());
-            let text = member_text(alloc, *member, port, value)?;
-            texts.push(text).map_err(|_| OutOfMemory)?;
+    let mut bits = bits;
+    for bit in 0..32 {
+        if bits % 2 == 1 {
+            if let Some(place) = place_of(bit, data_sets) {
+                texts
+                    .push(member_text(alloc, sets, port, place)?)
+                    .map_err(|_| OutOfMemory)?;
+            }
         }
-        bit = bit.wrapping_mul(2);
+        bits /= 2;
     }
     Ok(())
+}
+
+/// Where the member of this bit is.
+fn place_of(bit: u32, data_sets: &[DataSet]) -> Option<Place> {
+    for data_set in data_sets {
+        for Field(name, start, form) in fields(layout_of(*data_set)) {
+            if let Member::DataSet(member) = name {
+                if bit_of(*member) == bit {
+                    return Some(Place {
+                        member: *member,
+                        data_set: *data_set,
+                        start: *start,
+                        form: *form,
+                    });
+                }
+            }
+        }
+    }
+    None
+}
+
+/// The bit of a member in `ClockMembers` or `PortMembers`: both have the order of `Member`.
+fn bit_of(member: DataSetMember) -> u32 {
+    let number = member as u32;
+    let first_of_port = DataSetMember::State as u32;
+    if number < first_of_port {
+        number
+    } else {
+        number - first_of_port
+    }
+}
+
+fn layout_of(data_set: DataSet) -> Layout {
+    match data_set {
+        DataSet::UserDescription => Layout::UserDescription,
+        DataSet::Default => Layout::DefaultDataSet,
+        DataSet::Current => Layout::CurrentDataSet,
+        DataSet::Parent => Layout::ParentDataSet,
+        DataSet::TimeProperties => Layout::TimePropertiesDataSet,
+        DataSet::Port => Layout::PortDataSet,
+    }
+}
+
+/// A member's name and value; a port's, after its number.
+fn member_text(
+    alloc: Global,
+    sets: &DataSets,
+    port: u16,
+    place: Place,
+) -> Result<String, OutOfMemory> {
+    let mut octets = Value::new();
+    lay(sets, place.data_set, port, &mut octets);
+    let value = value_at(place.start, place.form, octets.as_slice());
+    let mut text = String::new(alloc);
+    if port != 0 {
+        write!(text, "port {port} ").map_err(|_| OutOfMemory)?;
+    }
+    write!(text, "{} {value}", place.member).map_err(|_| OutOfMemory)?;
+    Ok(text)
 }
 
 /// Leaves a dataField of these data sets in the buffer.
@@ -206,63 +153,61 @@ fn lay(sets: &DataSets, data_set: DataSet, port: u16, octets: &mut Value) {
     }
 }
 
-/// The value of this kind that begins here in a dataField.
-fn value_text(kind: Kind, start: usize, octets: &[u8]) -> ValueText<'_> {
-    let size = match kind {
-        Kind::Unsigned(size) | Kind::Signed(size) => size,
-        Kind::Flag(_) => 1,
-        Kind::Identity => 8,
-        Kind::PortIdentity => 10,
-        Kind::Text => usize::from(octets.first().copied().unwrap_or(0)),
+/// The value that begins here in a dataField.
+fn value_at(start: u8, form: Form, octets: &[u8]) -> ValueText<'_> {
+    let behind = octets.get(usize::from(start)..).unwrap_or(&[]);
+    let octets = match (form, behind) {
+        (Form::Text, [length, text @ ..]) => first_of(text, usize::from(*length)),
+        _ => first_of(behind, form.size()),
     };
-    let behind = octets.get(start..).unwrap_or(&[]);
-    let octets = &behind[..behind.len().min(size)];
-    ValueText { kind, octets }
+    ValueText { form, octets }
 }
 
-/// A member's name and value; a port's, after its number.
-fn member_text(
-    alloc: Global,
-    member: Member,
-    port: u16,
-    value: ValueText<'_>,
-) -> Result<String, OutOfMemory> {
-    let mut text = String::new(alloc);
-    if port != 0 {
-        write!(text, "port {port} ").map_err(|_| OutOfMemory)?;
-    }
-    write!(text, "{member} {value}").map_err(|_| OutOfMemory)?;
-    Ok(text)
+/// The first octets, as many as there are up to this number.
+fn first_of(octets: &[u8], count: usize) -> &[u8] {
+    &octets[..octets.len().min(count)]
 }
 
 /// A member's value, of these octets, as a network file has it.
 #[derive(Clone, Copy)]
 struct ValueText<'a> {
-    kind: Kind,
+    form: Form,
     octets: &'a [u8],
 }
 
 impl fmt::Display for ValueText<'_> {
     fn fmt<W: fmt::Write>(&self, f: &mut fmt::Formatter<W>) -> fmt::Result {
-        match self.kind {
-            Kind::Unsigned(_) => write!(f, "{}", number_of(0, self.octets)),
-            Kind::Signed(_) => write!(f, "{}", number_of(sign_of(self.octets), self.octets)),
-            Kind::Flag(bit) => {
-                let is_set = self.octets.first().copied().unwrap_or(0) & bit != 0;
-                write!(f, "{is_set}")
+        match self.form {
+            Form::Signed(_) | Form::TimeInterval => {
+                write!(f, "{}", number_of(sign_of(self.octets), self.octets))
             }
-            Kind::Identity => write!(f, "{}", Hexadecimal(self.octets)),
-            Kind::PortIdentity => {
+            Form::Flag(mask) => write_flag(mask, self.octets, f),
+            Form::EitherFlag => write_flag(3, self.octets, f),
+            Form::ClockIdentity => write!(f, "{}", Hexadecimal(self.octets)),
+            Form::PortIdentity => {
                 let (clock, port) = self.octets.split_at(self.octets.len().min(8));
                 write!(f, "{}/{}", Hexadecimal(clock), number_of(0, port))
             }
-            Kind::Text => match std::str::from_utf8(self.octets) {
-                Ok(text) if self.octets.iter().all(|octet| is_plain(*octet)) => {
-                    write!(f, "\"{text}\"")
-                }
-                _ => write!(f, "{}", Hexadecimal(self.octets)),
-            },
+            Form::Text => write_text(self.octets, f),
+            Form::LowNibble => write!(f, "{}", number_of(0, self.octets) % 16),
+            Form::Unsigned(_) | Form::Hexadecimal(_) | Form::PortState | Form::DelayMechanism => {
+                write!(f, "{}", number_of(0, self.octets))
+            }
         }
+    }
+}
+
+/// Whether one of these bits is set in the first octet.
+fn write_flag<W: fmt::Write>(mask: u8, octets: &[u8], f: &mut fmt::Formatter<W>) -> fmt::Result {
+    let is_set = octets.first().copied().unwrap_or(0) & mask != 0;
+    write!(f, "{is_set}")
+}
+
+/// A text in quotation marks, or its octets if one is not printed.
+fn write_text<W: fmt::Write>(octets: &[u8], f: &mut fmt::Formatter<W>) -> fmt::Result {
+    match std::str::from_utf8(octets) {
+        Ok(text) if octets.iter().all(|octet| is_plain(*octet)) => { write!(f, "\"{text}\"") }
+        _ => write!(f, "{}", Hexadecimal(octets)),
     }
 }
 

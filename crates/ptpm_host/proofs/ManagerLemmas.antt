@@ -1,5 +1,5 @@
 -- The managers of a clock are few, and each is another.
-use Rattle.std.proofs.Common.{arith, ◌≡◌, ◌<◌, nat_lt, true, false, ap, ◌∙◌, sym, subst, List, Some, None, length, if◌then◌else◌}
+use Rattle.std.proofs.Common.{arith, ◌≡◌, ◌<◌, nat_lt, true, false, ap, ◌∙◌, List, Some, None, length, if◌then◌else◌}
 use Rattle.std.proofs.lemmas.Bool.Decides.{nat_tests}
 use Rattle.std.proofs.lemmas.List.{length-map}
 use Rattle.ptpm_codec.specs.declared.identity.PortIdentity.{PortIdentity}

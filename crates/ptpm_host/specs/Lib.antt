@@ -11,6 +11,7 @@ pub mod SurveySettings
 pub mod Survey
 pub mod Names
 pub mod Texts
+pub mod TextsLaws
 pub mod AnswerNames
 pub mod ErrorNames
 pub mod Observing

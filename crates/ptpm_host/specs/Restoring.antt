@@ -27,6 +27,12 @@ pub record IsBack (c : SavedClock) (managers : List ManagerSettings) (d : Hosted
   pub entries_are : IsRestored (identities (configured managers)) c.entries empty (state_in d).entries gone
   pub clock_is : clock_in d ≡ clock_with c.sets.default.identity (configured managers)
 
+-- it has the data sets that were saved, and the host's managers, of whom none has an entry yet
+pub record IsBegunAs (c : SavedClock) (managers : List ManagerSettings) (d : HostedClock) : Type 0 where
+  pub sets_are : (state_in d).sets ≡ c.sets
+  pub nothing_kept : (state_in d).entries ≡ empty
+  pub clock_is : clock_in d ≡ clock_with c.sets.default.identity (configured managers)
+
 -- ---- why a clock does not go on from an image: its managers first, then its identity, then the image, and last want of memory
 
 abbrev pub IsRestoreRefused : ClockIdentity → ℕ → List ManagerSettings → List ℕ → ClockRestoreRefusal → Type 0

@@ -14,7 +14,7 @@ use ptpm_data::DataSets;
 use ptpm_saved::judged;
 use std::alloc::Global;
 
-/// The data sets and the managers of a clock that may start, or that goes on from an image.
+/// The data sets and the managers of a clock that may start.
 #[derive(Drop)]
 pub(crate) struct JudgedStart {
     pub sets: DataSets,
@@ -53,36 +53,34 @@ impl JudgedStart {
         }
         Ok(JudgedStart { sets, managers })
     }
+}
 
-    /// The data sets of an image and these managers, or the first reason why no clock of this identity and so many ports goes
-    /// on so. Takes no memory.
-    pub fn of_image(
-        identity: &[u8; 8],
-        ports: usize,
-        managers: &[ManagerSettings],
-        image: &[u8],
-    ) -> Result<JudgedStart, ClockRestoreRefusal>
-        ensures restored { IfOk result (λ j. (c : SavedClock)
-            × CanRestore (record { 0 = identity.now }) ports managers.now image.now c
-            × (j.sets ≡ c.sets)) }
-        ensures managers { IfOk result (λ j. take j.managers.count j.managers.places ≡ configured managers.now) }
-        ensures refused { IfErr result
-            (λ e. IsRestoreRefused (record { 0 = identity.now }) ports managers.now image.now e) }
-        ensures found { (c : SavedClock)
-            → CanRestore (record { 0 = identity.now }) ports managers.now image.now c
-            → IsOkAnd result (λ j. j.sets ≡ c.sets) }
-    {
-        let managers = match ConfiguredManagers::new(managers) {
-            Ok(managers) => managers,
-            Err(fault) => return Err(ClockRestoreRefusal::Managers(fault)),
-        };
-        let identity = ClockIdentity(*identity);
-        if identity == NO_IDENTITY {
-            return Err(ClockRestoreRefusal::IdentityIsZero);
-        }
-        match judged(image, &identity, ports) {
-            Ok(sets) => Ok(JudgedStart { sets, managers }),
-            Err(fault) => Err(ClockRestoreRefusal::Image(fault)),
-        }
+/// The data sets of an image, or the first reason why no clock of this identity, so many ports and these managers goes on from it. Of
+/// the managers nothing is left on the stack while the image is judged. Takes no memory.
+pub(crate) fn judged_image(
+    identity: &[u8; 8],
+    ports: usize,
+    managers: &[ManagerSettings],
+    image: &[u8],
+) -> Result<DataSets, ClockRestoreRefusal>
+    ensures judged { IfOk result (λ sets. (c : SavedClock)
+        × CanRestore (record { 0 = identity.now }) ports managers.now image.now c
+        × (sets ≡ c.sets)) }
+    ensures refused { IfErr result
+        (λ e. IsRestoreRefused (record { 0 = identity.now }) ports managers.now image.now e) }
+    ensures found { (c : SavedClock)
+        → CanRestore (record { 0 = identity.now }) ports managers.now image.now c
+        → IsOkAnd result (λ sets. sets ≡ c.sets) }
+{
+    if let Err(fault) = ConfiguredManagers::new(managers) {
+        return Err(ClockRestoreRefusal::Managers(fault));
+    }
+    let identity = ClockIdentity(*identity);
+    if identity == NO_IDENTITY {
+        return Err(ClockRestoreRefusal::IdentityIsZero);
+    }
+    match judged(image, &identity, ports) {
+        Ok(sets) => Ok(sets),
+        Err(fault) => Err(ClockRestoreRefusal::Image(fault)),
     }
 }

@@ -56,9 +56,6 @@ pub use session_settings::SessionSettings;
 pub use settings::{ClockSettings, ManagerSettings, PortSettings};
 pub use survey::{HostedSurvey, Source, SurveyAnswer};
 pub use survey_settings::SurveySettings;
-pub use texts::hand_out_text;
+pub use texts::hand_out_lines;
 pub use told::Told;
 pub use version::VERSION_NUMBER;
-
-#[cfg(test)]
-mod tests;

@@ -1,21 +1,22 @@
 //! The image of a clock, in which it outlasts its host, and the clock back from it.
 
-ghost use Rattle.std.specs.Prelude.{◌≡◌, ◌≤◌, ◌++◌, ◌↔◌, true, IfErr, IfNone, IfOk, IfSome, IsSome, MatchResult, drop, length};
+ghost use Rattle.std.specs.Prelude.{◌≡◌, ◌≤◌, ◌++◌, ◌↔◌, true, IfErr, IfNone, IfOk, IfSome, IsSome, MatchResult, None, [], drop, length};
 ghost use Rattle.std.specs.FinMap as fin;
 ghost use Rattle.std.specs.List.{All};
 ghost use Rattle.ptpm_agent.specs.Turn.{State};
 ghost use Rattle.ptpm_table.specs.Entries.{is_known};
-ghost use Rattle.ptpm_table.specs.Managers.{identities};
+ghost use Rattle.ptpm_table.specs.Managers.{IsFresh, identities, table_refusal};
 ghost use Rattle.ptpm_saved.specs.Image.{SavedClock, clock_image, saved_of};
-ghost use Rattle.ptpm_host.specs.Clock.{state_in};
-ghost use Rattle.ptpm_host.specs.Restoring.{CanRestore, IsBack, IsRestoreRefused};
+ghost use Rattle.ptpm_host.specs.Clock.{clock_in, state_in};
+ghost use Rattle.ptpm_host.specs.Restoring.{CanRestore, IsBack, IsBegunAs, IsRestoreRefused};
 ghost use Rattle.ptpm_host.specs.Settings.{configured};
 
 use crate::clock::HostedClock;
-use crate::judged::JudgedStart;
+use crate::judged::judged_image;
+use crate::managers::ConfiguredManagers;
 use crate::refusal::ClockRestoreRefusal;
 use crate::settings::ManagerSettings;
-use ptpm_saved::{image_into, put_back};
+use ptpm_saved::{image_into, put_back_judged};
 use std::alloc::Global;
 
 impl HostedClock {
@@ -59,14 +60,50 @@ impl HostedClock {
             (fin.entries s.entries)
             → IfOk result (λ r. (state_in r.0.value ≡ s) × (r.1 ≡ 0)) }
     {
-        let judged = JudgedStart::of_image(identity, ports, managers, image)?;
-        let Ok(mut clock) = Box::new(alloc, HostedClock::without_managers(&judged.sets)) else {
+        let mut clock = HostedClock::without_entries(alloc, identity, ports, managers, image)?;
+        let gone = put_back_judged(image, &mut clock.agent);
+        Ok((clock, gone))
+    }
+
+    /// The clock of an image without its entries. It is never inlined: so the stack has no data sets while entries are put back.
+    #[inline(never)]
+    fn without_entries(
+        alloc: Global,
+        identity: &[u8; 8],
+        ports: usize,
+        managers: &[ManagerSettings],
+        image: &[u8],
+    ) -> Result<Box<HostedClock>, ClockRestoreRefusal>
+        ensures made { IfOk result (λ r. (c : SavedClock)
+            × CanRestore (record { 0 = identity.now }) ports managers.now image.now c
+            × IsBegunAs c managers.now r.value) }
+        ensures refused { IfErr result
+            (λ e. IsRestoreRefused (record { 0 = identity.now }) ports managers.now image.now e) }
+        ensures found { (c : SavedClock)
+            → CanRestore (record { 0 = identity.now }) ports managers.now image.now c
+            → MatchResult result (λ r. IsBegunAs c managers.now r.value)
+            (λ e. e ≡ ClockRestoreRefusal.OutOfMemory) }
+    {
+        let sets = judged_image(identity, ports, managers, image)?;
+        let Ok(mut clock) = Box::new(alloc, HostedClock::without_managers(&sets)) else {
             return Err(ClockRestoreRefusal::OutOfMemory);
         };
-        clock.admit(&judged.managers);
-        let Some(gone) = put_back(image, &mut clock.agent) else {
+        clock.admit_judged(managers);
+        Ok(clock)
+    }
+
+    /// Gives a clock without managers these, of which none is refused. Never inlined.
+    #[inline(never)]
+    fn admit_judged(&mut self, managers: &[ManagerSettings])
+        requires none { (clock_in self.old).managers ≡ [] }
+        requires judged { table_refusal (identities (configured managers.now)) ≡ None }
+        ensures sets { self.new.agent.sets ≡ self.old.agent.sets }
+        ensures fresh { IsFresh (clock_in self.old).identity (configured managers.now)
+            (clock_in self.new) (state_in self.new).entries }
+    {
+        let Ok(managers) = ConfiguredManagers::new(managers) else {
             unreachable!()
         };
-        Ok((clock, gone))
+        self.admit(&managers);
     }
 }

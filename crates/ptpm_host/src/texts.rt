@@ -1,50 +1,70 @@
 //! Texts as octets that a host reads.
 
-ghost use Rattle.std.specs.Prelude.{◌≡◌, ◌≤◌, ◌+◌, IfSome, length, true};
-ghost use Rattle.ptpm_host.specs.Texts.{IsHandedOut, KeepsText, put_in};
+ghost use Rattle.std.specs.Prelude.{◌≡◌, Option};
+ghost use Rattle.ptpm_host.specs.Texts.{HandsOut, IsPut, KeepsText};
+ghost use Rattle.ptpm_members.specs.FieldText.{field_text};
 
-use std::fmt;
-use std::fmt::Write;
+use ptpm_members::{FieldText, TextSink};
 
 /// Where a text goes: octets of the caller, filled from the head on.
 #[derive(Drop)]
 struct Room<'a> {
     octets: &'a mut [u8],
-    size: usize,
+    /// How many octets the text has so far; `None` once there was no room for a piece of it.
+    size: Option<usize>,
 }
 
-impl fmt::Write for Room<'_> {
-    ghost write_str_gives = { λ s bs t. KeepsText (s.octets.now, s.size) bs (t.octets.now, t.size) × (t.octets.ghost_name ≡ s.octets.ghost_name) };
+impl TextSink for Room<'_> {
+    ghost use Rattle.std.proofs.Common.{◌∙◌, refl};
+    ghost use Rattle.ptpm_host.specs.TextsLaws.{keeps_none, keeps_twice};
 
-    fn write_str(&mut self, text: &str) -> fmt::Result {
-        if !put(text.as_bytes(), self.octets, self.size) {
-            return Err(fmt::Error);
-        }
-        self.size += text.len();
-        Ok(())
+    ghost pushed = { λ s text t. KeepsText (s.octets.now, s.size) text (t.octets.now, t.size) × (t.octets.ghost_name ≡ s.octets.ghost_name) };
+
+    ghost pushed_none = { λ s. (keeps_none (s.octets.now, s.size), refl) };
+
+    ghost pushed_twice = { λ r s t a b first second. (keeps_twice (r.octets.now, r.size) (s.octets.now, s.size) (t.octets.now, t.size) a b first.0 second.0, second.1 ∙ first.1) };
+
+    fn push_str(&mut self, text: &str) {
+        self.push(text.as_bytes());
+    }
+
+    fn push_ascii(&mut self, character: u8) {
+        self.push(&[character]);
     }
 }
 
-/// Puts a text in octets at a place, if there is room for all of it.
-fn put(text: &[u8], octets: &mut [u8], at: usize) -> bool
-    ensures room { result ≡ true → at + length text.now ≤ length octets.old }
-    ensures octets { result ≡ true → octets.new ≡ put_in octets.old at text.now }
+impl Room<'_> {
+    fn push(&mut self, text: &[u8])
+        ensures kept { KeepsText (self.old.octets.now, self.old.size) text.now (self.new.octets.now, self.new.size) }
+        ensures same_reference { self.new.octets.ghost_name ≡ self.old.octets.ghost_name }
+    {
+        let Some(size) = self.size else {
+            return;
+        };
+        self.size = put(text, self.octets, size);
+    }
+}
+
+/// Puts a text in octets at a place, and answers the place behind it; `None` if there is no room for all of it.
+fn put(text: &[u8], octets: &mut [u8], at: usize) -> Option<usize>
+    ensures { IsPut text.now octets.old at result octets.new }
 {
     if octets.len() < at || octets.len() - at < text.len() {
-        return false;
+        return None;
     }
     octets[at..at + text.len()].copy_from_slice(text);
-    true
+    Some(at + text.len())
 }
 
-/// Leaves a text at the head of `octets`, and answers how many octets it has; `None` if there is no room for the whole.
-/// What comes after it stays. Takes no memory.
-pub fn hand_out_text<T: fmt::Display + Drop>(text: T, octets: &mut [u8]) -> Option<usize>
-    ensures { IfSome result (λ size. IfSome (T.output text) (λ t. IsHandedOut t size octets.old octets.new)) }
+/// Leaves the lines of a dataField at the head of `octets`, and answers how many octets they have; `None` if there is no room
+/// for all lines. What comes after them stays. Takes no memory.
+pub fn hand_out_lines(text: &FieldText<'_>, octets: &mut [u8]) -> Option<usize>
+    ensures { HandsOut (field_text text.now.lead.now text.now.id text.now.octets.now) result octets.old octets.new }
 {
-    let mut room = Room { octets, size: 0 };
-    match write!(&mut room, "{text}") {
-        Ok(()) => Some(room.size),
-        Err(_) => None,
-    }
+    let mut room = Room {
+        octets,
+        size: Some(0),
+    };
+    text.push_into(&mut room);
+    room.size
 }

@@ -1,8 +1,10 @@
--- The lines of a dataField, if it has members and if it has none.
-use Rattle.std.proofs.Common.{arith, ◌≡◌, ◌<◌, ℕ, List, [], ◌∷◌, length, refl}
+-- The lines of a dataField, if it has members and if it has none; there is one at least.
+use Rattle.std.proofs.Common.{arith, ◌≡◌, ◌<◌, ◌++◌, ℕ, List, [], ◌∷◌, codes, drop, length, length-append, refl}
 use Rattle.std.specs.Prelude.{flat_map}
 use Rattle.ptpm_members.specs.declared.forms.Field.{Field}
-use Rattle.ptpm_members.specs.FieldText.{field_text, lines, member_line, members_in, octets_line}
+use Rattle.ptpm_members.specs.Names.{member_name}
+use Rattle.ptpm_members.specs.ValueText.{value_text}
+use Rattle.ptpm_members.specs.FieldText.{field_text, line, lines, member_line, members_in, octets_line, octets_text}
 
 no_lines : (lead octets : List ℕ) (fs : List Field) → length fs ≡ 0 → octets_line lead octets ≡ lines lead octets fs
 no_lines lead octets [] h = refl
@@ -21,3 +23,17 @@ pub text_of_some : (lead octets : List ℕ) (id : ℕ) (fs : List Field) → fs 
     → flat_map (member_line lead octets) fs ≡ field_text lead id octets
 unfolding field_text
 text_of_some lead octets id fs e h = rw (← e) (some_lines lead octets fs h)
+
+line_length : (lead name value : List ℕ) → 0 < length (line lead name value)
+line_length lead name value = omega (arith, length-append (lead ++ name ++ codes " " ++ value) (10 ∷ []))
+
+lines_length : (lead octets : List ℕ) (fs : List Field) → 0 < length (lines lead octets fs)
+unfolding member_line octets_line
+lines_length lead octets [] = line_length lead (codes "value") (octets_text octets)
+lines_length lead octets (f ∷ fs) =
+    let first : 0 < length (member_line lead octets f) = line_length lead (member_name f.0) (value_text f.2 (drop f.1 octets)) in
+    omega (arith, first, length-append (member_line lead octets f) (flat_map (member_line lead octets) fs))
+
+pub text_length : (lead : List ℕ) (id : ℕ) (octets : List ℕ) → 0 < length (field_text lead id octets)
+unfolding field_text
+text_length lead id octets = lines_length lead octets (members_in id octets)

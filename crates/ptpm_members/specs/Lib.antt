@@ -6,3 +6,5 @@ pub mod Typed
 pub mod Parsed
 pub mod RoundTrip
 pub mod ParseFaultText
+pub mod Formatted
+pub mod FormattedLaws

@@ -1,13 +1,14 @@
 //! A dataField in lines, as a person reads it.
 
 ghost use Rattle.std.specs.Prelude.{◌≡◌, Some};
-ghost use Rattle.std.specs.Fmt.{WritesOnOk};
 ghost use Rattle.std.specs.List.{All};
 ghost use Rattle.ptpm_members.specs.FieldText.{IsPlaced, field_text, member_line, members_in, octets_line, octets_text};
 
+use crate::formatted::Formatted;
 use crate::forms::Field;
 use crate::tables::{fields, is_whole};
-use crate::value_text::{write_hexadecimal, write_value};
+use crate::text_sink::TextSink;
+use crate::value_text::{push_hexadecimal, push_value};
 use ptpm_data::row;
 use std::fmt;
 
@@ -20,24 +21,39 @@ pub struct FieldText<'a> {
     pub octets: &'a [u8],
 }
 
+impl FieldText<'_> {
+    /// Puts the lines in a sink.
+    pub fn push_into<T: TextSink>(&self, sink: &mut T)
+        ensures { T.pushed sink.old
+            (field_text self.now.lead.now self.now.id self.now.octets.now) sink.new }
+    {
+        let members = members_in(self.id, self.octets);
+        if members.is_empty() {
+            push_octets(self.lead, self.octets, sink);
+            return;
+        }
+        for member in members {
+            push_member(self.lead, self.octets, *member, sink);
+        }
+    }
+}
+
 impl fmt::Display for FieldText<'_> {
     ghost output = { λ t. Some (field_text t.lead.now t.id t.octets.now) };
 
     fn fmt<W: fmt::Write>(&self, f: &mut fmt::Formatter<W>) -> fmt::Result {
-        let members = members_in(self.id, self.octets);
-        if members.is_empty() {
-            return write_octets(self.lead, self.octets, f);
-        }
-        for member in members {
-            write_member(self.lead, self.octets, *member, f)?;
-        }
-        Ok(())
+        let mut sink = Formatted {
+            formatter: f,
+            result: Ok(()),
+        };
+        self.push_into(&mut sink);
+        sink.result
     }
 }
 
 /// The members that the octets have, each at its place; none if they are no dataField of the id.
 #[tactic(auto, unfolding(crate::specs::FieldText::members_in))]
-fn members_in(id: u16, octets: &[u8]) -> &'static [Field]
+pub fn members_in(id: u16, octets: &[u8]) -> &'static [Field]
     ensures value { result.now ≡ members_in id octets.now }
     ensures placed { All (IsPlaced octets.now) result.now }
 {
@@ -48,37 +64,34 @@ fn members_in(id: u16, octets: &[u8]) -> &'static [Field]
 }
 
 #[tactic(auto, unfolding(crate::specs::FieldText::member_line))]
-fn write_member<W: fmt::Write>(
-    lead: &str,
-    octets: &[u8],
-    field: Field,
-    f: &mut fmt::Formatter<W>,
-) -> fmt::Result
+fn push_member<T: TextSink>(lead: &str, octets: &[u8], field: Field, sink: &mut T)
     requires { IsPlaced octets.now field }
-    ensures { WritesOnOk W.write_str_gives f.old result
-        (member_line lead.now octets.now field) f.new }
+    ensures { T.pushed sink.old (member_line lead.now octets.now field) sink.new }
 {
     let (_, behind) = octets.split_at(usize::from(field.1));
-    write!(f, "{lead}{} ", field.0.name())?;
-    write_value(field.2, behind, f)?;
-    f.write_str("\n")
+    sink.push_str(lead);
+    sink.push_str(field.0.name());
+    sink.push_str(" ");
+    push_value(field.2, behind, sink);
+    sink.push_str("\n");
 }
 
 #[tactic(auto, unfolding(crate::specs::FieldText::octets_line))]
-fn write_octets<W: fmt::Write>(lead: &str, octets: &[u8], f: &mut fmt::Formatter<W>) -> fmt::Result
-    ensures { WritesOnOk W.write_str_gives f.old result (octets_line lead.now octets.now) f.new }
+fn push_octets<T: TextSink>(lead: &str, octets: &[u8], sink: &mut T)
+    ensures { T.pushed sink.old (octets_line lead.now octets.now) sink.new }
 {
-    write!(f, "{lead}value ")?;
-    write_octets_text(octets, f)?;
-    f.write_str("\n")
+    sink.push_str(lead);
+    sink.push_str("value ");
+    push_octets_text(octets, sink);
+    sink.push_str("\n");
 }
 
 /// Octets in hexadecimal, or a dash if there is none.
-fn write_octets_text<W: fmt::Write>(octets: &[u8], f: &mut fmt::Formatter<W>) -> fmt::Result
-    ensures { WritesOnOk W.write_str_gives f.old result (octets_text octets.now) f.new }
+fn push_octets_text<T: TextSink>(octets: &[u8], sink: &mut T)
+    ensures { T.pushed sink.old (octets_text octets.now) sink.new }
 {
     match octets {
-        [] => f.write_str("-"),
-        _ => write_hexadecimal(octets, f),
+        [] => sink.push_str("-"),
+        _ => push_hexadecimal(octets, sink),
     }
 }

@@ -34,7 +34,7 @@ pub enum Form {
 
 impl Form {
     /// How many octets it takes; 0 for a PTPText, which says itself how many it has.
-    pub(crate) fn size(self) -> usize
+    pub fn size(self) -> usize
         ensures { result ≡ form_size self }
     {
         match self {

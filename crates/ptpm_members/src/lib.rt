@@ -3,21 +3,25 @@
 
 mod describing;
 mod field_text;
+mod formatted;
 mod forms;
 mod laws;
 mod names;
 mod parse_fault_text;
 mod parsing;
 mod tables;
+mod text_sink;
 mod typing;
 mod value_text;
 
-pub use field_text::FieldText;
+pub use field_text::{FieldText, members_in};
 pub use forms::{Field, Form};
 pub use laws::{member_law, typed_again_law};
 pub use names::Member;
 pub use parsing::{ParseFault, parse};
 pub use tables::fields;
+pub use text_sink::TextSink;
+pub use value_text::{mechanism_name, state_name};
 
 #[cfg(test)]
 mod tests;

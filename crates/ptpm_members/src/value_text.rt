@@ -1,136 +1,196 @@
-//! What is written of a member's value.
+//! The text of a member's value.
 
-ghost use Rattle.std.specs.Prelude.{◌≡◌, ◌<◌};
-ghost use Rattle.std.specs.Fmt.{WritesOnOk};
-ghost use Rattle.ptpm_members.specs.ValueText.{HasValue, flag_name, fraction_digits, hexadecimal, interval_text, mechanism_name, mechanism_text, shown_octet, shown_text, state_name, state_text, value_text};
-ghost use Rattle.ptpm_codec.specs.Identity.{octet_text};
+ghost use Rattle.std.specs.Prelude.{◌≡◌, ◌<◌, [], ◌∷◌, ◌++◌, codes, decimal, false};
+ghost use Rattle.std.specs.Fmt.{digit_glyph, sign_text, signed_decimal};
+ghost use Rattle.std.specs.Int.{is_negative};
+ghost use Rattle.ptpm_members.specs.ValueText.{HasValue, escape, flag_name, fraction_digits, hexadecimal, interval_text, mechanism_name, mechanism_text, shown_octet, shown_text, state_name, state_text, value_text};
+ghost use Rattle.ptpm_codec.specs.Identity.{clock_identity_text, octet_text, port_identity_text};
 
 use crate::forms::Form;
+use crate::text_sink::TextSink;
 use byteorder::{BigEndian, ByteOrder};
-use ptpm_codec::{clock_identity_at, port_identity_at, text_of_ptp_text};
+use itoa::Buffer;
+use ptpm_codec::{
+    ClockIdentity, PortIdentity, clock_identity_at, port_identity_at, text_of_ptp_text,
+};
 use ptpm_data::{DelayMechanism, PortState};
-use std::fmt;
 
-/// Writes the value of a member whose octets come first.
-pub(crate) fn write_value<W: fmt::Write>(
-    form: Form,
-    octets: &[u8],
-    f: &mut fmt::Formatter<W>,
-) -> fmt::Result
+/// Puts the value of a member whose octets come first.
+pub(crate) fn push_value<T: TextSink>(form: Form, octets: &[u8], sink: &mut T)
     requires { HasValue form octets.now }
-    ensures { WritesOnOk W.write_str_gives f.old result (value_text form octets.now) f.new }
+    ensures { T.pushed sink.old (value_text form octets.now) sink.new }
 {
     match form {
-        Form::Unsigned(size) => write!(f, "{}", BigEndian::read_uint(octets, usize::from(size))),
-        Form::Hexadecimal(size) => {
-            f.write_str("0x")?;
-            write_hexadecimal(&octets[..usize::from(size)], f)
-        }
-        Form::Signed(size) => write!(f, "{}", BigEndian::read_int(octets, usize::from(size))),
-        Form::Flag(mask) => f.write_str(flag_name(octets[0] & mask != 0)),
-        Form::EitherFlag => f.write_str(flag_name(octets[0] % 4 != 0)),
-        Form::LowNibble => write!(f, "{}", octets[0] % 16),
-        Form::TimeInterval => write_interval(BigEndian::read_int(octets, 8), f),
-        Form::ClockIdentity => write!(f, "{}", clock_identity_at(octets, 0)),
-        Form::PortIdentity => write!(f, "{}", port_identity_at(octets, 0)),
-        Form::PortState => write_state(octets[0], f),
-        Form::DelayMechanism => write_mechanism(octets[0], f),
-        Form::Text => write_text(text_of_ptp_text(octets), f),
+        Form::Unsigned(size) => push_unsigned(
+            BigEndian::read_uint(octets, usize::from(size)),
+            sink,
+        ),
+        Form::Hexadecimal(size) => push_hexadecimal_number(&octets[..usize::from(size)], sink),
+        Form::Signed(size) => push_signed(BigEndian::read_int(octets, usize::from(size)), sink),
+        Form::Flag(mask) => sink.push_str(flag_name(octets[0] & mask != 0)),
+        Form::EitherFlag => sink.push_str(flag_name(octets[0] % 4 != 0)),
+        Form::LowNibble => push_unsigned(u64::from(octets[0] % 16), sink),
+        Form::TimeInterval => push_interval(BigEndian::read_int(octets, 8), sink),
+        Form::ClockIdentity => push_clock_identity(&clock_identity_at(octets, 0), sink),
+        Form::PortIdentity => push_port_identity(&port_identity_at(octets, 0), sink),
+        Form::PortState => push_state(octets[0], sink),
+        Form::DelayMechanism => push_mechanism(octets[0], sink),
+        Form::Text => push_text(text_of_ptp_text(octets), sink),
     }
+}
+
+fn push_unsigned<T: TextSink>(number: u64, sink: &mut T)
+    ensures { T.pushed sink.old (decimal number) sink.new }
+{
+    let mut buffer = Buffer::new();
+    sink.push_str(buffer.format(number));
+}
+
+fn push_signed<T: TextSink>(number: i64, sink: &mut T)
+    ensures { T.pushed sink.old (signed_decimal number) sink.new }
+{
+    let mut buffer = Buffer::new();
+    sink.push_str(buffer.format(number));
+}
+
+fn push_hexadecimal_number<T: TextSink>(octets: &[u8], sink: &mut T)
+    ensures { T.pushed sink.old (codes "0x" ++ hexadecimal octets.now) sink.new }
+{
+    sink.push_str("0x");
+    push_hexadecimal(octets, sink);
 }
 
 /// Each octet in two hexadecimal digits, in lower case.
 #[tactic(auto, unfolding(crate::specs::ValueText::hexadecimal))]
-pub(crate) fn write_hexadecimal<W: fmt::Write>(
-    octets: &[u8],
-    f: &mut fmt::Formatter<W>,
-) -> fmt::Result
-    ensures { WritesOnOk W.write_str_gives f.old result (hexadecimal octets.now) f.new }
+pub(crate) fn push_hexadecimal<T: TextSink>(octets: &[u8], sink: &mut T)
+    ensures { T.pushed sink.old (hexadecimal octets.now) sink.new }
 {
     for octet in octets {
-        write_digits(*octet, f)?;
+        push_digits(*octet, sink);
     }
-    Ok(())
 }
 
 /// An octet in two hexadecimal digits, in lower case.
-fn write_digits<W: fmt::Write>(octet: u8, f: &mut fmt::Formatter<W>) -> fmt::Result
-    ensures { WritesOnOk W.write_str_gives f.old result (octet_text octet) f.new }
+fn push_digits<T: TextSink>(octet: u8, sink: &mut T)
+    ensures { T.pushed sink.old (octet_text octet) sink.new }
 {
-    write!(f, "{octet:02x}")
+    push_digit(octet / 16, sink);
+    push_digit(octet % 16, sink);
+}
+
+/// A hexadecimal digit in lower case.
+fn push_digit<T: TextSink>(digit: u8, sink: &mut T)
+    requires { digit < 16 }
+    ensures { T.pushed sink.old (digit_glyph false digit ∷ []) sink.new }
+{
+    sink.push_ascii(if digit < 10 {
+        b'0' + digit
+    } else {
+        b'a' + (digit - 10)
+    });
+}
+
+#[tactic(auto, unfolding(ptpm_codec::specs::Identity::clock_identity_text, crate::specs::ValueText::hexadecimal))]
+fn push_clock_identity<T: TextSink>(clock: &ClockIdentity, sink: &mut T)
+    ensures { T.pushed sink.old (clock_identity_text clock.now.0) sink.new }
+{
+    push_hexadecimal(&clock.0, sink);
+}
+
+#[tactic(auto, unfolding(ptpm_codec::specs::Identity::port_identity_text))]
+fn push_port_identity<T: TextSink>(identity: &PortIdentity, sink: &mut T)
+    ensures { T.pushed sink.old (port_identity_text identity.now) sink.new }
+{
+    push_clock_identity(&identity.clock, sink);
+    sink.push_str("/");
+    push_unsigned(u64::from(identity.port), sink);
 }
 
 /// A TimeInterval in nanoseconds, with all digits of their fraction.
 #[tactic(auto, unfolding(crate::specs::ValueText::interval_text))]
-fn write_interval<W: fmt::Write>(interval: i64, f: &mut fmt::Formatter<W>) -> fmt::Result
-    ensures { WritesOnOk W.write_str_gives f.old result (interval_text interval) f.new }
+fn push_interval<T: TextSink>(interval: i64, sink: &mut T)
+    ensures { T.pushed sink.old (interval_text interval) sink.new }
 {
     let size = interval.unsigned_abs();
-    if interval < 0 {
-        f.write_str("-")?;
+    push_sign(interval, sink);
+    push_unsigned(size / 65536, sink);
+    sink.push_str(".");
+    push_fraction(16, (size % 65536) as u32, sink);
+}
+
+/// A minus before a number below 0.
+fn push_sign<T: TextSink>(number: i64, sink: &mut T)
+    ensures { T.pushed sink.old (sign_text (is_negative number)) sink.new }
+{
+    if number < 0 {
+        sink.push_str("-");
     }
-    write!(f, "{}.", size / 65536)?;
-    write_fraction(16, (size % 65536) as u32, f)
 }
 
 /// The digits of so many 65536ths, a number of them at most.
 #[tactic(auto, unfolding(crate::specs::ValueText::fraction_digits))]
-fn write_fraction<W: fmt::Write>(digits: u8, number: u32, f: &mut fmt::Formatter<W>) -> fmt::Result
+fn push_fraction<T: TextSink>(digits: u8, number: u32, sink: &mut T)
     requires { number < 65536 }
-    ensures { WritesOnOk W.write_str_gives f.old result (fraction_digits digits number) f.new }
+    ensures { T.pushed sink.old (fraction_digits digits number) sink.new }
 {
     if digits == 0 {
-        return Ok(());
+        return;
     }
-    write!(f, "{}", number * 10 / 65536)?;
+    push_unsigned(u64::from(number * 10 / 65536), sink);
     match number * 10 % 65536 {
-        0 => Ok(()),
-        rest => write_fraction(digits - 1, rest, f),
+        0 => {}
+        rest => push_fraction(digits - 1, rest, sink),
     }
 }
 
 /// The name of a port's state, or the number if it has none.
 #[tactic(auto, unfolding(crate::specs::ValueText::state_text))]
-fn write_state<W: fmt::Write>(number: u8, f: &mut fmt::Formatter<W>) -> fmt::Result
-    ensures { WritesOnOk W.write_str_gives f.old result (state_text number) f.new }
+fn push_state<T: TextSink>(number: u8, sink: &mut T)
+    ensures { T.pushed sink.old (state_text number) sink.new }
 {
     match PortState::from_number(number) {
-        Some(state) => f.write_str(state_name(state)),
-        None => write!(f, "{number}"),
+        Some(state) => sink.push_str(state_name(state)),
+        None => push_unsigned(u64::from(number), sink),
     }
 }
 
 /// The name of a delay mechanism, or the number if it has none.
 #[tactic(auto, unfolding(crate::specs::ValueText::mechanism_text))]
-fn write_mechanism<W: fmt::Write>(number: u8, f: &mut fmt::Formatter<W>) -> fmt::Result
-    ensures { WritesOnOk W.write_str_gives f.old result (mechanism_text number) f.new }
+fn push_mechanism<T: TextSink>(number: u8, sink: &mut T)
+    ensures { T.pushed sink.old (mechanism_text number) sink.new }
 {
     match DelayMechanism::from_number(number) {
-        Some(mechanism) => f.write_str(mechanism_name(mechanism)),
-        None => write!(f, "{number}"),
+        Some(mechanism) => sink.push_str(mechanism_name(mechanism)),
+        None => push_unsigned(u64::from(number), sink),
     }
 }
 
 /// A text, in which an octet that is no printable character of ASCII, and a backslash, is `\x` and two hexadecimal digits.
 #[tactic(auto, unfolding(crate::specs::ValueText::shown_text))]
-fn write_text<W: fmt::Write>(text: &[u8], f: &mut fmt::Formatter<W>) -> fmt::Result
-    ensures { WritesOnOk W.write_str_gives f.old result (shown_text text.now) f.new }
+fn push_text<T: TextSink>(text: &[u8], sink: &mut T)
+    ensures { T.pushed sink.old (shown_text text.now) sink.new }
 {
     for octet in text {
-        write_octet(*octet, f)?;
+        push_shown(*octet, sink);
     }
-    Ok(())
 }
 
-fn write_octet<W: fmt::Write>(octet: u8, f: &mut fmt::Formatter<W>) -> fmt::Result
-    ensures { WritesOnOk W.write_str_gives f.old result (shown_octet octet) f.new }
+fn push_shown<T: TextSink>(octet: u8, sink: &mut T)
+    ensures { T.pushed sink.old (shown_octet octet) sink.new }
 {
     if (0x20..=0x7e).contains(&octet) && octet != b'\\' {
-        f.write_char(char::from(octet))
+        sink.push_ascii(octet);
     } else {
-        f.write_str("\\x")?;
-        write_digits(octet, f)
+        push_escape(octet, sink);
     }
+}
+
+/// An octet as an escape: a backslash, an x and two hexadecimal digits.
+fn push_escape<T: TextSink>(octet: u8, sink: &mut T)
+    ensures { T.pushed sink.old (escape octet) sink.new }
+{
+    sink.push_str("\\x");
+    push_digits(octet, sink);
 }
 
 fn flag_name(flag: bool) -> &'static str
@@ -139,7 +199,8 @@ fn flag_name(flag: bool) -> &'static str
     if flag { "true" } else { "false" }
 }
 
-fn state_name(state: PortState) -> &'static str
+/// The standard's name of a port's state (9.2.5, table 10).
+pub fn state_name(state: PortState) -> &'static str
     ensures { result.now ≡ state_name state }
 {
     match state {
@@ -155,7 +216,8 @@ fn state_name(state: PortState) -> &'static str
     }
 }
 
-fn mechanism_name(mechanism: DelayMechanism) -> &'static str
+/// The standard's name of a delay mechanism (8.2.15.4.4, table 21).
+pub fn mechanism_name(mechanism: DelayMechanism) -> &'static str
     ensures { result.now ≡ mechanism_name mechanism }
 {
     match mechanism {

@@ -1,3 +1,4 @@
+pub mod TextArray
 pub mod Tellable
 pub mod Naming
 pub mod NoFloat

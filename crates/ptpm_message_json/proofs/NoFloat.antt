@@ -1,12 +1,13 @@
 -- What is said of a message has no number with a point, so `compact_text` is its text.
-use Rattle.std.proofs.Common.{◌≡◌, ◌∙◌, ap, refl, ℕ, ℤ, pos, negsuc, Bool, true, false, List, [], ◌∷◌, fold, Option, Some, None, Ordering, Less, Equal, Greater, nat_cmp}
+use Rattle.std.proofs.Common.{◌≡◌, ◌∙◌, ap, refl, ℕ, ℤ, pos, negsuc, Bool, true, false, List, [], ◌∷◌, fold, map, Option, Some, None, Ordering, Less, Equal, Greater, nat_cmp}
 use Rattle.std.specs.Prelude.{⊤, if◌then◌else◌}
 use Rattle.std.specs.Cmp.Lexicographic.{slice_cmp}
 use Rattle.std.specs.Ordering.{match_ordering}
 use Rattle.std.proofs.lemmas.Bool.{or_from, or_parts}
-use Rattle.serde_json.specs.Data.{Data, object, Members, no_members, member, put}
+use Rattle.serde_json.specs.Data.{Data, array, string, object, Members, no_members, member, put}
 use Rattle.serde_json.specs.Find.{is_float, of_integer}
-use Rattle.serde_json.specs.Written.{compact_text, has_float, members_have_float}
+use Rattle.serde_json.specs.View.{items_of}
+use Rattle.serde_json.specs.Written.{compact_text, has_float, items_have_float, members_have_float}
 use Rattle.byteorder.specs.Endian.{big_number, twos_complement}
 use Rattle.ptpm_codec.specs.declared.message.Body.{Body}
 use Rattle.ptpm_codec.specs.declared.message.Message.{Message}
@@ -16,7 +17,7 @@ use Rattle.ptpm_members.specs.declared.forms.Form.{Form}
 use Rattle.ptpm_members.specs.declared.forms.Form.TheVariants as forms
 use Rattle.ptpm_members.specs.FieldText.{members_in}
 use Rattle.ptpm_message_json.specs.DataField.{members_data, put_by, put_data, put_data_field, put_field}
-use Rattle.ptpm_message_json.specs.MessageJson.{head, message_data, message_text, put_body, put_head, put_rest, put_told, refusal, rest, with_members}
+use Rattle.ptpm_message_json.specs.MessageJson.{head, message_data, message_text, put_body, put_columns, put_head, put_rest, put_told, refusal, rest, with_members}
 use Rattle.ptpm_message_json.specs.Names.{is_in_quality, quality_name}
 use Rattle.ptpm_message_json.specs.Values.{value_data}
 
@@ -118,13 +119,24 @@ body_plain : (body : Body) (ms : Members) → members_have_float ms ≡ false �
 unfolding put_body
 body_plain body ms q = told_plain (error_of body) body ms q
 
-message_plain : (m : Message) → has_float (message_data m) ≡ false
+texts_plain : (texts : List (List ℕ)) → items_have_float (items_of (map string texts)) ≡ false
+texts_plain [] = refl
+texts_plain (text ∷ more) = texts_plain more
+
+columns_plain : (columns : List (List ℕ)) (ms : Members) → members_have_float ms ≡ false → members_have_float (put_columns columns ms) ≡ false
+unfolding put_columns
+columns_plain [] ms q = q
+columns_plain (column ∷ more) ms q = put_plain _ (array (items_of (map string (column ∷ more)))) ms (texts_plain (column ∷ more)) q
+
+message_plain : (columns : List (List ℕ)) (m : Message) → has_float (message_data columns m) ≡ false
 unfolding message_data
-message_plain m =
-    body_plain m.body (put_rest m (put_head m no_members)) (rest_plain m (put_head m no_members) (head_plain m no_members refl))
+message_plain columns m =
+    columns_plain columns _
+    (body_plain m.body (put_rest m (put_head m no_members)) (rest_plain m (put_head m no_members) (head_plain m no_members refl)))
 
 -- the text of a value that says what the message does
-pub text_of_message : (m : Message) (d : Data) (text : List ℕ) → d ≡ message_data m → (has_float d ≡ false → text ≡ compact_text d)
-    → text ≡ message_text m
+pub text_of_message : (columns : List (List ℕ)) (m : Message) (d : Data) (text : List ℕ) → d ≡ message_data columns m
+    → (has_float d ≡ false → text ≡ compact_text d)
+    → text ≡ message_text columns m
 unfolding message_text
-text_of_message m d text says written = written (ap has_float says ∙ message_plain m) ∙ ap compact_text says
+text_of_message columns m d text says written = written (ap has_float says ∙ message_plain columns m) ∙ ap compact_text says

@@ -1,14 +1,15 @@
 -- A dataField of the right length has the octets of each ClockQuality.
-use Rattle.std.proofs.Common.{arith, refl, ◌≡◌, ◌≤◌, ◌+◌, ◌==◌, ℕ, Bool, true, List, [], ◌∷◌, length, Option, Some, None}
-use Rattle.std.specs.Prelude.{nat_le}
+use Rattle.std.proofs.Common.{arith, refl, ◌≡◌, ◌≤◌, ◌+◌, ◌==◌, ℕ, Bool, true, false, List, [], ◌∷◌, length, Option, Some, None}
+use Rattle.std.specs.Prelude.{if◌then◌else◌, nat_le}
 use Rattle.std.specs.List.{All, AllByRecursion, list_all}
 use Rattle.std.proofs.lemmas.Bool.{and_parts, eqb-true, leb-true}
-use Rattle.std.proofs.lemmas.List.Elements.{All-from_recursion}
+use Rattle.std.proofs.lemmas.List.Elements.{All-from_recursion, All-same}
 use Rattle.ptpm_data.specs.declared.management_id.Layout.{Layout}
 use Rattle.ptpm_data.specs.declared.management_id.Layout.TheVariants as layouts
+use Rattle.ptpm_data.specs.ManagementId.{RowValue, row_of}
 use Rattle.ptpm_members.specs.declared.forms.Field.{Field}
-use Rattle.ptpm_members.specs.Tables.{field_size, fields_of, is_whole}
-use Rattle.ptpm_members.proofs.Placed.{placed_in}
+use Rattle.ptpm_members.specs.FieldText.{IsPlaced, members_in}
+use Rattle.ptpm_members.specs.Tables.{field_size, fields_of, fields_of_row, is_whole, is_whole_of_row}
 use Rattle.ptpm_message_json.specs.DataField.{HasQuality, IsTellable}
 use Rattle.ptpm_message_json.specs.Names.{quality_name}
 
@@ -71,8 +72,25 @@ by_layout layouts.NullPtpManagement octets whole = tt
 by_layout layouts.EnablePort octets whole = tt
 by_layout layouts.DisablePort octets whole = tt
 
-pub tellable_in : (layout : Layout) (octets : List ℕ) → is_whole layout octets ≡ true → All (IsTellable octets) (fields_of layout)
-tellable_in layout octets whole = λ k d h. record {
-  placed = placed_in layout octets whole k d h;
-  quality = All-from_recursion (HasItsQuality octets) (fields_of layout) (by_layout layout octets whole) k d h;
+-- ---- an id's dataField
+
+if_whole : (whole : Bool) (octets : List ℕ) (fs : List Field) → (whole ≡ true → AllByRecursion (HasItsQuality octets) fs)
+    → AllByRecursion (HasItsQuality octets) (if whole then fs else [])
+if_whole true octets fs there = there refl
+if_whole false octets fs there = tt
+
+by_row : (row : Option RowValue) (octets : List ℕ)
+    → AllByRecursion (HasItsQuality octets) (if is_whole_of_row row octets then fields_of_row row else [])
+by_row None octets = if_whole (is_whole_of_row None octets) octets [] (λ whole. tt)
+by_row (Some row) octets = if_whole (is_whole row.layout octets) octets (fields_of row.layout) (by_layout row.layout octets)
+
+with_quality : (id : ℕ) (octets : List ℕ) → All (HasItsQuality octets) (members_in id octets)
+unfolding members_in
+with_quality id octets = All-from_recursion (HasItsQuality octets) _ (by_row (row_of id) octets)
+
+pub all_tellable : (id : ℕ) (octets : List ℕ) (fs : List Field) → fs ≡ members_in id octets → All (IsPlaced octets) fs
+    → All (IsTellable octets) fs
+all_tellable id octets fs is placed = λ k d h. record {
+  placed = placed k d h;
+  quality = All-same (HasItsQuality octets) _ _ is (with_quality id octets) k d h;
 }

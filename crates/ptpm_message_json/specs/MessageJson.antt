@@ -1,8 +1,9 @@
 -- A management message as one object of JSON, by the standard's names (this project's profile).
-use Rattle.std.specs.Prelude.{ℕ, List, [], ◌∷◌, ◌++◌, Option, Some, None, codes, find, ◌==◌}
+use Rattle.std.specs.Prelude.{ℕ, List, [], ◌∷◌, ◌++◌, Option, Some, None, codes, find, map, ◌==◌}
 use Rattle.std.specs.Int.{to_be_bytes, w16}
 use Rattle.hex.specs.Hex.{encode_lower}
-use Rattle.serde_json.specs.Data.{Data, number, string, object, unsigned, Members, no_members, put}
+use Rattle.serde_json.specs.Data.{Data, number, string, array, object, unsigned, Members, no_members, put}
+use Rattle.serde_json.specs.View.{items_of}
 use Rattle.serde_json.specs.Written.{compact_text}
 use Rattle.ptpm_codec.specs.declared.error.ErrorId.{ErrorId}
 use Rattle.ptpm_codec.specs.declared.error.ErrorId.TheVariants as errors
@@ -86,9 +87,14 @@ put_told (Some error) body ms = with_members (refusal error (text_of body)) ms
 unfoldable pub put_body : Body → Members → Members
 put_body body ms = put_told (error_of body) body ms
 
-unfoldable pub message_data : Message → Data
-message_data m = object (put_body m.body (put_rest m (put_head m no_members)))
+-- texts that came with the message, unless there is none
+unfoldable pub put_columns : List (List ℕ) → Members → Members
+put_columns [] ms = ms
+put_columns (column ∷ more) ms = put (codes "columns") (array (items_of (map string (column ∷ more)))) ms
+
+unfoldable pub message_data : List (List ℕ) → Message → Data
+message_data columns m = object (put_columns columns (put_body m.body (put_rest m (put_head m no_members))))
 
 -- without a space or a line feed
-unfoldable pub message_text : Message → List ℕ
-message_text m = compact_text (message_data m)
+unfoldable pub message_text : List (List ℕ) → Message → List ℕ
+message_text columns m = compact_text (message_data columns m)

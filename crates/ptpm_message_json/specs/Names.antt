@@ -2,11 +2,12 @@
 use Rattle.std.specs.Prelude.{ℕ, ◌==◌, Bool, true, false, if◌then◌else◌, List, Option, Some, None, codes}
 use Rattle.ptpm_data.specs.declared.members.Member.{Member as DataSetMember}
 use Rattle.ptpm_data.specs.declared.members.Member.TheVariants as sets
+use Rattle.ptpm_data.specs.declared.port_state.DelayMechanism.{DelayMechanism}
 use Rattle.ptpm_data.specs.declared.port_state.PortState.{PortState}
-use Rattle.ptpm_data.specs.PortState.{state_of}
+use Rattle.ptpm_data.specs.PortState.{mechanism_of, state_of}
 use Rattle.ptpm_members.specs.declared.names.Member.{Member}
 use Rattle.ptpm_members.specs.declared.names.Member.TheVariants as members
-use Rattle.ptpm_members.specs.ValueText.{state_name}
+use Rattle.ptpm_members.specs.ValueText.{mechanism_name, state_name}
 
 abbrev pub reserved : List ℕ
 reserved = codes "reserved"
@@ -19,11 +20,17 @@ state_or_reserved (Some state) = state_name state
 abbrev pub state_said : ℕ → List ℕ
 state_said n = state_or_reserved (state_of n)
 
+-- the name of a delay mechanism that no clock of this project has
+abbrev pub other_mechanism : ℕ → List ℕ
+other_mechanism n = if n == 3 then codes "COMMON_P2P" else if n == 4 then codes "SPECIAL" else reserved
+
+abbrev pub mechanism_or_other : ℕ → Option DelayMechanism → List ℕ
+mechanism_or_other n None = other_mechanism n
+mechanism_or_other n (Some mechanism) = mechanism_name mechanism
+
 -- the name of a delay mechanism (8.2.15.4.4, table 21)
 abbrev pub mechanism_said : ℕ → List ℕ
-mechanism_said n =
-    if n == 1 then codes "E2E" else if n == 2 then codes "P2P" else if n == 3 then codes "COMMON_P2P"
-    else if n == 4 then codes "SPECIAL" else if n == 0xfe then codes "NO_MECHANISM" else reserved
+mechanism_said n = mechanism_or_other n (mechanism_of n)
 
 -- ---- a ClockQuality (5.3.7) is told as one object
 

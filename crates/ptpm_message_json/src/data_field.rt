@@ -3,14 +3,11 @@
 ghost use Rattle.std.specs.Prelude.{◌≡◌, IfOk, OnOk};
 ghost use Rattle.std.specs.List.{All};
 ghost use Rattle.serde_json.specs.View.{members_view};
-ghost use Rattle.ptpm_members.specs.FieldText.{members_in};
 ghost use Rattle.ptpm_message_json.specs.DataField.{IsTellable, members_data, put_data_field, put_field};
 
 use crate::names::{is_in_quality, quality_name};
-use crate::sizes::is_whole;
 use crate::values::{member_value, quality_value};
-use ptpm_data::row;
-use ptpm_members::{Field, fields};
+use ptpm_members::{Field, members_in};
 use serde_json::{Map, Value, put};
 use std::alloc::{AllocError, Global};
 
@@ -37,18 +34,6 @@ pub(crate) fn put_data_field(
     }
     let members = members_object(alloc, octets, members)?;
     put(map, alloc, "members", Value::Object(members))
-}
-
-/// The members that the octets have, each at its place; none if they are no dataField of the id.
-#[tactic(auto, unfolding(ptpm_members::specs::FieldText::members_in))]
-fn members_in(id: u16, octets: &[u8]) -> &'static [Field]
-    ensures value { result.now ≡ members_in id octets.now }
-    ensures tellable { All (IsTellable octets.now) result.now }
-{
-    match row(id) {
-        Some(row) if is_whole(row.layout, octets) => fields(row.layout),
-        _ => &[],
-    }
 }
 
 /// An object of members.

@@ -1,10 +1,10 @@
 //! A management message as one object of JSON, by the standard's names (IEEE 1588-2019, clause 15).
 #![tactic(auto)]
 
+mod columns;
 mod data_field;
 mod message;
 mod names;
-mod sizes;
 mod values;
 
 pub use message::message_text;

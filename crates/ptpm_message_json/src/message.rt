@@ -1,9 +1,10 @@
 //! What is said of a message.
 
-ghost use Rattle.std.specs.Prelude.{◌≡◌, ◌++◌, IfOk, OnOk, codes, string_bytes};
+ghost use Rattle.std.specs.Prelude.{◌≡◌, ◌++◌, IfOk, OnOk, codes, map, string_bytes};
 ghost use Rattle.serde_json.specs.View.{members_view, view};
 ghost use Rattle.ptpm_message_json.specs.MessageJson.{digits_of, error_data, id_data, message_data, message_text, named_error, put_body, put_head, put_rest};
 
+use crate::columns::put_columns;
 use crate::data_field::put_data_field;
 use crate::values::{port_value, text_value};
 use ptpm_codec::{ErrorId, View};
@@ -12,20 +13,28 @@ use serde_json::{Map, Value, put};
 use std::alloc::{AllocError, Global};
 
 /// The message as one object of JSON, without a space or a line feed. Each field has the standard's name (13.3, 15.4 and 15.5.4).
-pub fn message_text(alloc: Global, message: &View<'_>) -> Result<String, AllocError>
-    ensures { IfOk result (λ text. string_bytes text ≡ message_text message.now) }
+/// If there are columns, texts that came with the message, it has them too.
+pub fn message_text(
+    alloc: Global,
+    columns: &[&str],
+    message: &View<'_>,
+) -> Result<String, AllocError>
+    ensures { IfOk result
+        (λ text. string_bytes text ≡ message_text (map (λ c. c.now) columns.now) message.now) }
 {
-    message_value(alloc, message)?.to_string(alloc)
+    message_value(alloc, columns, message)?.to_string(alloc)
 }
 
 #[tactic(auto, unfolding(crate::specs::MessageJson::message_data))]
-fn message_value(alloc: Global, message: &View<'_>) -> Result<Value, AllocError>
-    ensures { IfOk result (λ v. view v ≡ message_data message.now) }
+fn message_value(alloc: Global, columns: &[&str], message: &View<'_>) -> Result<Value, AllocError>
+    ensures { IfOk result
+        (λ v. view v ≡ message_data (map (λ c. c.now) columns.now) message.now) }
 {
     let mut map = Map::new(alloc);
     put_head(alloc, message, &mut map)?;
     put_rest(alloc, message, &mut map)?;
     put_body(alloc, message, &mut map)?;
+    put_columns(alloc, columns, &mut map)?;
     Ok(Value::Object(map))
 }
 

@@ -1,11 +1,10 @@
 //! The names of what a number stands for. `reserved` is that of a number without one.
 
 ghost use Rattle.std.specs.Prelude.{◌≡◌, option_map};
-ghost use Rattle.ptpm_members.specs.ValueText.{state_name};
-ghost use Rattle.ptpm_message_json.specs.Names.{mechanism_said, quality_name, is_in_quality, state_said};
+ghost use Rattle.ptpm_message_json.specs.Names.{is_in_quality, mechanism_said, other_mechanism, quality_name, state_said};
 
-use ptpm_data::{Member as DataSetMember, PortState};
-use ptpm_members::Member;
+use ptpm_data::{DelayMechanism, Member as DataSetMember, PortState};
+use ptpm_members::{Member, mechanism_name, state_name};
 
 /// The standard's name of a port's state (8.2.15.3.1, table 20).
 pub(crate) fn state_of_number(number: u8) -> &'static str
@@ -17,32 +16,23 @@ pub(crate) fn state_of_number(number: u8) -> &'static str
     }
 }
 
-fn state_name(state: PortState) -> &'static str
-    ensures { result.now ≡ state_name state }
-{
-    match state {
-        PortState::Initializing => "INITIALIZING",
-        PortState::Faulty => "FAULTY",
-        PortState::Disabled => "DISABLED",
-        PortState::Listening => "LISTENING",
-        PortState::PreMaster => "PRE_MASTER",
-        PortState::Master => "MASTER",
-        PortState::Passive => "PASSIVE",
-        PortState::Uncalibrated => "UNCALIBRATED",
-        PortState::Slave => "SLAVE",
-    }
-}
-
 /// The standard's name of a delay mechanism (8.2.15.4.4, table 21).
 pub(crate) fn mechanism_of_number(number: u8) -> &'static str
     ensures { result.now ≡ mechanism_said number }
 {
+    match DelayMechanism::from_number(number) {
+        Some(mechanism) => mechanism_name(mechanism),
+        None => other_mechanism(number),
+    }
+}
+
+/// The standard's name of a delay mechanism that no clock of this project has.
+fn other_mechanism(number: u8) -> &'static str
+    ensures { result.now ≡ other_mechanism number }
+{
     match number {
-        1 => "E2E",
-        2 => "P2P",
         3 => "COMMON_P2P",
         4 => "SPECIAL",
-        0xfe => "NO_MECHANISM",
         _ => "reserved",
     }
 }

@@ -9,7 +9,7 @@ use Rattle.ptpm_data.specs.Members.{DataSetsValue, IsConsistent}
 use Rattle.ptpm_manager.specs.Image.{image_head, mark}
 use Rattle.ptpm_saved.specs.declared.error.RestoreError.{RestoreError}
 use Rattle.ptpm_saved.specs.declared.error.RestoreError.TheVariants as restores
-use Rattle.ptpm_saved.specs.Image.{SavedClock, body_image, entries_image, saved_image}
+use Rattle.ptpm_saved.specs.Image.{AreEntries, SavedClock, body_image, entries_image, saved_image}
 use Rattle.ptpm_saved.specs.Restoring.{IsBegun, IsImageOf, IsOpened, IsRefusedByHead, head_refusal}
 use Rattle.ptpm_saved.proofs.EntryOrder.{Pair}
 use Rattle.ptpm_saved.proofs.ImageLemmas.{head_length}
@@ -150,3 +150,17 @@ opened image body back tail sets count size is consistent fits bodies backs size
         (subst (BeginsWithImage sets) (sym bodies) is.sets_first) backs sizes parts counts tails;
   };
 }
+
+-- data sets that are read before entries that are entries
+pub whole_body : (image octets : List ℕ) (count : ℕ) (read : Option DataSetsValue) (es : List Pair)
+    → IfSome read (λ d. IsBegun image d)
+    → IfSome read IsConsistent
+    → IfSome read DataSetsFit
+    → ((d : DataSetsValue) → IsBegun image d → IsConsistent d → DataSetsFit d → IsOpened image d count octets)
+    → AreEntries es
+    → length es ≡ count
+    → octets ≡ entries_image es
+    → IfSome read (λ d. (c : SavedClock) × IsImageOf c image × (d ≡ c.sets))
+whole_body image octets count None es begun consistent fits opens entries size is = tt
+whole_body image octets count (Some d) es begun consistent fits opens entries size is =
+    (record { sets = d; entries = es }, (opens d begun consistent fits).whole es entries size is, refl)

@@ -82,7 +82,7 @@ find_other q e es h =
     let back : identity_cmp q e.0 ≡ Greater = identities_total.antisymm q e.0 ∙ ap ordering_reverse h in
     ap (λ o. cond (is_eq o) (Some e.1) (find identity_cmp q es)) back
 
-split_at : (es : List Pair) (i : ℕ)
+pub split_at : (es : List Pair) (i : ℕ)
     → i < length es
     → (e : Pair) × (slice_get es i ≡ Some e) × (drop i es ≡ e ∷ drop (suc i) es)
 split_at [] i inside = absurd (omega (arith, inside))

@@ -4,6 +4,7 @@ use Rattle.std.specs.List.{flat_map}
 use Rattle.std.specs.FinMap.{entries}
 use Rattle.std.proofs.lemmas.Option.{get_or_from_slice_get, slice_get_within}
 use Rattle.std.proofs.lemmas.List.Elements.{All-head, All-tail}
+use Rattle.std.proofs.lemmas.List.Concat.{flat_map-append}
 use Rattle.ptpm_codec.specs.declared.message.Action.{Action}
 use Rattle.byteorder.specs.Endian.{big_bytes}
 use Rattle.ptpm_codec.specs.Canonical.{port_identity_octets}
@@ -141,6 +142,38 @@ given xs i a is =
       room = omega (arith, ap length on, length-append (answers_image (take i xs)) (answer_image a), answers_within xs (suc i));
     }
 
+-- where an answer is the next one, behind these
+pub record IsNextAnswer (all done rest : List Answer) (a : Answer) : Type 0 where
+  pub there : slice_get all (length done) ≡ Some a
+  pub on : answers_image (done ++ a ∷ []) ≡ answers_image done ++ answer_image a
+  pub room : length (answers_image done) + length (answer_image a) ≤ length (answers_image all)
+  pub so_far : (done ++ a ∷ []) ++ rest ≡ all
+
+pub next_answer : (all done left rest : List Answer) (a : Answer)
+    → done ++ left ≡ all
+    → left ≡ a ∷ rest
+    → IsNextAnswer all done rest a
+unfolding answers_image
+next_answer all done left rest a whole first =
+    let parts : done ++ a ∷ rest ≡ all = ap (λ l. done ++ l) (sym first) ∙ whole in
+    let on = flat_map-append answer_image done (a ∷ []) ∙ ap (λ o. flat_map answer_image done ++ o) (append-nil (answer_image a)) in
+    record {
+      there = ap (λ l. slice_get l (length done)) (sym parts) ∙ next_at done;
+      on = on;
+      room = omega (
+        arith,
+        ap (λ l. length (flat_map answer_image l)) parts,
+        ap length (flat_map-append answer_image done (a ∷ rest)),
+        length-append (flat_map answer_image done) (flat_map answer_image (a ∷ rest)),
+        length-append (answer_image a) (flat_map answer_image rest),
+      );
+      so_far = append_assoc done (a ∷ []) rest ∙ parts;
+    }
+  where
+    next_at : (xs : List Answer) → slice_get (xs ++ a ∷ rest) (length xs) ≡ Some a
+    next_at [] = refl
+    next_at (x ∷ xs) = next_at xs
+
 -- ---- entries
 
 entries_more : (es : List (PortIdentity × Entry)) (i : ℕ) (e : PortIdentity × Entry)
@@ -152,6 +185,25 @@ entries_more es i e is = flat_more entry_image es i e is
 entries_within : (es : List (PortIdentity × Entry)) (i : ℕ) → length (entries_image (take i es)) ≤ length (entries_image es)
 unfolding entries_image
 entries_within es i = flat_within entry_image es i
+
+-- where an entry was lent, at this place
+pub record IsEntryAt (es : List (PortIdentity × Entry)) (i : ℕ) (e : PortIdentity × Entry) : Type 0 where
+  pub on : entries_image (take (i + 1) es) ≡ entries_image (take i es) ++ entry_image e
+  pub size : length (entries_image (take (i + 1) es)) ≡ length (entries_image (take i es)) + length (entry_image e)
+  pub room : length (entries_image (take i es)) + length (entry_image e) ≤ length (entries_image es)
+
+pub entry_given : (es fs : List (PortIdentity × Entry)) (i : ℕ) (e : PortIdentity × Entry)
+    → fs ≡ es
+    → slice_get fs i ≡ Some e
+    → IsEntryAt es i e
+entry_given es fs i e same is =
+    let on = entries_more es i e (ap (λ l. slice_get l i) (sym same) ∙ is) in
+    let next : entries_image (take (i + 1) es) ≡ entries_image (take i es) ++ entry_image e = ap (λ n. entries_image (take n es)) (next_place i) ∙ on in
+    record {
+      on = next;
+      size = ap length next ∙ length-append (entries_image (take i es)) (entry_image e);
+      room = omega (arith, ap length on, length-append (entries_image (take i es)) (entry_image e), entries_within es (suc i));
+    }
 
 -- where the next entry of a table was lent, at this place
 pub record IsLent (m : Entries) (i : ℕ) (x : ManagerEntry) : Type 0 where

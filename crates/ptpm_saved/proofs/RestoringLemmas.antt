@@ -1,7 +1,9 @@
 -- What was read of the entries of an image, one after the other.
-use Rattle.std.proofs.Common.{suc, arith, ◌≡◌, ℕ, ◌+◌, ◌<◌, ◌≤◌, Bool, true, false, cond, refl, sym, ◌∙◌, ap, subst, List, [], ◌∷◌, ◌++◌, length, Option, Some, None, slice_get, All, append_assoc, append-nil, length-append}
+use Rattle.std.proofs.Common.{suc, arith, ◌≡◌, ℕ, ◌+◌, ◌<◌, ◌≤◌, Bool, true, false, cond, refl, sym, ◌∙◌, ap, subst, List, [], ◌∷◌, ◌++◌, length, Option, Some, None, slice_get, get_or, take, drop, All, append_assoc, append-nil, length-append}
 use Rattle.std.proofs.lemmas.Bool.{and_from, and_parts, false≢true}
 use Rattle.std.proofs.lemmas.Bool.Decides.{nat_tests}
+use Rattle.std.proofs.lemmas.List.{take_all, take_more}
+use Rattle.std.proofs.lemmas.Option.{get_or_from_slice_get}
 use Rattle.std.proofs.lemmas.List.Elements.{All-head, All-nil, All-push, All-tail}
 use Rattle.std.specs.FinMap.{is_sorted}
 use Rattle.std.specs.Prelude.{◌==◌, option_map}
@@ -15,7 +17,7 @@ use Rattle.ptpm_table.specs.Lending.{IsAfter}
 use Rattle.ptpm_table.proofs.Identities.{identities_total}
 use Rattle.ptpm_saved.specs.Image.{AreEntries, EntryIsSound, entries_image, entry_image}
 use Rattle.ptpm_saved.specs.Restoring.{IsRestored, kept_by, kept_of, let_go}
-use Rattle.ptpm_saved.proofs.EntryOrder.{Pair, after_at, below_all, below_at, sorted_parts}
+use Rattle.ptpm_saved.proofs.EntryOrder.{Pair, after_at, below_all, below_at, sorted_parts, split_at}
 
 -- ---- one more
 
@@ -103,32 +105,25 @@ last_after es e = ap (λ o. option_map (λ (x : Pair). x.0) o) (sym (at_end es e
 
 -- ---- so far
 
--- Of so many entries in these octets the first ones were read, and put into a table. Whoever reads the octets as entries reads these
--- first.
-pub record IsReadSoFar (ms : List PortIdentity) (octets : List ℕ) (count place : ℕ) (rest : List ℕ) (last : Option PortIdentity)
-    (before after : Entries) (gone : ℕ) : Type 0 where
+-- Of so many entries in these octets the first ones were read. Whoever reads the octets as entries reads these first.
+pub record IsReadSoFar (octets : List ℕ) (count place : ℕ) (rest : List ℕ) (last : Option PortIdentity) : Type 0 where
   pub read : List Pair
   pub size : length read ≡ place
   pub octets_are : octets ≡ entries_image read ++ rest
   pub ascending : is_sorted identity_cmp read ≡ true
   pub sound : All EntryIsSound read
   pub last_is : last ≡ after_at read place
-  pub restored : IsRestored ms read before after gone
-  pub small : gone ≤ place
   pub found : (es : List Pair) → AreEntries es → length es ≡ count → octets ≡ entries_image es
       → (more : List Pair) × (es ≡ read ++ more) × (rest ≡ entries_image more)
 
-pub none_read : (ms : List PortIdentity) (octets : List ℕ) (count : ℕ) (before : Entries)
-    → IsReadSoFar ms octets count 0 octets None before before 0
-none_read ms octets count before = record {
+pub none_read : (octets : List ℕ) (count : ℕ) → IsReadSoFar octets count 0 octets None
+none_read octets count = record {
   read = [];
   size = refl;
   octets_are = ap (λ s. s ++ octets) (sym image-nil);
   ascending = refl;
   sound = All-nil EntryIsSound;
   last_is = refl;
-  restored = record { entries = refl; gone_is = refl };
-  small = omega arith;
   found = λ es entries size is. (es, refl, is);
 }
 
@@ -152,27 +147,25 @@ sound_of [] more e all = All-head EntryIsSound e more all
 sound_of (x ∷ read) more e all = sound_of read more e (All-tail EntryIsSound x (read ++ e ∷ more) all)
 
 -- no entry stands there: so these are no entries
-pub cut_short : (ms : List PortIdentity) (octets : List ℕ) (count place : ℕ) (rest : List ℕ) (last : Option PortIdentity)
-    (before after : Entries) (gone : ℕ)
-    → IsReadSoFar ms octets count place rest last before after gone
+pub cut_short : (octets : List ℕ) (count place : ℕ) (rest : List ℕ) (last : Option PortIdentity)
+    → IsReadSoFar octets count place rest last
     → place < count
     → ((e : Pair) (others : List ℕ) → EntryIsSound e → rest ≡ entry_image e ++ others → ⊥)
     → (es : List Pair) → AreEntries es → length es ≡ count → octets ≡ entries_image es → ⊥
-cut_short ms octets count place rest last before after gone h less none es entries size is =
+cut_short octets count place rest last h less none es entries size is =
     let f = h.found es entries size is in
     let g = follows h.read f.0 es count place rest f.1 size h.size less f.2 in
     none g.0 (entries_image g.1)
     (sound_of h.read g.1 g.0 (subst (All EntryIsSound) (f.1 ∙ ap (λ m. h.read ++ m) g.2) entries.sound)) g.3
 
 -- an entry stands there, and does not come after the last: so these are no entries
-pub out_of_order : (ms : List PortIdentity) (octets : List ℕ) (count place : ℕ) (rest : List ℕ) (last : Option PortIdentity)
-    (before after : Entries) (gone : ℕ) (e : Pair) (next : List ℕ)
-    → IsReadSoFar ms octets count place rest last before after gone
+pub out_of_order : (octets : List ℕ) (count place : ℕ) (rest : List ℕ) (last : Option PortIdentity) (e : Pair) (next : List ℕ)
+    → IsReadSoFar octets count place rest last
     → place < count
     → ((d : Pair) (others : List ℕ) → EntryIsSound d → rest ≡ entry_image d ++ others → (e ≡ d) × (next ≡ others))
     → (IsAfter last e.0 → ⊥)
     → (es : List Pair) → AreEntries es → length es ≡ count → octets ≡ entries_image es → ⊥
-out_of_order ms octets count place rest last before after gone e next h less same not_after es entries size is =
+out_of_order octets count place rest last e next h less same not_after es entries size is =
     let f = h.found es entries size is in
     let g = follows h.read f.0 es count place rest f.1 size h.size less f.2 in
     let all : es ≡ h.read ++ g.0 ∷ g.1 = f.1 ∙ ap (λ m. h.read ++ m) g.2 in
@@ -183,18 +176,15 @@ out_of_order ms octets count place rest last before after gone e next h less sam
     (sorted_after h.read g.0 g.1 (subst (λ l. is_sorted identity_cmp l ≡ true) all entries.ascending))))
 
 -- one more entry
-pub read_on : (ms : List PortIdentity) (octets : List ℕ) (count place : ℕ) (rest next : List ℕ) (last : Option PortIdentity)
-    (before after new : Entries) (gone gone' : ℕ) (e : Pair)
-    → IsReadSoFar ms octets count place rest last before after gone
+pub read_on : (octets : List ℕ) (count place : ℕ) (rest next : List ℕ) (last : Option PortIdentity) (e : Pair)
+    → IsReadSoFar octets count place rest last
     → place < count
     → rest ≡ entry_image e ++ next
     → EntryIsSound e
     → ((d : Pair) (others : List ℕ) → EntryIsSound d → rest ≡ entry_image d ++ others → (e ≡ d) × (next ≡ others))
     → IsAfter last e.0
-    → new ≡ kept_by (is_known e.0 ms) after e
-    → gone' ≡ cond (is_known e.0 ms) gone (gone + 1)
-    → IsReadSoFar ms octets count (place + 1) next (Some e.0) before new gone'
-read_on ms octets count place rest next last before after new gone gone' e h less is sound same comes kept counted = record {
+    → IsReadSoFar octets count (place + 1) next (Some e.0)
+read_on octets count place rest next last e h less is sound same comes = record {
   read = h.read ++ e ∷ [];
   size = omega (arith, length-append h.read (e ∷ []), h.size);
   octets_are =
@@ -204,11 +194,6 @@ read_on ms octets count place rest next last before after new gone gone' e h les
       (subst (λ (o : Option PortIdentity). IsAfter o e.0) (h.last_is ∙ ap (after_at h.read) (sym h.size)) comes);
   sound = All-push EntryIsSound h.read e h.sound sound;
   last_is = last_after h.read e ∙ ap (λ n. after_at (h.read ++ e ∷ []) (n + 1)) h.size;
-  restored = record {
-    entries = kept ∙ ap (λ m. kept_by (is_known e.0 ms) m e) h.restored.entries ∙ sym (kept-append ms h.read e before);
-    gone_is = counted ∙ ap (λ n. cond (is_known e.0 ms) n (n + 1)) h.restored.gone_is ∙ sym (gone-append ms h.read e);
-  };
-  small = by_known (is_known e.0 ms) counted;
   found = λ es entries size all.
       let f = h.found es entries size all in
       let g = follows h.read f.0 es count place rest f.1 size h.size less f.2 in
@@ -220,52 +205,109 @@ read_on ms octets count place rest next last before after new gone gone' e h les
     alone : (e : Pair) → entries_image (e ∷ []) ≡ entry_image e
     alone e = image-cons e [] ∙ ap (λ s. entry_image e ++ s) image-nil ∙ append-nil (entry_image e)
 
-    by_known : (b : Bool) → gone' ≡ cond b gone (gone + 1) → gone' ≤ place + 1
-    by_known true is = let s = h.small in omega (arith, is)
-    by_known false is = let s = h.small in omega (arith, is)
-
 -- ---- at the end
 
 -- all were read
-pub record IsWhole (ms : List PortIdentity) (octets : List ℕ) (count : ℕ) (before after : Entries) (gone : ℕ) : Type 0 where
+pub record IsWhole (octets : List ℕ) (count : ℕ) : Type 0 where
   pub es : List Pair
   pub entries : AreEntries es
   pub size : length es ≡ count
   pub octets_are : octets ≡ entries_image es
-  pub restored : IsRestored ms es before after gone
 
-pub read_whole : (ms : List PortIdentity) (octets : List ℕ) (count place : ℕ) (rest : List ℕ) (last : Option PortIdentity)
-    (before after : Entries) (gone : ℕ)
-    → IsReadSoFar ms octets count place rest last before after gone
+pub read_whole : (octets : List ℕ) (count place : ℕ) (rest : List ℕ) (last : Option PortIdentity)
+    → IsReadSoFar octets count place rest last
     → place ≡ count
     → count ≤ 16
     → rest ≡ []
-    → IsWhole ms octets count before after gone
-read_whole ms octets count place rest last before after gone h all few end = record {
+    → IsWhole octets count
+read_whole octets count place rest last h all few end = record {
   es = h.read;
   entries = record { few = omega (arith, h.size, all, few); ascending = h.ascending; sound = h.sound };
   size = h.size ∙ all;
   octets_are = h.octets_are ∙ ap (λ s. entries_image h.read ++ s) end ∙ append-nil (entries_image h.read);
-  restored = h.restored;
 }
 
--- whoever reads the octets as entries reads these
-pub found_whole : (ms : List PortIdentity) (octets : List ℕ) (count place : ℕ) (rest : List ℕ) (last : Option PortIdentity)
-    (before after : Entries) (gone : ℕ)
-    → IsReadSoFar ms octets count place rest last before after gone
+-- whoever reads the octets as entries has read all
+pub found_whole : (octets : List ℕ) (count place : ℕ) (rest : List ℕ) (last : Option PortIdentity)
+    → IsReadSoFar octets count place rest last
     → place ≡ count
-    → (es : List Pair) → AreEntries es → length es ≡ count → octets ≡ entries_image es
-    → (rest ≡ []) × IsRestored ms es before after gone
-found_whole ms octets count place rest last before after gone h all es entries size is =
+    → (es : List Pair) → AreEntries es → length es ≡ count → octets ≡ entries_image es → rest ≡ []
+found_whole octets count place rest last h all es entries size is =
     let f = h.found es entries size is in
-    let none : f.0 ≡ [] = no_more f.0 (omega (arith, ap length f.1, length-append h.read f.0, size, h.size, all)) in (
-      f.2 ∙ ap entries_image none ∙ image-nil,
-      subst (λ l. IsRestored ms l before after gone) (sym (f.1 ∙ ap (λ m. h.read ++ m) none ∙ append-nil h.read)) h.restored,
-    )
+    let none : f.0 ≡ [] = no_more f.0 (omega (arith, ap length f.1, length-append h.read f.0, size, h.size, all)) in
+    f.2 ∙ ap entries_image none ∙ image-nil
   where
     no_more : (l : List Pair) → length l ≡ 0 → l ≡ []
     no_more [] is = refl
     no_more (x ∷ l) is = absurd (omega (arith, is))
+
+-- ---- kept, one after the other
+
+-- of these entries the first ones were put into a table, and these octets are those of the others
+pub record IsKeptSoFar (ms : List PortIdentity) (es : List Pair) (place : ℕ) (rest : List ℕ) (before after : Entries) (gone : ℕ) : Type 0 where
+  pub rest_is : rest ≡ entries_image (drop place es)
+  pub entries : after ≡ kept_of ms (take place es) before
+  pub gone_is : gone ≡ let_go ms (take place es)
+
+pub none_kept : (ms : List PortIdentity) (es : List Pair) (octets : List ℕ) (before : Entries)
+    → octets ≡ entries_image es
+    → IsKeptSoFar ms es 0 octets before before 0
+none_kept ms es octets before is = record { rest_is = is; entries = refl; gone_is = refl }
+
+-- the entry at a place, in front of the octets of those behind it
+pub record IsInFront (es : List Pair) (place : ℕ) (rest : List ℕ) : Type 0 where
+  pub entry : Pair
+  pub there : slice_get es place ≡ Some entry
+  pub sound : EntryIsSound entry
+  pub octets_are : rest ≡ entry_image entry ++ entries_image (drop (suc place) es)
+
+pub in_front : (es : List Pair) (place : ℕ) (rest : List ℕ)
+    → AreEntries es
+    → place < length es
+    → rest ≡ entries_image (drop place es)
+    → IsInFront es place rest
+in_front es place rest entries inside is =
+    let s = split_at es place inside in
+    record {
+      entry = s.0;
+      there = s.1;
+      sound = subst EntryIsSound (get_or_from_slice_get es place s.0 s.0 s.1) (entries.sound place s.0 inside);
+      octets_are = is ∙ ap entries_image s.2 ∙ image-cons s.0 (drop (suc place) es);
+    }
+
+pub keep_on : (ms : List PortIdentity) (es : List Pair) (place : ℕ) (rest next : List ℕ) (before after new : Entries) (gone gone' : ℕ)
+    (e : Pair)
+    → IsKeptSoFar ms es place rest before after gone
+    → AreEntries es
+    → place < length es
+    → ((d : Pair) (others : List ℕ) → EntryIsSound d → rest ≡ entry_image d ++ others → (e ≡ d) × (next ≡ others))
+    → new ≡ kept_by (is_known e.0 ms) after e
+    → gone' ≡ cond (is_known e.0 ms) gone (gone + 1)
+    → IsKeptSoFar ms es (place + 1) next before new gone'
+keep_on ms es place rest next before after new gone gone' e h entries inside same kept counted =
+    let f = in_front es place rest entries inside h.rest_is in
+    let own = same f.entry (entries_image (drop (suc place) es)) f.sound f.octets_are in
+    let one : suc place ≡ place + 1 = omega arith in
+    let here : get_or es place e ≡ e = get_or_from_slice_get es place f.entry e f.there ∙ sym own.0 in
+    let more : take (place + 1) es ≡ take place es ++ e ∷ [] =
+    take_more es place e inside ∙ ap (λ (d : Pair). take place es ++ d ∷ []) here in
+    record {
+      rest_is = own.1 ∙ ap (λ n. entries_image (drop n es)) one;
+      entries =
+          kept ∙ ap (λ m. kept_by (is_known e.0 ms) m e) h.entries ∙ sym (kept-append ms (take place es) e before)
+          ∙ ap (λ l. kept_of ms l before) (sym more);
+      gone_is =
+          counted ∙ ap (λ n. cond (is_known e.0 ms) n (n + 1)) h.gone_is ∙ sym (gone-append ms (take place es) e)
+          ∙ ap (let_go ms) (sym more);
+    }
+
+pub all_kept : (ms : List PortIdentity) (es : List Pair) (place : ℕ) (rest : List ℕ) (before after : Entries) (gone : ℕ)
+    → IsKeptSoFar ms es place rest before after gone
+    → place ≡ length es
+    → IsRestored ms es before after gone
+all_kept ms es place rest before after gone h end =
+    let all : take place es ≡ es = ap (λ n. take n es) end ∙ take_all (length es) es (omega arith) in
+    record { entries = h.entries ∙ ap (λ l. kept_of ms l before) all; gone_is = h.gone_is ∙ ap (let_go ms) all }
 
 -- ---- how many are let go, and whether octets are left
 

@@ -10,7 +10,4 @@ mod restoring;
 
 pub use error::RestoreError;
 pub use image::{CLOCK_OCTETS, image_into, image_size};
-pub use restoring::{judged, put_back, restored};
-
-#[cfg(test)]
-mod tests;
+pub use restoring::{judged, put_back, put_back_judged, restored};

@@ -1,6 +1,6 @@
 //! A clock back from its image (this project's profile).
 
-ghost use Rattle.std.specs.Prelude.{◌≡◌, ◌≤◌, ◌%◌, ◌↔◌, IfErr, IfOk, IfSome, IsOkAnd, IsSome, IsSomeAnd, IsTrue, List, MatchResult, None, Some, true, if◌then◌else◌, length};
+ghost use Rattle.std.specs.Prelude.{◌≡◌, ◌≤◌, ◌%◌, ◌↔◌, IfErr, IfNone, IfOk, IfSome, IsOkAnd, IsSome, IsSomeAnd, IsTrue, List, MatchResult, None, Some, true, if◌then◌else◌, length};
 ghost use Rattle.std.specs.FinMap as fin;
 ghost use Rattle.std.specs.List.{All};
 ghost use Rattle.std.specs.Ordering.{is_lt};
@@ -8,7 +8,8 @@ ghost use Rattle.ptpm_agent.specs.Agent.{state_of};
 ghost use Rattle.ptpm_agent.specs.Turn.{State};
 ghost use Rattle.ptpm_codec.specs.declared.identity.PortIdentity.{PortIdentity};
 ghost use Rattle.ptpm_codec.specs.Identity.{identity_cmp};
-ghost use Rattle.ptpm_data.specs.Members.{DataSetsValue};
+ghost use Rattle.ptpm_data.specs.Image.{DataSetsFit};
+ghost use Rattle.ptpm_data.specs.Members.{DataSetsValue, IsConsistent};
 ghost use Rattle.ptpm_table.specs.Entries.{Entry, is_known};
 ghost use Rattle.ptpm_table.specs.Lending.{IsAfter, IsKeepable};
 ghost use Rattle.ptpm_manager.specs.Image.{image_head};
@@ -21,8 +22,8 @@ use crate::image::{HEAD_OCTETS, head};
 use crate::reading::{SavedRequest, read_entry};
 use ptpm_agent::Agent;
 use ptpm_codec::{ClockIdentity, PortIdentity};
-use ptpm_data::{DataSets, Reply, data_sets_law, fits_law};
-use ptpm_table::{SlotTable, SureTable};
+use ptpm_data::{DataSets, Reply, image_end};
+use ptpm_table::SureTable;
 use std::cmp::Ordering;
 
 /// How many entries a clock has at most, one for each manager.
@@ -62,9 +63,7 @@ pub fn restored<T: SureTable + Drop>(
 {
     let sets = judged(image, &table.clock(), ports as usize)?;
     let mut agent = Agent::new(sets, table);
-    let Some(gone) = put_back(image, &mut agent) else {
-        unreachable!()
-    };
+    let gone = put_back_judged(image, &mut agent);
     Ok((agent, gone))
 }
 
@@ -97,7 +96,7 @@ pub fn judged(
 }
 
 /// Keeps the entries of an image in an agent whose table knows their managers, and answers how many were let go, since it does
-/// not. Data sets and managers stay. `None` of octets that are no image, whatever was kept then. Takes no memory. Never inlined.
+/// not. Data sets and managers stay. `None` of octets that are no image, and then nothing is kept. Takes no memory.
 #[inline(never)]
 pub fn put_back<T: SureTable + Drop>(image: &[u8], agent: &mut Agent<T>) -> Option<u8>
     ensures kept { IfSome result
@@ -107,12 +106,28 @@ pub fn put_back<T: SureTable + Drop>(image: &[u8], agent: &mut Agent<T>) -> Opti
     ensures found { (c : SavedClock) → IsImageOf c image.now
         → IsSomeAnd result (λ gone. IsRestored (T.owner agent.old.table).managers c.entries
         (T.entries agent.old.table) (T.entries agent.new.table) gone) }
+    ensures unchanged { IfNone result (T.entries agent.new.table ≡ T.entries agent.old.table) }
     ensures sets { agent.new.sets ≡ agent.old.sets }
     ensures owner { T.owner agent.new.table ≡ T.owner agent.old.table }
 {
-    let entries = find_entries(image)?;
-    let gone = read_entries(entries.count, entries.octets, agent)?;
-    Some(gone)
+    let _sets = read_body(image)?;
+    Some(put_back_judged(image, agent))
+}
+
+/// What `put_back` does with an image: its data sets are not read. Never inlined.
+#[inline(never)]
+pub fn put_back_judged<T: SureTable + Drop>(image: &[u8], agent: &mut Agent<T>) -> u8
+    requires { (c : SavedClock) × IsImageOf c image.now }
+    ensures kept { (c : SavedClock) → IsImageOf c image.now
+        → IsRestored (T.owner agent.old.table).managers c.entries
+        (T.entries agent.old.table) (T.entries agent.new.table) result }
+    ensures sets { agent.new.sets ≡ agent.old.sets }
+    ensures owner { T.owner agent.new.table ≡ T.owner agent.old.table }
+{
+    let Some(entries) = find_entries(image) else {
+        unreachable!()
+    };
+    keep_entries(&entries, agent)
 }
 
 /// Judges what the head says.
@@ -134,8 +149,8 @@ fn judge_head(image: &[u8]) -> Result<(), RestoreError>
     Ok(())
 }
 
-/// The data sets of an image whose entries are entries too. `None` of other octets. It is never inlined, as those below that say so:
-/// so the stack has one of their frames at a time.
+/// The data sets of an image whose entries are entries too. `None` of other octets. The entries come first: so the stack has no
+/// data sets while they are read. It is never inlined, as those below that say so: so the stack has one of their frames at a time.
 #[inline(never)]
 fn read_body(image: &[u8]) -> Option<DataSets>
     ensures sound { IfSome result
@@ -143,51 +158,40 @@ fn read_body(image: &[u8]) -> Option<DataSets>
     ensures found { (c : SavedClock) → IsImageOf c image.now
         → IsSomeAnd result (λ sets. sets ≡ c.sets) }
 {
-    let read = read_sets(image);
-    let Some(sets) = &read else {
-        return None;
-    };
-    let entries = entries_behind(sets, image)?;
-    judge_entries(sets, &entries)?;
-    read
+    let entries = find_entries(image)?;
+    if judge_entries(&entries) {
+        read_sets(image)
+    } else {
+        None
+    }
 }
 
-/// How many entries stand where an image has its entries, and nothing else; they are read, and none is kept, by a clock of these
-/// data sets. `None` of other octets. Never inlined.
-#[inline(never)]
-fn judge_entries(sets: &DataSets, entries: &SavedEntries<'_>) -> Option<u8>
-    ensures sound { IfSome result
-        (λ _. (es : List (PortIdentity × Entry)) × AreEntries es
-        × (length es ≡ entries.now.count) × (entries.now.octets.now ≡ entries_image es)) }
-    ensures found { (es : List (PortIdentity × Entry)) → AreEntries es
-        → length es ≡ entries.now.count → entries.now.octets.now ≡ entries_image es
-        → IsSome result }
-{
-    let mut nobody: Agent<SlotTable<0>> = Agent::without_managers(sets.copy());
-    let gone = read_entries(entries.count, entries.octets, &mut nobody)?;
-    Some(gone)
-}
-
-/// The entries of an image, of which its head and its data sets are judged. `None` where these are none. Never inlined.
-#[inline(never)]
+/// The entries of an image, where its data sets end by the numbers in them. `None` where they do not end within it.
 fn find_entries(image: &[u8]) -> Option<SavedEntries<'_>>
-    ensures opened { IfSome result
-        (λ o. (d : DataSetsValue) × IsOpened image.now d o.count o.octets.now) }
+    ensures opened { IfSome result (λ o. (d : DataSetsValue) → IsBegun image.now d
+        → IsConsistent d → DataSetsFit d → IsOpened image.now d o.count o.octets.now) }
     ensures found { (c : SavedClock) → IsImageOf c image.now
         → IsSomeAnd result (λ o. OpensAs c c.sets o.count o.octets.now) }
 {
-    let read = read_sets(image);
-    let Some(sets) = &read else {
+    if image.len() < HEAD_OCTETS {
         return None;
-    };
-    let entries = entries_behind(sets, image)?;
-    Some(entries)
+    }
+    let (_, body) = image.split_at(HEAD_OCTETS);
+    let end = image_end(body)?;
+    let (_, octets) = body.split_at(end);
+    let (count, octets) = octets.split_first()?;
+    Some(SavedEntries {
+        count: *count,
+        octets,
+    })
 }
 
 /// The data sets behind the head of an image. `None` where its head or its data sets are none. Never inlined.
 #[inline(never)]
 fn read_sets(image: &[u8]) -> Option<DataSets>
     ensures begun { IfSome result (λ d. IsBegun image.now d) }
+    ensures consistent { IfSome result (λ d. IsConsistent d) }
+    ensures fits { IfSome result (λ d. DataSetsFit d) }
     ensures found { (c : SavedClock) → IsImageOf c image.now → result ≡ Some c.sets }
 {
     if image.len() < HEAD_OCTETS {
@@ -200,24 +204,6 @@ fn read_sets(image: &[u8]) -> Option<DataSets>
     DataSets::restored(body)
 }
 
-/// The entries of an image that begins with these data sets. `None` where it ends with them.
-fn entries_behind<'a>(sets: &DataSets, image: &'a [u8]) -> Option<SavedEntries<'a>>
-    requires { IsBegun image.now sets.now }
-    ensures opened { IfSome result (λ o. IsOpened image.now sets.now o.count o.octets.now) }
-    ensures found { (c : SavedClock) → IsImageOf c image.now → sets.now ≡ c.sets
-        → IsSomeAnd result (λ o. OpensAs c sets.now o.count o.octets.now) }
-{
-    data_sets_law(sets);
-    fits_law(sets);
-    let (_, body) = image.split_at(HEAD_OCTETS);
-    let (_, octets) = body.split_at(sets.image_size());
-    let (count, octets) = octets.split_first()?;
-    Some(SavedEntries {
-        count: *count,
-        octets,
-    })
-}
-
 /// Whether this is the head of an image with so many octets behind it.
 fn is_head(front: &[u8], size: usize) -> bool
     ensures { IsTrue result ↔ front.now ≡ image_head 1 (size % 4294967296) }
@@ -225,40 +211,61 @@ fn is_head(front: &[u8], size: usize) -> bool
     front == head(size % 4_294_967_296).as_slice()
 }
 
-/// Keeps the entries of which the agent's table knows the managers, of so many whose images stand there and nothing else, and
-/// answers how many the others are. `None` of other octets. Never inlined.
+/// Whether so many entries stand there and nothing else, in the order of their managers. They are read, and none is kept. Never
+/// inlined.
 #[inline(never)]
-fn read_entries<T: SureTable + Drop>(count: u8, octets: &[u8], agent: &mut Agent<T>) -> Option<u8>
-    ensures sound { IfSome result
-        (λ gone. (es : List (PortIdentity × Entry)) × AreEntries es × (length es ≡ count)
-        × (octets.now ≡ entries_image es)
-        × IsRestored (T.owner agent.old.table).managers es (T.entries agent.old.table)
-        (T.entries agent.new.table) gone) }
-    ensures found { (es : List (PortIdentity × Entry)) → AreEntries es → length es ≡ count
-        → octets.now ≡ entries_image es
-        → IsSomeAnd result (λ gone. IsRestored (T.owner agent.old.table).managers es
-        (T.entries agent.old.table) (T.entries agent.new.table) gone) }
-    ensures sets { agent.new.sets ≡ agent.old.sets }
-    ensures owner { T.owner agent.new.table ≡ T.owner agent.old.table }
+fn judge_entries(entries: &SavedEntries<'_>) -> bool
+    ensures sound { IsTrue result
+        → (es : List (PortIdentity × Entry)) × AreEntries es
+        × (length es ≡ entries.now.count) × (entries.now.octets.now ≡ entries_image es) }
+    ensures found { (es : List (PortIdentity × Entry)) → AreEntries es
+        → length es ≡ entries.now.count → entries.now.octets.now ≡ entries_image es
+        → IsTrue result }
 {
+    let count = entries.count;
     if ENTRIES < count {
-        return None;
+        return false;
     }
     let mut reply = Reply::empty();
-    let mut octets = octets;
+    let mut octets = entries.octets;
     let mut after = None;
-    let mut gone = 0;
     for _place in 0..count {
-        let (entry, rest) = read_entry(octets, &mut reply)?;
+        let Some((entry, rest)) = read_entry(octets, &mut reply) else {
+            return false;
+        };
         if !comes_after(&entry.manager, after) {
-            return None;
+            return false;
         }
-        let lost = keep(agent, &entry, &reply);
-        gone += lost;
         after = Some(entry.manager);
         octets = rest;
     }
-    if octets.is_empty() { Some(gone) } else { None }
+    octets.is_empty()
+}
+
+/// Keeps the entries of which the agent's table knows the managers, and answers how many the others are. Never inlined.
+#[inline(never)]
+fn keep_entries<T: SureTable + Drop>(entries: &SavedEntries<'_>, agent: &mut Agent<T>) -> u8
+    requires { (es : List (PortIdentity × Entry)) × AreEntries es
+        × (length es ≡ entries.now.count) × (entries.now.octets.now ≡ entries_image es) }
+    ensures kept { (es : List (PortIdentity × Entry)) → AreEntries es
+        → length es ≡ entries.now.count → entries.now.octets.now ≡ entries_image es
+        → IsRestored (T.owner agent.old.table).managers es (T.entries agent.old.table)
+        (T.entries agent.new.table) result }
+    ensures sets { agent.new.sets ≡ agent.old.sets }
+    ensures owner { T.owner agent.new.table ≡ T.owner agent.old.table }
+{
+    let mut reply = Reply::empty();
+    let mut octets = entries.octets;
+    let mut gone = 0;
+    for _place in 0..entries.count {
+        let Some((entry, rest)) = read_entry(octets, &mut reply) else {
+            unreachable!()
+        };
+        let lost = keep(agent, &entry, &reply);
+        gone += lost;
+        octets = rest;
+    }
+    gone
 }
 
 /// Keeps an entry where the agent's table knows its manager, and answers how many are let go: none or one.

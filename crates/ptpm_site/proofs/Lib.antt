@@ -2,9 +2,14 @@ pub mod Agreeing
 pub mod Alike
 pub mod Circles
 pub mod Clocks
+pub mod Dropped
 pub mod Keeping
+pub mod Links
+pub mod Marking
 pub mod Pairs
+pub mod Passing
 pub mod Places
+pub mod Placing
 pub mod Ports
 pub mod Reports
 pub mod Rows
@@ -12,5 +17,6 @@ pub mod Settling
 pub mod Sources
 pub mod StandingLemmas
 pub mod Statements
+pub mod Strays
 pub mod Swapping
 pub mod Values

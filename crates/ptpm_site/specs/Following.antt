@@ -1,6 +1,6 @@
 -- Who follows whom (IEEE 1588-2019, 8.2.3).
-use Rattle.std.specs.Prelude.{Bool, false, Option, Some, None, if◌then◌else◌, option_and_then}
-use Rattle.std.specs.Option.{option_map_or}
+use Rattle.std.specs.Prelude.{◌≡◌, ℕ, ◌<◌, Bool, false, List, length, Option, Some, None, if◌then◌else◌, option_and_then, slice_index_or}
+use Rattle.std.specs.Option.{option_map, option_map_or}
 use Rattle.ptpm_codec.specs.Identity.{same_clock}
 use Rattle.ptpm_codec.specs.declared.identity.ClockIdentity.{ClockIdentity}
 use Rattle.ptpm_codec.specs.declared.identity.PortIdentity.{PortIdentity}
@@ -22,3 +22,13 @@ followed t s = option_and_then (λ p. if same_clock p.grandmaster s.clock then N
 -- a clock's parent: the clock that it follows, where that is seen
 abbrev pub parent_clock : Telling → Source → Option Source
 parent_clock t s = option_and_then (λ p. if t.seen (beside s p.clock) then Some (beside s p.clock) else None) (followed t s)
+
+-- the place of a clock's parent among all clocks, where it has one
+pub record IsParentPlace (t : Telling) (s : Source) (place : Option ℕ) : Type 0 where
+  pub within : (q : ℕ) → place ≡ Some q → q < length t.clocks
+  pub parent : (d : Source) → parent_clock t s ≡ option_map (λ q. slice_index_or t.clocks q d) place
+
+-- of each clock, in their order, the place of its parent
+pub record ArePlaced (t : Telling) (followed : List (Option ℕ)) : Type 0 where
+  pub count : length followed ≡ length t.clocks
+  pub each : (p : ℕ) (d : Source) → p < length t.clocks → IsParentPlace t (slice_index_or t.clocks p d) (slice_index_or followed p None)

@@ -11,6 +11,7 @@ pub mod Keeping
 pub mod Kept
 pub mod Loops
 pub mod Members
+pub mod Messages
 pub mod Octets
 pub mod Parents
 pub mod PortStates
@@ -19,3 +20,4 @@ pub mod Standing
 pub mod Swapping
 pub mod Telling
 pub mod Tree
+pub mod Walks

@@ -1,6 +1,6 @@
 -- Loops of clocks that follow each other: `loop`.
-use Rattle.std.specs.Prelude.{ℕ, zero, suc, List, [], ◌∷◌, length, Option, Some, None, option_and_then}
-use Rattle.std.specs.Option.{option_map}
+use Rattle.std.specs.Prelude.{◌≡◌, ℕ, zero, suc, ◌==◌, ◌<◌, Bool, true, false, nat_lt, List, [], ◌∷◌, length, Option, Some, None, if◌then◌else◌, option_and_then, is_some, slice_index_or}
+use Rattle.std.specs.Option.{option_map, option_map_or}
 use Rattle.std.specs.Ordering.{match_ordering}
 use Rattle.ptpm_codec.specs.declared.identity.ClockIdentity.{ClockIdentity}
 use Rattle.ptpm_site.specs.declared.source.Source.{Source}
@@ -19,3 +19,22 @@ circle t first (suc n) here = option_and_then (λ parent.
 -- the loop of which a clock is the least
 abbrev pub loop_of : Telling → Source → Option (List ClockIdentity)
 loop_of t s = circle t s (length t.clocks) s
+
+-- of each clock, in their order, whether it is the least of a loop
+abbrev pub AreLeast : Telling → List Bool → Type 0
+AreLeast t marks = (p : ℕ) (d : Source) → p < length t.clocks → slice_index_or marks p false ≡ is_some (loop_of t (slice_index_or t.clocks p d))
+
+-- ---- the same of places, by the place that each follows
+
+abbrev pub AreWithin : List (Option ℕ) → Type 0
+AreWithin followed = (p q : ℕ) → slice_index_or followed p None ≡ Some q → q < length followed
+
+-- whether a walk comes back to its first place, and passes none that is less
+abbrev pub comes_back : List (Option ℕ) → ℕ → ℕ → ℕ → Bool
+comes_back followed first zero here = false
+comes_back followed first (suc n) here = option_map_or (λ q.
+    if nat_lt q first then false else if q == first then true else comes_back followed first n q) (slice_index_or followed here None) false
+
+-- whether a place is the least of a loop
+abbrev pub is_least : List (Option ℕ) → ℕ → Bool
+is_least followed p = comes_back followed p (length followed) p

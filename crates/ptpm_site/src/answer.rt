@@ -1,5 +1,10 @@
 //! Answers to management GETs of the six ids.
 
+ghost use Rattle.std.specs.Prelude.{◌≡◌, IfOk};
+ghost use Rattle.std.specs.Option.{option_map};
+ghost use Rattle.ptpm_site.specs.Messages.{content, content_told, data_told, port_told_by, request_of, source_of};
+ghost use Rattle.ptpm_site.specs.Octets.{port_read};
+
 use crate::asked::Asked;
 use crate::data_sets::{
     CurrentDataSet, DefaultDataSet, ParentDataSet, PortDataSet, TimePropertiesDataSet,
@@ -28,21 +33,25 @@ pub struct Answer {
 }
 
 impl Answer {
+    ghost use Rattle.ptpm_site.specs.Messages.{answer_of, answered};
+
     /// The answer that a message is; none where it is no RESPONSE to one of the six, where its dataField has another
     /// length, or where PORT_DATA_SET names another clock than its source.
-    pub fn of(alloc: Global, message: &View<'_>) -> Result<Option<Answer>, AllocError> {
-        if message.action() != Action::Response {
-            return Ok(None);
+    #[tactic(auto, unfolding(crate::specs::Messages::answer_of))]
+    pub fn of(alloc: Global, message: &View<'_>) -> Result<Option<Answer>, AllocError>
+        ensures { IfOk result (λ found. option_map answered found ≡ answer_of message.now) }
+    {
+        match message.action() {
+            Action::Response => {}
+            _ => return Ok(None),
         }
         let Some(asked) = Asked::of_id(message.id()) else {
             return Ok(None);
         };
-        let told = if message.error().is_some() {
-            Some(Told::Refused(asked))
-        } else {
-            told(alloc, asked, message)?
+        let Some(told) = told(alloc, asked, message)? else {
+            return Ok(None);
         };
-        Ok(told.map(|told| Answer {
+        Ok(Some(Answer {
             source: source_of(message),
             request: request_of(message),
             told,
@@ -51,7 +60,9 @@ impl Answer {
 }
 
 /// The clock that a message is of.
-fn source_of(message: &View<'_>) -> Source {
+fn source_of(message: &View<'_>) -> Source
+    ensures { result ≡ source_of message.now }
+{
     Source {
         domain: message.domain(),
         clock: message.source().clock,
@@ -59,28 +70,47 @@ fn source_of(message: &View<'_>) -> Source {
 }
 
 /// The request that a message answers.
-fn request_of(message: &View<'_>) -> Request {
+fn request_of(message: &View<'_>) -> Request
+    ensures { result ≡ request_of message.now }
+{
     Request {
         target: message.target(),
         number: message.number(),
     }
 }
 
+/// What a message tells of the id that was asked.
+#[tactic(auto, unfolding(crate::specs::Messages::content_told))]
+fn told(alloc: Global, asked: Asked, message: &View<'_>) -> Result<Option<Told>, AllocError>
+    ensures { IfOk result (λ found. option_map content found ≡ content_told asked message.now) }
+{
+    if message.error().is_some() {
+        Ok(Some(Told::Refused(asked)))
+    } else {
+        data_told(alloc, asked, message)
+    }
+}
+
 /// What the dataField of a message tells of the id that was asked.
-fn told(alloc: Global, asked: Asked, message: &View<'_>) -> Result<Option<Told>, AllocError> {
+fn data_told(alloc: Global, asked: Asked, message: &View<'_>) -> Result<Option<Told>, AllocError>
+    ensures { IfOk result (λ found. option_map content found ≡ data_told asked message.now) }
+{
     let octets = message.octets();
-    Ok(match asked {
-        Asked::UserDescription => Description::read(alloc, octets)?.map(Told::Description),
-        Asked::DefaultDataSet => DefaultDataSet::read(octets).map(Told::Default),
-        Asked::CurrentDataSet => CurrentDataSet::read(octets).map(Told::Current),
-        Asked::ParentDataSet => ParentDataSet::read(octets).map(Told::Parent),
-        Asked::TimePropertiesDataSet => TimePropertiesDataSet::read(octets).map(Told::Time),
-        Asked::PortDataSet => port_told(octets, message),
-    })
+    match asked {
+        Asked::UserDescription => Ok(Description::read(alloc, octets)?.map(Told::Description)),
+        Asked::DefaultDataSet => Ok(DefaultDataSet::read(octets).map(Told::Default)),
+        Asked::CurrentDataSet => Ok(CurrentDataSet::read(octets).map(Told::Current)),
+        Asked::ParentDataSet => Ok(ParentDataSet::read(octets).map(Told::Parent)),
+        Asked::TimePropertiesDataSet => Ok(TimePropertiesDataSet::read(octets).map(Told::Time)),
+        Asked::PortDataSet => Ok(port_told(octets, message)),
+    }
 }
 
 /// What PORT_DATA_SET tells; none where it names another clock than its source.
-fn port_told(octets: &[u8], message: &View<'_>) -> Option<Told> {
+#[tactic(auto, unfolding(crate::specs::Messages::port_told_by))]
+fn port_told(octets: &[u8], message: &View<'_>) -> Option<Told>
+    ensures { option_map content result ≡ port_told_by message.now (port_read octets.now) }
+{
     let (port, set) = PortDataSet::read(octets)?;
     if port.clock == message.source().clock {
         Some(Told::Port(port.port, set))

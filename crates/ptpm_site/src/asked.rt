@@ -29,8 +29,12 @@ pub fn six() -> [Asked; 6]
 }
 
 impl Asked {
+    ghost use Rattle.ptpm_site.specs.Messages.{asked_of};
+
     /// That of a managementId; none where it is none of the six.
-    pub fn of_id(id: u16) -> Option<Asked> {
+    pub fn of_id(id: u16) -> Option<Asked>
+        ensures { result ≡ asked_of id }
+    {
         match id {
             0x0002 => Some(Asked::UserDescription),
             0x2000 => Some(Asked::DefaultDataSet),

@@ -1,10 +1,16 @@
 //! Who follows whom, by the places of the clocks in their order.
 
-ghost use Rattle.std.specs.Prelude.{◌≡◌, IfOk};
+ghost use Rattle.std.specs.Prelude.{◌≡◌, ◌<◌, false, IfOk, MatchOption, length, slice_index_or};
+ghost use Rattle.std.specs.List.{list_any};
+ghost use Rattle.std.specs.List.Sorted.{IsStrictlySortedBy};
+ghost use Rattle.std.specs.Ordering.{eq_by_cmp};
+ghost use Rattle.ptpm_site.specs.Answers.{source_cmp};
+ghost use Rattle.ptpm_site.specs.Following.{ArePlaced, IsParentPlace};
 ghost use Rattle.ptpm_site.specs.Kept.{kept};
 
 use crate::site::Site;
 use crate::source::Source;
+use crate::walks::next;
 use ptpm_codec::PortIdentity;
 use std::alloc::{AllocError, Global};
 use std::ops::Range;
@@ -39,55 +45,31 @@ pub struct Forest {
 
 impl Forest {
     pub fn of(alloc: Global, site: &Site) -> Result<Forest, AllocError>
-        ensures { IfOk result (λ forest. forest.sources.items ≡ (kept site.now).clocks) }
+        ensures clocks { IfOk result (λ forest. forest.sources.items ≡ (kept site.now).clocks) }
+        ensures ordered { IfOk result (λ forest. IsStrictlySortedBy source_cmp forest.sources.items) }
+        ensures placed { IfOk result (λ forest. ArePlaced (kept site.now) forest.followed.items) }
     {
         let sources = site.sources(alloc)?;
-        let mut forest = Forest {
-            sources: Vec::new(alloc),
-            followed: Vec::new(alloc),
+        let followed = parent_places(alloc, site, sources.as_slice())?;
+        let mut following = Following {
             followers: Vec::new(alloc),
             lost: Vec::new(alloc),
         };
         for (place, source) in sources.as_slice().iter().enumerate() {
-            forest.add(site, sources.as_slice(), place, *source)?;
+            following.add(site, place, *source, next(followed.as_slice(), place))?;
         }
-        forest.sources = sources;
-        forest.followers.sort()?;
-        forest.lost.sort()?;
-        Ok(forest)
-    }
-
-    /// Adds the clock at a place, behind those of all lower places.
-    fn add(
-        &mut self,
-        site: &Site,
-        sources: &[Source],
-        place: usize,
-        source: Source,
-    ) -> Result<(), AllocError> {
-        let Some(parent) = site.followed(source) else {
-            self.followed.push(None)?;
-            return Ok(());
-        };
-        match sources.binary_search(&source.beside(parent.clock)) {
-            Ok(above) => {
-                self.followed.push(Some(above))?;
-                self.followers.push(Follower {
-                    above,
-                    port: parent.port,
-                    place,
-                })?;
-            }
-            Err(_) => {
-                self.followed.push(None)?;
-                self.lost.push(Lost {
-                    domain: source.domain,
-                    parent,
-                    place,
-                })?;
-            }
-        }
-        Ok(())
+        let Following {
+            mut followers,
+            mut lost,
+        } = following;
+        followers.sort()?;
+        lost.sort()?;
+        Ok(Forest {
+            sources,
+            followed,
+            followers,
+            lost,
+        })
     }
 
     /// The places of a domain's clocks.
@@ -121,4 +103,74 @@ impl Forest {
         let to = lost.partition_point(|lost| lost.domain <= domain);
         lost.get(from..to).unwrap_or(&[])
     }
+}
+
+/// The clocks that follow another.
+#[derive(Drop)]
+struct Following {
+    followers: Vec<Follower>,
+    lost: Vec<Lost>,
+}
+
+impl Following {
+    /// Adds the clock at a place, where it follows another, whose clock stands at this place if it is seen.
+    fn add(
+        &mut self,
+        site: &Site,
+        place: usize,
+        source: Source,
+        above: Option<usize>,
+    ) -> Result<(), AllocError> {
+        let Some(parent) = site.followed(source) else {
+            return Ok(());
+        };
+        match above {
+            Some(above) => self.followers.push(Follower {
+                above,
+                port: parent.port,
+                place,
+            })?,
+            None => self.lost.push(Lost {
+                domain: source.domain,
+                parent,
+                place,
+            })?,
+        }
+        Ok(())
+    }
+}
+
+/// Of each of all clocks, in their order, the place of its parent.
+fn parent_places(
+    alloc: Global,
+    site: &Site,
+    sources: &[Source],
+) -> Result<Vec<Option<usize>>, AllocError>
+    requires clocks { sources.now ≡ (kept site.now).clocks }
+    requires ordered { IsStrictlySortedBy source_cmp sources.now }
+    ensures { IfOk result (λ places. ArePlaced (kept site.now) places.items) }
+{
+    let mut places = Vec::new(alloc);
+    for source in sources {
+        places.push(parent_place(site, sources, *source))?;
+    }
+    Ok(places)
+}
+
+/// The place of a clock's parent among all clocks.
+fn parent_place(site: &Site, sources: &[Source], source: Source) -> Option<usize>
+    requires clocks { sources.now ≡ (kept site.now).clocks }
+    requires ordered { IsStrictlySortedBy source_cmp sources.now }
+    ensures { IsParentPlace (kept site.now) source result }
+{
+    place_among(sources, site.parent_clock(source)?)
+}
+
+/// The place of a clock among others, which stand in their order.
+fn place_among(sources: &[Source], source: Source) -> Option<usize>
+    requires { IsStrictlySortedBy source_cmp sources.now }
+    ensures { MatchOption result (list_any (eq_by_cmp source_cmp source) sources.now ≡ false)
+        (λ p. (p < length sources.now) × ((d : Source) → slice_index_or sources.now p d ≡ source)) }
+{
+    sources.binary_search(&source).ok()
 }

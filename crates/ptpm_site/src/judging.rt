@@ -1,10 +1,11 @@
 //! What is wrong, finding by finding, in their order: by domain, by clock, by the table of findings, by port.
 
-ghost use Rattle.std.specs.Prelude.{◌≡◌, ◌++◌, OnOk, IfOk, length};
+ghost use Rattle.std.specs.Prelude.{◌≡◌, ◌++◌, OnOk, IfOk, is_some, length};
 ghost use Rattle.std.specs.List.{flat_map};
 ghost use Rattle.ptpm_site.specs.Findings.{findings_of, found_above, found_here, found_of, told};
 ghost use Rattle.ptpm_site.specs.Grandmasters.{leading_clocks};
 ghost use Rattle.ptpm_site.specs.Kept.{kept};
+ghost use Rattle.ptpm_site.specs.Loops.{AreLeast, loop_of};
 
 use crate::finding::Finding;
 use crate::grandmasters::leading;
@@ -14,17 +15,20 @@ use crate::judging_grandmasters::{judge_grandmaster, judge_parent};
 use crate::judging_loops::judge_loop;
 use crate::judging_ports::{judge_intervals, judge_ports};
 use crate::limits::Limits;
+use crate::marks::is_marked;
 use crate::site::Site;
 use crate::source::Source;
 use std::alloc::{AllocError, Global};
 
-/// All findings. Each loop is told at its least clock.
+/// All findings. Each loop is told at its least clock, which is marked.
 #[tactic(auto, unfolding(crate::specs::Findings::told))]
 pub fn findings_of<'a>(
     alloc: Global,
     site: &'a Site,
+    least: &[bool],
     limits: Limits,
 ) -> Result<Vec<Finding<'a>>, AllocError>
+    requires { AreLeast (kept site.now) least.now }
     ensures { IfOk result (λ found. told found.items ≡ findings_of (kept site.now) limits) }
 {
     let sources = site.sources(alloc)?;
@@ -32,6 +36,7 @@ pub fn findings_of<'a>(
     let given = Given {
         alloc,
         leading: leading.as_slice(),
+        least,
         count: sources.len(),
         limits,
     };
@@ -46,12 +51,14 @@ struct Given<'a> {
     alloc: Global,
     /// The clocks that lead.
     leading: &'a [Source],
+    /// Of each clock whether it is the least of a loop.
+    least: &'a [bool],
     /// How many clocks there are.
     count: usize,
     limits: Limits,
 }
 
-/// What is wrong with these clocks, one after another.
+/// What is wrong with all clocks, one after another.
 fn judge_all<'a>(
     site: &'a Site,
     sources: &[Source],
@@ -59,31 +66,41 @@ fn judge_all<'a>(
     findings: &mut Vec<Finding<'a>>,
 ) -> Result<(), AllocError>
     requires leading { given.now.leading.now ≡ leading_clocks (kept site.now) }
+    requires sources { sources.now ≡ (kept site.now).clocks }
+    requires least { AreLeast (kept site.now) given.now.least.now }
     requires count { given.now.count ≡ length (kept site.now).clocks }
     ensures { OnOk result (told findings.new.items
         ≡ told findings.old.items ++ flat_map (found_of (kept site.now) given.now.limits) sources.now) }
 {
-    for source in sources {
-        judge(site, *source, given, findings)?;
+    for (place, source) in sources.iter().enumerate() {
+        judge(
+            site,
+            *source,
+            is_marked(given.least, place),
+            given,
+            findings,
+        )?;
     }
     Ok(())
 }
 
-/// What is wrong with a clock.
+/// What is wrong with a clock, which is the least of a loop or is not.
 fn judge<'a>(
     site: &'a Site,
     source: Source,
+    is_least: bool,
     given: &Given<'_>,
     findings: &mut Vec<Finding<'a>>,
 ) -> Result<(), AllocError>
     requires leading { given.now.leading.now ≡ leading_clocks (kept site.now) }
+    requires least { is_least ≡ is_some (loop_of (kept site.now) source) }
     requires count { given.now.count ≡ length (kept site.now).clocks }
     ensures { OnOk result (told findings.new.items
         ≡ told findings.old.items ++ found_of (kept site.now) given.now.limits source) }
 {
     let ports = site.ports(given.alloc, source)?;
     judge_above(site, source, given.leading, findings)?;
-    judge_loop(given.alloc, site, source, given.count, findings)?;
+    judge_loop(given.alloc, site, source, is_least, given.count, findings)?;
     judge_here(site, source, ports.as_slice(), given.limits, findings)?;
     judge_answers(given.alloc, site, source, ports.as_slice(), findings)?;
     Ok(())

@@ -1,10 +1,10 @@
 //! Loops, each told at its least clock.
 
-ghost use Rattle.std.specs.Prelude.{◌≡◌, ◌++◌, IfOk, OnOk, length};
+ghost use Rattle.std.specs.Prelude.{◌≡◌, ◌++◌, IfOk, OnOk, is_some, length};
 ghost use Rattle.std.specs.Option.{option_map};
 ghost use Rattle.ptpm_site.specs.Findings.{loop_told, told};
 ghost use Rattle.ptpm_site.specs.Kept.{kept};
-ghost use Rattle.ptpm_site.specs.Loops.{circle};
+ghost use Rattle.ptpm_site.specs.Loops.{circle, loop_of};
 
 use crate::finding::{Finding, What};
 use crate::finds::tell;
@@ -14,18 +14,23 @@ use ptpm_codec::ClockIdentity;
 use std::alloc::{AllocError, Global};
 use std::cmp::Ordering;
 
-/// `loop`, where a clock is the least of one. The site has so many clocks.
+/// `loop`, where a clock is the least of one, as it is told. The site has so many clocks.
 #[tactic(auto, unfolding(crate::specs::Findings::loop_told))]
 pub fn judge_loop(
     alloc: Global,
     site: &Site,
     source: Source,
+    is_least: bool,
     count: usize,
     findings: &mut Vec<Finding<'_>>,
 ) -> Result<(), AllocError>
-    requires { count ≡ length (kept site.now).clocks }
+    requires least { is_least ≡ is_some (loop_of (kept site.now) source) }
+    requires count { count ≡ length (kept site.now).clocks }
     ensures { OnOk result (told findings.new.items ≡ told findings.old.items ++ loop_told (kept site.now) source) }
 {
+    if !is_least {
+        return Ok(());
+    }
     match loop_from(alloc, site, source, count)? {
         Some(clocks) => tell(findings, source, What::Loop(clocks)),
         None => Ok(()),

@@ -9,7 +9,7 @@ use crate::finding::Finding;
 use crate::forest::Forest;
 use crate::judging::findings_of;
 use crate::limits::Limits;
-use crate::loops::loops;
+use crate::loops::least_of_loops;
 use crate::site::{LeftOut, Site};
 use crate::tree::{Row, rows};
 use std::alloc::{AllocError, Global};
@@ -36,9 +36,9 @@ impl<'a> Picture<'a> {
         ensures findings { IfOk result (λ picture. told picture.findings.items ≡ findings_of (kept site.now) limits) }
     {
         let forest = Forest::of(alloc, site)?;
-        let loops = loops(alloc, forest.followed.as_slice())?;
-        let rows = rows(alloc, site, &forest, loops.as_slice())?;
-        let findings = findings_of(alloc, site, limits)?;
+        let least = least_of_loops(alloc, forest.followed.as_slice())?;
+        let rows = rows(alloc, site, &forest, least.as_slice())?;
+        let findings = findings_of(alloc, site, least.as_slice(), limits)?;
         Ok(Picture {
             site,
             forest,

@@ -4,6 +4,7 @@ ghost use Rattle.std.specs.Prelude.{◌≡◌, true, false, ℕ, ◌<◌, slice_
 ghost use Rattle.ptpm_site.specs.Tree.{IsGrown, StandsOnce, StaysMarked, rows_at};
 
 use crate::forest::Forest;
+use crate::marks::is_marked;
 use crate::tree::Row;
 use ptpm_codec::PortIdentity;
 use std::alloc::{AllocError, Global};
@@ -84,16 +85,6 @@ fn wait_below(
         waiting.push((follower.place, depth.saturating_add(1)))?;
     }
     Ok(())
-}
-
-/// Whether the clock at a place has its row.
-fn is_marked(marks: &[bool], place: usize) -> bool
-    ensures { result ≡ slice_index_or marks.now place false }
-{
-    match marks.get(place) {
-        Some(mark) => *mark,
-        None => false,
-    }
 }
 
 /// A row for a clock that has none, and its mark.

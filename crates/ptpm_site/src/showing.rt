@@ -1,6 +1,7 @@
 //! How much of a site is shown.
 
-ghost use Rattle.std.specs.Prelude.{◌≡◌, true, length};
+ghost use Rattle.std.specs.Prelude.{◌≡◌, ◌-◌, true, length, take};
+ghost use Rattle.std.specs.BTreeMap.{keys};
 ghost use Rattle.ptpm_site.specs.Kept.{kept};
 ghost use Rattle.ptpm_site.specs.Showing.{is_shown_whole};
 
@@ -10,9 +11,12 @@ use crate::source::Source;
 impl Site {
     /// Keeps the first clocks, by domain and identity, and the first of their ports; the others are as if they had not
     /// answered. Where all can be shown nothing changes.
+    #[tactic(auto, unfolding(crate::specs::Kept::kept))]
     pub fn keep_first(&mut self) -> LeftOut
         ensures unchanged { is_shown_whole (kept self.old) ≡ true → self.new ≡ self.old }
         ensures none { is_shown_whole (kept self.old) ≡ true → result ≡ record { clocks = 0; ports = 0 } }
+        ensures clocks { (kept self.new).clocks ≡ take CLOCKS (kept self.old).clocks }
+        ensures left_out { result.clocks ≡ length (kept self.old).clocks - CLOCKS }
     {
         if self.is_shown_whole() {
             return LeftOut {
@@ -20,22 +24,34 @@ impl Site {
                 ports: 0,
             };
         }
-        self.drop_last()
+        let clocks = self.drop_clocks();
+        let ports = self.drop_ports();
+        LeftOut { clocks, ports }
     }
 
-    /// Drops the last clocks, and then the last ports, that are too many.
-    fn drop_last(&mut self) -> LeftOut {
-        let clocks = self.clocks.len().saturating_sub(CLOCKS);
-        for _ in 0..clocks {
+    /// Drops the last clocks that are too many; how many.
+    fn drop_clocks(&mut self) -> usize
+        ensures clocks { keys self.new.clocks ≡ take CLOCKS (keys self.old.clocks) }
+        ensures count { result ≡ length (keys self.old.clocks) - CLOCKS }
+    {
+        let over = self.clocks.len().saturating_sub(CLOCKS);
+        for dropped in 0..over {
             let _ = self.clocks.pop_last();
         }
+        over
+    }
+
+    /// Drops the last ports that are too many; how many.
+    fn drop_ports(&mut self) -> usize
+        ensures { keys self.new.clocks ≡ keys self.old.clocks }
+    {
         let mut room = PORTS;
         let mut ports = 0usize;
         for clock in self.clocks.values_mut() {
             ports = ports.saturating_add(clock.keep_first_ports(room));
             room = room.saturating_sub(clock.ports.len());
         }
-        LeftOut { clocks, ports }
+        ports
     }
 
     /// Whether there are no more clocks, and no more of their ports, than are shown.

@@ -1,6 +1,8 @@
 //! The clocks of a site, by the answers that were taken.
 
 ghost use Rattle.std.specs.Prelude.{◌≡◌, [], OnOk, IfOk, IsSome};
+ghost use Rattle.std.specs.List.Sorted.{IsStrictlySortedBy};
+ghost use Rattle.ptpm_site.specs.Answers.{source_cmp};
 ghost use Rattle.ptpm_site.specs.Keeping.{Keeps, Places, Takes, Tells};
 ghost use Rattle.ptpm_site.specs.Kept.{clock_at, kept};
 ghost use Rattle.ptpm_site.specs.Telling.{has_port_of, has_ports_to};
@@ -94,7 +96,8 @@ impl Site {
     /// The clocks that are seen, by domain and then by identity.
     #[tactic(auto, unfolding(crate::specs::Kept::kept))]
     pub fn sources(&self, alloc: Global) -> Result<Vec<Source>, AllocError>
-        ensures { IfOk result (λ sources. sources.items ≡ (kept self.now).clocks) }
+        ensures clocks { IfOk result (λ sources. sources.items ≡ (kept self.now).clocks) }
+        ensures ordered { IfOk result (λ sources. IsStrictlySortedBy source_cmp sources.items) }
     {
         self.clocks.keys().copied().collect(alloc)
     }

@@ -4,6 +4,7 @@ ghost use Rattle.std.specs.Prelude.{IfOk, vec_len};
 ghost use Rattle.ptpm_site.specs.Tree.{StandsOnce};
 
 use crate::forest::Forest;
+use crate::marks::is_marked;
 use crate::planting::Planting;
 use crate::site::Site;
 use ptpm_codec::PortIdentity;
@@ -18,14 +19,14 @@ pub enum Row {
     NotSeen { domain: u8, parent: PortIdentity },
 }
 
-/// The rows of the tree, by domain: the grandmasters, the clocks whose parent is not seen, those of loops from their least
+/// The rows of the tree, where the least clock of each loop is marked. By domain: the grandmasters, the clocks whose parent is not seen, those of loops from their least
 /// on, and those that did not say whom they follow; below each clock those that follow it, by its port, and then by
 /// identity.
 pub fn rows(
     alloc: Global,
     site: &Site,
     forest: &Forest,
-    loops: &[Vec<usize>],
+    least: &[bool],
 ) -> Result<Vec<Row>, AllocError>
     ensures { IfOk result (λ rows. StandsOnce (vec_len forest.now.sources) rows.items) }
 {
@@ -33,7 +34,7 @@ pub fn rows(
     for domain in 0..=u8::MAX {
         plant_grandmasters(site, forest, domain, &mut planting)?;
         plant_lost(forest, domain, &mut planting)?;
-        plant_loops(forest, domain, loops, &mut planting)?;
+        plant_loops(forest, domain, least, &mut planting)?;
         plant_silent(site, forest, domain, &mut planting)?;
     }
     planting.finish(forest)
@@ -72,14 +73,12 @@ fn plant_lost(forest: &Forest, domain: u8, planting: &mut Planting) -> Result<()
 fn plant_loops(
     forest: &Forest,
     domain: u8,
-    loops: &[Vec<usize>],
+    least: &[bool],
     planting: &mut Planting,
 ) -> Result<(), AllocError> {
-    for places in loops {
-        if let Some(place) = places.first() {
-            if forest.domain_of(*place) == Some(domain) {
-                planting.plant(forest, *place, 0)?;
-            }
+    for place in forest.places_of(domain) {
+        if is_marked(least, place) {
+            planting.plant(forest, place, 0)?;
         }
     }
     Ok(())

@@ -228,6 +228,26 @@ fn objects(rt: HostRuntime) -> Result<(), Fail> {
     Ok(())
 }
 
+/// The texts before the tabs of a line are shown with its message, also if they are empty. What is after the last tab is the
+/// datagram.
+#[test]
+fn columns(rt: HostRuntime) -> Result<(), Fail> {
+    let alloc = rt.alloc();
+    let input = format!(in alloc; "7 s\t\t1 {REPLY}\n{REPLY}\n7 s\tnothing\n{REPLY}\t\n")?;
+    let fault = "ptpm: BadLine 4 TooShort\n";
+    let mut shown = Vec::new(alloc);
+    shown.extend_from_slice(b"column 7 s\ncolumn \n")?;
+    shown.extend_from_slice(SHOWN_REPLY)?;
+    shown.extend_from_slice(SHOWN_REPLY)?;
+    let words = ["ptpm", "show", "--lines", "--json"];
+    let lines = input.as_bytes();
+    ends(&rt, alloc, &words[..3], lines, 1, shown.as_slice(), fault);
+    let object = REPLY_OBJECT.replace(alloc, "\"domain", "\"columns\":[\"7 s\",\"\"],\"domain")?;
+    let objects = format!(in alloc; "{object}{REPLY_OBJECT}")?;
+    ends(&rt, alloc, &words, lines, 1, objects.as_bytes(), fault);
+    Ok(())
+}
+
 /// Each option is heeded; without a clock the status is 3.
 #[test]
 fn site(rt: HostRuntime) {

@@ -1,12 +1,10 @@
 use Rattle.std.proofs.Common.{◌≡◌, ◌≤◌, ◌*◌, length, take}
 use Rattle.std.specs.FinMap.{entries}
 use Rattle.ptpm_saved.specs.Image.{entries_image}
-use Rattle.ptpm_saved.proofs.EntryOrder.{after_at}
 use Rattle.ptpm_saved.proofs.image.entries_size.Given as goal
 
-abbrev pub invariant-loop-place : goal.invariant-loop-place
-invariant-loop-place g l = record {
-  size : l.size ≡ length (entries_image (take l._place (entries (g.T.ReplyTable.entries l.table))));
-  small : l.size ≤ l._place * 1678;
-  after : l.after ≡ after_at (entries (g.T.ReplyTable.entries l.table)) l._place;
+abbrev pub invariant-loop-index : goal.invariant-loop-index
+invariant-loop-index g l = record {
+  size : l.size ≡ length (entries_image (take l.index (entries (g.T.ReplyTable.entries l.table))));
+  small : l.size ≤ l.index * 1678;
 }

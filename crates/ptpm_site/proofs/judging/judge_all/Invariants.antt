@@ -5,5 +5,5 @@ use Rattle.ptpm_site.specs.Findings.{found_of, told}
 use Rattle.ptpm_site.specs.Kept.{kept}
 use Rattle.ptpm_site.proofs.judging.judge_all.Given as goal
 
-abbrev pub invariant-loop-source : goal.invariant-loop-source
-invariant-loop-source l = told l.findings.items ≡ told l.fn.findings.items ++ flat_map (found_of (kept l.site) l.given.limits) (take l.source-index l.sources)
+abbrev pub invariant-loop-place : goal.invariant-loop-place
+invariant-loop-place l = told l.findings.items ≡ told l.fn.findings.items ++ flat_map (found_of (kept l.site) l.given.limits) (take l.place l.sources)

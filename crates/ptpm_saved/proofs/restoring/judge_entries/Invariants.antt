@@ -1,0 +1,5 @@
+use Rattle.ptpm_saved.proofs.RestoringLemmas.{IsReadSoFar}
+use Rattle.ptpm_saved.proofs.restoring.judge_entries.Given as goal
+
+abbrev pub invariant-loop-place : goal.invariant-loop-place
+invariant-loop-place l = IsReadSoFar l.entries.octets.now l.count l._place l.octets l.after

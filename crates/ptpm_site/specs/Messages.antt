@@ -1,0 +1,99 @@
+-- Which messages are answers to one of the six ids, and what each tells (IEEE 1588-2019, 15.4.1 and 15.5.3).
+use Rattle.std.specs.Prelude.{ℕ, ◌==◌, Bool, true, false, List, Option, Some, None, if◌then◌else◌, is_some, option_and_then}
+use Rattle.std.specs.List.{find}
+use Rattle.std.specs.Option.{option_map}
+use Rattle.std.specs.Str.Lossy.{utf8_lossy}
+use Rattle.std.specs.String.{string_bytes}
+use Rattle.ptpm_codec.specs.Identity.{same_clock}
+use Rattle.ptpm_codec.specs.Message.{action_of, error_of, id_of, octets_of}
+use Rattle.ptpm_codec.specs.PtpText.{is_ptp_text, ptp_text}
+use Rattle.ptpm_codec.specs.declared.identity.PortIdentity.{PortIdentity}
+use Rattle.ptpm_codec.specs.declared.message.Action.{Action}
+use Rattle.ptpm_codec.specs.declared.message.Action.TheVariants as action
+use Rattle.ptpm_codec.specs.declared.message.Message.{Message}
+use Rattle.ptpm_site.specs.declared.answer.Answer.{Answer}
+use Rattle.ptpm_site.specs.declared.answer.Request.{Request}
+use Rattle.ptpm_site.specs.declared.asked.Asked.{Asked}
+use Rattle.ptpm_site.specs.declared.asked.Asked.TheVariants as id
+use Rattle.ptpm_site.specs.declared.data_sets.CurrentDataSet.{CurrentDataSet}
+use Rattle.ptpm_site.specs.declared.data_sets.DefaultDataSet.{DefaultDataSet}
+use Rattle.ptpm_site.specs.declared.data_sets.ParentDataSet.{ParentDataSet}
+use Rattle.ptpm_site.specs.declared.data_sets.PortDataSet.{PortDataSet}
+use Rattle.ptpm_site.specs.declared.data_sets.TimePropertiesDataSet.{TimePropertiesDataSet}
+use Rattle.ptpm_site.specs.declared.source.Source.{Source}
+use Rattle.ptpm_site.specs.declared.told.Told.{Told}
+use Rattle.ptpm_site.specs.declared.told.Told.TheVariants as told
+use Rattle.ptpm_site.specs.Ids.{number_of, six}
+use Rattle.ptpm_site.specs.Octets.{current_read, default_read, parent_read, port_read, time_read}
+
+-- userDescription is a PTPText (5.3.9); what is no UTF-8 in it is replaced
+unfoldable pub description_read : List ℕ → Option (List ℕ)
+description_read octets = if is_ptp_text octets then Some (utf8_lossy (ptp_text octets)) else None
+
+-- the one of the six with this managementId
+abbrev pub asked_of : ℕ → Option Asked
+asked_of n = find (λ a. number_of a == n) six
+
+-- ---- what an answer tells, with a list for its text
+
+pub data Content : Type 0 where
+  Default : (set : DefaultDataSet) → Content
+  Current : (set : CurrentDataSet) → Content
+  Parent : (set : ParentDataSet) → Content
+  Time : (set : TimePropertiesDataSet) → Content
+  Port : (n : ℕ) → (set : PortDataSet) → Content
+  Description : (text : List ℕ) → Content
+  Refused : (asked : Asked) → Content
+
+abbrev pub content : Told → Content
+content (told.Default set) = Default set
+content (told.Current set) = Current set
+content (told.Parent set) = Parent set
+content (told.Time set) = Time set
+content (told.Port n set) = Port n set
+content (told.Description description) = Description (string_bytes description.text)
+content (told.Refused asked) = Refused asked
+
+-- PORT_DATA_SET tells of a port of the clock that sent it
+unfoldable pub port_told_by : Message → Option (PortIdentity × PortDataSet) → Option Content
+port_told_by m o = option_and_then (λ p. if same_clock p.0.clock m.source.clock then Some (Port p.0.port p.1) else None) o
+
+-- what the dataField of a message tells of an id
+abbrev pub data_told : Asked → Message → Option Content
+data_told id.UserDescription m = option_map Description (description_read (octets_of m.body))
+data_told id.DefaultDataSet m = option_map Default (default_read (octets_of m.body))
+data_told id.CurrentDataSet m = option_map Current (current_read (octets_of m.body))
+data_told id.ParentDataSet m = option_map Parent (parent_read (octets_of m.body))
+data_told id.TimePropertiesDataSet m = option_map Time (time_read (octets_of m.body))
+data_told id.PortDataSet m = port_told_by m (port_read (octets_of m.body))
+
+-- a MANAGEMENT_ERROR_STATUS refuses the id (15.5.4)
+unfoldable pub content_told : Asked → Message → Option Content
+content_told a m = if is_some (error_of m.body) then Some (Refused a) else data_told a m
+
+-- ---- whose an answer is, and which request it came to
+
+abbrev pub source_of : Message → Source
+source_of m = record { domain = m.domain; clock = m.source.clock }
+
+abbrev pub request_of : Message → Request
+request_of m = record { target = m.target; number = m.number }
+
+pub record Answered : Type 0 where
+  pub source : Source
+  pub request : Request
+  pub content : Content
+
+abbrev pub answered : Answer → Answered
+answered a = record { source = a.source; request = a.request; content = content a.told }
+
+abbrev pub is_response : Action → Bool
+is_response action.Response = true
+is_response _ = false
+
+-- the answer that a message is: a RESPONSE to one of the six that tells something
+unfoldable pub answer_of : Message → Option Answered
+answer_of m =
+    if is_response (action_of m.body)
+    then option_and_then (λ a. option_map (λ c. record { source = source_of m; request = request_of m; content = c }) (content_told a m)) (asked_of (id_of m.body))
+    else None
