@@ -40,7 +40,7 @@ const char *refused_member(uint32_t answer) {
 }
 
 uint8_t state_named(const char *text) {
-    enum { PORT_STATE = 10, SIZE = 26 };        /* portState in a PORT_DATA_SET, and how many octets that has (15.5.3.7) */
+    enum { PORT_STATE = 10, SIZE = 26 };        /* portState in a PORT_DATA_SET, and how many octets that has (15.5.3) */
     uint8_t octets[SIZE] = { 0 }, *state = &octets[PORT_STATE];
     for (*state = PTPM_STATE_INITIALIZING; *state <= PTPM_STATE_SLAVE; (*state)++) {
         struct field_lines lines;
