@@ -18,6 +18,3 @@ pub use laws::{member_law, typed_again_law};
 pub use names::Member;
 pub use parsing::{ParseFault, parse};
 pub use tables::fields;
-
-#[cfg(test)]
-mod tests;
