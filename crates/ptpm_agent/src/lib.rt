@@ -13,6 +13,3 @@ pub use laws::{
     ports_stay, refused_changes_no_data, requests_of_turns,
 };
 pub use verdict::Verdict;
-
-#[cfg(test)]
-mod tests;

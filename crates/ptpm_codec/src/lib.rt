@@ -31,6 +31,3 @@ pub use places::{clock_identity_at, port_identity_at, source_port_identity, u16_
 pub use ptp_text::{is_ptp_text, overwrite_ptp_text, text_of_ptp_text};
 pub use tlv::TlvKind;
 pub use viewing::View;
-
-#[cfg(test)]
-mod tests;

@@ -56,6 +56,3 @@ pub use request::Request;
 pub use restoring::image_end;
 pub use rights::Rights;
 pub use start::{ClockStart, PortStart, StartError};
-
-#[cfg(test)]
-mod tests;

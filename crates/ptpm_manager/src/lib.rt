@@ -24,6 +24,3 @@ pub use receiving::{Reason, Received, Surveyed};
 pub use report::{Outcome, Report};
 pub use session::Session;
 pub use survey::Survey;
-
-#[cfg(test)]
-mod tests;

@@ -22,6 +22,3 @@ pub use parsing::{ParseFault, parse};
 pub use tables::fields;
 pub use text_sink::TextSink;
 pub use value_text::{mechanism_name, state_name};
-
-#[cfg(test)]
-mod tests;

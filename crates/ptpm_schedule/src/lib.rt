@@ -6,8 +6,6 @@ mod chances;
 mod event_text;
 mod left_out;
 mod scheduling;
-#[cfg(test)]
-mod tests;
 mod traffic;
 
 pub use chances::Chances;

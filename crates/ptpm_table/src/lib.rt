@@ -32,6 +32,3 @@ pub use renewal::{Renewal, renew};
 pub use reply_table::{Look, ReplyTable, SureTable};
 pub use serial::{Serial, compare};
 pub use slot_table::{BoundTable, SlotTable};
-
-#[cfg(test)]
-mod tests;

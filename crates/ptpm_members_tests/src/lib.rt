@@ -1,0 +1,6 @@
+//! The tests of members of dataFields, by public functions of `ptpm_members`: in a crate above it, so that its functions are not proved once more
+//! for the tests.
+#![tactic(auto)]
+
+#[cfg(test)]
+mod tests;
