@@ -1,5 +1,6 @@
--- The lines of a dataField, if it has members and if it has none; there is one at least.
-use Rattle.std.proofs.Common.{arith, ◌≡◌, ◌<◌, ◌++◌, ℕ, List, [], ◌∷◌, codes, drop, length, length-append, refl}
+-- The lines of a dataField, if it has members and if it has none; there is one at least. And one octet more of a text.
+use Rattle.std.proofs.Common.{arith, ◌≡◌, ◌<◌, ◌+◌, ◌++◌, ◌∙◌, ℕ, List, [], ◌∷◌, ap, codes, drop, get_or, length, length-append, refl, sym, take}
+use Rattle.std.proofs.lemmas.List.{flat_map_more, take_more}
 use Rattle.std.specs.Prelude.{flat_map}
 use Rattle.ptpm_members.specs.declared.forms.Field.{Field}
 use Rattle.ptpm_members.specs.Names.{member_name}
@@ -37,3 +38,9 @@ lines_length lead octets (f ∷ fs) =
 pub text_length : (lead : List ℕ) (id : ℕ) (octets : List ℕ) → 0 < length (field_text lead id octets)
 unfolding field_text
 text_length lead id octets = lines_length lead octets (members_in id octets)
+
+-- the texts of some octets and of the next one are those of one octet more
+pub one_octet_more : (text : ℕ → List ℕ) (octets : List ℕ) (i : ℕ) → i < length octets
+    → flat_map text (take i octets) ++ text (get_or octets i 0) ≡ flat_map text (take (i + 1) octets)
+one_octet_more text octets i inside =
+    flat_map_more text [] (take i octets) (get_or octets i 0) ∙ ap (flat_map text) (sym (take_more octets i 0 inside))

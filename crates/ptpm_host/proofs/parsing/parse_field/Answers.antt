@@ -1,8 +1,18 @@
-use Rattle.std.proofs.Common.{arith, ap, sym, ℕ, List, length}
+use Rattle.std.proofs.Common.{◌<◌, ◌≡◌, ◌≤◌, ap, arith, length, List, map, sym, ℕ}
 use Rattle.std.specs.Borrow.{Bor}
 use Rattle.std.proofs.lemmas.List.{length-map}
+use Rattle.ptpm_host.specs.Words.{AreWords, most_words}
 use Rattle.ptpm_host.proofs.FaultLemmas.{fault_of_member}
 use Rattle.ptpm_host.proofs.parsing.parse_field.Goals as goal
+
+-- words that there is room for are no more than that
+few_words : {A : Type 0} (octets : List ℕ) (words : List (Bor (List ℕ)))
+    → AreWords (map (λ (w : Bor (List ℕ)). w.now) words) octets
+    → length words ≤ most_words
+    → ((ws : List (List ℕ)) → AreWords ws octets → most_words < length ws)
+    → A
+few_words octets words are few none =
+    absurd (omega (arith, none _ are, few, length-map words (λ (w : Bor (List ℕ)). w.now)))
 
 pub refusal-requires : goal.refusal-requires
 refusal-requires c = fault_of_member c.args.id _ c.in-Err.fault (sym c.in-Err.ensures)
@@ -14,15 +24,8 @@ returns-in-Ok-clause-parsed c =
 
 pub returns-in-Ok-clause-no_words : goal.returns-in-Ok-clause-no_words
 returns-in-Ok-clause-no_words c =
-    λ none.
-    absurd
-    (omega (
-      arith,
-      none _ c.in-Some.ensures.words,
-      length-map c.in-Some.words.items (λ (w : Bor (List ℕ)). w.now),
-      c.as_slice.ensures.fits,
-      ap length c.as_slice.ensures.value,
-    ))
+    few_words c.args.text.now c.in-Some.words.items c.in-Some.ensures.words
+    (omega (arith, c.as_slice.ensures.fits, ap length c.as_slice.ensures.value))
 
 pub returns-in-Err-clause-parsed : goal.returns-in-Err-clause-parsed
 returns-in-Err-clause-parsed c =
@@ -31,12 +34,5 @@ returns-in-Err-clause-parsed c =
 
 pub returns-in-Err-clause-no_words : goal.returns-in-Err-clause-no_words
 returns-in-Err-clause-no_words c =
-    λ none.
-    absurd
-    (omega (
-      arith,
-      none _ c.in-Some.ensures.words,
-      length-map c.in-Some.words.items (λ (w : Bor (List ℕ)). w.now),
-      c.as_slice.ensures.fits,
-      ap length c.as_slice.ensures.value,
-    ))
+    few_words c.args.text.now c.in-Some.words.items c.in-Some.ensures.words
+    (omega (arith, c.as_slice.ensures.fits, ap length c.as_slice.ensures.value))

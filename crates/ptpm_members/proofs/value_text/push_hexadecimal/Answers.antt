@@ -1,16 +1,10 @@
-use Rattle.std.proofs.Common.{◌≡◌, ◌+◌, ◌++◌, ◌<◌, ℕ, List, [], length, get_or, take, subst, sym, ap, ◌∙◌, arith, rules}
-use Rattle.std.proofs.lemmas.List.{flat_map_more, take_more}
-use Rattle.std.specs.Prelude.{flat_map}
+use Rattle.std.proofs.Common.{List, arith, rules, subst, ℕ}
 use Rattle.ptpm_codec.specs.Identity.{octet_text}
+use Rattle.ptpm_members.proofs.LineLemmas.{one_octet_more}
 use Rattle.ptpm_members.proofs.value_text.push_hexadecimal.Goals as goal
 
 pub loop-octet-preserved : goal.loop-octet-preserved
 loop-octet-preserved g c =
-    let octets = c.args.octets.now in
-    let i = c.loop-octet.octet-index in
-    let octet = get_or octets i 0 in
-    let inside : i < length octets = omega arith in
-    let more : flat_map octet_text (take i octets) ++ octet_text octet ≡ flat_map octet_text (take (i + 1) octets) =
-    flat_map_more octet_text [] (take i octets) octet ∙ ap (flat_map octet_text) (sym (take_more octets i 0 inside)) in
-    subst (λ (t : List ℕ). g.T.TextSink.pushed c.args.sink.now t c.push_digits.new.sink) more
+    subst (λ (t : List ℕ). g.T.TextSink.pushed c.args.sink.now t c.push_digits.new.sink)
+    (one_octet_more octet_text c.args.octets.now c.loop-octet.octet-index (omega arith))
     (g.met.T.TextSink.pushed_twice _ _ _ _ _ c.loop-octet.invariant (search rules))
