@@ -1,3 +1,7 @@
+pub mod SetForm
+pub mod PortSetting
+pub mod SettingsCode
+pub mod PortSettings
 pub mod ManagementId
 pub mod PortState
 pub mod Ranges

@@ -2,6 +2,7 @@
 use Rattle.std.specs.Prelude.{ℕ, List, codes}
 use Rattle.ptpm_data.specs.declared.members.Member.{Member}
 use Rattle.ptpm_data.specs.declared.members.Member.TheVariants as members
+use Rattle.ptpm_data.specs.PortSetting.{row}
 
 abbrev pub member_name : Member → List ℕ
 member_name members.Identity = codes "identity"
@@ -37,8 +38,4 @@ member_name members.TimeSource = codes "time_source"
 member_name members.State = codes "state"
 member_name members.LogMinDelayReq = codes "log_min_delay_req"
 member_name members.PeerDelay = codes "peer_delay"
-member_name members.LogAnnounce = codes "log_announce"
-member_name members.ReceiptTimeout = codes "receipt_timeout"
-member_name members.LogSync = codes "log_sync"
-member_name members.DelayMechanism = codes "delay_mechanism"
-member_name members.LogMinPdelay = codes "log_min_pdelay"
+member_name (members.Setting s) = (row s).name

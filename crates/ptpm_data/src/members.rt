@@ -1,5 +1,6 @@
 //! The members of the data sets, by name.
 
+use crate::port_setting::PortSetting;
 use std::fmt;
 
 /// A member that a start gives a value: those of the clock, and then those of each port (clause 8). Their order here is
@@ -39,11 +40,8 @@ pub enum Member {
     State,
     LogMinDelayReq,
     PeerDelay,
-    LogAnnounce,
-    ReceiptTimeout,
-    LogSync,
-    DelayMechanism,
-    LogMinPdelay,
+    /// One that a SET changes.
+    Setting(PortSetting),
 }
 
 impl Member {
@@ -88,11 +86,7 @@ impl Member {
             Member::State => "state",
             Member::LogMinDelayReq => "log_min_delay_req",
             Member::PeerDelay => "peer_delay",
-            Member::LogAnnounce => "log_announce",
-            Member::ReceiptTimeout => "receipt_timeout",
-            Member::LogSync => "log_sync",
-            Member::DelayMechanism => "delay_mechanism",
-            Member::LogMinPdelay => "log_min_pdelay",
+            Member::Setting(setting) => setting.row().name,
         }
     }
 }

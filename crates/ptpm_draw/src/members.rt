@@ -2,7 +2,7 @@
 
 use crate::changes::Change;
 use ptpm_codec::OutOfMemory;
-use ptpm_data::{DataSets, Member, Value};
+use ptpm_data::{DataSets, Member, PortSetting, Value};
 use ptpm_script::Hexadecimal;
 use std::alloc::Global;
 use std::fmt;
@@ -145,11 +145,36 @@ const PORT_FIELDS: [Field; 8] = [
     (Member::State, DataSet::Port, 10, Kind::Unsigned(1)),
     (Member::LogMinDelayReq, DataSet::Port, 11, Kind::Signed(1)),
     (Member::PeerDelay, DataSet::Port, 12, Kind::Signed(8)),
-    (Member::LogAnnounce, DataSet::Port, 20, Kind::Signed(1)),
-    (Member::ReceiptTimeout, DataSet::Port, 21, Kind::Unsigned(1)),
-    (Member::LogSync, DataSet::Port, 22, Kind::Signed(1)),
-    (Member::DelayMechanism, DataSet::Port, 23, Kind::Unsigned(1)),
-    (Member::LogMinPdelay, DataSet::Port, 24, Kind::Signed(1)),
+    (
+        Member::Setting(PortSetting::LogAnnounceInterval),
+        DataSet::Port,
+        20,
+        Kind::Signed(1),
+    ),
+    (
+        Member::Setting(PortSetting::AnnounceReceiptTimeout),
+        DataSet::Port,
+        21,
+        Kind::Unsigned(1),
+    ),
+    (
+        Member::Setting(PortSetting::LogSyncInterval),
+        DataSet::Port,
+        22,
+        Kind::Signed(1),
+    ),
+    (
+        Member::Setting(PortSetting::DelayMechanism),
+        DataSet::Port,
+        23,
+        Kind::Unsigned(1),
+    ),
+    (
+        Member::Setting(PortSetting::LogMinPdelayReqInterval),
+        DataSet::Port,
+        24,
+        Kind::Signed(1),
+    ),
 ];
 
 /// The members that an event changed, one a text: those of the clock, and then those of each port, after its number.

@@ -5,6 +5,7 @@ use Rattle.ptpm_codec.specs.declared.error.DecodeError.{DecodeError}
 use Rattle.ptpm_codec.specs.declared.error.DecodeError.TheVariants as causes
 use Rattle.ptpm_data.specs.declared.members.Member.{Member}
 use Rattle.ptpm_data.specs.declared.members.Member.TheVariants as members
+use Rattle.ptpm_data.specs.PortSetting.{place}
 use Rattle.ptpm_data.specs.declared.observation.ObservationError.{ObservationError}
 use Rattle.ptpm_data.specs.declared.observation.ObservationError.TheVariants as observations
 use Rattle.ptpm_data.specs.declared.start.StartError.{StartError}
@@ -199,11 +200,7 @@ member_number members.TimeSource = 29
 member_number members.State = 30
 member_number members.LogMinDelayReq = 31
 member_number members.PeerDelay = 32
-member_number members.LogAnnounce = 33
-member_number members.ReceiptTimeout = 34
-member_number members.LogSync = 35
-member_number members.DelayMechanism = 36
-member_number members.LogMinPdelay = 37
+member_number (members.Setting s) = 33 + place s
 
 abbrev pub observe_number : ObservationError → ℕ
 observe_number observations.NoPort = 33

@@ -2,7 +2,7 @@
 //! same octets, and their names are the standard's.
 
 use crate::{FieldText, Member, ParseFault, parse};
-use ptpm_data::Member as DataSetMember;
+use ptpm_data::{Member as DataSetMember, PortSetting};
 use std::alloc::Global;
 
 /// An id, a dataField and its lines.
@@ -106,7 +106,7 @@ fn refuses(id: u16, words: &[&str], fault: ParseFault) -> bool {
 #[test]
 fn refused_words(rt: HostRuntime) {
     let priority1 = Member::DataSet(DataSetMember::Priority1);
-    let interval = Member::DataSet(DataSetMember::LogAnnounce);
+    let interval = Member::DataSet(DataSetMember::Setting(PortSetting::LogAnnounceInterval));
     assert!(rt; refuses(0x4000, &["1"], ParseFault::NoSuchId));
     assert!(rt; refuses(0x2011, &["37"], ParseFault::WordCount));
     assert!(rt;

@@ -31,13 +31,9 @@ fn size(layout: Layout) -> usize
         | Layout::Priority2
         | Layout::Domain
         | Layout::SlaveOnly
-        | Layout::LogAnnounceInterval
-        | Layout::AnnounceReceiptTimeout
-        | Layout::LogSyncInterval
+        | Layout::Setting(_)
         | Layout::VersionNumber
-        | Layout::ClockAccuracy
-        | Layout::DelayMechanism
-        | Layout::LogMinPdelayReqInterval => 2,
+        | Layout::ClockAccuracy => 2,
         Layout::UserDescription
         | Layout::NullPtpManagement
         | Layout::EnablePort

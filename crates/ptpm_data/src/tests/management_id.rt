@@ -3,6 +3,7 @@
 use crate::management_id::Layout::*;
 use crate::management_id::Scope::*;
 use crate::management_id::{MANAGEMENT_IDS, by_id, by_name};
+use crate::port_setting::PortSetting;
 
 #[test]
 fn rows_by_id_and_name(rt: HostRuntime) {
@@ -14,7 +15,13 @@ fn rows_by_id_and_name(rt: HostRuntime) {
         (0x2007, "DOMAIN", Clock, 3, Domain),
         (0x200c, "VERSION_NUMBER", Port, 1, VersionNumber),
         (0x200e, "DISABLE_PORT", Port, 4, DisablePort),
-        (0x6000, "DELAY_MECHANISM", Port, 3, DelayMechanism),
+        (
+            0x6000,
+            "DELAY_MECHANISM",
+            Port,
+            3,
+            Setting(PortSetting::DelayMechanism),
+        ),
     ] {
         for found in [by_id(id), by_name(name)] {
             let Some(row) = found else {
