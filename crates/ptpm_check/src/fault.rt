@@ -6,7 +6,7 @@ ghost use Rattle.ptpm_check.specs.Marks.{marked, marks_in, part_of, spot_of, val
 
 use crate::place::Place;
 use crate::value_text::{Quoted, ValueText};
-use ptpm_data::Member;
+use ptpm_data::{Member, PortSetting};
 use ptpm_script::{Kind, LEAST_ENDS, MOST_ENDS, NetError, TEXT_OCTETS, value_at};
 use std::alloc::AllocError;
 use std::fmt;
@@ -105,11 +105,11 @@ const START_RANGES: [(Member, &str); 9] = [
     (Member::ClockAccuracy, "0x17 to 0x31, or 0xfe"),
     (Member::Leap59, "not both leap61 and leap59"),
     (Member::State, "1 to 9"),
-    (Member::LogAnnounce, "-4 to 4"),
-    (Member::ReceiptTimeout, "2 to 10"),
-    (Member::LogSync, "-8 to 1"),
-    (Member::DelayMechanism, "1, 2 or 0xfe"),
-    (Member::LogMinPdelay, "-8 to 5"),
+    (Member::Setting(PortSetting::LogAnnounceInterval), "-4 to 4"),
+    (Member::Setting(PortSetting::AnnounceReceiptTimeout), "2 to 10"),
+    (Member::Setting(PortSetting::LogSyncInterval), "-8 to 1"),
+    (Member::Setting(PortSetting::DelayMechanism), "1, 2 or 0xfe"),
+    (Member::Setting(PortSetting::LogMinPdelayReqInterval), "-8 to 5"),
 ];
 
 /// Adds a fault.

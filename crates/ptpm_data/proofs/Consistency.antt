@@ -1,5 +1,5 @@
 -- A request and an observation leave consistent data sets consistent.
-use Rattle.std.proofs.Common.{◌≡◌, ap, refl, subst, ℕ, Bool, true, false, List, Option, Some, None}
+use Rattle.std.proofs.Common.{◌≡◌, ◌∙◌, ap, refl, subst, sym, ℕ, Bool, true, false, List, Option, Some, None}
 use Rattle.std.proofs.lemmas.Bool.{not-true}
 use Rattle.ptpm_codec.specs.declared.message.Action.{Action}
 use Rattle.ptpm_codec.specs.declared.message.Action.TheVariants as actions
@@ -133,7 +133,7 @@ set_stays layouts.UtcProperties port octets d is before = record {
   grandmaster = before.grandmaster;
 }
 set_stays (layouts.Setting s) port octets d is before =
-    ports_stay port d (changes.Setting s (octet 0 octets)) (rw (set_in_range s octets) at is) before
+    ports_stay port d (changes.Setting s (octet 0 octets)) (sym (set_in_range s octets) ∙ is) before
 set_stays _ port octets d is before = before
 
 command_stays : (layout : Layout) (port : ℕ) (d : DataSetsValue)

@@ -47,7 +47,8 @@ port_same p q h =
     let state = state_same _ _ (h members.State) in
     let min_delay = integer_same _ _ (h members.LogMinDelayReq) in
     let peer_delay = integer_same _ _ (h members.PeerDelay) in
-    let settings : p.settings ≡ q.settings = λ i s. integer_same _ _ (h (members.Setting s)) i in grind arith
+    let settings : p.settings ≡ q.settings = λ i s. integer_same _ _ (h (members.Setting s)) i in
+    λ i. record { state = state i; log_min_delay_req = min_delay i; peer_delay = peer_delay i; settings = settings i }
 
 option_same : (o p : Option PortDataSet)
     → ((m : Member) → option_and_then (port_member m) o ≡ option_and_then (port_member m) p)

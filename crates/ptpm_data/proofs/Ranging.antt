@@ -1,8 +1,10 @@
 -- The ranges of the ports' members: a start gives them, a change and an observation keep them.
-use Rattle.std.proofs.Common.{arith, ◌≡◌, refl, ℕ, ◌+◌, ◌==◌, ℤ, Bool, true, false, if◌then◌else◌, List, [], ◌∷◌, map, None}
+use Rattle.std.proofs.Common.{◌≡◌, refl, subst, ℕ, zero, suc, ◌+◌, ◌==◌, ℤ, Bool, true, false, if◌then◌else◌, List, [], ◌∷◌, map, slice_get, None, Some}
 use Rattle.std.specs.List.{All, enumerate_from}
 use Rattle.std.proofs.lemmas.Bool.{not-false}
 use Rattle.std.proofs.lemmas.List.Elements.{All-nil, All-cons, All-head, All-tail}
+use Rattle.std.proofs.lemmas.Option.{same_Some}
+use Rattle.ptpm_codec.specs.Ordered.{first_of}
 use Rattle.ptpm_codec.proofs.OrderedLaws.{option_or-none}
 use Rattle.ptpm_data.specs.declared.data_sets.PortDataSet.{PortDataSet}
 use Rattle.ptpm_data.specs.declared.observation.PortObservation.{PortObservation}
@@ -16,22 +18,31 @@ use Rattle.ptpm_data.specs.Members.{IsPortInRange}
 use Rattle.ptpm_data.specs.Observation as observation
 use Rattle.ptpm_data.specs.Observation.{ports_after}
 use Rattle.ptpm_data.specs.PortChange.{is_change_in_range, port_after}
-use Rattle.ptpm_data.specs.PortSetting.{place, row, said_of}
+use Rattle.ptpm_data.specs.PortSetting.{place, port_settings, row, said_of}
 use Rattle.ptpm_data.specs.Ranges.{is_in_range}
 use Rattle.ptpm_data.specs.Refusals.{is_set_value}
 use Rattle.ptpm_data.specs.SetField.{first_i8, octet}
-use Rattle.ptpm_data.specs.Start.{port_data_set, port_fault, ports_fault, settings_fault, start_settings, state_fault}
-use Rattle.ptpm_data.proofs.SettingLemmas.{same_place}
+use Rattle.ptpm_data.specs.Start.{port_data_set, port_fault, ports_fault, setting_fault, settings_fault, start_settings, state_fault}
+use Rattle.ptpm_data.proofs.SettingLemmas.{listed, same_place}
 use Rattle.ptpm_data.proofs.StartLemmas.{passes}
 
 -- ---- a start
+
+among : (values : PortSetting → ℤ) (settings : List PortSetting) (i : ℕ) (s : PortSetting)
+    → first_of (map (setting_fault values) settings) ≡ None
+    → slice_get settings i ≡ Some s
+    → is_in_range s (values s) ≡ true
+among values [] i s none at = cc
+among values (t ∷ settings) zero s none at =
+    let P : PortSetting → Type 0 = λ u. is_in_range u (values u) ≡ true in
+    subst P (same_Some t s at) (not-false _ (passes _ _ _ none).0)
+among values (t ∷ settings) (suc i) s none at = among values settings i s (passes _ _ _ none).1 at
 
 settings_start : (values : PortSetting → ℤ)
     → settings_fault values ≡ None
     → (s : PortSetting) → is_in_range s (values s) ≡ true
 unfolding settings_fault
-settings_start values none LogAnnounceInterval = grind (arith, passes, not-false)
-settings_start values none _ = grind (arith, passes, not-false)
+settings_start values none s = among values port_settings (place s) s none (listed s)
 
 port_starts : (p : PortStart) → port_fault p ≡ None → IsPortInRange (port_data_set p)
 unfolding port_fault
@@ -58,7 +69,8 @@ setting_stays : (s t : PortSetting) (b : Bool) (after before : ℤ)
     → is_in_range s after ≡ true
     → is_in_range t before ≡ true
     → is_in_range t (if b then after else before) ≡ true
-setting_stays s t true after before same is was = rw (← same_place s t same) is
+setting_stays s t true after before same is was =
+    let P : PortSetting → Type 0 = λ u. is_in_range u after ≡ true in subst P (same_place s t same) is
 setting_stays s t false after before same is was = was
 
 port_stays : (change : PortChange) (p : PortDataSet)
@@ -67,8 +79,8 @@ port_stays : (change : PortChange) (p : PortDataSet)
     → IsPortInRange (port_after change p)
 port_stays (changes.Setting s octet) p is before =
     record { settings = λ t. setting_stays s t (place s == place t) (said_of s octet) (p.settings t) refl is (before.settings t) }
-port_stays changes.Enable p is before = grind arith
-port_stays changes.Disable p is before = grind arith
+port_stays changes.Enable p is before = record { settings = before.settings }
+port_stays changes.Disable p is before = record { settings = before.settings }
 
 if_named : (b : Bool) (change : PortChange) (p : PortDataSet)
     → is_change_in_range change ≡ true

@@ -63,7 +63,7 @@ default_back = λ i s. settings_back default_settings default_fits s i
 
 -- ---- places
 
-listed : (s : PortSetting) → slice_get port_settings (place s) ≡ Some s
+pub listed : (s : PortSetting) → slice_get port_settings (place s) ≡ Some s
 listed LogAnnounceInterval = refl
 listed s = refl
 

@@ -1,6 +1,5 @@
 pub mod SetForm
 pub mod PortSetting
-pub mod SettingsCode
 pub mod PortSettings
 pub mod ManagementId
 pub mod PortState

@@ -1,8 +1,9 @@
 -- The settings of a port: its members that a SET changes. Each has an octet of PORT_DATA_SET, the first octet 20 (IEEE 1588-2019,
 -- 15.5.3.7.1), and a management id (15.5.2.3, table 59). Their own names, their ranges and what a port starts with are this
 -- project's profile.
-use Rattle.std.specs.Prelude.{ℕ, ◌==◌, ℤ, pos, if◌then◌else◌, List, [], ◌∷◌, map, slice_index, codes}
+use Rattle.std.specs.Prelude.{◌≡◌, refl, ℕ, ◌==◌, ℤ, pos, if◌then◌else◌, List, [], ◌∷◌, map, slice_index, codes}
 use Prim.Native.String.{String}
+use Rattle.std.specs.Coded.{Coded, code_by, coded×, coded_ℤ}
 use Rattle.std.specs.Int.{w8, cast_signed, cast_unsigned}
 use Rattle.ptpm_data.specs.declared.port_setting.PortSetting.{PortSetting}
 use Rattle.ptpm_data.specs.declared.port_setting.PortSetting.TheVariants.{LogAnnounceInterval, AnnounceReceiptTimeout, LogSyncInterval, DelayMechanism, LogMinPdelayReqInterval}
@@ -93,3 +94,31 @@ with_setting s value values t = if place s == place t then value else values t
 
 abbrev pub default_settings : PortSetting → ℤ
 default_settings s = (row s).default
+
+-- ---- the values of all are five numbers: so a proof tells them apart
+
+abbrev pub Five : Type 0
+Five = ℤ × (ℤ × (ℤ × (ℤ × ℤ)))
+
+abbrev pub five_of : (PortSetting → ℤ) → Five
+five_of values = (
+  values LogAnnounceInterval,
+  (values AnnounceReceiptTimeout, (values LogSyncInterval, (values DelayMechanism, values LogMinPdelayReqInterval))),
+)
+
+abbrev pub of_five : Five → PortSetting → ℤ
+of_five five LogAnnounceInterval = five.0
+of_five five AnnounceReceiptTimeout = five.1.0
+of_five five LogSyncInterval = five.1.1.0
+of_five five DelayMechanism = five.1.1.1.0
+of_five five LogMinPdelayReqInterval = five.1.1.1.1
+
+at_each : (values : PortSetting → ℤ) (s : PortSetting) → of_five (five_of values) s ≡ values s
+at_each values LogAnnounceInterval = refl
+at_each values _ = refl
+
+pub five_back : (values : PortSetting → ℤ) → of_five (five_of values) ≡ values
+five_back values = λ i s. at_each values s i
+
+abbrev pub settings_code : Coded (PortSetting → ℤ)
+settings_code = code_by Five (coded× coded_ℤ (coded× coded_ℤ (coded× coded_ℤ (coded× coded_ℤ coded_ℤ)))) five_of of_five five_back

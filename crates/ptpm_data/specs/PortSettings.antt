@@ -4,9 +4,9 @@ use Rattle.std.proofs.Common.{arith}
 use Rattle.std.proofs.lemmas.Int.{of_z-to_z}
 use Rattle.std.specs.Int.{w8}
 use Rattle.ptpm_data.specs.declared.port_setting.PortSetting.{PortSetting}
-use Rattle.ptpm_data.specs.declared.port_setting.PortSetting.TheVariants.{LogAnnounceInterval, LogSyncInterval, LogMinPdelayReqInterval}
 use Rattle.ptpm_data.specs.declared.port_settings.PortSettings.TheInside.{Inside}
-use Rattle.ptpm_data.specs.PortSetting.{octet_of, said_by, said_of, settings_octets}
+use Rattle.ptpm_data.specs.PortSetting.{octet_of, row, said_by, said_in, said_of, settings_octets}
+use Rattle.ptpm_data.specs.SetForm.{SetField, minus◌to◌}
 
 abbrev pub settings_view : Inside → PortSetting → ℤ
 settings_view s = said_by s.octets
@@ -21,12 +21,14 @@ settings_inside values = record { octets = settings_octets values }
 
 -- ---- an octet is the octet of what it says
 
+said_back : (range : SetField) (n : ℕ) → n < 256 → octet_of (said_in range n) ≡ n
+unfolding octet_of
+said_back (minus low to high) n small = of_z-to_z w8 n small
+said_back _ n small = refl
+
 pub octet_back : (s : PortSetting) (n : ℕ) → n < 256 → octet_of (said_of s n) ≡ n
-unfolding octet_of said_of
-octet_back LogAnnounceInterval n small = of_z-to_z w8 n small
-octet_back LogSyncInterval n small = of_z-to_z w8 n small
-octet_back LogMinPdelayReqInterval n small = of_z-to_z w8 n small
-octet_back _ n small = refl
+unfolding said_of
+octet_back s n small = said_back (row s).range n small
 
 pub octets_back : (octets : List ℕ)
     → length octets ≡ 5

@@ -17,7 +17,7 @@ pub struct PortSettings {
 impl Model for PortSettings {
     ghost use Rattle.std.specs.Prelude.{ℤ};
     ghost use Rattle.ptpm_data.specs.declared.port_setting.PortSetting.{PortSetting};
-    ghost use Rattle.ptpm_data.specs.SettingsCode.{settings_code};
+    ghost use Rattle.ptpm_data.specs.PortSetting.{settings_code};
 
     ghost Value = { PortSetting → ℤ };
 
