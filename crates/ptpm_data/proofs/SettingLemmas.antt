@@ -1,5 +1,5 @@
 -- The octets of a port's settings, read and said back; their places; and that a start may have settings in their ranges.
-use Rattle.std.proofs.Common.{◌≡◌, ◌∙◌, refl, ap, subst, sym, ℕ, ◌+◌, ◌<◌, ◌≤◌, ◌==◌, add-one, ℤ, pos, negsuc, nat_abs, true, false, List, [], ◌∷◌, map, drop, drop-cons, get_or, None, Some, slice_get, slice_index}
+use Rattle.std.proofs.Common.{arith, ◌≡◌, ◌∙◌, refl, ap, subst, sym, ℕ, ◌+◌, ◌<◌, ◌≤◌, ◌==◌, add-one, ℤ, pos, negsuc, nat_abs, true, false, List, [], ◌∷◌, map, drop, drop-cons, get_or, None, Some, slice_get, slice_index}
 use Rattle.std.specs.Prelude.{FitsSigned}
 use Rattle.std.specs.Int.{w8}
 use Rattle.std.proofs.Math.ListN.{drop_of_length-le}
@@ -69,6 +69,10 @@ listed s = refl
 
 pub same_place : (s t : PortSetting) → place s == place t ≡ true → s ≡ t
 same_place s t same = same_Some s t (sym (listed s) ∙ ap (slice_get port_settings) (eqb-true _ _ same) ∙ listed t)
+
+pub place_few : (s : PortSetting) → place s ≤ 4
+place_few LogAnnounceInterval = omega arith
+place_few s = omega arith
 
 pub itself : (s : PortSetting) → place s == place s ≡ true
 itself LogAnnounceInterval = refl

@@ -52,7 +52,7 @@ pub use observation::{
     AnnouncedGrandmaster, ClockObservation, ObservationError, ObservedGrandmaster, PortObservation,
     PortsLeftDisabled,
 };
-pub use port_setting::PortSetting;
+pub use port_setting::{PortSetting, SettingRange};
 pub use port_settings::PortSettings;
 pub use port_state::{DelayMechanism, PortState};
 pub use reply::{PortAnswer, Reply, Value, What};

@@ -1,12 +1,13 @@
 //! The settings of a port: its members that a SET changes. What each is known by is told here, and nowhere else: its management
 //! id, its names, its range, and what a port starts with. Ranges, own names and start values are this project's profile.
 
-ghost use Rattle.std.specs.Prelude.{◌≡◌};
+ghost use Rattle.std.specs.Prelude.{◌≡◌, ◌≤◌};
 ghost use Rattle.ptpm_data.specs.PortSetting.{octet_of, place, row, said_of, setting_row};
 ghost use Rattle.ptpm_data.specs.Ranges.{is_in_range};
 ghost use Rattle.ptpm_data.specs.SetForm.{set_field};
 
 use crate::ranges::SetForm;
+use std::fmt;
 
 /// A member of a port that a SET changes. Each has an octet of PORT_DATA_SET (15.5.3.7.1): the first octet 20, the others after it
 /// in their order here.
@@ -68,6 +69,22 @@ fn setting(
         name,
         range,
         default,
+    }
+}
+
+/// What a start and a SET may give a setting.
+#[derive(Clone, Copy, Debug)]
+pub struct SettingRange(SetForm);
+
+/// Such as `-4 to 4`.
+impl fmt::Display for SettingRange {
+    fn fmt<W: fmt::Write>(&self, f: &mut fmt::Formatter<W>) -> fmt::Result {
+        match self.0 {
+            SetForm::FromTo(low, high) => write!(f, "{low} to {high}"),
+            SetForm::MinusTo(low, high) => write!(f, "-{low} to {high}"),
+            SetForm::MechanismNumber => f.write_str("1, 2 or 0xfe"),
+            _ => f.write_str("an octet"),
+        }
     }
 }
 
@@ -138,10 +155,19 @@ impl PortSetting {
         self.row().standard_name
     }
 
+    /// What a start and a SET may give it, in words.
+    pub fn range(self) -> SettingRange
+        ensures { set_field result.0 ≡ (row self).range }
+    {
+        SettingRange(self.row().range)
+    }
+
     /// Its place among them.
     #[inline(always)]
+    #[tactic(auto, using(crate::proofs::SettingLemmas::place_few))]
     pub fn place(self) -> usize
-        ensures { result ≡ place self }
+        ensures place { result ≡ place self }
+        ensures few { result ≤ 4 }
     {
         self as usize
     }

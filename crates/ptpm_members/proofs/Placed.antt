@@ -6,6 +6,7 @@ use Rattle.std.proofs.lemmas.Bool.{and_parts, eqb-true, leb-true}
 use Rattle.std.proofs.lemmas.List.Elements.{All-from_recursion}
 use Rattle.ptpm_data.specs.declared.management_id.Layout.{Layout}
 use Rattle.ptpm_data.specs.declared.management_id.Layout.TheVariants as layouts
+use Rattle.ptpm_data.specs.declared.port_setting.PortSetting.{PortSetting}
 use Rattle.ptpm_data.specs.declared.port_setting.PortSetting.TheVariants as settings
 use Rattle.ptpm_members.specs.declared.forms.Field.{Field}
 use Rattle.ptpm_members.specs.declared.forms.Form.{Form}
@@ -90,6 +91,10 @@ by_layout layouts.UtcProperties octets whole = by_size layouts.UtcProperties oct
 by_layout layouts.NullPtpManagement octets whole = tt
 by_layout layouts.EnablePort octets whole = tt
 by_layout layouts.DisablePort octets whole = tt
+
+pub setting_size : (s : PortSetting) → field_size (layouts.Setting s) ≡ 2
+setting_size settings.LogAnnounceInterval = refl
+setting_size s = refl
 
 pub placed_in : (layout : Layout) (octets : List ℕ) → is_whole layout octets ≡ true → All (IsPlaced octets) (fields_of layout)
 placed_in layout octets whole = All-from_recursion (IsPlaced octets) (fields_of layout) (by_layout layout octets whole)

@@ -18,6 +18,7 @@ pub(crate) fn is_whole(layout: Layout, octets: &[u8]) -> bool
 }
 
 /// How many octets the dataField of this layout has; of a text, which says itself how many, 0.
+#[tactic(auto, using(ptpm_members::proofs::Placed::setting_size))]
 fn size(layout: Layout) -> usize
     ensures { result ≡ field_size layout }
 {
