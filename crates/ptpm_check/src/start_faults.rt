@@ -234,19 +234,49 @@ fn add_port_members<'a>(
     add_port_member(faults, place, table, Member::State, port)?;
     let mut port = PortStart::new();
     port.log_announce = start.log_announce;
-    add_port_member(faults, place, table, Member::Setting(PortSetting::LogAnnounceInterval), port)?;
+    add_port_member(
+        faults,
+        place,
+        table,
+        Member::Setting(PortSetting::LogAnnounceInterval),
+        port,
+    )?;
     let mut port = PortStart::new();
     port.receipt_timeout = start.receipt_timeout;
-    add_port_member(faults, place, table, Member::Setting(PortSetting::AnnounceReceiptTimeout), port)?;
+    add_port_member(
+        faults,
+        place,
+        table,
+        Member::Setting(PortSetting::AnnounceReceiptTimeout),
+        port,
+    )?;
     let mut port = PortStart::new();
     port.log_sync = start.log_sync;
-    add_port_member(faults, place, table, Member::Setting(PortSetting::LogSyncInterval), port)?;
+    add_port_member(
+        faults,
+        place,
+        table,
+        Member::Setting(PortSetting::LogSyncInterval),
+        port,
+    )?;
     let mut port = PortStart::new();
     port.delay_mechanism = start.delay_mechanism;
-    add_port_member(faults, place, table, Member::Setting(PortSetting::DelayMechanism), port)?;
+    add_port_member(
+        faults,
+        place,
+        table,
+        Member::Setting(PortSetting::DelayMechanism),
+        port,
+    )?;
     let mut port = PortStart::new();
     port.log_min_pdelay = start.log_min_pdelay;
-    add_port_member(faults, place, table, Member::Setting(PortSetting::LogMinPdelayReqInterval), port)
+    add_port_member(
+        faults,
+        place,
+        table,
+        Member::Setting(PortSetting::LogMinPdelayReqInterval),
+        port,
+    )
 }
 
 /// Adds a fault of a member of a port, if a port that starts so can't.

@@ -66,11 +66,31 @@ static PORT_DATA_SET: [Field; 10] = [
     Field(DataSet(State), 10, PortState),
     Field(DataSet(LogMinDelayReq), 11, Signed(1)),
     Field(DataSet(PeerDelay), 12, TimeInterval),
-    Field(DataSet(Setting(PortSetting::LogAnnounceInterval)), 20, Signed(1)),
-    Field(DataSet(Setting(PortSetting::AnnounceReceiptTimeout)), 21, Unsigned(1)),
-    Field(DataSet(Setting(PortSetting::LogSyncInterval)), 22, Signed(1)),
-    Field(DataSet(Setting(PortSetting::DelayMechanism)), 23, Form::DelayMechanism),
-    Field(DataSet(Setting(PortSetting::LogMinPdelayReqInterval)), 24, Signed(1)),
+    Field(
+        DataSet(Setting(PortSetting::LogAnnounceInterval)),
+        20,
+        Signed(1),
+    ),
+    Field(
+        DataSet(Setting(PortSetting::AnnounceReceiptTimeout)),
+        21,
+        Unsigned(1),
+    ),
+    Field(
+        DataSet(Setting(PortSetting::LogSyncInterval)),
+        22,
+        Signed(1),
+    ),
+    Field(
+        DataSet(Setting(PortSetting::DelayMechanism)),
+        23,
+        Form::DelayMechanism,
+    ),
+    Field(
+        DataSet(Setting(PortSetting::LogMinPdelayReqInterval)),
+        24,
+        Signed(1),
+    ),
     Field(Member::VersionNumber, 25, LowNibble),
 ];
 
@@ -89,19 +109,39 @@ static DOMAIN: [Field; 1] = [Field(DataSet(Domain), 0, Unsigned(1))];
 
 static SLAVE_ONLY: [Field; 1] = [Field(Member::SlaveOnly, 0, EitherFlag)];
 
-static LOG_ANNOUNCE_INTERVAL: [Field; 1] = [Field(DataSet(Setting(PortSetting::LogAnnounceInterval)), 0, Signed(1))];
+static LOG_ANNOUNCE_INTERVAL: [Field; 1] = [Field(
+    DataSet(Setting(PortSetting::LogAnnounceInterval)),
+    0,
+    Signed(1),
+)];
 
-static ANNOUNCE_RECEIPT_TIMEOUT: [Field; 1] = [Field(DataSet(Setting(PortSetting::AnnounceReceiptTimeout)), 0, Unsigned(1))];
+static ANNOUNCE_RECEIPT_TIMEOUT: [Field; 1] = [Field(
+    DataSet(Setting(PortSetting::AnnounceReceiptTimeout)),
+    0,
+    Unsigned(1),
+)];
 
-static LOG_SYNC_INTERVAL: [Field; 1] = [Field(DataSet(Setting(PortSetting::LogSyncInterval)), 0, Signed(1))];
+static LOG_SYNC_INTERVAL: [Field; 1] = [Field(
+    DataSet(Setting(PortSetting::LogSyncInterval)),
+    0,
+    Signed(1),
+)];
 
 static VERSION_NUMBER: [Field; 1] = [Field(Member::VersionNumber, 0, LowNibble)];
 
 static CLOCK_ACCURACY: [Field; 1] = [Field(Member::ClockAccuracy, 0, Hexadecimal(1))];
 
-static DELAY_MECHANISM: [Field; 1] = [Field(DataSet(Setting(PortSetting::DelayMechanism)), 0, Form::DelayMechanism)];
+static DELAY_MECHANISM: [Field; 1] = [Field(
+    DataSet(Setting(PortSetting::DelayMechanism)),
+    0,
+    Form::DelayMechanism,
+)];
 
-static LOG_MIN_PDELAY_REQ_INTERVAL: [Field; 1] = [Field(DataSet(Setting(PortSetting::LogMinPdelayReqInterval)), 0, Signed(1))];
+static LOG_MIN_PDELAY_REQ_INTERVAL: [Field; 1] = [Field(
+    DataSet(Setting(PortSetting::LogMinPdelayReqInterval)),
+    0,
+    Signed(1),
+)];
 
 /// The members of the dataField of this layout, in the order of their octets; none if it has no octet.
 pub fn fields(layout: Layout) -> &'static [Field]
