@@ -8,6 +8,7 @@ use Rattle.ptpm_data.specs.MemberNames.{member_name}
 use Rattle.ptpm_data.specs.Start.{default_clock, default_port, start_of}
 use Rattle.ptpm_data.specs.declared.members.Member.{Member}
 use Rattle.ptpm_data.specs.declared.members.Member.TheVariants as members
+use Rattle.ptpm_data.specs.declared.port_setting.PortSetting.TheVariants as settings
 use Rattle.ptpm_data.specs.declared.start.ClockStart.{ClockStart}
 use Rattle.ptpm_data.specs.declared.start.PortStart.{PortStart}
 use Rattle.ptpm_data.specs.declared.start.StartError.{StartError}
@@ -70,11 +71,11 @@ port_fails p = fails (default_clock some_clock 0) p
 abbrev pub port_ranges : Spot → Members → PortStart → List Mark
 port_ranges spot ms p =
     member_mark_if (port_fails (record default_port { state = p.state })) members.State spot ms
-    ++ member_mark_if (port_fails (record default_port { log_announce = p.log_announce })) members.LogAnnounce spot ms
-    ++ member_mark_if (port_fails (record default_port { receipt_timeout = p.receipt_timeout })) members.ReceiptTimeout spot ms
-    ++ member_mark_if (port_fails (record default_port { log_sync = p.log_sync })) members.LogSync spot ms
-    ++ member_mark_if (port_fails (record default_port { delay_mechanism = p.delay_mechanism })) members.DelayMechanism spot ms
-    ++ member_mark_if (port_fails (record default_port { log_min_pdelay = p.log_min_pdelay })) members.LogMinPdelay spot ms
+    ++ member_mark_if (port_fails (record default_port { log_announce = p.log_announce })) (members.Setting settings.LogAnnounceInterval) spot ms
+    ++ member_mark_if (port_fails (record default_port { receipt_timeout = p.receipt_timeout })) (members.Setting settings.AnnounceReceiptTimeout) spot ms
+    ++ member_mark_if (port_fails (record default_port { log_sync = p.log_sync })) (members.Setting settings.LogSyncInterval) spot ms
+    ++ member_mark_if (port_fails (record default_port { delay_mechanism = p.delay_mechanism })) (members.Setting settings.DelayMechanism) spot ms
+    ++ member_mark_if (port_fails (record default_port { log_min_pdelay = p.log_min_pdelay })) (members.Setting settings.LogMinPdelayReqInterval) spot ms
 
 unfoldable pub port_member_marks : Spot → Members → List Mark
 port_member_marks spot ms = port_ranges spot ms (port_start ms)

@@ -99,17 +99,12 @@ pub enum Need {
     OwnGrandmaster,
 }
 
-/// What a clock can start with in a member whose type has room for more.
-const START_RANGES: [(Member, &str); 9] = [
+/// What a clock can start with in a member whose type has room for more, and which is no setting of a port.
+const START_RANGES: [(Member, &str); 4] = [
     (Member::UserDescription, "at most 128 octets"),
     (Member::ClockAccuracy, "0x17 to 0x31, or 0xfe"),
     (Member::Leap59, "not both leap61 and leap59"),
     (Member::State, "1 to 9"),
-    (Member::LogAnnounce, "-4 to 4"),
-    (Member::ReceiptTimeout, "2 to 10"),
-    (Member::LogSync, "-8 to 1"),
-    (Member::DelayMechanism, "1, 2 or 0xfe"),
-    (Member::LogMinPdelay, "-8 to 5"),
 ];
 
 /// Adds a fault.
@@ -265,6 +260,7 @@ impl fmt::Display for Need {
             ),
             Need::PortUpTo(1) => f.write_str("the clock has port 1 alone"),
             Need::PortUpTo(count) => write!(f, "the clock has ports 1 to {count}"),
+            Need::Start(Member::Setting(setting)) => write!(f, "{}", setting.range()),
             Need::Start(member) => f.write_str(start_range(member)),
             _ => f.write_str(self.words()),
         }

@@ -12,7 +12,7 @@ use crate::heads::ClockHead;
 use crate::place::Place;
 use crate::values::{is_number, items_at, table_of};
 use ptpm_codec::ClockIdentity;
-use ptpm_data::{ClockStart, DataSets, Member, PortStart, StartError};
+use ptpm_data::{ClockStart, DataSets, Member, PortSetting, PortStart, StartError};
 use ptpm_script::{NetError, clock_start, port_start};
 use std::alloc::AllocError;
 use toml::{Table, Value};
@@ -234,19 +234,49 @@ fn add_port_members<'a>(
     add_port_member(faults, place, table, Member::State, port)?;
     let mut port = PortStart::new();
     port.log_announce = start.log_announce;
-    add_port_member(faults, place, table, Member::LogAnnounce, port)?;
+    add_port_member(
+        faults,
+        place,
+        table,
+        Member::Setting(PortSetting::LogAnnounceInterval),
+        port,
+    )?;
     let mut port = PortStart::new();
     port.receipt_timeout = start.receipt_timeout;
-    add_port_member(faults, place, table, Member::ReceiptTimeout, port)?;
+    add_port_member(
+        faults,
+        place,
+        table,
+        Member::Setting(PortSetting::AnnounceReceiptTimeout),
+        port,
+    )?;
     let mut port = PortStart::new();
     port.log_sync = start.log_sync;
-    add_port_member(faults, place, table, Member::LogSync, port)?;
+    add_port_member(
+        faults,
+        place,
+        table,
+        Member::Setting(PortSetting::LogSyncInterval),
+        port,
+    )?;
     let mut port = PortStart::new();
     port.delay_mechanism = start.delay_mechanism;
-    add_port_member(faults, place, table, Member::DelayMechanism, port)?;
+    add_port_member(
+        faults,
+        place,
+        table,
+        Member::Setting(PortSetting::DelayMechanism),
+        port,
+    )?;
     let mut port = PortStart::new();
     port.log_min_pdelay = start.log_min_pdelay;
-    add_port_member(faults, place, table, Member::LogMinPdelay, port)
+    add_port_member(
+        faults,
+        place,
+        table,
+        Member::Setting(PortSetting::LogMinPdelayReqInterval),
+        port,
+    )
 }
 
 /// Adds a fault of a member of a port, if a port that starts so can't.

@@ -11,12 +11,11 @@ use Rattle.ptpm_codec.proofs.OrderedLaws.{first_of-none}
 use Rattle.ptpm_data.specs.declared.rights.Rights.{Rights}
 use Rattle.ptpm_data.specs.declared.management_id.Layout.{Layout}
 use Rattle.ptpm_data.specs.declared.data_sets.PortDataSet.{PortDataSet}
-use Rattle.ptpm_data.specs.declared.port_state.DelayMechanism.{DelayMechanism}
 use Rattle.ptpm_data.specs.ManagementId.{RowValue, set_of}
 use Rattle.ptpm_data.specs.Members.{DataSetsValue}
 use Rattle.ptpm_data.specs.Request.{RequestValue}
 use Rattle.ptpm_data.specs.Refusals.{row_refusal, is_length, is_value}
-use Rattle.ptpm_data.specs.Changes.{applied, commanded, named_changed, set_members, with_mechanism}
+use Rattle.ptpm_data.specs.Changes.{applied, commanded, named_changed, set_members}
 
 -- ---- the tests of a request that is not refused
 
@@ -38,15 +37,10 @@ pub length-named_changed : (port : ℕ) (change : PortDataSet → PortDataSet) (
 unfolding named_changed
 length-named_changed port change ports = simp (length-map, length-enumerate_from)
 
-with_mechanism-ports : (port : ℕ) (d : DataSetsValue) (m : Option DelayMechanism)
-    → length (with_mechanism port d m).ports ≡ length d.ports
-with_mechanism-ports port d None = refl
-with_mechanism-ports port d (Some m) = length-named_changed port _ d.ports
-
 pub applied-ports : (layout : Layout) (q : RequestValue) (action : Action) (d : DataSetsValue)
     → length (applied layout q action d).ports ≡ length d.ports
 unfolding commanded set_members
-applied-ports layout q actions.Set d = grind (arith, length-named_changed, with_mechanism-ports)
+applied-ports layout q actions.Set d = grind (arith, length-named_changed)
 applied-ports layout q actions.Command d = grind (arith, length-named_changed)
 applied-ports layout q _ d = refl
 

@@ -1,5 +1,5 @@
 -- A request and an observation leave consistent data sets consistent.
-use Rattle.std.proofs.Common.{◌≡◌, ap, refl, subst, ℕ, Bool, true, false, List, Option, Some, None}
+use Rattle.std.proofs.Common.{◌≡◌, ◌∙◌, ap, refl, subst, sym, ℕ, Bool, true, false, List, Option, Some, None}
 use Rattle.std.proofs.lemmas.Bool.{not-true}
 use Rattle.ptpm_codec.specs.declared.message.Action.{Action}
 use Rattle.ptpm_codec.specs.declared.message.Action.TheVariants as actions
@@ -13,7 +13,6 @@ use Rattle.ptpm_data.specs.declared.observation.ClockObservation.{ClockObservati
 use Rattle.ptpm_data.specs.declared.observation.PortObservation.{PortObservation}
 use Rattle.ptpm_data.specs.declared.port_change.PortChange.{PortChange}
 use Rattle.ptpm_data.specs.declared.port_change.PortChange.TheVariants as changes
-use Rattle.ptpm_data.specs.declared.port_state.DelayMechanism.{DelayMechanism}
 use Rattle.ptpm_data.specs.ManagementId.{set_of}
 use Rattle.ptpm_data.specs.Request.{RequestValue}
 use Rattle.ptpm_data.specs.Ranges.{is_clock_accuracy, is_description}
@@ -21,14 +20,14 @@ use Rattle.ptpm_data.specs.Refusals.{is_set_value, is_value}
 use Rattle.ptpm_data.specs.Members.{DataSetsValue, IsConsistent, is_grandmaster, is_own_grandmaster}
 use Rattle.ptpm_data.specs.PortChange.{is_change_in_range, port_after}
 use Rattle.ptpm_data.specs.PrecedenceChange.{is_precedence_in_range, precedence_after}
-use Rattle.ptpm_data.specs.Changes.{applied, changed_by, commanded, grandmaster_changed, set_members, with_mechanism, with_ports, with_precedence}
+use Rattle.ptpm_data.specs.Changes.{applied, changed_by, commanded, grandmaster_changed, set_members, with_ports, with_precedence}
 use Rattle.ptpm_data.specs.Observation.{observed}
-use Rattle.ptpm_data.specs.SetField.{first_i8, octet}
+use Rattle.ptpm_data.specs.SetField.{octet}
 use Rattle.ptpm_data.proofs.Carrying.{Suits, length-named_changed}
 use Rattle.ptpm_data.proofs.Keeping.{changed_by-all}
 use Rattle.ptpm_data.proofs.Observed.{observed-all}
 use Rattle.ptpm_data.proofs.Observing.{consistent}
-use Rattle.ptpm_data.proofs.Ranging.{ports_changed}
+use Rattle.ptpm_data.proofs.Ranging.{ports_changed, set_in_range}
 
 -- ---- the clock's precedence
 
@@ -82,12 +81,6 @@ ports_stay port d change is before =
       grandmaster = before.grandmaster;
     }
 
-mechanism_stays : (port : ℕ) (d : DataSetsValue) (m : Option DelayMechanism)
-    → IsConsistent d
-    → IsConsistent (with_mechanism port d m)
-mechanism_stays port d None before = before
-mechanism_stays port d (Some m) before = ports_stay port d (changes.DelayMechanism m) refl before
-
 -- ---- a request
 
 description_stays : (d : DataSetsValue) (text : List ℕ)
@@ -139,11 +132,8 @@ set_stays layouts.UtcProperties port octets d is before = record {
   ports = before.ports;
   grandmaster = before.grandmaster;
 }
-set_stays layouts.LogAnnounceInterval port octets d is before = ports_stay port d (changes.LogAnnounceInterval (first_i8 octets)) is before
-set_stays layouts.AnnounceReceiptTimeout port octets d is before = ports_stay port d (changes.AnnounceReceiptTimeout (octet 0 octets)) is before
-set_stays layouts.LogSyncInterval port octets d is before = ports_stay port d (changes.LogSyncInterval (first_i8 octets)) is before
-set_stays layouts.DelayMechanism port octets d is before = mechanism_stays port d _ before
-set_stays layouts.LogMinPdelayReqInterval port octets d is before = ports_stay port d (changes.LogMinPdelayReqInterval (first_i8 octets)) is before
+set_stays (layouts.Setting s) port octets d is before =
+    ports_stay port d (changes.Setting s (octet 0 octets)) (sym (set_in_range s octets) ∙ is) before
 set_stays _ port octets d is before = before
 
 command_stays : (layout : Layout) (port : ℕ) (d : DataSetsValue)

@@ -55,12 +55,8 @@ of_port : (layout : Layout) (identity : ClockIdentity) (port : ℕ) (p : PortDat
     → IsFieldWithin 26 (port_field_of layout identity port p)
 unfolding port_field_of
 of_port layouts.PortDataSet identity port p h = within 26 26 (port_size identity port p h) refl (omega arith)
-of_port layouts.LogAnnounceInterval identity port p h = within 26 2 refl refl (omega arith)
-of_port layouts.AnnounceReceiptTimeout identity port p h = within 26 2 refl refl (omega arith)
-of_port layouts.LogSyncInterval identity port p h = within 26 2 refl refl (omega arith)
+of_port (layouts.Setting s) identity port p h = within 26 2 refl refl (omega arith)
 of_port layouts.VersionNumber identity port p h = within 26 2 refl refl (omega arith)
-of_port layouts.DelayMechanism identity port p h = within 26 2 refl refl (omega arith)
-of_port layouts.LogMinPdelayReqInterval identity port p h = within 26 2 refl refl (omega arith)
 of_port _ identity port p h = within 26 0 refl refl (omega arith)
 
 at_port : (layout : Layout) (identity : ClockIdentity) (port : ℕ) (set : Option PortDataSet)

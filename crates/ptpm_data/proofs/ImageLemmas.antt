@@ -19,9 +19,13 @@ use Rattle.ptpm_data.specs.declared.data_sets.PortDataSet.{PortDataSet}
 use Rattle.ptpm_data.specs.declared.data_sets.TimePropertiesDataSet.{TimePropertiesDataSet}
 use Rattle.ptpm_data.specs.declared.start.PortStart.{PortStart}
 use Rattle.ptpm_data.specs.DataField.{current_data_field, i16_octets, i32_octets, i64_octets, i8_octet, precedence_octets}
-use Rattle.ptpm_data.specs.Image.{CurrentFits, DefaultFits, DataSetsFit, ParentFits, PortFits, TimeFits, clock_image, data_sets_octets, default_image, parent_image, port_image, ports_image, settings_image, time_image}
+use Rattle.ptpm_data.specs.Image.{CurrentFits, DefaultFits, DataSetsFit, ParentFits, PortFits, TimeFits, clock_image, data_sets_octets, default_image, parent_image, port_image, ports_image, time_image}
 use Rattle.ptpm_data.specs.ImageReading.{clock_read, current_read, default_read, flag_at, i16_at, i32_at, i64_at, i8_at, parent_read, port_read, port_start, precedence_at, clock_start, time_read}
 use Rattle.ptpm_data.specs.Members.{DataSetsValue}
+use Rattle.ptpm_data.specs.PortSetting.{said_by, settings_octets}
+use Rattle.ptpm_data.specs.PortState.{state_number}
+use Rattle.ptpm_data.specs.Start.{port_start_with}
+use Rattle.ptpm_data.proofs.SettingLemmas.{settings_back}
 
 -- ---- numbers
 
@@ -129,23 +133,12 @@ time_back t fits =
     }
 
 pub port_back : (p : PortDataSet) → PortFits p → port_read (port_image p) ≡ port_start p
-unfolding port_read port_image settings_image i64_octets i8_octet i64_at i8_at
+unfolding port_read port_image i64_octets i8_octet i64_at i8_at
 port_back p fits =
     let delay_req = to_z-of_z w8 p.log_min_delay_req fits.log_min_delay_req in
     let delay = i64_back p.peer_delay [] fits.peer_delay in
-    let announce = to_z-of_z w8 p.log_announce fits.log_announce in
-    let sync = to_z-of_z w8 p.log_sync fits.log_sync in
-    let pdelay = to_z-of_z w8 p.log_min_pdelay fits.log_min_pdelay in
-    λ i. record {
-      state = (port_start p).state;
-      log_min_delay_req = delay_req i;
-      peer_delay = delay i;
-      log_announce = announce i;
-      receipt_timeout = p.receipt_timeout;
-      log_sync = sync i;
-      delay_mechanism = (port_start p).delay_mechanism;
-      log_min_pdelay = pdelay i;
-    }
+    let settings : said_by (settings_octets p.settings) ≡ p.settings = λ i s. settings_back p.settings fits.settings s i in
+    λ i. port_start_with (state_number p.state) (delay_req i) (delay i) (settings i)
 
 -- ---- how many octets there are
 
@@ -169,7 +162,7 @@ unfolding time_image i16_octets
 time_length t = refl
 
 pub port_length : (p : PortDataSet) → length (port_image p) ≡ 15
-unfolding port_image settings_image i64_octets
+unfolding port_image i64_octets
 port_length p = refl
 
 pub ports_length : (ports : List PortDataSet) → length (ports_image ports) ≡ length ports * 15

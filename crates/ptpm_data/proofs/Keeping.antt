@@ -10,14 +10,13 @@ use Rattle.ptpm_data.specs.declared.management_id.Layout.{Layout}
 use Rattle.ptpm_data.specs.declared.management_id.Layout.TheVariants as layouts
 use Rattle.ptpm_data.specs.declared.precedence_change.PrecedenceChange.{PrecedenceChange}
 use Rattle.ptpm_data.specs.declared.data_sets.ParentDataSet.{ParentDataSet}
-use Rattle.ptpm_data.specs.declared.port_state.DelayMechanism.{DelayMechanism}
 use Rattle.ptpm_data.specs.ManagementId.{RowValue, row_of, set_of}
 use Rattle.ptpm_data.specs.Ranges.{is_description}
 use Rattle.ptpm_data.specs.Request.{RequestValue}
 use Rattle.ptpm_data.specs.Reply.{Refused, Answer}
 use Rattle.ptpm_data.specs.Members.{DataSetsValue}
 use Rattle.ptpm_data.specs.Refusals.{row_refusal, refusal_of, is_set_value}
-use Rattle.ptpm_data.specs.Changes.{applied, changed_at, changed_by, commanded, grandmaster_changed, set_members, unless_refused, with_mechanism}
+use Rattle.ptpm_data.specs.Changes.{applied, changed_at, changed_by, commanded, grandmaster_changed, set_members, unless_refused}
 use Rattle.ptpm_data.specs.Replies.{answer, outcome, reply_to}
 use Rattle.ptpm_data.specs.RequestLaws.{IsSized}
 use Rattle.ptpm_data.proofs.Carrying.{Suits, suits_from, applied-ports}
@@ -44,24 +43,14 @@ shown_grandmaster : (b : Bool) (change : PrecedenceChange) (parent : ParentDataS
 shown_grandmaster true change parent = refl
 shown_grandmaster false change parent = refl
 
-with_mechanism-keeps : (port : ℕ) (d : DataSetsValue) (m : Option DelayMechanism)
-    → Keeps d (with_mechanism port d m)
-with_mechanism-keeps port d None = same d
-with_mechanism-keeps port d (Some m) = record { identity = refl; parent_port = refl; grandmaster = refl }
-
 applied-keeps : (layout : Layout) (q : RequestValue) (action : Action) (d : DataSetsValue)
     → Keeps d (applied layout q action d)
 unfolding commanded set_members
-applied-keeps layout q actions.Set d = grind (arith, with_mechanism-keeps, shown_port, shown_grandmaster)
+applied-keeps layout q actions.Set d = grind (arith, shown_port, shown_grandmaster)
 applied-keeps layout q actions.Command d = grind arith
 applied-keeps layout q _ d = same d
 
 -- ---- the text
-
-with_mechanism-text : (port : ℕ) (d : DataSetsValue) (m : Option DelayMechanism)
-    → (with_mechanism port d m).description ≡ d.description
-with_mechanism-text port d None = refl
-with_mechanism-text port d (Some m) = refl
 
 commanded-text : (layout : Layout) (port : ℕ) (d : DataSetsValue)
     → (commanded layout port d).description ≡ d.description
@@ -74,7 +63,7 @@ applied-sized : (layout : Layout) (q : RequestValue) (d : DataSetsValue)
     → IsSized d
     → IsSized (applied layout q q.action d)
 unfolding is_description is_set_value set_members set_of
-applied-sized layout q d suits s = grind (arith, applied-keeps, applied-ports, description_small, with_mechanism-text, commanded-text)
+applied-sized layout q d suits s = grind (arith, applied-keeps, applied-ports, description_small, commanded-text)
 
 -- ---- the data sets after a request
 

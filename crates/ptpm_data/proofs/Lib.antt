@@ -1,3 +1,4 @@
+pub mod SettingLemmas
 pub mod DescriptionLaws
 pub mod NamedPorts
 pub mod Carrying

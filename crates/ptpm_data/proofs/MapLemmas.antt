@@ -7,9 +7,8 @@ use Rattle.ptpm_codec.specs.declared.identity.PortIdentity.{PortIdentity}
 use Rattle.ptpm_data.specs.declared.members.Member.{Member}
 use Rattle.ptpm_data.specs.declared.members.Member.TheVariants as members
 use Rattle.ptpm_data.specs.declared.port_state.PortState.{PortState}
-use Rattle.ptpm_data.specs.declared.port_state.DelayMechanism.{DelayMechanism}
 use Rattle.ptpm_data.specs.declared.data_sets.PortDataSet.{PortDataSet}
-use Rattle.ptpm_data.specs.PortState.{state_number, mechanism_number}
+use Rattle.ptpm_data.specs.PortState.{state_number}
 use Rattle.ptpm_data.specs.Members.{DataSetsValue, port_of}
 use Rattle.ptpm_data.specs.MemberMap.{MemberValue, Octets, Place, OfClock, OfPort, natural, integer, flag, identity, port_identity, port_member, value_of}
 
@@ -41,11 +40,6 @@ port_identity_same p q h =
 state_same : (s t : PortState) → natural (state_number s) ≡ natural (state_number t) → s ≡ t
 state_same s t h = grind (arith, natural_same)
 
-mechanism_same : (m n : DelayMechanism)
-    → natural (mechanism_number m) ≡ natural (mechanism_number n)
-    → m ≡ n
-mechanism_same m n h = grind (arith, natural_same)
-
 -- ---- ports
 
 port_same : (p q : PortDataSet) → ((m : Member) → port_member m p ≡ port_member m q) → p ≡ q
@@ -53,11 +47,8 @@ port_same p q h =
     let state = state_same _ _ (h members.State) in
     let min_delay = integer_same _ _ (h members.LogMinDelayReq) in
     let peer_delay = integer_same _ _ (h members.PeerDelay) in
-    let announce = integer_same _ _ (h members.LogAnnounce) in
-    let timeout = natural_same _ _ (h members.ReceiptTimeout) in
-    let sync = integer_same _ _ (h members.LogSync) in
-    let mechanism = mechanism_same _ _ (h members.DelayMechanism) in
-    let min_pdelay = integer_same _ _ (h members.LogMinPdelay) in grind arith
+    let settings : p.settings ≡ q.settings = λ i s. integer_same _ _ (h (members.Setting s)) i in
+    λ i. record { state = state i; log_min_delay_req = min_delay i; peer_delay = peer_delay i; settings = settings i }
 
 option_same : (o p : Option PortDataSet)
     → ((m : Member) → option_and_then (port_member m) o ≡ option_and_then (port_member m) p)

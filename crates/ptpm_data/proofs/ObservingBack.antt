@@ -22,11 +22,7 @@ use Rattle.ptpm_data.proofs.RestoringLaws.{precedence_same}
 record IsPortKin (p q : PortDataSet) : Type 0 where
   disabled : is_disabled q.state ≡ is_disabled p.state
   log_min_delay_req : q.log_min_delay_req ≡ p.log_min_delay_req
-  log_announce : q.log_announce ≡ p.log_announce
-  receipt_timeout : q.receipt_timeout ≡ p.receipt_timeout
-  log_sync : q.log_sync ≡ p.log_sync
-  delay_mechanism : q.delay_mechanism ≡ p.delay_mechanism
-  log_min_pdelay : q.log_min_pdelay ≡ p.log_min_pdelay
+  settings : q.settings ≡ p.settings
 
 abbrev ArePortsKin : List PortDataSet → List PortDataSet → Type 0
 ArePortsKin [] [] = Unit {0}
@@ -49,11 +45,7 @@ ports_same (p ∷ ps) = (
   record {
     disabled = refl;
     log_min_delay_req = refl;
-    log_announce = refl;
-    receipt_timeout = refl;
-    log_sync = refl;
-    delay_mechanism = refl;
-    log_min_pdelay = refl;
+    settings = refl;
   },
   ports_same ps,
 )
@@ -78,11 +70,7 @@ port_stays : (o : PortObservation) (p q : PortDataSet)
 port_stays o p q free kin = record {
   disabled = state_stays (is_disabled q.state) o.state q.state refl free ∙ kin.disabled;
   log_min_delay_req = kin.log_min_delay_req;
-  log_announce = kin.log_announce;
-  receipt_timeout = kin.receipt_timeout;
-  log_sync = kin.log_sync;
-  delay_mechanism = kin.delay_mechanism;
-  log_min_pdelay = kin.log_min_pdelay;
+  settings = kin.settings;
 }
 
 ports_stay : (os : List PortObservation) (ps qs : List PortDataSet)
@@ -130,20 +118,12 @@ port_back : (p q : PortDataSet) → IsPortKin p q → port_after (port_observati
 port_back p q kin =
     let state = state_back (is_disabled q.state) p.state q.state refl kin.disabled in
     let delay_req = kin.log_min_delay_req in
-    let announce = kin.log_announce in
-    let timeout = kin.receipt_timeout in
-    let sync = kin.log_sync in
-    let mechanism = kin.delay_mechanism in
-    let pdelay = kin.log_min_pdelay in
+    let settings = kin.settings in
     λ i. record {
       state = state i;
       log_min_delay_req = delay_req i;
       peer_delay = p.peer_delay;
-      log_announce = announce i;
-      receipt_timeout = timeout i;
-      log_sync = sync i;
-      delay_mechanism = mechanism i;
-      log_min_pdelay = pdelay i;
+      settings = settings i;
     }
 
 ports_back : (ps qs : List PortDataSet) → ArePortsKin ps qs → ports_after (map port_observation ps) qs ≡ ps

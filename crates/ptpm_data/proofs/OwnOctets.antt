@@ -1,12 +1,10 @@
 -- An accepted SET is answered by its own octets.
 use Rattle.std.proofs.Common.{◌≡◌, ◌∙◌, arith, refl, ap, subst, ℕ, zero, suc, ◌+◌, ◌-◌, ◌<◌, ◌≤◌, ◌==◌, Bool, true, false, not, ◌||◌, if◌then◌else◌, List, [], ◌∷◌, length, map, slice_get, Option, Some, None}
 use Rattle.std.specs.Prelude.{⊤}
-use Rattle.std.specs.Int.{w8}
 use Rattle.std.specs.List.{All, enumerate_from, filter, range_with_len}
 use Rattle.std.specs.Option.{option_map}
-use Rattle.std.proofs.lemmas.Bool.{cases_Bool, eqb-true}
+use Rattle.std.proofs.lemmas.Bool.{eqb-true}
 use Rattle.std.proofs.lemmas.Bool.Decides.{nat_tests}
-use Rattle.std.proofs.lemmas.Int.{of_z-to_z}
 use Rattle.std.proofs.lemmas.List.Elements.{All-cons, All-map}
 use Rattle.ptpm_codec.specs.declared.message.Action.{Action}
 use Rattle.ptpm_codec.specs.declared.message.Action.TheVariants as actions
@@ -15,18 +13,17 @@ use Rattle.ptpm_data.specs.declared.management_id.Layout.TheVariants as layouts
 use Rattle.ptpm_data.specs.declared.data_sets.PortDataSet.{PortDataSet}
 use Rattle.ptpm_data.specs.declared.port_change.PortChange.{PortChange}
 use Rattle.ptpm_data.specs.declared.port_change.PortChange.TheVariants as changes
-use Rattle.ptpm_data.specs.declared.port_state.DelayMechanism.{DelayMechanism}
 use Rattle.ptpm_data.specs.declared.rights.Rights.{Rights}
 use Rattle.ptpm_data.specs.ManagementId.{RowValue, has_action, is_of_port, row_of, set_of}
 use Rattle.ptpm_data.specs.Members.{DataSetsValue, port_of}
-use Rattle.ptpm_data.specs.PortState.{mechanism_number}
+use Rattle.ptpm_data.specs.PortSettings.{octet_back}
 use Rattle.ptpm_data.specs.Request.{RequestValue}
 use Rattle.ptpm_data.specs.Reply.{Answer, Value}
-use Rattle.ptpm_data.specs.SetField.{first_i8, octet}
-use Rattle.ptpm_data.specs.DataField.{clock_field_of, data_field_at, data_field_of, field_of_port, i8_octet, octet_data_field, port_field_of}
+use Rattle.ptpm_data.specs.SetField.{octet}
+use Rattle.ptpm_data.specs.DataField.{clock_field_of, data_field_at, data_field_of, field_of_port, octet_data_field, port_field_of}
 use Rattle.ptpm_data.specs.PortChange.{port_after}
 use Rattle.ptpm_data.specs.Refusals.{is_length, is_set_length, is_set_value, is_value, refusal_at}
-use Rattle.ptpm_data.specs.Changes.{changed_by, changed_if, is_named, named_changed, set_members, with_mechanism, with_ports}
+use Rattle.ptpm_data.specs.Changes.{changed_by, changed_if, is_named, named_changed, set_members, with_ports}
 use Rattle.ptpm_data.specs.Replies.{answer, named_ports, outcome, reply_of, reply_to}
 use Rattle.ptpm_data.specs.SetLaws.{AreOctets, IsAcceptedSet, standard_field, standard_field_at}
 use Rattle.ptpm_data.proofs.Carrying.{suits_from}
@@ -34,6 +31,7 @@ use Rattle.ptpm_data.proofs.FieldSizes.{found, is_port_layout, layout_of}
 use Rattle.ptpm_data.proofs.Keeping.{changed_by-ports}
 use Rattle.ptpm_data.proofs.ReplyLemmas.{answers_of}
 use Rattle.ptpm_data.proofs.OwnFields.{nothing_held, text_back, utc_back}
+use Rattle.ptpm_data.proofs.SettingLemmas.{itself}
 use Rattle.ptpm_data.proofs.Setting.{accepted_by, permitted, set_changes, then_get}
 
 -- ---- the port that is shown
@@ -84,11 +82,7 @@ has_one_number layouts.Priority1 = true
 has_one_number layouts.Priority2 = true
 has_one_number layouts.Domain = true
 has_one_number layouts.ClockAccuracy = true
-has_one_number layouts.LogAnnounceInterval = true
-has_one_number layouts.AnnounceReceiptTimeout = true
-has_one_number layouts.LogSyncInterval = true
-has_one_number layouts.DelayMechanism = true
-has_one_number layouts.LogMinPdelayReqInterval = true
+has_one_number (layouts.Setting s) = true
 has_one_number _ = false
 
 abbrev is_settable : Layout → Bool
@@ -109,41 +103,17 @@ settable id e is may = grind (arith, then_get, found)
 
 -- ---- the dataField of each id of one number
 
-module _ (octets : List ℕ) (range : AreOctets octets) where
-  back : i8_octet (first_i8 octets) ≡ octet 0 octets
-  unfolding i8_octet first_i8
-  back = of_z-to_z w8 (octet 0 octets) (range 0)
-
 module _ (port n : ℕ) (octets : List ℕ) (d : DataSetsValue) (range : AreOctets octets) (s : IsShown port n (length d.ports)) where
-  shown_mechanism : (o : Option DelayMechanism)
-      → ((m : DelayMechanism) × (o ≡ Some m) × (mechanism_number m ≡ octet 0 octets))
-      → field_of_port
-      (port_field_of layouts.DelayMechanism (with_mechanism port d o).default.identity n)
-      (port_of n (with_mechanism port d o)) ≡ octet_data_field (octet 0 octets)
-  unfolding port_field_of
-  shown_mechanism None known = let wrong = known.1 in cc
-  shown_mechanism (Some m) known =
-      let at = shown_port port n (changes.DelayMechanism m) d s in
-      let same : m ≡ known.0 = let e = known.1 in cc in
-      let number : mechanism_number m ≡ octet 0 octets = rw same known.2 in
-      rw at.1 (ap octet_data_field number)
-
   shown_field : (layout : Layout)
       → has_one_number layout ≡ true
       → is_port_layout layout ≡ true
       → is_set_value (set_of layout) octets ≡ true
       → data_field_of layout (Some n) (set_members layout port octets d)
       ≡ octet_data_field (octet 0 octets)
-  unfolding is_port_layout is_set_value port_field_of set_members set_of
-  shown_field layouts.LogAnnounceInterval one at good =
-      rw (shown_port port n (changes.LogAnnounceInterval (first_i8 octets)) d s).1 (ap octet_data_field (back octets range))
-  shown_field layouts.AnnounceReceiptTimeout one at good =
-      rw (shown_port port n (changes.AnnounceReceiptTimeout (octet 0 octets)) d s).1 refl
-  shown_field layouts.LogSyncInterval one at good =
-      rw (shown_port port n (changes.LogSyncInterval (first_i8 octets)) d s).1 (ap octet_data_field (back octets range))
-  shown_field layouts.LogMinPdelayReqInterval one at good =
-      rw (shown_port port n (changes.LogMinPdelayReqInterval (first_i8 octets)) d s).1 (ap octet_data_field (back octets range))
-  shown_field layouts.DelayMechanism one at good = grind (arith, shown_mechanism, cases_Bool, eqb-true)
+  unfolding is_port_layout port_field_of set_members
+  shown_field (layouts.Setting t) one at good =
+      rw ((shown_port port n (changes.Setting t (octet 0 octets)) d s).1, itself t)
+      (ap octet_data_field (octet_back t (octet 0 octets) (range 0)))
   shown_field _ one at good = cc
 
 number_field : (layout : Layout)

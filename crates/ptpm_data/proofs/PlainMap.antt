@@ -51,11 +51,7 @@ at_port m None = refl
 at_port members.State (Some p) = refl
 at_port members.LogMinDelayReq (Some p) = refl
 at_port members.PeerDelay (Some p) = refl
-at_port members.LogAnnounce (Some p) = refl
-at_port members.ReceiptTimeout (Some p) = refl
-at_port members.LogSync (Some p) = refl
-at_port members.DelayMechanism (Some p) = refl
-at_port members.LogMinPdelay (Some p) = refl
+at_port (members.Setting s) (Some p) = refl
 at_port _ (Some p) = refl
 
 -- ---- the data sets of a clock

@@ -1,37 +1,52 @@
 -- The ranges of the ports' members: a start gives them, a change and an observation keep them.
-use Rattle.std.proofs.Common.{arith, ◌≡◌, ℕ, ◌+◌, Bool, true, false, List, [], ◌∷◌, map, None}
+use Rattle.std.proofs.Common.{◌≡◌, refl, subst, ℕ, zero, suc, ◌+◌, ◌==◌, ℤ, Bool, true, false, if◌then◌else◌, List, [], ◌∷◌, map, slice_get, None, Some}
 use Rattle.std.specs.List.{All, enumerate_from}
 use Rattle.std.proofs.lemmas.Bool.{not-false}
 use Rattle.std.proofs.lemmas.List.Elements.{All-nil, All-cons, All-head, All-tail}
+use Rattle.std.proofs.lemmas.Option.{same_Some}
+use Rattle.ptpm_codec.specs.Ordered.{first_of}
 use Rattle.ptpm_codec.proofs.OrderedLaws.{option_or-none}
 use Rattle.ptpm_data.specs.declared.data_sets.PortDataSet.{PortDataSet}
 use Rattle.ptpm_data.specs.declared.observation.PortObservation.{PortObservation}
 use Rattle.ptpm_data.specs.declared.port_change.PortChange.{PortChange}
 use Rattle.ptpm_data.specs.declared.port_change.PortChange.TheVariants as changes
+use Rattle.ptpm_data.specs.declared.port_setting.PortSetting.{PortSetting}
+use Rattle.ptpm_data.specs.declared.port_setting.PortSetting.TheVariants.{LogAnnounceInterval}
 use Rattle.ptpm_data.specs.declared.start.PortStart.{PortStart}
 use Rattle.ptpm_data.specs.Changes.{changed_if, is_named, named_changed}
 use Rattle.ptpm_data.specs.Members.{IsPortInRange}
 use Rattle.ptpm_data.specs.Observation as observation
 use Rattle.ptpm_data.specs.Observation.{ports_after}
 use Rattle.ptpm_data.specs.PortChange.{is_change_in_range, port_after}
-use Rattle.ptpm_data.specs.Start.{port_data_set, port_fault, ports_fault}
+use Rattle.ptpm_data.specs.PortSetting.{place, port_settings, row, said_of}
+use Rattle.ptpm_data.specs.Ranges.{is_in_range}
+use Rattle.ptpm_data.specs.Refusals.{is_set_value}
+use Rattle.ptpm_data.specs.SetField.{first_i8, octet}
+use Rattle.ptpm_data.specs.Start.{port_data_set, port_fault, ports_fault, setting_fault, settings_fault, start_settings, state_fault}
+use Rattle.ptpm_data.proofs.SettingLemmas.{listed, same_place}
 use Rattle.ptpm_data.proofs.StartLemmas.{passes}
 
 -- ---- a start
 
+among : (values : PortSetting → ℤ) (settings : List PortSetting) (i : ℕ) (s : PortSetting)
+    → first_of (map (setting_fault values) settings) ≡ None
+    → slice_get settings i ≡ Some s
+    → is_in_range s (values s) ≡ true
+among values [] i s none at = cc
+among values (t ∷ settings) zero s none at =
+    let P : PortSetting → Type 0 = λ u. is_in_range u (values u) ≡ true in
+    subst P (same_Some t s at) (not-false _ (passes _ _ _ none).0)
+among values (t ∷ settings) (suc i) s none at = among values settings i s (passes _ _ _ none).1 at
+
+settings_start : (values : PortSetting → ℤ)
+    → settings_fault values ≡ None
+    → (s : PortSetting) → is_in_range s (values s) ≡ true
+unfolding settings_fault
+settings_start values none s = among values port_settings (place s) s none (listed s)
+
 port_starts : (p : PortStart) → port_fault p ≡ None → IsPortInRange (port_data_set p)
 unfolding port_fault
-port_starts p none =
-    let announce = passes _ _ _ (passes _ _ _ none).1 in
-    let timeout = passes _ _ _ announce.1 in
-    let sync = passes _ _ _ timeout.1 in
-    let pdelay = passes _ _ _ (passes _ _ _ sync.1).1 in
-    record {
-      log_announce = not-false _ announce.0;
-      receipt_timeout = not-false _ timeout.0;
-      log_sync = not-false _ sync.0;
-      log_min_pdelay = not-false _ pdelay.0;
-    }
+port_starts p none = record { settings = settings_start (start_settings p) (option_or-none (state_fault p) (settings_fault (start_settings p)) none).1 }
 
 pub ports_start : (ps : List PortStart) → ports_fault ps ≡ None → All IsPortInRange (map port_data_set ps)
 unfolding ports_fault
@@ -42,17 +57,30 @@ ports_start (p ∷ ps) none =
 
 -- ---- a change
 
+-- a SET's first octet, as its range has it
+pub set_in_range : (s : PortSetting) (octets : List ℕ)
+    → is_set_value (row s).range octets ≡ is_in_range s (said_of s (octet 0 octets))
+unfolding is_set_value first_i8 said_of
+set_in_range LogAnnounceInterval octets = refl
+set_in_range _ octets = refl
+
+setting_stays : (s t : PortSetting) (b : Bool) (after before : ℤ)
+    → place s == place t ≡ b
+    → is_in_range s after ≡ true
+    → is_in_range t before ≡ true
+    → is_in_range t (if b then after else before) ≡ true
+setting_stays s t true after before same is was =
+    let P : PortSetting → Type 0 = λ u. is_in_range u after ≡ true in subst P (same_place s t same) is
+setting_stays s t false after before same is was = was
+
 port_stays : (change : PortChange) (p : PortDataSet)
     → is_change_in_range change ≡ true
     → IsPortInRange p
     → IsPortInRange (port_after change p)
-port_stays (changes.LogAnnounceInterval z) p is before = record { log_announce = is; receipt_timeout = before.receipt_timeout; log_sync = before.log_sync; log_min_pdelay = before.log_min_pdelay }
-port_stays (changes.AnnounceReceiptTimeout n) p is before = record { log_announce = before.log_announce; receipt_timeout = is; log_sync = before.log_sync; log_min_pdelay = before.log_min_pdelay }
-port_stays (changes.LogSyncInterval z) p is before = record { log_announce = before.log_announce; receipt_timeout = before.receipt_timeout; log_sync = is; log_min_pdelay = before.log_min_pdelay }
-port_stays (changes.LogMinPdelayReqInterval z) p is before = record { log_announce = before.log_announce; receipt_timeout = before.receipt_timeout; log_sync = before.log_sync; log_min_pdelay = is }
-port_stays (changes.DelayMechanism m) p is before = grind arith
-port_stays changes.Enable p is before = grind arith
-port_stays changes.Disable p is before = grind arith
+port_stays (changes.Setting s octet) p is before =
+    record { settings = λ t. setting_stays s t (place s == place t) (said_of s octet) (p.settings t) refl is (before.settings t) }
+port_stays changes.Enable p is before = record { settings = before.settings }
+port_stays changes.Disable p is before = record { settings = before.settings }
 
 if_named : (b : Bool) (change : PortChange) (p : PortDataSet)
     → is_change_in_range change ≡ true
@@ -80,12 +108,7 @@ ports_changed port change ports is before = from_place port 1 change ports is be
 -- ---- an observation
 
 port_observed : (o : PortObservation) (p : PortDataSet) → IsPortInRange p → IsPortInRange (observation.port_after o p)
-port_observed o p before = record {
-  log_announce = before.log_announce;
-  receipt_timeout = before.receipt_timeout;
-  log_sync = before.log_sync;
-  log_min_pdelay = before.log_min_pdelay;
-}
+port_observed o p before = record { settings = before.settings }
 
 pub ports_observed : (os : List PortObservation) (ports : List PortDataSet)
     → All IsPortInRange ports

@@ -11,19 +11,18 @@ use Rattle.ptpm_data.specs.declared.data_sets.ParentDataSet.{ParentDataSet}
 use Rattle.ptpm_data.specs.declared.data_sets.PortDataSet.{PortDataSet}
 use Rattle.ptpm_data.specs.declared.port_state.PortState.{PortState}
 use Rattle.ptpm_data.specs.declared.port_state.PortState.TheVariants as states
-use Rattle.ptpm_data.specs.declared.port_state.DelayMechanism.{DelayMechanism}
-use Rattle.ptpm_data.specs.declared.port_state.DelayMechanism.TheVariants as mechanisms
 use Rattle.ptpm_data.specs.declared.start.ClockStart.{ClockStart}
 use Rattle.ptpm_data.specs.declared.start.PortStart.{PortStart}
 use Rattle.ptpm_data.specs.Image.{DataSetsFit}
 use Rattle.ptpm_data.specs.ImageReading.{IsSplit, clock_read, port_start, start_of_sets}
 use Rattle.ptpm_data.specs.Members.{DataSetsValue, IsConsistent, IsPortInRange, is_grandmaster, is_same_precedence}
-use Rattle.ptpm_data.specs.PortState.{mechanism_number, mechanism_of, state_number, state_of}
-use Rattle.ptpm_data.specs.Start.{clock_fault, count_fault, grandmaster_fault, port_data_set, port_fault, ports_fault, start_of}
+use Rattle.ptpm_data.specs.PortState.{state_number, state_of}
+use Rattle.ptpm_data.specs.Start.{clock_fault, count_fault, grandmaster_fault, port_data_set, port_fault, ports_fault, settings_fault, start_of, start_settings}
 use Rattle.ptpm_data.proofs.ImageLemmas.{clock_back}
+use Rattle.ptpm_data.proofs.SettingLemmas.{settings_faultless, settings_restart}
 use Rattle.ptpm_data.proofs.StartLemmas.{description_small}
 
--- ---- states and mechanisms by their numbers
+-- ---- states by their numbers
 
 state_back : (s : PortState) → state_of (state_number s) ≡ Some s
 state_back states.Initializing = refl
@@ -36,27 +35,28 @@ state_back states.Passive = refl
 state_back states.Uncalibrated = refl
 state_back states.Slave = refl
 
-mechanism_back : (m : DelayMechanism) → mechanism_of (mechanism_number m) ≡ Some m
-mechanism_back mechanisms.EndToEnd = refl
-mechanism_back mechanisms.PeerToPeer = refl
-mechanism_back mechanisms.NoMechanism = refl
-
 -- ---- ports
 
-port_restarts : (p : PortDataSet) → port_data_set (port_start p) ≡ p
-port_restarts p =
-    let state = ap (λ (o : Option PortState). unwrap_or o states.Initializing) (state_back p.state) in
-    let mechanism = ap (λ (o : Option DelayMechanism). unwrap_or o mechanisms.NoMechanism) (mechanism_back p.delay_mechanism) in
-    λ i. record p { state = state i; delay_mechanism = mechanism i }
+settings_again : (p : PortDataSet) → IsPortInRange p → start_settings (port_start p) ≡ p.settings
+settings_again p range = λ i s. settings_restart (state_number p.state) p.log_min_delay_req p.peer_delay p.settings range.settings s i
 
-pub ports_restart : (ports : List PortDataSet) → map port_data_set (map port_start ports) ≡ ports
-ports_restart [] = refl
-ports_restart (p ∷ ports) = let here = port_restarts p in let rest = ports_restart ports in λ i. here i ∷ rest i
+port_restarts : (p : PortDataSet) → IsPortInRange p → port_data_set (port_start p) ≡ p
+port_restarts p range =
+    let state = ap (λ (o : Option PortState). unwrap_or o states.Initializing) (state_back p.state) in
+    let settings = settings_again p range in
+    λ i. record p { state = state i; settings = settings i }
+
+pub ports_restart : (ports : List PortDataSet) → All IsPortInRange ports → map port_data_set (map port_start ports) ≡ ports
+ports_restart [] ranges = refl
+ports_restart (p ∷ ports) ranges =
+    let here = port_restarts p (All-head IsPortInRange p ports ranges) in
+    let rest = ports_restart ports (All-tail IsPortInRange p ports ranges) in
+    λ i. here i ∷ rest i
 
 port_faultless : (p : PortDataSet) → IsPortInRange p → port_fault (port_start p) ≡ None
 unfolding port_fault
 port_faultless p range =
-    rw (state_back p.state, range.log_announce, range.receipt_timeout, range.log_sync, mechanism_back p.delay_mechanism, range.log_min_pdelay) refl
+    rw (state_back p.state) (ap settings_fault (settings_again p range) ∙ settings_faultless p.settings range.settings)
 
 ports_faultless : (ports : List PortDataSet) → All IsPortInRange ports → ports_fault (map port_start ports) ≡ None
 unfolding ports_fault
@@ -103,7 +103,7 @@ restarts d c =
     let clock = clock_faultless d c in
     let ports = ports_faultless d.ports c.ports in
     let grandmaster = grandmaster_faultless d.default d.parent c.grandmaster in
-    let again = ports_restart d.ports in
+    let again = ports_restart d.ports c.ports in
     rw (count, clock, ports, grandmaster) (λ i. Ok (record d { ports = again i }))
 
 -- ---- what is read of an image

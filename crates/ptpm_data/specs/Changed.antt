@@ -9,6 +9,7 @@ use Rattle.ptpm_data.specs.declared.members.Member.TheVariants as members
 use Rattle.ptpm_data.specs.declared.data_sets.PortDataSet.{PortDataSet}
 use Rattle.ptpm_data.specs.MemberMap.{MemberValue, Number, Octets, PortOf, clock_member, port_member}
 use Rattle.ptpm_data.specs.Members.{DataSetsValue, port_of}
+use Rattle.ptpm_data.specs.PortSetting.{port_settings}
 
 -- ---- two values
 
@@ -37,8 +38,7 @@ clock_members =
 
 abbrev pub port_members : List Member
 port_members =
-    members.State ∷ members.LogMinDelayReq ∷ members.PeerDelay ∷ members.LogAnnounce ∷ members.ReceiptTimeout
-    ∷ members.LogSync ∷ members.DelayMechanism ∷ members.LogMinPdelay ∷ []
+    members.State ∷ members.LogMinDelayReq ∷ members.PeerDelay ∷ map (λ s. members.Setting s) port_settings
 
 -- ---- which of them differ: of each a binary digit
 

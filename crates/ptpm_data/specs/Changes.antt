@@ -11,18 +11,16 @@ use Rattle.ptpm_data.specs.declared.management_id.Layout.TheVariants as layouts
 use Rattle.ptpm_data.specs.declared.data_sets.ParentDataSet.{ParentDataSet}
 use Rattle.ptpm_data.specs.declared.data_sets.TimePropertiesDataSet.{TimePropertiesDataSet}
 use Rattle.ptpm_data.specs.declared.data_sets.PortDataSet.{PortDataSet}
-use Rattle.ptpm_data.specs.declared.port_state.DelayMechanism.{DelayMechanism}
 use Rattle.ptpm_data.specs.declared.port_change.PortChange.{PortChange}
 use Rattle.ptpm_data.specs.declared.port_change.PortChange.TheVariants as changes
 use Rattle.ptpm_data.specs.declared.precedence_change.PrecedenceChange.{PrecedenceChange}
 use Rattle.ptpm_data.specs.declared.precedence_change.PrecedenceChange.TheVariants.{Priority1, Priority2, ClockAccuracy}
 use Rattle.ptpm_data.specs.ManagementId.{RowValue, row_of}
-use Rattle.ptpm_data.specs.PortState.{mechanism_of}
 use Rattle.ptpm_data.specs.Request.{RequestValue}
 use Rattle.ptpm_data.specs.Members.{DataSetsValue, is_own_grandmaster}
 use Rattle.ptpm_data.specs.PortChange.{port_after}
 use Rattle.ptpm_data.specs.PrecedenceChange.{precedence_after}
-use Rattle.ptpm_data.specs.SetField.{octet, first_i8, first_i16, has_bit}
+use Rattle.ptpm_data.specs.SetField.{octet, first_i16, has_bit}
 use Rattle.ptpm_data.specs.Refusals.{row_refusal}
 
 -- ---- ports
@@ -69,11 +67,6 @@ with_utc_properties t octets = record t {
   utc_valid = has_bit 2 (octet 2 octets);
 }
 
--- a number of no mechanism is out of range, and so refused
-abbrev pub with_mechanism : ℕ → DataSetsValue → Option DelayMechanism → DataSetsValue
-with_mechanism port d None = d
-with_mechanism port d (Some m) = with_ports port d (changes.DelayMechanism m)
-
 -- ---- what an accepted request changes
 
 -- SET (15.5.3): the members of the id, for an id of the ports at each named port, are what the dataField says.
@@ -85,14 +78,7 @@ set_members layouts.Priority2 port octets d = with_precedence d (Priority2 (octe
 set_members layouts.ClockAccuracy port octets d = with_precedence d (ClockAccuracy (octet 0 octets))
 set_members layouts.Domain port octets d = record d { default = record d.default { domain = octet 0 octets } }
 set_members layouts.UtcProperties port octets d = record d { time = with_utc_properties d.time octets }
-set_members layouts.LogAnnounceInterval port octets d =
-    with_ports port d (changes.LogAnnounceInterval (first_i8 octets))
-set_members layouts.AnnounceReceiptTimeout port octets d =
-    with_ports port d (changes.AnnounceReceiptTimeout (octet 0 octets))
-set_members layouts.LogSyncInterval port octets d = with_ports port d (changes.LogSyncInterval (first_i8 octets))
-set_members layouts.DelayMechanism port octets d = with_mechanism port d (mechanism_of (octet 0 octets))
-set_members layouts.LogMinPdelayReqInterval port octets d =
-    with_ports port d (changes.LogMinPdelayReqInterval (first_i8 octets))
+set_members (layouts.Setting s) port octets d = with_ports port d (changes.Setting s (octet 0 octets))
 set_members _ port octets d = d
 
 -- COMMAND: ENABLE_PORT and DISABLE_PORT (15.5.3.7.6 and 7); NULL_PTP_MANAGEMENT changes nothing

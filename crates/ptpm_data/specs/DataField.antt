@@ -15,7 +15,8 @@ use Rattle.ptpm_data.specs.declared.data_sets.PortDataSet.{PortDataSet}
 use Rattle.ptpm_data.specs.declared.management_id.Layout.{Layout}
 use Rattle.ptpm_data.specs.declared.management_id.Layout.TheVariants as layouts
 use Rattle.ptpm_data.specs.ManagementId.{RowValue, row_of, has_action, is_of_port}
-use Rattle.ptpm_data.specs.PortState.{state_number, mechanism_number}
+use Rattle.ptpm_data.specs.PortSetting.{octet_of, settings_octets}
+use Rattle.ptpm_data.specs.PortState.{state_number}
 use Rattle.ptpm_data.specs.Members.{DataSetsValue, port_of}
 
 -- an Integer8, Integer16, Integer32 and Integer64
@@ -68,11 +69,9 @@ unfoldable pub utc_properties_data_field : TimePropertiesDataSet → List ℕ
 utc_properties_data_field t =
     i16_octets t.utc_offset ++ (bit 0 t.leap61 + bit 1 t.leap59 + bit 2 t.utc_valid) ∷ 0 ∷ []
 
--- what a SET can change at a port, and versionNumber: 2 in the lower nibble, 0 in the upper (this project's profile)
+-- a port's settings, and versionNumber: 2 in the lower nibble, 0 in the upper (this project's profile)
 unfoldable pub port_settings_octets : PortDataSet → List ℕ
-port_settings_octets p =
-    i8_octet p.log_announce ∷ p.receipt_timeout ∷ i8_octet p.log_sync ∷ []
-    ++ mechanism_number p.delay_mechanism ∷ i8_octet p.log_min_pdelay ∷ 2 ∷ []
+port_settings_octets p = settings_octets p.settings ++ 2 ∷ []
 
 -- PORT_DATA_SET (15.5.3.7.1)
 unfoldable pub port_data_field : ClockIdentity → ℕ → PortDataSet → List ℕ
@@ -84,9 +83,6 @@ port_data_field identity port p =
 abbrev pub octet_data_field : ℕ → List ℕ
 octet_data_field n = n ∷ 0 ∷ []
 
-abbrev pub i8_data_field : ℤ → List ℕ
-i8_data_field z = octet_data_field (i8_octet z)
-
 -- what a port's members give; nothing if the clock lacks the port
 abbrev pub field_of_port : (PortDataSet → List ℕ) → Option PortDataSet → List ℕ
 field_of_port field None = []
@@ -95,12 +91,8 @@ field_of_port field (Some p) = field p
 -- the dataField of an id of a port, by what its table entry says that it holds
 unfoldable pub port_field_of : Layout → ClockIdentity → ℕ → PortDataSet → List ℕ
 port_field_of layouts.PortDataSet identity port p = port_data_field identity port p
-port_field_of layouts.LogAnnounceInterval identity port p = i8_data_field p.log_announce
-port_field_of layouts.AnnounceReceiptTimeout identity port p = octet_data_field p.receipt_timeout
-port_field_of layouts.LogSyncInterval identity port p = i8_data_field p.log_sync
+port_field_of (layouts.Setting s) identity port p = octet_data_field (octet_of (p.settings s))
 port_field_of layouts.VersionNumber identity port p = octet_data_field 2
-port_field_of layouts.DelayMechanism identity port p = octet_data_field (mechanism_number p.delay_mechanism)
-port_field_of layouts.LogMinPdelayReqInterval identity port p = i8_data_field p.log_min_pdelay
 port_field_of _ identity port p = []
 
 -- the dataField of an id of the clock, in the same way

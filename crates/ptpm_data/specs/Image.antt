@@ -12,9 +12,11 @@ use Rattle.ptpm_data.specs.declared.data_sets.DefaultDataSet.{DefaultDataSet}
 use Rattle.ptpm_data.specs.declared.data_sets.ParentDataSet.{ParentDataSet}
 use Rattle.ptpm_data.specs.declared.data_sets.PortDataSet.{PortDataSet}
 use Rattle.ptpm_data.specs.declared.data_sets.TimePropertiesDataSet.{TimePropertiesDataSet}
+use Rattle.ptpm_data.specs.declared.port_setting.PortSetting.{PortSetting}
 use Rattle.ptpm_data.specs.DataField.{current_data_field, i16_octets, i32_octets, i64_octets, i8_octet, precedence_octets}
 use Rattle.ptpm_data.specs.Members.{DataSetsValue}
-use Rattle.ptpm_data.specs.PortState.{mechanism_number, state_number}
+use Rattle.ptpm_data.specs.PortSetting.{octet_of, said_of, settings_octets}
+use Rattle.ptpm_data.specs.PortState.{state_number}
 
 -- ---- one data set after the other
 
@@ -40,16 +42,10 @@ time_image t =
     ++ from_bool t.leap61 ∷ from_bool t.leap59 ∷ from_bool t.utc_valid ∷ from_bool t.ptp_timescale ∷ from_bool t.time_traceable
     ∷ from_bool t.frequency_traceable ∷ t.time_source ∷ []
 
--- what a SET can change at a port: log_announce, receipt_timeout, log_sync, delay_mechanism, log_min_pdelay: 5 octets
-unfoldable pub settings_image : PortDataSet → List ℕ
-settings_image p =
-    i8_octet p.log_announce ∷ p.receipt_timeout ∷ i8_octet p.log_sync ∷ mechanism_number p.delay_mechanism
-    ∷ i8_octet p.log_min_pdelay ∷ []
-
--- state, log_min_delay_req, peer_delay, and these five: 15 octets
+-- state, log_min_delay_req, peer_delay, and the five settings, an octet each: 15 octets
 unfoldable pub port_image : PortDataSet → List ℕ
 port_image p =
-    state_number p.state ∷ i8_octet p.log_min_delay_req ∷ [] ++ i64_octets p.peer_delay ++ settings_image p
+    state_number p.state ∷ i8_octet p.log_min_delay_req ∷ [] ++ i64_octets p.peer_delay ++ settings_octets p.settings
 
 -- ---- the whole
 
@@ -92,9 +88,8 @@ TimeFits t = FitsSigned w16 t.utc_offset
 pub record PortFits (p : PortDataSet) : Type 0 where
   pub log_min_delay_req : FitsSigned w8 p.log_min_delay_req
   pub peer_delay : FitsSigned w64 p.peer_delay
-  pub log_announce : FitsSigned w8 p.log_announce
-  pub log_sync : FitsSigned w8 p.log_sync
-  pub log_min_pdelay : FitsSigned w8 p.log_min_pdelay
+  -- an octet says each
+  pub settings : (s : PortSetting) → said_of s (octet_of (p.settings s)) ≡ p.settings s
 
 pub record DataSetsFit (d : DataSetsValue) : Type 0 where
   pub default : DefaultFits d.default

@@ -13,7 +13,9 @@ use Rattle.ptpm_data.specs.declared.start.ClockStart.{ClockStart}
 use Rattle.ptpm_data.specs.declared.start.PortStart.{PortStart}
 use Rattle.ptpm_data.specs.Image.{clock_image, ports_image}
 use Rattle.ptpm_data.specs.Members.{DataSetsValue}
-use Rattle.ptpm_data.specs.PortState.{mechanism_number, state_number}
+use Rattle.ptpm_data.specs.PortSetting.{said_by}
+use Rattle.ptpm_data.specs.PortState.{state_number}
+use Rattle.ptpm_data.specs.Start.{port_start_with}
 
 -- ---- from a place on: a flag, a signed number, a precedence
 
@@ -82,16 +84,8 @@ time_read octets = record {
 }
 
 unfoldable pub port_read : List ℕ → PortStart
-port_read octets = record {
-  state = octet 0 octets;
-  log_min_delay_req = i8_at 1 octets;
-  peer_delay = i64_at 2 octets;
-  log_announce = i8_at 10 octets;
-  receipt_timeout = octet 11 octets;
-  log_sync = i8_at 12 octets;
-  delay_mechanism = octet 13 octets;
-  log_min_pdelay = i8_at 14 octets;
-}
+port_read octets =
+    let own = take 10 octets in port_start_with (octet 0 own) (i8_at 1 own) (i64_at 2 own) (said_by (drop 10 octets))
 
 -- ---- the start that gives each member its value
 
@@ -130,16 +124,7 @@ clock_start d text c p t = record {
 }
 
 abbrev pub port_start : PortDataSet → PortStart
-port_start p = record {
-  state = state_number p.state;
-  log_min_delay_req = p.log_min_delay_req;
-  peer_delay = p.peer_delay;
-  log_announce = p.log_announce;
-  receipt_timeout = p.receipt_timeout;
-  log_sync = p.log_sync;
-  delay_mechanism = mechanism_number p.delay_mechanism;
-  log_min_pdelay = p.log_min_pdelay;
-}
+port_start p = port_start_with (state_number p.state) p.log_min_delay_req p.peer_delay p.settings
 
 abbrev pub start_of_sets : DataSetsValue → ClockStart
 start_of_sets d = clock_start d.default d.description d.current d.parent d.time

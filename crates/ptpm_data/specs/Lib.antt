@@ -1,3 +1,6 @@
+pub mod SetForm
+pub mod PortSetting
+pub mod PortSettings
 pub mod ManagementId
 pub mod PortState
 pub mod Ranges

@@ -7,12 +7,13 @@ use Rattle.ptpm_codec.specs.declared.message.Action.TheVariants as actions
 use Rattle.ptpm_data.specs.declared.management_id.Scope.{Scope}
 use Rattle.ptpm_data.specs.declared.management_id.Scope.TheVariants.{Clock, Port}
 use Rattle.ptpm_data.specs.declared.management_id.Layout.{Layout}
-use Rattle.ptpm_data.specs.declared.management_id.Layout.TheVariants.{NullPtpManagement, UserDescription, DefaultDataSet, CurrentDataSet, ParentDataSet, TimePropertiesDataSet, PortDataSet, Priority1, Priority2, Domain, SlaveOnly, LogAnnounceInterval, AnnounceReceiptTimeout, LogSyncInterval, VersionNumber, EnablePort, DisablePort, ClockAccuracy, UtcProperties, DelayMechanism, LogMinPdelayReqInterval}
+use Rattle.ptpm_data.specs.declared.management_id.Layout.TheVariants.{NullPtpManagement, UserDescription, DefaultDataSet, CurrentDataSet, ParentDataSet, TimePropertiesDataSet, PortDataSet, Priority1, Priority2, Domain, SlaveOnly, Setting, VersionNumber, EnablePort, DisablePort, ClockAccuracy, UtcProperties}
 use Rattle.ptpm_data.specs.declared.management_id.Row.{Row}
-use Rattle.ptpm_data.specs.declared.management_id.SetForm.{SetForm}
-use Rattle.ptpm_data.specs.declared.management_id.SetForm.TheVariants as forms
+use Rattle.ptpm_data.specs.declared.port_setting.PortSetting.{PortSetting}
+use Rattle.ptpm_data.specs.declared.port_setting.PortSetting.TheVariants.{LogAnnounceInterval, AnnounceReceiptTimeout, LogSyncInterval, DelayMechanism, LogMinPdelayReqInterval}
+use Rattle.ptpm_data.specs.PortSetting as settings
+use Rattle.ptpm_data.specs.SetForm.{SetField, NoSet, Empty, TextUpTo, AnyOctet, either◌to◌or◌, NotBothLeaps}
 
-infix 30 from◌to◌ minus◌to◌ either◌to◌or◌
 -- ---- sets of actions: GET is 1, SET is 2, COMMAND is 4
 
 abbrev pub get : ℕ
@@ -35,26 +36,6 @@ has_action actions.Response set = false
 has_action actions.Command set = bit_and set 4 == 4
 has_action actions.Acknowledge set = false
 
--- ---- what the dataField of a SET may be
-
-pub data SetField : Type 0 where
-  -- the id has no SET
-  NoSet : SetField
-  -- no octet
-  Empty : SetField
-  -- a PTPText (5.3.9) of at most N octets, which are UTF-8
-  TextUpTo : (limit : ℕ) → SetField
-  -- an octet and a reserved one: of any value, of a range, or of a range or one value more
-  AnyOctet : SetField
-  from◌to◌ : (low : ℕ) → (high : ℕ) → SetField
-  either◌to◌or◌ : (low : ℕ) → (high : ℕ) → (other : ℕ) → SetField
-  -- the number of a delay mechanism (8.2.15.4.4) and a reserved octet
-  MechanismNumber : SetField
-  -- an Integer8, from minus the first number to the second, and a reserved octet
-  minus◌to◌ : (low : ℕ) → (high : ℕ) → SetField
-  -- UTC_PROPERTIES (15.5.3.6.2): at most one of its two leap flags is set
-  NotBothLeaps : SetField
-
 -- ---- the table
 
 -- a managementId, its name in ASCII, whether it is of the clock or of each port, the permitted actions, and what a SET may be
@@ -71,6 +52,10 @@ clock id name actions set = record { id = id; name = codes name; scope = Clock; 
 abbrev pub port : ℕ → String → ℕ → SetField → Line
 port id name actions set = record { id = id; name = codes name; scope = Port; actions = actions; set = set }
 
+-- that of a port's setting
+abbrev pub of_setting : settings.Setting → Line
+of_setting s = record { id = s.id; name = s.id_name; scope = Port; actions = get_set; set = s.range }
+
 -- the line of each id, by its layout
 abbrev pub line : Layout → Line
 line NullPtpManagement = port 0x0000 "NULL_PTP_MANAGEMENT" get_set_command Empty
@@ -84,32 +69,16 @@ line Priority1 = clock 0x2005 "PRIORITY1" get_set AnyOctet
 line Priority2 = clock 0x2006 "PRIORITY2" get_set AnyOctet
 line Domain = clock 0x2007 "DOMAIN" get_set AnyOctet
 line SlaveOnly = clock 0x2008 "SLAVE_ONLY" get NoSet
-line LogAnnounceInterval = port 0x2009 "LOG_ANNOUNCE_INTERVAL" get_set (minus 4 to 4)
-line AnnounceReceiptTimeout = port 0x200a "ANNOUNCE_RECEIPT_TIMEOUT" get_set (from 2 to 10)
-line LogSyncInterval = port 0x200b "LOG_SYNC_INTERVAL" get_set (minus 8 to 1)
+line (Setting s) = of_setting (settings.row s)
 line VersionNumber = port 0x200c "VERSION_NUMBER" get NoSet
 line EnablePort = port 0x200d "ENABLE_PORT" command NoSet
 line DisablePort = port 0x200e "DISABLE_PORT" command NoSet
 line ClockAccuracy = clock 0x2010 "CLOCK_ACCURACY" get_set (either 0x17 to 0x31 or 0xfe)
 line UtcProperties = clock 0x2011 "UTC_PROPERTIES" get_set NotBothLeaps
-line DelayMechanism = port 0x6000 "DELAY_MECHANISM" get_set MechanismNumber
-line LogMinPdelayReqInterval = port 0x6001 "LOG_MIN_PDELAY_REQ_INTERVAL" get_set (minus 8 to 5)
 
 -- what the dataField of a SET may be, if an id's dataField has this layout
 unfoldable pub set_of : Layout → SetField
 set_of layout = (line layout).set
-
--- a form of the program, as a value
-abbrev pub set_field : SetForm → SetField
-set_field forms.NoSet = NoSet
-set_field forms.Empty = Empty
-set_field (forms.TextUpTo limit) = TextUpTo limit
-set_field forms.AnyOctet = AnyOctet
-set_field (forms.FromTo low high) = from low to high
-set_field (forms.FromToOr low high other) = either low to high or other
-set_field forms.MechanismNumber = MechanismNumber
-set_field (forms.MinusTo low high) = minus low to high
-set_field forms.NotBothLeaps = NotBothLeaps
 
 -- a row of the table, as the program has it: its layout says what its dataField holds
 pub record RowValue : Type 0 where
@@ -129,9 +98,9 @@ abbrev pub id_table : List RowValue
 id_table =
     map row_at (
     NullPtpManagement ∷ UserDescription ∷ DefaultDataSet ∷ CurrentDataSet ∷ ParentDataSet
-    ∷ TimePropertiesDataSet ∷ PortDataSet ∷ Priority1 ∷ Priority2 ∷ Domain ∷ SlaveOnly ∷ LogAnnounceInterval
-    ∷ AnnounceReceiptTimeout ∷ LogSyncInterval ∷ VersionNumber ∷ EnablePort ∷ DisablePort ∷ ClockAccuracy
-    ∷ UtcProperties ∷ DelayMechanism ∷ LogMinPdelayReqInterval ∷ [])
+    ∷ TimePropertiesDataSet ∷ PortDataSet ∷ Priority1 ∷ Priority2 ∷ Domain ∷ SlaveOnly ∷ Setting LogAnnounceInterval
+    ∷ Setting AnnounceReceiptTimeout ∷ Setting LogSyncInterval ∷ VersionNumber ∷ EnablePort ∷ DisablePort ∷ ClockAccuracy
+    ∷ UtcProperties ∷ Setting DelayMechanism ∷ Setting LogMinPdelayReqInterval ∷ [])
 
 -- ---- look-ups
 

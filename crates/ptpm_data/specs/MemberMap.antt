@@ -8,7 +8,7 @@ use Rattle.ptpm_data.specs.declared.members.Member.{Member}
 use Rattle.ptpm_data.specs.declared.members.Member.TheVariants as members
 use Rattle.ptpm_data.specs.declared.data_sets.PortDataSet.{PortDataSet}
 use Rattle.ptpm_data.specs.Members.{DataSetsValue, port_of}
-use Rattle.ptpm_data.specs.PortState.{state_number, mechanism_number}
+use Rattle.ptpm_data.specs.PortState.{state_number}
 
 -- a whole number, octets (of an identity or a text), or a clock's identity with a port number; a flag is 0 or 1
 pub data MemberValue : Type 0 where
@@ -84,11 +84,7 @@ abbrev pub port_member : Member → PortDataSet → Option MemberValue
 port_member members.State p = natural (state_number p.state)
 port_member members.LogMinDelayReq p = integer p.log_min_delay_req
 port_member members.PeerDelay p = integer p.peer_delay
-port_member members.LogAnnounce p = integer p.log_announce
-port_member members.ReceiptTimeout p = natural p.receipt_timeout
-port_member members.LogSync p = integer p.log_sync
-port_member members.DelayMechanism p = natural (mechanism_number p.delay_mechanism)
-port_member members.LogMinPdelay p = integer p.log_min_pdelay
+port_member (members.Setting s) p = integer (p.settings s)
 port_member _ p = None
 
 -- none if the clock has no such port, or the member is of the other kind

@@ -1,7 +1,8 @@
--- The names of the members (this project's profile).
-use Rattle.std.specs.Prelude.{ℕ, List, codes}
+-- The names of the members, and their order (this project's profile).
+use Rattle.std.specs.Prelude.{ℕ, ◌+◌, List, codes}
 use Rattle.ptpm_data.specs.declared.members.Member.{Member}
 use Rattle.ptpm_data.specs.declared.members.Member.TheVariants as members
+use Rattle.ptpm_data.specs.PortSetting.{place, row}
 
 abbrev pub member_name : Member → List ℕ
 member_name members.Identity = codes "identity"
@@ -37,8 +38,41 @@ member_name members.TimeSource = codes "time_source"
 member_name members.State = codes "state"
 member_name members.LogMinDelayReq = codes "log_min_delay_req"
 member_name members.PeerDelay = codes "peer_delay"
-member_name members.LogAnnounce = codes "log_announce"
-member_name members.ReceiptTimeout = codes "receipt_timeout"
-member_name members.LogSync = codes "log_sync"
-member_name members.DelayMechanism = codes "delay_mechanism"
-member_name members.LogMinPdelay = codes "log_min_pdelay"
+member_name (members.Setting s) = (row s).name
+
+-- the place of a member in the order in which a start judges them
+abbrev pub member_place : Member → ℕ
+member_place members.Identity = 0
+member_place members.Domain = 1
+member_place members.UserDescription = 2
+member_place members.TwoStep = 3
+member_place members.Priority1 = 4
+member_place members.ClockClass = 5
+member_place members.ClockAccuracy = 6
+member_place members.Variance = 7
+member_place members.Priority2 = 8
+member_place members.StepsRemoved = 9
+member_place members.OffsetFromMaster = 10
+member_place members.MeanPathDelay = 11
+member_place members.ParentPort = 12
+member_place members.ParentStats = 13
+member_place members.ObservedVariance = 14
+member_place members.ObservedRate = 15
+member_place members.GrandmasterPriority1 = 16
+member_place members.GrandmasterClass = 17
+member_place members.GrandmasterAccuracy = 18
+member_place members.GrandmasterVariance = 19
+member_place members.GrandmasterPriority2 = 20
+member_place members.Grandmaster = 21
+member_place members.UtcOffset = 22
+member_place members.Leap61 = 23
+member_place members.Leap59 = 24
+member_place members.UtcValid = 25
+member_place members.PtpTimescale = 26
+member_place members.TimeTraceable = 27
+member_place members.FrequencyTraceable = 28
+member_place members.TimeSource = 29
+member_place members.State = 30
+member_place members.LogMinDelayReq = 31
+member_place members.PeerDelay = 32
+member_place (members.Setting s) = 33 + place s

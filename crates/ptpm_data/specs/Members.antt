@@ -8,7 +8,8 @@ use Rattle.ptpm_data.specs.declared.data_sets.ParentDataSet.{ParentDataSet}
 use Rattle.ptpm_data.specs.declared.data_sets.TimePropertiesDataSet.{TimePropertiesDataSet}
 use Rattle.ptpm_data.specs.declared.data_sets.PortDataSet.{PortDataSet}
 use Rattle.ptpm_data.specs.declared.data_sets.DataSets.TheInside.{Inside}
-use Rattle.ptpm_data.specs.Ranges.{all_ones, is_announce_interval, is_clock_accuracy, is_description, is_pdelay_interval, is_receipt_timeout, is_sync_interval}
+use Rattle.ptpm_data.specs.declared.port_setting.PortSetting.{PortSetting}
+use Rattle.ptpm_data.specs.Ranges.{all_ones, is_clock_accuracy, is_description, is_in_range}
 use Rattle.ptpm_data.specs.PortState.{is_forwarding}
 
 -- port n is at place n - 1
@@ -70,10 +71,7 @@ is_same_precedence a b =
 
 -- the members of a port that a SET can change are in their ranges
 pub record IsPortInRange (p : PortDataSet) : Type 0 where
-  pub log_announce : is_announce_interval p.log_announce ≡ true
-  pub receipt_timeout : is_receipt_timeout p.receipt_timeout ≡ true
-  pub log_sync : is_sync_interval p.log_sync ≡ true
-  pub log_min_pdelay : is_pdelay_interval p.log_min_pdelay ≡ true
+  pub settings : (s : PortSetting) → is_in_range s (p.settings s) ≡ true
 
 -- A clock has one to eight ports, an identity that is not all ones, and its members, and those of its ports, in their ranges.
 -- One that is its own grandmaster shows its own priorities and quality in its parent data set (9.3.5, table 30).

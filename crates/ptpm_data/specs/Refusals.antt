@@ -12,10 +12,11 @@ use Rattle.ptpm_data.specs.declared.management_id.Scope.{Scope}
 use Rattle.ptpm_data.specs.declared.management_id.Scope.TheVariants.{Clock, Port}
 use Rattle.ptpm_data.specs.declared.management_id.Layout.{Layout}
 use Rattle.ptpm_data.specs.declared.management_id.Layout.TheVariants as layouts
-use Rattle.ptpm_data.specs.ManagementId.{RowValue, SetField, NoSet, Empty, TextUpTo, minus◌to◌, NotBothLeaps, row_of, has_action, set_of}
+use Rattle.ptpm_data.specs.ManagementId.{RowValue, row_of, has_action, set_of}
 use Rattle.ptpm_data.specs.Ranges.{allows_text, allows_octet, allows_integer}
 use Rattle.ptpm_data.specs.Request.{RequestValue}
 use Rattle.ptpm_data.specs.SetField.{octet, first_i8, has_bit}
+use Rattle.ptpm_data.specs.SetForm.{SetField, NoSet, Empty, TextUpTo, minus◌to◌, NotBothLeaps}
 
 -- ---- lengths and ranges
 

@@ -1,11 +1,12 @@
 -- The data sets that a clock starts with (IEEE 1588-2019, clause 8; ranges, defaults and faults are this project's profile).
-use Rattle.std.specs.Prelude.{ℕ, ◌==◌, nat_lt, pos, true, false, not, ◌&&◌, List, [], ◌∷◌, length, map, Option, Some, None, is_none, unwrap_or, Result, Ok, Err, bytes_eq}
+use Rattle.std.specs.Prelude.{ℕ, ◌==◌, nat_lt, ℤ, pos, nat_abs, Bool, true, false, not, ◌&&◌, List, [], ◌∷◌, length, map, Option, Some, None, is_none, unwrap_or, Result, Ok, Err, bytes_eq}
 use Rattle.std.specs.Option.{option_or}
 use Rattle.ptpm_codec.specs.declared.identity.ClockIdentity.{ClockIdentity}
 use Rattle.ptpm_codec.specs.Ordered.{first_of}
 use Rattle.ptpm_data.specs.declared.members.Member.TheVariants as members
 use Rattle.ptpm_data.specs.declared.port_state.PortState.TheVariants as states
-use Rattle.ptpm_data.specs.declared.port_state.DelayMechanism.TheVariants as mechanisms
+use Rattle.ptpm_data.specs.declared.port_setting.PortSetting.{PortSetting}
+use Rattle.ptpm_data.specs.declared.port_setting.PortSetting.TheVariants.{LogAnnounceInterval, AnnounceReceiptTimeout, LogSyncInterval, DelayMechanism, LogMinPdelayReqInterval}
 use Rattle.ptpm_data.specs.declared.start.ClockStart.{ClockStart}
 use Rattle.ptpm_data.specs.declared.start.PortStart.{PortStart}
 use Rattle.ptpm_data.specs.declared.start.StartError.{StartError}
@@ -18,8 +19,31 @@ use Rattle.ptpm_data.specs.declared.data_sets.TimePropertiesDataSet.{TimePropert
 use Rattle.ptpm_data.specs.declared.data_sets.PortDataSet.{PortDataSet}
 use Rattle.ptpm_data.specs.Members.{DataSetsValue}
 use Rattle.ptpm_data.specs.Observation.{grandmaster_differs}
-use Rattle.ptpm_data.specs.PortState.{state_of, mechanism_of}
-use Rattle.ptpm_data.specs.Ranges.{all_ones, is_description, is_clock_accuracy, is_announce_interval, is_receipt_timeout, is_sync_interval, is_pdelay_interval}
+use Rattle.ptpm_data.specs.PortSetting.{default_settings, port_settings}
+use Rattle.ptpm_data.specs.PortState.{state_of}
+use Rattle.ptpm_data.specs.Ranges.{all_ones, is_clock_accuracy, is_description, is_in_range}
+
+-- ---- a port's settings in its start
+
+abbrev pub start_settings : PortStart → PortSetting → ℤ
+start_settings p LogAnnounceInterval = p.log_announce
+start_settings p AnnounceReceiptTimeout = pos p.receipt_timeout
+start_settings p LogSyncInterval = p.log_sync
+start_settings p DelayMechanism = pos p.delay_mechanism
+start_settings p LogMinPdelayReqInterval = p.log_min_pdelay
+
+-- the start with these settings, of which some are octets
+abbrev pub port_start_with : ℕ → ℤ → ℤ → (PortSetting → ℤ) → PortStart
+port_start_with state log_min_delay_req peer_delay settings = record {
+  state = state;
+  log_min_delay_req = log_min_delay_req;
+  peer_delay = peer_delay;
+  log_announce = settings LogAnnounceInterval;
+  receipt_timeout = nat_abs (settings AnnounceReceiptTimeout);
+  log_sync = settings LogSyncInterval;
+  delay_mechanism = nat_abs (settings DelayMechanism);
+  log_min_pdelay = settings LogMinPdelayReqInterval;
+}
 
 -- ---- defaults
 
@@ -58,16 +82,7 @@ default_clock identity domain = record {
 }
 
 abbrev pub default_port : PortStart
-default_port = record {
-  state = 6;
-  log_min_delay_req = pos 0;
-  peer_delay = pos 0;
-  log_announce = pos 1;
-  receipt_timeout = 3;
-  log_sync = pos 0;
-  delay_mechanism = 1;
-  log_min_pdelay = pos 0;
-}
+default_port = port_start_with 6 (pos 0) (pos 0) default_settings
 
 -- ---- the data sets of a start; if a start gives none, the clock's own value
 
@@ -121,17 +136,13 @@ time_data_set c = record {
   time_source = c.time_source;
 }
 
--- of a port in whose start there is no fault, so that its state and mechanism are those of the numbers
+-- of a port in whose start there is no fault, so that its state is that of the number
 abbrev pub port_data_set : PortStart → PortDataSet
 port_data_set p = record {
   state = unwrap_or (state_of p.state) states.Initializing;
   log_min_delay_req = p.log_min_delay_req;
   peer_delay = p.peer_delay;
-  log_announce = p.log_announce;
-  receipt_timeout = p.receipt_timeout;
-  log_sync = p.log_sync;
-  delay_mechanism = unwrap_or (mechanism_of p.delay_mechanism) mechanisms.NoMechanism;
-  log_min_pdelay = p.log_min_pdelay;
+  settings = start_settings p;
 }
 
 abbrev pub started : ClockStart → List PortStart → DataSetsValue
@@ -159,16 +170,19 @@ clock_fault c = first_of (
     ∷ (c.leap61 && c.leap59, BadValue members.Leap59)
     ∷ [])
 
--- of a port's
+-- of a port's settings
+abbrev pub setting_fault : (PortSetting → ℤ) → PortSetting → Bool × StartError
+setting_fault settings s = (not (is_in_range s (settings s)), BadValue (members.Setting s))
+
+unfoldable pub settings_fault : (PortSetting → ℤ) → Option StartError
+settings_fault settings = first_of (map (setting_fault settings) port_settings)
+
+-- of a port's members
+abbrev pub state_fault : PortStart → Option StartError
+state_fault p = first_of ((is_none (state_of p.state), BadValue members.State) ∷ [])
+
 unfoldable pub port_fault : PortStart → Option StartError
-port_fault p = first_of (
-    (is_none (state_of p.state), BadValue members.State)
-    ∷ (not (is_announce_interval p.log_announce), BadValue members.LogAnnounce)
-    ∷ (not (is_receipt_timeout p.receipt_timeout), BadValue members.ReceiptTimeout)
-    ∷ (not (is_sync_interval p.log_sync), BadValue members.LogSync)
-    ∷ (is_none (mechanism_of p.delay_mechanism), BadValue members.DelayMechanism)
-    ∷ (not (is_pdelay_interval p.log_min_pdelay), BadValue members.LogMinPdelay)
-    ∷ [])
+port_fault p = option_or (state_fault p) (settings_fault (start_settings p))
 
 -- of the first port that has one
 unfoldable pub ports_fault : List PortStart → Option StartError

@@ -5,6 +5,8 @@ ghost use Rattle.ptpm_data.specs.Changed.{differ, number_of};
 ghost use Rattle.ptpm_data.specs.MemberMap.{port_identity};
 
 use crate::data_sets::{DataSets, PortDataSet};
+use crate::port_setting::PortSetting;
+use crate::port_settings::PortSettings;
 use bitflags::{Flag, Flags, bitflag_items};
 use ptpm_codec::PortIdentity;
 
@@ -187,6 +189,17 @@ fn port_identities_differ(before: &PortIdentity, after: &PortIdentity) -> bool
     before.clock != after.clock || before.port != after.port
 }
 
+impl PortSettings {
+    ghost use Rattle.ptpm_data.specs.MemberMap.{integer};
+
+    /// Whether a setting had another value before.
+    fn differs(&self, before: &PortSettings, setting: PortSetting) -> bool
+        ensures { result ≡ differ (integer (before.now setting)) (integer (self.now setting)) }
+    {
+        differ(&before.value(setting), &self.value(setting))
+    }
+}
+
 impl PortDataSet {
     ghost use Rattle.ptpm_data.specs.Changed.{members_changed};
 
@@ -194,18 +207,16 @@ impl PortDataSet {
     fn changed_since(&self, before: &PortDataSet) -> PortMembers
         ensures { result ≡ members_changed (Some before.now) (Some self.now) }
     {
+        let settings = &self.settings;
         let digits = [
             differ(&before.state.number(), &self.state.number()),
             differ(&before.log_min_delay_req, &self.log_min_delay_req),
             differ(&before.peer_delay, &self.peer_delay),
-            differ(&before.log_announce, &self.log_announce),
-            differ(&before.receipt_timeout, &self.receipt_timeout),
-            differ(&before.log_sync, &self.log_sync),
-            differ(
-                &before.delay_mechanism.number(),
-                &self.delay_mechanism.number(),
-            ),
-            differ(&before.log_min_pdelay, &self.log_min_pdelay),
+            settings.differs(&before.settings, PortSetting::LogAnnounceInterval),
+            settings.differs(&before.settings, PortSetting::AnnounceReceiptTimeout),
+            settings.differs(&before.settings, PortSetting::LogSyncInterval),
+            settings.differs(&before.settings, PortSetting::DelayMechanism),
+            settings.differs(&before.settings, PortSetting::LogMinPdelayReqInterval),
         ];
         PortMembers(number_of(&digits) as u8)
     }

@@ -9,12 +9,11 @@ ghost use Rattle.ptpm_data.specs.Ranges.{is_description};
 use crate::data_sets::{DataSets, PortDataSet, TimePropertiesDataSet};
 use crate::management_id::{Layout, Row};
 use crate::port_change::PortChange;
-use crate::port_state::DelayMechanism;
 use crate::precedence_change::PrecedenceChange;
 use crate::refusals::refusal;
 use crate::request::Request;
 use crate::rights::Rights;
-use crate::set_field::{first_i8, first_i16};
+use crate::set_field::first_i16;
 use ptpm_codec::{Action, ErrorId, PortIdentity, text_of_ptp_text};
 
 impl DataSets {
@@ -73,25 +72,8 @@ impl DataSets {
             )),
             Layout::Domain => self.default.domain = octets[0],
             Layout::UtcProperties => set_utc_properties(&mut self.time, octets),
-            Layout::LogAnnounceInterval => self.change_ports(
-                port,
-                PortChange::LogAnnounceInterval(first_i8(octets)),
-            ),
-            Layout::AnnounceReceiptTimeout => self.change_ports(
-                port,
-                PortChange::AnnounceReceiptTimeout(octets[0]),
-            ),
-            Layout::LogSyncInterval => self.change_ports(
-                port,
-                PortChange::LogSyncInterval(first_i8(octets)),
-            ),
-            Layout::LogMinPdelayReqInterval => {
-                self.change_ports(port, PortChange::LogMinPdelayReqInterval(first_i8(octets)));
-            }
-            Layout::DelayMechanism => {
-                if let Some(mechanism) = DelayMechanism::from_number(octets[0]) {
-                    self.change_ports(port, PortChange::DelayMechanism(mechanism));
-                }
+            Layout::Setting(setting) => {
+                self.change_ports(port, PortChange::Setting(setting, octets[0]));
             }
             _ => {}
         }

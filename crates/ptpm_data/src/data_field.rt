@@ -110,12 +110,8 @@ impl DataSets {
     {
         let set = self.port(port)?;
         match layout {
-            Layout::LogAnnounceInterval => Some(i8_octet(set.log_announce)),
-            Layout::AnnounceReceiptTimeout => Some(set.receipt_timeout),
-            Layout::LogSyncInterval => Some(i8_octet(set.log_sync)),
+            Layout::Setting(setting) => Some(set.settings.octet(setting)),
             Layout::VersionNumber => Some(VERSION),
-            Layout::DelayMechanism => Some(set.delay_mechanism.number()),
-            Layout::LogMinPdelayReqInterval => Some(i8_octet(set.log_min_pdelay)),
             _ => None,
         }
     }
@@ -237,29 +233,15 @@ pub(crate) fn put_port_data_set<const N: usize>(
     put_port_settings(buffer, set);
 }
 
-/// The members that a SET can change, and versionNumber.
+/// The settings, and versionNumber.
 #[tactic(auto, unfolding(crate::specs::DataField::port_settings_octets))]
 #[inline(always)]
 fn put_port_settings<const N: usize>(buffer: &mut ArrayVec<u8, N>, set: &PortDataSet)
     requires { array_vec_len buffer.old + 6 ≤ N }
     ensures { buffer.new.items ≡ buffer.old.items ++ port_settings_octets set.now }
 {
-    put(
-        buffer,
-        &[
-            i8_octet(set.log_announce),
-            set.receipt_timeout,
-            i8_octet(set.log_sync),
-        ],
-    );
-    put(
-        buffer,
-        &[
-            set.delay_mechanism.number(),
-            i8_octet(set.log_min_pdelay),
-            VERSION,
-        ],
-    );
+    put(buffer, &set.settings.octets());
+    put(buffer, &[VERSION]);
 }
 
 fn put_octet(buffer: &mut Value, octet: u8)

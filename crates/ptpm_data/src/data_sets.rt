@@ -3,7 +3,8 @@
 ghost use Rattle.std.specs.Prelude.{◌≡◌};
 
 use crate::description::Description;
-use crate::port_state::{DelayMechanism, PortState};
+use crate::port_settings::PortSettings;
+use crate::port_state::PortState;
 use arrayvec::ArrayVec;
 use ptpm_codec::{ClockIdentity, PortIdentity};
 use std::marker::Model;
@@ -77,15 +78,8 @@ pub struct PortDataSet {
     pub log_min_delay_req: i8,
     /// meanLinkDelay: a TimeInterval, in nanoseconds times 2^16.
     pub peer_delay: i64,
-    /// logAnnounceInterval, log2 of seconds: -4 to 4 (this project's profile).
-    pub log_announce: i8,
-    /// announceReceiptTimeout, in announce intervals: 2 to 10 (this project's profile).
-    pub receipt_timeout: u8,
-    /// logSyncInterval, log2 of seconds: -8 to 1 (this project's profile).
-    pub log_sync: i8,
-    pub delay_mechanism: DelayMechanism,
-    /// logMinPdelayReqInterval, log2 of seconds: -8 to 5 (this project's profile).
-    pub log_min_pdelay: i8,
+    /// What a SET changes.
+    pub settings: PortSettings,
 }
 
 impl Default for PortDataSet {
@@ -100,11 +94,7 @@ impl Default for PortDataSet {
             state: PortState::Master,
             log_min_delay_req: 0,
             peer_delay: 0,
-            log_announce: 1,
-            receipt_timeout: 3,
-            log_sync: 0,
-            delay_mechanism: DelayMechanism::EndToEnd,
-            log_min_pdelay: 0,
+            settings: PortSettings::default(),
         }
     }
 }
@@ -122,9 +112,13 @@ pub struct DataSets {
 }
 
 impl Model for DataSets {
+    ghost use Rattle.std.specs.Coded.{codes};
     ghost use Rattle.ptpm_data.specs.Members.{DataSetsValue, data_sets_value, IsConsistentInside};
+    ghost use Rattle.ptpm_data.specs.contracts.port_settings.PortSettings as settings;
 
     ghost Value = { DataSetsValue };
+
+    ghost coded = { Prim.hlevel (codes, settings.the_row.coded) };
 
     ghost view = { data_sets_value };
 

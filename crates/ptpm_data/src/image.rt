@@ -2,7 +2,7 @@
 
 ghost use Rattle.std.specs.Prelude.{◌≡◌, ◌≤◌, ◌+◌, ◌*◌, ◌++◌, ◌↔◌, length, drop, IfSome, IfNone, IsSome};
 ghost use Rattle.arrayvec.specs.ArrayVec.{array_vec_len};
-ghost use Rattle.ptpm_data.specs.Image.{data_sets_octets, default_image, parent_image, port_image, ports_image, settings_image, time_image};
+ghost use Rattle.ptpm_data.specs.Image.{data_sets_octets, default_image, parent_image, port_image, ports_image, time_image};
 
 use crate::data_field::{
     i8_octet, put_current_data_set, put_i16, put_i32, put_i64, put_precedence,
@@ -142,24 +142,5 @@ fn put_port(image: &mut Image, set: &PortDataSet)
         &[set.state.number(), i8_octet(set.log_min_delay_req)],
     );
     put_i64(image, set.peer_delay);
-    put_settings(image, set);
-}
-
-/// The members that a SET can change.
-#[tactic(auto, unfolding(crate::specs::Image::settings_image))]
-fn put_settings(image: &mut Image, set: &PortDataSet)
-    requires { array_vec_len image.old + 5 ≤ DATA_SETS_OCTETS }
-    ensures items { image.new.items ≡ image.old.items ++ settings_image set.now }
-    ensures len { array_vec_len image.new ≡ array_vec_len image.old + 5 }
-{
-    put(
-        image,
-        &[
-            i8_octet(set.log_announce),
-            set.receipt_timeout,
-            i8_octet(set.log_sync),
-            set.delay_mechanism.number(),
-            i8_octet(set.log_min_pdelay),
-        ],
-    );
+    put(image, &set.settings.octets());
 }

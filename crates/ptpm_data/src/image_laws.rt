@@ -9,6 +9,7 @@ use crate::data_sets::{
     CurrentDataSet, DataSets, DefaultDataSet, ParentDataSet, PortDataSet, TimePropertiesDataSet,
 };
 use crate::laws::{identity_law, port_identity_law};
+use crate::port_settings::settings_law;
 
 /// No two data sets have the same octets, whatever comes after them.
 pub fn image_law()
@@ -72,7 +73,5 @@ fn port_law(set: &PortDataSet)
 {
     let _delay_req = set.log_min_delay_req;
     let _delay = set.peer_delay;
-    let _announce = set.log_announce;
-    let _sync = set.log_sync;
-    let _pdelay = set.log_min_pdelay;
+    settings_law(&set.settings);
 }

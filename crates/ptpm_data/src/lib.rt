@@ -18,6 +18,8 @@ mod members;
 mod observation;
 mod places;
 mod port_change;
+mod port_setting;
+mod port_settings;
 mod port_state;
 mod precedence_change;
 mod ranges;
@@ -50,6 +52,8 @@ pub use observation::{
     AnnouncedGrandmaster, ClockObservation, ObservationError, ObservedGrandmaster, PortObservation,
     PortsLeftDisabled,
 };
+pub use port_setting::{PortSetting, SettingRange};
+pub use port_settings::PortSettings;
 pub use port_state::{DelayMechanism, PortState};
 pub use reply::{PortAnswer, Reply, Value, What};
 pub use request::Request;

@@ -2,9 +2,13 @@
 
 ghost use Rattle.std.specs.Prelude.{◌≡◌, option_map, Some};
 ghost use Rattle.ptpm_data.specs.declared.management_id.Scope.TheVariants.{Clock, Port};
-ghost use Rattle.ptpm_data.specs.ManagementId.{row_with, row_value, row_of, row_named, if_named, set_field, set_of};
+ghost use Rattle.ptpm_data.specs.declared.management_id.Layout.TheVariants.{Setting};
+ghost use Rattle.ptpm_data.specs.ManagementId.{row_at, row_with, row_value, row_of, row_named, if_named, set_of};
+ghost use Rattle.ptpm_data.specs.SetForm.{set_field};
 
 use crate::actions::Actions;
+use crate::port_setting::PortSetting;
+use crate::ranges::SetForm;
 
 /// Whether an id is of the clock or of each of its ports.
 #[derive(Clone, Copy, Debug, PartialEq, Eq)]
@@ -27,38 +31,13 @@ pub enum Layout {
     Priority2,
     Domain,
     SlaveOnly,
-    LogAnnounceInterval,
-    AnnounceReceiptTimeout,
-    LogSyncInterval,
+    /// That of an id of a port's setting.
+    Setting(PortSetting),
     VersionNumber,
     EnablePort,
     DisablePort,
     ClockAccuracy,
     UtcProperties,
-    DelayMechanism,
-    LogMinPdelayReqInterval,
-}
-
-/// The form of a SET's dataField (15.5.3). A reserved octet may follow its octets.
-#[derive(Clone, Copy, Debug, PartialEq, Eq)]
-pub(crate) enum SetForm {
-    /// The id has no SET.
-    NoSet,
-    /// No octet.
-    Empty,
-    /// A PTPText of at most this number of octets, which are UTF-8.
-    TextUpTo(u8),
-    AnyOctet,
-    /// An octet of a range.
-    FromTo(u8, u8),
-    /// An octet of a range, or one value more.
-    FromToOr(u8, u8, u8),
-    /// The number of a delay mechanism.
-    MechanismNumber,
-    /// An Integer8, from minus the first number to the second.
-    MinusTo(u8, u8),
-    /// UTC_PROPERTIES: at most one of its two leap flags is set.
-    NotBothLeaps,
 }
 
 /// What a SET may be, if the id's dataField has this layout; a start keeps to the same (this project's profile).
@@ -71,13 +50,9 @@ pub(crate) fn set_of(layout: Layout) -> SetForm
         Layout::NullPtpManagement => SetForm::Empty,
         Layout::UserDescription => SetForm::TextUpTo(128),
         Layout::Priority1 | Layout::Priority2 | Layout::Domain => SetForm::AnyOctet,
-        Layout::LogAnnounceInterval => SetForm::MinusTo(4, 4),
-        Layout::AnnounceReceiptTimeout => SetForm::FromTo(2, 10),
-        Layout::LogSyncInterval => SetForm::MinusTo(8, 1),
+        Layout::Setting(setting) => setting.row().range,
         Layout::ClockAccuracy => SetForm::FromToOr(0x17, 0x31, 0xfe),
         Layout::UtcProperties => SetForm::NotBothLeaps,
-        Layout::DelayMechanism => SetForm::MechanismNumber,
-        Layout::LogMinPdelayReqInterval => SetForm::MinusTo(8, 5),
         Layout::DefaultDataSet
         | Layout::CurrentDataSet
         | Layout::ParentDataSet
@@ -144,6 +119,15 @@ fn port(id: u16, name: &'static str, actions: Actions, layout: Layout) -> Option
     })
 }
 
+/// The row of a port's setting.
+#[inline(always)]
+fn setting(setting: PortSetting) -> Option<Row>
+    ensures { option_map row_value result ≡ Some (row_at (Setting setting)) }
+{
+    let known = setting.row();
+    port(known.id, known.id_name, GET_SET, Layout::Setting(setting))
+}
+
 /// What the table says of an id; `None` if it is not in the table.
 #[tactic(auto, unfolding(crate::specs::ManagementId::row_of))]
 #[inline(always)]
@@ -163,26 +147,16 @@ pub fn by_id(id: u16) -> Option<Row>
         0x2006 => clock(id, "PRIORITY2", GET_SET, Priority2),
         0x2007 => clock(id, "DOMAIN", GET_SET, Domain),
         0x2008 => clock(id, "SLAVE_ONLY", GET, SlaveOnly),
-        0x2009 => port(id, "LOG_ANNOUNCE_INTERVAL", GET_SET, LogAnnounceInterval),
-        0x200a => port(
-            id,
-            "ANNOUNCE_RECEIPT_TIMEOUT",
-            GET_SET,
-            AnnounceReceiptTimeout,
-        ),
-        0x200b => port(id, "LOG_SYNC_INTERVAL", GET_SET, LogSyncInterval),
+        0x2009 => setting(PortSetting::LogAnnounceInterval),
+        0x200a => setting(PortSetting::AnnounceReceiptTimeout),
+        0x200b => setting(PortSetting::LogSyncInterval),
         0x200c => port(id, "VERSION_NUMBER", GET, VersionNumber),
         0x200d => port(id, "ENABLE_PORT", COMMAND, EnablePort),
         0x200e => port(id, "DISABLE_PORT", COMMAND, DisablePort),
         0x2010 => clock(id, "CLOCK_ACCURACY", GET_SET, ClockAccuracy),
         0x2011 => clock(id, "UTC_PROPERTIES", GET_SET, UtcProperties),
-        0x6000 => port(id, "DELAY_MECHANISM", GET_SET, DelayMechanism),
-        0x6001 => port(
-            id,
-            "LOG_MIN_PDELAY_REQ_INTERVAL",
-            GET_SET,
-            LogMinPdelayReqInterval,
-        ),
+        0x6000 => setting(PortSetting::DelayMechanism),
+        0x6001 => setting(PortSetting::LogMinPdelayReqInterval),
         _ => None,
     }
 }

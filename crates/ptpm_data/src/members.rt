@@ -1,5 +1,6 @@
 //! The members of the data sets, by name.
 
+use crate::port_setting::PortSetting;
 use std::fmt;
 
 /// A member that a start gives a value: those of the clock, and then those of each port (clause 8). Their order here is
@@ -39,16 +40,56 @@ pub enum Member {
     State,
     LogMinDelayReq,
     PeerDelay,
-    LogAnnounce,
-    ReceiptTimeout,
-    LogSync,
-    DelayMechanism,
-    LogMinPdelay,
+    /// One that a SET changes.
+    Setting(PortSetting),
 }
 
 impl Member {
-    ghost use Rattle.std.specs.Prelude.{◌≡◌};
-    ghost use Rattle.ptpm_data.specs.MemberNames.{member_name};
+    ghost use Rattle.std.specs.Prelude.{◌≡◌, ◌≤◌};
+    ghost use Rattle.ptpm_data.specs.MemberNames.{member_name, member_place};
+
+    /// Its place in this order.
+    pub fn place(self) -> u8
+        ensures place { result ≡ member_place self }
+        ensures few { result ≤ 37 }
+    {
+        match self {
+            Member::Identity => 0,
+            Member::Domain => 1,
+            Member::UserDescription => 2,
+            Member::TwoStep => 3,
+            Member::Priority1 => 4,
+            Member::ClockClass => 5,
+            Member::ClockAccuracy => 6,
+            Member::Variance => 7,
+            Member::Priority2 => 8,
+            Member::StepsRemoved => 9,
+            Member::OffsetFromMaster => 10,
+            Member::MeanPathDelay => 11,
+            Member::ParentPort => 12,
+            Member::ParentStats => 13,
+            Member::ObservedVariance => 14,
+            Member::ObservedRate => 15,
+            Member::GrandmasterPriority1 => 16,
+            Member::GrandmasterClass => 17,
+            Member::GrandmasterAccuracy => 18,
+            Member::GrandmasterVariance => 19,
+            Member::GrandmasterPriority2 => 20,
+            Member::Grandmaster => 21,
+            Member::UtcOffset => 22,
+            Member::Leap61 => 23,
+            Member::Leap59 => 24,
+            Member::UtcValid => 25,
+            Member::PtpTimescale => 26,
+            Member::TimeTraceable => 27,
+            Member::FrequencyTraceable => 28,
+            Member::TimeSource => 29,
+            Member::State => 30,
+            Member::LogMinDelayReq => 31,
+            Member::PeerDelay => 32,
+            Member::Setting(setting) => 33 + setting.place() as u8,
+        }
+    }
 
     /// Its name, as a network file has it.
     pub fn name(&self) -> &'static str
@@ -88,11 +129,7 @@ impl Member {
             Member::State => "state",
             Member::LogMinDelayReq => "log_min_delay_req",
             Member::PeerDelay => "peer_delay",
-            Member::LogAnnounce => "log_announce",
-            Member::ReceiptTimeout => "receipt_timeout",
-            Member::LogSync => "log_sync",
-            Member::DelayMechanism => "delay_mechanism",
-            Member::LogMinPdelay => "log_min_pdelay",
+            Member::Setting(setting) => setting.row().name,
         }
     }
 }

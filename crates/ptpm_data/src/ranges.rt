@@ -2,12 +2,33 @@
 
 ghost use Rattle.std.specs.Prelude.{◌≡◌};
 ghost use Rattle.std.specs.Str.{is_utf8};
-ghost use Rattle.ptpm_data.specs.ManagementId.{set_field};
 ghost use Rattle.ptpm_data.specs.Ranges.{allows_integer, allows_octet, allows_text};
+ghost use Rattle.ptpm_data.specs.SetForm.{set_field};
 
-use crate::management_id::SetForm;
 use crate::port_state::DelayMechanism;
 use std::str;
+
+/// The form of a SET's dataField (15.5.3). A reserved octet may follow its octets.
+#[derive(Clone, Copy, Debug, PartialEq, Eq)]
+pub(crate) enum SetForm {
+    /// The id has no SET.
+    NoSet,
+    /// No octet.
+    Empty,
+    /// A PTPText of at most this number of octets, which are UTF-8.
+    TextUpTo(u8),
+    AnyOctet,
+    /// An octet of a range.
+    FromTo(u8, u8),
+    /// An octet of a range, or one value more.
+    FromToOr(u8, u8, u8),
+    /// The number of a delay mechanism.
+    MechanismNumber,
+    /// An Integer8, from minus the first number to the second.
+    MinusTo(u8, u8),
+    /// UTC_PROPERTIES: at most one of its two leap flags is set.
+    NotBothLeaps,
+}
 
 /// Whether the octets are UTF-8.
 fn is_utf8(octets: &[u8]) -> bool

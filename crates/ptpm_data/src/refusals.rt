@@ -1,11 +1,13 @@
 //! Why a request is refused (15.5.4.3); the order and choice of the errors are this project's profile.
 
 ghost use Rattle.std.specs.Prelude.{◌≡◌, true};
-ghost use Rattle.ptpm_data.specs.ManagementId.{row_value, has_action, set_field, set_of};
+ghost use Rattle.ptpm_data.specs.ManagementId.{row_value, has_action, set_of};
 ghost use Rattle.ptpm_data.specs.Refusals.{row_refusal, is_length, is_set_length, is_set_value, is_value, needed_right, unpermitted};
+ghost use Rattle.ptpm_data.specs.SetForm.{set_field};
 
 use crate::actions::Actions;
-use crate::management_id::{Layout, Row, Scope, SetForm, set_of};
+use crate::management_id::{Layout, Row, Scope, set_of};
+use crate::ranges::SetForm;
 use crate::request::Request;
 use crate::rights::Rights;
 use crate::set_field::first_i8;

@@ -249,14 +249,6 @@ fn read_port(octets: &[u8]) -> PortStart
     requires { length octets.now ≡ 15 }
     ensures { result ≡ port_read octets.now }
 {
-    PortStart {
-        state: octets[0],
-        log_min_delay_req: i8_at(octets, 1),
-        peer_delay: i64_at(octets, 2),
-        log_announce: i8_at(octets, 10),
-        receipt_timeout: octets[11],
-        log_sync: i8_at(octets, 12),
-        delay_mechanism: octets[13],
-        log_min_pdelay: i8_at(octets, 14),
-    }
+    let (own, settings) = octets.split_at(10);
+    PortStart::with(own[0], i8_at(own, 1), i64_at(own, 2), settings)
 }

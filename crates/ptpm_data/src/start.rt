@@ -1,8 +1,9 @@
 //! The values that a clock starts with (clause 8; ranges and defaults are this project's profile).
 
 ghost use Rattle.std.specs.Prelude.{◌≡◌, ◌≤◌, length, map, MatchResult, Some, None};
-ghost use Rattle.ptpm_data.specs.Start.{port_data_set, ports_fault, count_fault, grandmaster_fault, unless};
+ghost use Rattle.ptpm_data.specs.Start.{port_data_set, ports_fault, count_fault, grandmaster_fault, settings_fault, unless};
 
+use crate::data_field::i8_octet;
 use crate::data_sets::{
     ClockPrecedence, CurrentDataSet, DataSets, DefaultDataSet, ParentDataSet, PortDataSet,
     TimePropertiesDataSet,
@@ -11,7 +12,10 @@ use crate::description::Description;
 use crate::management_id::{Layout, set_of};
 use crate::members::Member;
 use crate::observation::grandmaster_differs;
-use crate::port_state::{DelayMechanism, PortState};
+use crate::places::i8_at;
+use crate::port_setting::PortSetting;
+use crate::port_settings::PortSettings;
+use crate::port_state::PortState;
 use arrayvec::ArrayVec;
 use ptpm_codec::{ClockIdentity, PortIdentity};
 use std::fmt;
@@ -72,15 +76,15 @@ pub struct PortStart {
     pub log_min_delay_req: i8,
     /// meanLinkDelay: a TimeInterval, in nanoseconds times 2^16.
     pub peer_delay: i64,
-    /// logAnnounceInterval, log2 of seconds, -4 to 4: announce messages 16 a second to one in 16 seconds.
+    /// logAnnounceInterval, log2 of seconds. Its range, and those of the four after it, are told at `PortSetting`.
     pub log_announce: i8,
-    /// announceReceiptTimeout, 2 to 10 announce intervals.
+    /// announceReceiptTimeout, in announce intervals.
     pub receipt_timeout: u8,
-    /// logSyncInterval, log2 of seconds, -8 to 1: sync messages 256 a second to one in 2 seconds.
+    /// logSyncInterval, log2 of seconds.
     pub log_sync: i8,
     /// delayMechanism: 1 is end-to-end, 2 peer-to-peer, 0xFE none.
     pub delay_mechanism: u8,
-    /// logMinPdelayReqInterval, log2 of seconds, -8 to 5.
+    /// logMinPdelayReqInterval, log2 of seconds.
     pub log_min_pdelay: i8,
 }
 
@@ -241,23 +245,56 @@ impl ClockStart {
 
 impl PortStart {
     ghost use Rattle.std.specs.Prelude.{◌≡◌};
-    ghost use Rattle.ptpm_data.specs.Start.{default_port, port_start_of};
+    ghost use Rattle.ptpm_data.specs.PortSetting.{said_by};
+    ghost use Rattle.ptpm_data.specs.Start.{default_port, port_start_of, port_start_with, start_settings};
 
     /// A port that is MASTER, with this profile's defaults.
     pub fn new() -> PortStart
         ensures { result ≡ default_port }
     {
         let set = PortDataSet::default();
+        PortStart::with(
+            set.state.number(),
+            set.log_min_delay_req,
+            set.peer_delay,
+            &set.settings.octets(),
+        )
+    }
+
+    /// The start of a port that has these values, and the settings that the octets say.
+    #[tactic(auto, unfolding(crate::specs::PortSetting::said_of, crate::specs::ImageReading::i8_at))]
+    pub(crate) fn with(
+        state: u8,
+        log_min_delay_req: i8,
+        peer_delay: i64,
+        settings: &[u8],
+    ) -> PortStart
+        requires { length settings.now ≡ 5 }
+        ensures { result ≡ port_start_with state log_min_delay_req peer_delay (said_by settings.now) }
+    {
         PortStart {
-            state: set.state.number(),
-            log_min_delay_req: set.log_min_delay_req,
-            peer_delay: set.peer_delay,
-            log_announce: set.log_announce,
-            receipt_timeout: set.receipt_timeout,
-            log_sync: set.log_sync,
-            delay_mechanism: set.delay_mechanism.number(),
-            log_min_pdelay: set.log_min_pdelay,
+            state,
+            log_min_delay_req,
+            peer_delay,
+            log_announce: i8_at(settings, 0),
+            receipt_timeout: settings[1],
+            log_sync: i8_at(settings, 2),
+            delay_mechanism: settings[3],
+            log_min_pdelay: i8_at(settings, 4),
         }
+    }
+
+    /// Its settings.
+    fn settings(&self) -> PortSettings
+        ensures { result ≡ start_settings self.now }
+    {
+        PortSettings::of([
+            i8_octet(self.log_announce),
+            self.receipt_timeout,
+            i8_octet(self.log_sync),
+            self.delay_mechanism,
+            i8_octet(self.log_min_pdelay),
+        ])
     }
 
     /// The data set of such a port, or the first member that is out of its range.
@@ -266,31 +303,16 @@ impl PortStart {
         ensures { result ≡ port_start_of self.now }
     {
         let state = PortState::from_number(self.state).ok_or(StartError::BadValue(Member::State))?;
-        if !set_of(Layout::LogAnnounceInterval).allows_integer(self.log_announce) {
-            return Err(StartError::BadValue(Member::LogAnnounce));
+        let settings = self.settings();
+        match settings_fault(&settings) {
+            Some(fault) => Err(fault),
+            None => Ok(PortDataSet {
+                state,
+                log_min_delay_req: self.log_min_delay_req,
+                peer_delay: self.peer_delay,
+                settings,
+            }),
         }
-        if !set_of(Layout::AnnounceReceiptTimeout).allows_octet(self.receipt_timeout) {
-            return Err(StartError::BadValue(Member::ReceiptTimeout));
-        }
-        if !set_of(Layout::LogSyncInterval).allows_integer(self.log_sync) {
-            return Err(StartError::BadValue(Member::LogSync));
-        }
-        let delay_mechanism = DelayMechanism::from_number(self.delay_mechanism).ok_or(
-            StartError::BadValue(Member::DelayMechanism),
-        )?;
-        if !set_of(Layout::LogMinPdelayReqInterval).allows_integer(self.log_min_pdelay) {
-            return Err(StartError::BadValue(Member::LogMinPdelay));
-        }
-        Ok(PortDataSet {
-            state,
-            log_min_delay_req: self.log_min_delay_req,
-            peer_delay: self.peer_delay,
-            log_announce: self.log_announce,
-            receipt_timeout: self.receipt_timeout,
-            log_sync: self.log_sync,
-            delay_mechanism,
-            log_min_pdelay: self.log_min_pdelay,
-        })
     }
 }
 
@@ -304,6 +326,18 @@ impl Default for PortStart {
     {
         PortStart::new()
     }
+}
+
+/// The first setting that is out of its range.
+fn settings_fault(settings: &PortSettings) -> Option<StartError>
+    ensures { result ≡ settings_fault settings.now }
+{
+    for setting in &PortSetting::ALL {
+        if !settings.is_in_range(*setting) {
+            return Some(StartError::BadValue(Member::Setting(*setting)));
+        }
+    }
+    None
 }
 
 /// The data sets of ports that start, or the first fault. It is never inlined: so the stack has no room for its work when the data

@@ -101,8 +101,8 @@ fn place_of(bit: u32, data_sets: &[DataSet]) -> Option<Place> {
 
 /// The bit of a member in `ClockMembers` or `PortMembers`: both have the order of `Member`.
 fn bit_of(member: DataSetMember) -> u32 {
-    let number = member as u32;
-    let first_of_port = DataSetMember::State as u32;
+    let number = u32::from(member.place());
+    let first_of_port = u32::from(DataSetMember::State.place());
     if number < first_of_port {
         number
     } else {

@@ -9,6 +9,7 @@ use Rattle.ptpm_agent.specs.declared.verdict.Verdict.{Verdict}
 use Rattle.ptpm_agent.specs.declared.verdict.Verdict.TheVariants as verdicts
 use Rattle.ptpm_data.specs.declared.members.Member.{Member}
 use Rattle.ptpm_data.specs.declared.members.Member.TheVariants as members
+use Rattle.ptpm_data.specs.declared.port_setting.PortSetting.TheVariants as settings
 use Rattle.ptpm_data.specs.declared.start.StartError.TheVariants.{BadValue}
 use Rattle.ptpm_data.specs.MemberNames.{member_name}
 use Rattle.ptpm_manager.specs.declared.error.BeginError.{BeginError}
@@ -140,11 +141,8 @@ member_named members.TimeSource = refl
 member_named members.State = refl
 member_named members.LogMinDelayReq = refl
 member_named members.PeerDelay = refl
-member_named members.LogAnnounce = refl
-member_named members.ReceiptTimeout = refl
-member_named members.LogSync = refl
-member_named members.DelayMechanism = refl
-member_named members.LogMinPdelay = refl
+member_named (members.Setting settings.LogAnnounceInterval) = refl
+member_named (members.Setting s) = refl
 
 pub error_named : (e : ErrorId) → error_name (codec.error_number e) ≡ Some (codec.error_name e)
 unfolding name_in

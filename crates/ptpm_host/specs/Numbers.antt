@@ -4,7 +4,7 @@ use Rattle.std.specs.Prelude.{ℕ, ◌+◌}
 use Rattle.ptpm_codec.specs.declared.error.DecodeError.{DecodeError}
 use Rattle.ptpm_codec.specs.declared.error.DecodeError.TheVariants as causes
 use Rattle.ptpm_data.specs.declared.members.Member.{Member}
-use Rattle.ptpm_data.specs.declared.members.Member.TheVariants as members
+use Rattle.ptpm_data.specs.MemberNames.{member_place}
 use Rattle.ptpm_data.specs.declared.observation.ObservationError.{ObservationError}
 use Rattle.ptpm_data.specs.declared.observation.ObservationError.TheVariants as observations
 use Rattle.ptpm_data.specs.declared.start.StartError.{StartError}
@@ -166,44 +166,7 @@ report_number reports.NoReport = 45
 
 -- the place of a member in the order in which a start judges them
 abbrev pub member_number : Member → ℕ
-member_number members.Identity = 0
-member_number members.Domain = 1
-member_number members.UserDescription = 2
-member_number members.TwoStep = 3
-member_number members.Priority1 = 4
-member_number members.ClockClass = 5
-member_number members.ClockAccuracy = 6
-member_number members.Variance = 7
-member_number members.Priority2 = 8
-member_number members.StepsRemoved = 9
-member_number members.OffsetFromMaster = 10
-member_number members.MeanPathDelay = 11
-member_number members.ParentPort = 12
-member_number members.ParentStats = 13
-member_number members.ObservedVariance = 14
-member_number members.ObservedRate = 15
-member_number members.GrandmasterPriority1 = 16
-member_number members.GrandmasterClass = 17
-member_number members.GrandmasterAccuracy = 18
-member_number members.GrandmasterVariance = 19
-member_number members.GrandmasterPriority2 = 20
-member_number members.Grandmaster = 21
-member_number members.UtcOffset = 22
-member_number members.Leap61 = 23
-member_number members.Leap59 = 24
-member_number members.UtcValid = 25
-member_number members.PtpTimescale = 26
-member_number members.TimeTraceable = 27
-member_number members.FrequencyTraceable = 28
-member_number members.TimeSource = 29
-member_number members.State = 30
-member_number members.LogMinDelayReq = 31
-member_number members.PeerDelay = 32
-member_number members.LogAnnounce = 33
-member_number members.ReceiptTimeout = 34
-member_number members.LogSync = 35
-member_number members.DelayMechanism = 36
-member_number members.LogMinPdelay = 37
+member_number m = member_place m
 
 abbrev pub observe_number : ObservationError → ℕ
 observe_number observations.NoPort = 33

@@ -201,7 +201,7 @@ fn member_number(member: Member) -> u32
     ensures number { result ≡ member_number member }
     ensures few { result ≤ 37 }
 {
-    member as u32
+    u32::from(member.place())
 }
 
 /// Why a request is not begun, 35 or 38 to 42.

@@ -14,6 +14,7 @@ use Rattle.ptpm_data.specs.declared.data_sets.TimePropertiesDataSet.{TimePropert
 use Rattle.ptpm_data.specs.declared.data_sets.PortDataSet.{PortDataSet}
 use Rattle.ptpm_data.specs.declared.management_id.Layout.{Layout}
 use Rattle.ptpm_data.specs.declared.management_id.Layout.TheVariants as layouts
+use Rattle.ptpm_data.specs.declared.port_setting.PortSetting.TheVariants as settings
 use Rattle.ptpm_data.specs.DataField.{clock_field_of, current_data_field, data_field_of, data_field_of_id, default_data_field, field_of_row, i16_octets, i32_octets, i64_octets, parent_data_field, port_data_field, port_field_of, port_settings_octets, port_shown, precedence_octets, time_properties_data_field, utc_properties_data_field}
 use Rattle.ptpm_data.specs.Image.{DataSetsFit, PortFits}
 use Rattle.ptpm_data.specs.ManagementId.{RowValue, is_of_port, is_port_row, row_of}
@@ -137,12 +138,9 @@ module _ (d : DataSetsValue) (sized : IsSized d) where
       → is_whole layout (field_with layout (Some p) n d) ≡ true
   unfolding is_whole port_field_of is_port_layout
   port_whole n p layouts.PortDataSet at = eq-eqb _ _ (port_size d.default.identity n p sized.identity)
-  port_whole n p layouts.LogAnnounceInterval at = refl
-  port_whole n p layouts.AnnounceReceiptTimeout at = refl
-  port_whole n p layouts.LogSyncInterval at = refl
+  port_whole n p (layouts.Setting settings.LogAnnounceInterval) at = refl
+  port_whole n p (layouts.Setting s) at = refl
   port_whole n p layouts.VersionNumber at = refl
-  port_whole n p layouts.DelayMechanism at = refl
-  port_whole n p layouts.LogMinPdelayReqInterval at = refl
   port_whole n p layouts.NullPtpManagement at = refl
   port_whole n p layouts.EnablePort at = refl
   port_whole n p layouts.DisablePort at = refl

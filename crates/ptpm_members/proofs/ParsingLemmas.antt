@@ -7,6 +7,7 @@ use Rattle.std.proofs.lemmas.Bool.{eq-eqb}
 use Rattle.std.proofs.lemmas.List.{drop-drop, drop_all, get_or-drop, set_past}
 use Rattle.ptpm_data.specs.declared.management_id.Layout.{Layout}
 use Rattle.ptpm_data.specs.declared.management_id.Layout.TheVariants as layouts
+use Rattle.ptpm_data.specs.declared.port_setting.PortSetting.TheVariants as settings
 use Rattle.ptpm_members.specs.declared.forms.Field.{Field}
 use Rattle.ptpm_members.specs.declared.parsing.ParseFault.{ParseFault}
 use Rattle.ptpm_members.specs.Parsed.{each_named, overlay, then_with, with_all, with_named, word}
@@ -14,6 +15,8 @@ use Rattle.ptpm_members.specs.Tables.{fields_of}
 
 pub few_fields : (layout : Layout) → length (fields_of layout) < 256
 few_fields layouts.NullPtpManagement = omega arith
+few_fields (layouts.Setting settings.LogAnnounceInterval) = omega arith
+few_fields (layouts.Setting s) = omega arith
 few_fields _ = omega arith
 
 -- ---- octets laid over others, one by one

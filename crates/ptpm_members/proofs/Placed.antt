@@ -6,6 +6,8 @@ use Rattle.std.proofs.lemmas.Bool.{and_parts, eqb-true, leb-true}
 use Rattle.std.proofs.lemmas.List.Elements.{All-from_recursion}
 use Rattle.ptpm_data.specs.declared.management_id.Layout.{Layout}
 use Rattle.ptpm_data.specs.declared.management_id.Layout.TheVariants as layouts
+use Rattle.ptpm_data.specs.declared.port_setting.PortSetting.{PortSetting}
+use Rattle.ptpm_data.specs.declared.port_setting.PortSetting.TheVariants as settings
 use Rattle.ptpm_members.specs.declared.forms.Field.{Field}
 use Rattle.ptpm_members.specs.declared.forms.Form.{Form}
 use Rattle.ptpm_members.specs.declared.forms.Form.TheVariants as forms
@@ -81,17 +83,18 @@ by_layout layouts.Priority1 octets whole = by_size layouts.Priority1 octets whol
 by_layout layouts.Priority2 octets whole = by_size layouts.Priority2 octets whole refl
 by_layout layouts.Domain octets whole = by_size layouts.Domain octets whole refl
 by_layout layouts.SlaveOnly octets whole = by_size layouts.SlaveOnly octets whole refl
-by_layout layouts.LogAnnounceInterval octets whole = by_size layouts.LogAnnounceInterval octets whole refl
-by_layout layouts.AnnounceReceiptTimeout octets whole = by_size layouts.AnnounceReceiptTimeout octets whole refl
-by_layout layouts.LogSyncInterval octets whole = by_size layouts.LogSyncInterval octets whole refl
+by_layout (layouts.Setting settings.LogAnnounceInterval) octets whole = by_size (layouts.Setting settings.LogAnnounceInterval) octets whole refl
+by_layout (layouts.Setting s) octets whole = by_size (layouts.Setting s) octets whole refl
 by_layout layouts.VersionNumber octets whole = by_size layouts.VersionNumber octets whole refl
 by_layout layouts.ClockAccuracy octets whole = by_size layouts.ClockAccuracy octets whole refl
 by_layout layouts.UtcProperties octets whole = by_size layouts.UtcProperties octets whole refl
-by_layout layouts.DelayMechanism octets whole = by_size layouts.DelayMechanism octets whole refl
-by_layout layouts.LogMinPdelayReqInterval octets whole = by_size layouts.LogMinPdelayReqInterval octets whole refl
 by_layout layouts.NullPtpManagement octets whole = tt
 by_layout layouts.EnablePort octets whole = tt
 by_layout layouts.DisablePort octets whole = tt
+
+pub setting_size : (s : PortSetting) → field_size (layouts.Setting s) ≡ 2
+setting_size settings.LogAnnounceInterval = refl
+setting_size s = refl
 
 pub placed_in : (layout : Layout) (octets : List ℕ) → is_whole layout octets ≡ true → All (IsPlaced octets) (fields_of layout)
 placed_in layout octets whole = All-from_recursion (IsPlaced octets) (fields_of layout) (by_layout layout octets whole)

@@ -1,8 +1,9 @@
 -- The octets of each data set, at the places of its members, are these members.
-use Rattle.std.proofs.Common.{arith, ◌≡◌, ap, refl, sym, ℕ, ◌+◌, ◌%◌, ◌^◌, ◌<◌, true, false, List, [], ◌∷◌, ◌++◌, length, replicate, take, ℤ, pos, Option, Some, None}
+use Rattle.std.proofs.Common.{arith, ◌≡◌, ◌∙◌, ap, refl, sym, ℕ, ◌+◌, ◌%◌, ◌^◌, ◌<◌, true, false, List, [], ◌∷◌, ◌++◌, length, replicate, take, ℤ, pos, negsuc, Option, Some, None}
 use Rattle.std.specs.Prelude.{FitsSigned, option_and_then}
-use Rattle.std.specs.Int.{w8}
+use Rattle.std.specs.Int.{w8, cast_signed, cast_unsigned}
 use Rattle.std.specs.List.{AllByRecursion}
+use Rattle.std.proofs.lemmas.Int.{ints}
 use Rattle.std.proofs.lemmas.List.{take_at}
 use Rattle.byteorder.specs.Endian.{big_number, twos_complement}
 use Rattle.ptpm_codec.specs.PtpText.{ptp_text_octets}
@@ -10,17 +11,22 @@ use Rattle.ptpm_codec.proofs.CanonicalLaws.{by_eight}
 use Rattle.ptpm_data.specs.declared.data_sets.PortDataSet.{PortDataSet}
 use Rattle.ptpm_data.specs.declared.management_id.Layout.{Layout}
 use Rattle.ptpm_data.specs.declared.management_id.Layout.TheVariants as layouts
+use Rattle.ptpm_data.specs.declared.port_setting.PortSetting.{PortSetting}
+use Rattle.ptpm_data.specs.declared.port_setting.PortSetting.TheVariants as settings
 use Rattle.ptpm_data.specs.DataField.{clock_field_of, current_data_field, default_data_field, field_of_port, i16_octets, i32_octets, i64_octets, i8_octet, parent_data_field, port_data_field, port_field_of, port_settings_octets, precedence_octets, time_properties_data_field, utc_properties_data_field}
 use Rattle.ptpm_data.specs.Image.{DataSetsFit, PortFits}
 use Rattle.ptpm_data.specs.MemberMap.{MemberValue, Number, Octets, PortOf, port_member}
 use Rattle.ptpm_data.specs.Members.{DataSetsValue}
+use Rattle.ptpm_data.specs.PortSetting.{octet_of, said_of}
 use Rattle.ptpm_data.specs.RequestLaws.{IsSized}
 use Rattle.ptpm_data.proofs.FieldSizes.{is_port_layout}
 use Rattle.ptpm_members.specs.declared.forms.Field.{Field}
+use Rattle.ptpm_members.specs.declared.forms.Form.{Form}
+use Rattle.ptpm_members.specs.declared.forms.Form.TheVariants as forms
 use Rattle.ptpm_members.specs.declared.names.Member.{Member}
 use Rattle.ptpm_members.specs.declared.names.Member.TheVariants as members
 use Rattle.ptpm_members.specs.declared.tables.TheConstants.{CURRENT_DATA_SET, DEFAULT_DATA_SET, PARENT_DATA_SET, TIME_PROPERTIES_DATA_SET, USER_DESCRIPTION, UTC_PROPERTIES}
-use Rattle.ptpm_members.specs.Tables.{IsSaid, field_value, fields_of, member_value}
+use Rattle.ptpm_members.specs.Tables.{IsSaid, field_value, fields_of, form_value, member_value}
 use Rattle.ptpm_members.proofs.Reading.{i16_back, i32_back, i64_back, i8_back, no_flag, one_flag, six_flags, three_flags, u16_back, u8_back}
 
 abbrev pub AreSaid : Option ℕ → DataSetsValue → List ℕ → List Field → Type 0
@@ -46,6 +52,10 @@ octet_is n = natural_is n _ (u8_back n)
 signed_octet_is : (z : ℤ) → FitsSigned w8 z → integer z ≡ integer (twos_complement 1 (big_number 1 (i8_octet z ∷ [])))
 unfolding i8_octet
 signed_octet_is z fits = integer_is z _ (i8_back z fits)
+
+signed_said : (z : ℤ) → cast_signed w8 (cast_unsigned w8 z) ≡ z → twos_complement 1 (cast_unsigned w8 z) ≡ z
+signed_said (pos n) fits = grind (arith, ints)
+signed_said (negsuc n) fits = grind (arith, ints)
 
 -- ---- the clock
 
@@ -198,11 +208,25 @@ value_with o n d member = member_value member (Some n) d
 abbrev pub field_with : Layout → Option PortDataSet → ℕ → DataSetsValue → List ℕ
 field_with layout o n d = field_of_port (port_field_of layout d.default.identity n) o
 
+-- how a port's setting is written
+abbrev setting_form : PortSetting → Form
+setting_form settings.AnnounceReceiptTimeout = forms.Unsigned 1
+setting_form settings.DelayMechanism = forms.DelayMechanism
+setting_form _ = forms.Signed 1
+
 -- the same of a port with this data set
 abbrev pub AreSaidWith : Option PortDataSet → Layout → ℕ → DataSetsValue → Type 0
 AreSaidWith o layout n d = AllByRecursion (λ f. value_with o n d f.0 ≡ Some (field_value f (field_with layout o n d))) (fields_of layout)
 
 module _ (d : DataSetsValue) (identity : length d.default.identity.0 ≡ 8) (n : ℕ) (small : n < 2 ^ 16) (p : PortDataSet) (fits : PortFits p) where
+  setting_said : (s : PortSetting) → integer (p.settings s) ≡ Some (form_value (setting_form s) (octet_of (p.settings s) ∷ []))
+  unfolding octet_of said_of
+  setting_said settings.AnnounceReceiptTimeout =
+      integer_is _ _ (ap (λ (n : ℕ). pos n) (u8_back (octet_of (p.settings settings.AnnounceReceiptTimeout))) ∙ fits.settings settings.AnnounceReceiptTimeout)
+  setting_said settings.DelayMechanism = integer_is _ _ (fits.settings settings.DelayMechanism)
+  setting_said s =
+      integer_is _ _ (ap (twos_complement 1) (u8_back (octet_of (p.settings s))) ∙ signed_said (p.settings s) (fits.settings s))
+
   port_data_set_said : AreSaidWith (Some p) layouts.PortDataSet n d
   unfolding port_field_of port_data_field port_settings_octets i64_octets
   port_data_set_said =
@@ -218,10 +242,13 @@ module _ (d : DataSetsValue) (identity : length d.default.identity.0 ≡ 8) (n :
             (
               delay,
               (
-                signed_octet_is p.log_announce fits.log_announce,
+                setting_said settings.LogAnnounceInterval,
                 (
-                  octet_is p.receipt_timeout,
-                  (signed_octet_is p.log_sync fits.log_sync, (refl, (signed_octet_is p.log_min_pdelay fits.log_min_pdelay, (refl, tt)))),
+                  setting_said settings.AnnounceReceiptTimeout,
+                  (
+                    setting_said settings.LogSyncInterval,
+                    (setting_said settings.DelayMechanism, (setting_said settings.LogMinPdelayReqInterval, (refl, tt))),
+                  ),
                 ),
               ),
             ),
@@ -233,12 +260,9 @@ module _ (d : DataSetsValue) (identity : length d.default.identity.0 ≡ 8) (n :
   pub port_said : (layout : Layout) → is_port_layout layout ≡ true → AreSaidWith (Some p) layout n d
   unfolding port_field_of is_port_layout
   port_said layouts.PortDataSet at = port_data_set_said
-  port_said layouts.LogAnnounceInterval at = (signed_octet_is p.log_announce fits.log_announce, tt)
-  port_said layouts.AnnounceReceiptTimeout at = (octet_is p.receipt_timeout, tt)
-  port_said layouts.LogSyncInterval at = (signed_octet_is p.log_sync fits.log_sync, tt)
+  port_said (layouts.Setting settings.LogAnnounceInterval) at = (setting_said settings.LogAnnounceInterval, tt)
+  port_said (layouts.Setting s) at = (setting_said s, tt)
   port_said layouts.VersionNumber at = (refl, tt)
-  port_said layouts.DelayMechanism at = (refl, tt)
-  port_said layouts.LogMinPdelayReqInterval at = (signed_octet_is p.log_min_pdelay fits.log_min_pdelay, tt)
   port_said layouts.NullPtpManagement at = tt
   port_said layouts.EnablePort at = tt
   port_said layouts.DisablePort at = tt

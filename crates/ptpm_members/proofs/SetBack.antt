@@ -15,6 +15,7 @@ use Rattle.ptpm_codec.specs.Layout.{octet}
 use Rattle.ptpm_codec.specs.PtpText.{is_ptp_text, ptp_text}
 use Rattle.ptpm_data.specs.declared.management_id.Layout.{Layout}
 use Rattle.ptpm_data.specs.declared.management_id.Layout.TheVariants as layouts
+use Rattle.ptpm_data.specs.declared.port_setting.PortSetting.TheVariants as settings
 use Rattle.ptpm_data.specs.DataField.{i16_octets}
 use Rattle.ptpm_data.specs.ManagementId.{set_of}
 use Rattle.ptpm_data.specs.Ranges.{is_description}
@@ -150,12 +151,12 @@ set_back layouts.NullPtpManagement octets ok = refl
 set_back layouts.Priority1 octets ok = sole layouts.Priority1 octets ok.size ok.are_octets (λ a b small. rw (unsigned_back a small) refl)
 set_back layouts.Priority2 octets ok = sole layouts.Priority2 octets ok.size ok.are_octets (λ a b small. rw (unsigned_back a small) refl)
 set_back layouts.Domain octets ok = sole layouts.Domain octets ok.size ok.are_octets (λ a b small. rw (unsigned_back a small) refl)
-set_back layouts.AnnounceReceiptTimeout octets ok = sole layouts.AnnounceReceiptTimeout octets ok.size ok.are_octets (λ a b small. rw (unsigned_back a small) refl)
+set_back (layouts.Setting settings.AnnounceReceiptTimeout) octets ok = sole (layouts.Setting settings.AnnounceReceiptTimeout) octets ok.size ok.are_octets (λ a b small. rw (unsigned_back a small) refl)
 set_back layouts.ClockAccuracy octets ok = sole layouts.ClockAccuracy octets ok.size ok.are_octets (λ a b small. rw (hexadecimal_back a small) refl)
-set_back layouts.LogAnnounceInterval octets ok = sole layouts.LogAnnounceInterval octets ok.size ok.are_octets (λ a b small. rw (signed_octet_back a small) refl)
-set_back layouts.LogSyncInterval octets ok = sole layouts.LogSyncInterval octets ok.size ok.are_octets (λ a b small. rw (signed_octet_back a small) refl)
-set_back layouts.LogMinPdelayReqInterval octets ok = sole layouts.LogMinPdelayReqInterval octets ok.size ok.are_octets (λ a b small. rw (signed_octet_back a small) refl)
-set_back layouts.DelayMechanism octets ok = sole layouts.DelayMechanism octets ok.size ok.are_octets (λ a b small. rw (mechanism_back a small) refl)
+set_back (layouts.Setting settings.LogAnnounceInterval) octets ok = sole (layouts.Setting settings.LogAnnounceInterval) octets ok.size ok.are_octets (λ a b small. rw (signed_octet_back a small) refl)
+set_back (layouts.Setting settings.LogSyncInterval) octets ok = sole (layouts.Setting settings.LogSyncInterval) octets ok.size ok.are_octets (λ a b small. rw (signed_octet_back a small) refl)
+set_back (layouts.Setting settings.LogMinPdelayReqInterval) octets ok = sole (layouts.Setting settings.LogMinPdelayReqInterval) octets ok.size ok.are_octets (λ a b small. rw (signed_octet_back a small) refl)
+set_back (layouts.Setting settings.DelayMechanism) octets ok = sole (layouts.Setting settings.DelayMechanism) octets ok.size ok.are_octets (λ a b small. rw (mechanism_back a small) refl)
 set_back layouts.UserDescription octets ok = description_back octets ok.are_octets ok.size ok.value
 set_back layouts.UtcProperties octets ok =
     by_four (λ xs. AreOctets xs → ComesBack layouts.UtcProperties xs) (λ a b c d range. utc_back a b c d (range 0) (range 1) (range 2)) octets (eqb-true _ _ ok.size) ok.are_octets

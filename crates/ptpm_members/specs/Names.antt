@@ -2,6 +2,7 @@
 use Rattle.std.specs.Prelude.{ℕ, List, codes}
 use Rattle.ptpm_data.specs.declared.members.Member.{Member as DataSetMember}
 use Rattle.ptpm_data.specs.declared.members.Member.TheVariants as sets
+use Rattle.ptpm_data.specs.PortSetting.{row}
 use Rattle.ptpm_members.specs.declared.names.Member.{Member}
 use Rattle.ptpm_members.specs.declared.names.Member.TheVariants as members
 
@@ -40,11 +41,7 @@ data_set_name sets.TimeSource = codes "timeSource"
 data_set_name sets.State = codes "portState"
 data_set_name sets.LogMinDelayReq = codes "logMinDelayReqInterval"
 data_set_name sets.PeerDelay = codes "meanLinkDelay"
-data_set_name sets.LogAnnounce = codes "logAnnounceInterval"
-data_set_name sets.ReceiptTimeout = codes "announceReceiptTimeout"
-data_set_name sets.LogSync = codes "logSyncInterval"
-data_set_name sets.DelayMechanism = codes "delayMechanism"
-data_set_name sets.LogMinPdelay = codes "logMinPdelayReqInterval"
+data_set_name (sets.Setting s) = (row s).standard_name
 
 unfoldable pub member_name : Member → List ℕ
 member_name (members.DataSet member) = data_set_name member

@@ -7,6 +7,7 @@ use Rattle.ptpm_codec.specs.PtpText.{is_ptp_text, ptp_text}
 use Rattle.ptpm_data.specs.declared.management_id.Layout.{Layout}
 use Rattle.ptpm_data.specs.declared.management_id.Layout.TheVariants as layouts
 use Rattle.ptpm_data.specs.declared.members.Member.TheVariants as sets
+use Rattle.ptpm_data.specs.declared.port_setting.PortSetting.TheVariants as settings
 use Rattle.ptpm_data.specs.ManagementId.{RowValue, row_of}
 use Rattle.ptpm_data.specs.MemberMap.{MemberValue, Number, OfClock, OfPort, Octets, PortOf, natural, value_of}
 use Rattle.ptpm_data.specs.Members.{DataSetsValue}
@@ -30,14 +31,14 @@ fields_of layouts.Priority1 = PRIORITY1
 fields_of layouts.Priority2 = PRIORITY2
 fields_of layouts.Domain = DOMAIN
 fields_of layouts.SlaveOnly = SLAVE_ONLY
-fields_of layouts.LogAnnounceInterval = LOG_ANNOUNCE_INTERVAL
-fields_of layouts.AnnounceReceiptTimeout = ANNOUNCE_RECEIPT_TIMEOUT
-fields_of layouts.LogSyncInterval = LOG_SYNC_INTERVAL
+fields_of (layouts.Setting settings.LogAnnounceInterval) = LOG_ANNOUNCE_INTERVAL
+fields_of (layouts.Setting settings.AnnounceReceiptTimeout) = ANNOUNCE_RECEIPT_TIMEOUT
+fields_of (layouts.Setting settings.LogSyncInterval) = LOG_SYNC_INTERVAL
 fields_of layouts.VersionNumber = VERSION_NUMBER
 fields_of layouts.ClockAccuracy = CLOCK_ACCURACY
 fields_of layouts.UtcProperties = UTC_PROPERTIES
-fields_of layouts.DelayMechanism = DELAY_MECHANISM
-fields_of layouts.LogMinPdelayReqInterval = LOG_MIN_PDELAY_REQ_INTERVAL
+fields_of (layouts.Setting settings.DelayMechanism) = DELAY_MECHANISM
+fields_of (layouts.Setting settings.LogMinPdelayReqInterval) = LOG_MIN_PDELAY_REQ_INTERVAL
 fields_of layouts.NullPtpManagement = []
 fields_of layouts.EnablePort = []
 fields_of layouts.DisablePort = []

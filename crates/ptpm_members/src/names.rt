@@ -78,10 +78,6 @@ fn data_set_name(member: DataSetMember) -> &'static str
         State => "portState",
         LogMinDelayReq => "logMinDelayReqInterval",
         PeerDelay => "meanLinkDelay",
-        LogAnnounce => "logAnnounceInterval",
-        ReceiptTimeout => "announceReceiptTimeout",
-        LogSync => "logSyncInterval",
-        DelayMechanism => "delayMechanism",
-        LogMinPdelay => "logMinPdelayReqInterval",
+        Setting(setting) => setting.standard_name(),
     }
 }

@@ -11,8 +11,8 @@ use crate::forms::{Field, Form};
 use crate::names::Member;
 use crate::names::Member::DataSet;
 use ptpm_codec::is_ptp_text;
-use ptpm_data::Layout;
 use ptpm_data::Member::*;
+use ptpm_data::{Layout, PortSetting};
 
 /// 15.5.3.2.2.
 static USER_DESCRIPTION: [Field; 1] = [Field(DataSet(UserDescription), 0, Text)];
@@ -66,11 +66,31 @@ static PORT_DATA_SET: [Field; 10] = [
     Field(DataSet(State), 10, PortState),
     Field(DataSet(LogMinDelayReq), 11, Signed(1)),
     Field(DataSet(PeerDelay), 12, TimeInterval),
-    Field(DataSet(LogAnnounce), 20, Signed(1)),
-    Field(DataSet(ReceiptTimeout), 21, Unsigned(1)),
-    Field(DataSet(LogSync), 22, Signed(1)),
-    Field(DataSet(DelayMechanism), 23, Form::DelayMechanism),
-    Field(DataSet(LogMinPdelay), 24, Signed(1)),
+    Field(
+        DataSet(Setting(PortSetting::LogAnnounceInterval)),
+        20,
+        Signed(1),
+    ),
+    Field(
+        DataSet(Setting(PortSetting::AnnounceReceiptTimeout)),
+        21,
+        Unsigned(1),
+    ),
+    Field(
+        DataSet(Setting(PortSetting::LogSyncInterval)),
+        22,
+        Signed(1),
+    ),
+    Field(
+        DataSet(Setting(PortSetting::DelayMechanism)),
+        23,
+        Form::DelayMechanism,
+    ),
+    Field(
+        DataSet(Setting(PortSetting::LogMinPdelayReqInterval)),
+        24,
+        Signed(1),
+    ),
     Field(Member::VersionNumber, 25, LowNibble),
 ];
 
@@ -89,19 +109,39 @@ static DOMAIN: [Field; 1] = [Field(DataSet(Domain), 0, Unsigned(1))];
 
 static SLAVE_ONLY: [Field; 1] = [Field(Member::SlaveOnly, 0, EitherFlag)];
 
-static LOG_ANNOUNCE_INTERVAL: [Field; 1] = [Field(DataSet(LogAnnounce), 0, Signed(1))];
+static LOG_ANNOUNCE_INTERVAL: [Field; 1] = [Field(
+    DataSet(Setting(PortSetting::LogAnnounceInterval)),
+    0,
+    Signed(1),
+)];
 
-static ANNOUNCE_RECEIPT_TIMEOUT: [Field; 1] = [Field(DataSet(ReceiptTimeout), 0, Unsigned(1))];
+static ANNOUNCE_RECEIPT_TIMEOUT: [Field; 1] = [Field(
+    DataSet(Setting(PortSetting::AnnounceReceiptTimeout)),
+    0,
+    Unsigned(1),
+)];
 
-static LOG_SYNC_INTERVAL: [Field; 1] = [Field(DataSet(LogSync), 0, Signed(1))];
+static LOG_SYNC_INTERVAL: [Field; 1] = [Field(
+    DataSet(Setting(PortSetting::LogSyncInterval)),
+    0,
+    Signed(1),
+)];
 
 static VERSION_NUMBER: [Field; 1] = [Field(Member::VersionNumber, 0, LowNibble)];
 
 static CLOCK_ACCURACY: [Field; 1] = [Field(Member::ClockAccuracy, 0, Hexadecimal(1))];
 
-static DELAY_MECHANISM: [Field; 1] = [Field(DataSet(DelayMechanism), 0, Form::DelayMechanism)];
+static DELAY_MECHANISM: [Field; 1] = [Field(
+    DataSet(Setting(PortSetting::DelayMechanism)),
+    0,
+    Form::DelayMechanism,
+)];
 
-static LOG_MIN_PDELAY_REQ_INTERVAL: [Field; 1] = [Field(DataSet(LogMinPdelay), 0, Signed(1))];
+static LOG_MIN_PDELAY_REQ_INTERVAL: [Field; 1] = [Field(
+    DataSet(Setting(PortSetting::LogMinPdelayReqInterval)),
+    0,
+    Signed(1),
+)];
 
 /// The members of the dataField of this layout, in the order of their octets; none if it has no octet.
 pub fn fields(layout: Layout) -> &'static [Field]
@@ -118,14 +158,14 @@ pub fn fields(layout: Layout) -> &'static [Field]
         Layout::Priority2 => &PRIORITY2,
         Layout::Domain => &DOMAIN,
         Layout::SlaveOnly => &SLAVE_ONLY,
-        Layout::LogAnnounceInterval => &LOG_ANNOUNCE_INTERVAL,
-        Layout::AnnounceReceiptTimeout => &ANNOUNCE_RECEIPT_TIMEOUT,
-        Layout::LogSyncInterval => &LOG_SYNC_INTERVAL,
+        Layout::Setting(PortSetting::LogAnnounceInterval) => &LOG_ANNOUNCE_INTERVAL,
+        Layout::Setting(PortSetting::AnnounceReceiptTimeout) => &ANNOUNCE_RECEIPT_TIMEOUT,
+        Layout::Setting(PortSetting::LogSyncInterval) => &LOG_SYNC_INTERVAL,
         Layout::VersionNumber => &VERSION_NUMBER,
         Layout::ClockAccuracy => &CLOCK_ACCURACY,
         Layout::UtcProperties => &UTC_PROPERTIES,
-        Layout::DelayMechanism => &DELAY_MECHANISM,
-        Layout::LogMinPdelayReqInterval => &LOG_MIN_PDELAY_REQ_INTERVAL,
+        Layout::Setting(PortSetting::DelayMechanism) => &DELAY_MECHANISM,
+        Layout::Setting(PortSetting::LogMinPdelayReqInterval) => &LOG_MIN_PDELAY_REQ_INTERVAL,
         Layout::NullPtpManagement | Layout::EnablePort | Layout::DisablePort => &[],
     }
 }

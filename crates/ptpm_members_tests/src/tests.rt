@@ -1,7 +1,7 @@
 //! Lines of dataFields, and what is typed for them. The members of each dataField are those that another program reads in the
 //! same octets, and their names are the standard's.
 
-use ptpm_data::Member as DataSetMember;
+use ptpm_data::{Member as DataSetMember, PortSetting};
 use ptpm_members::{FieldText, Member, ParseFault, parse};
 use std::alloc::Global;
 
@@ -106,7 +106,7 @@ fn refuses(id: u16, words: &[&str], fault: ParseFault) -> bool {
 #[test]
 fn refused_words(rt: HostRuntime) {
     let priority1 = Member::DataSet(DataSetMember::Priority1);
-    let interval = Member::DataSet(DataSetMember::LogAnnounce);
+    let interval = Member::DataSet(DataSetMember::Setting(PortSetting::LogAnnounceInterval));
     assert!(rt; refuses(0x4000, &["1"], ParseFault::NoSuchId));
     assert!(rt; refuses(0x2011, &["37"], ParseFault::WordCount));
     assert!(rt;

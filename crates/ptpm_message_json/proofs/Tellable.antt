@@ -7,6 +7,7 @@ use Rattle.std.proofs.lemmas.List.Elements.{All-from_recursion, All-same}
 use Rattle.ptpm_data.specs.declared.management_id.Layout.{Layout}
 use Rattle.ptpm_data.specs.declared.management_id.Layout.TheVariants as layouts
 use Rattle.ptpm_data.specs.ManagementId.{RowValue, row_of}
+use Rattle.ptpm_data.specs.declared.port_setting.PortSetting.TheVariants as settings
 use Rattle.ptpm_members.specs.declared.forms.Field.{Field}
 use Rattle.ptpm_members.specs.FieldText.{IsPlaced, members_in}
 use Rattle.ptpm_members.specs.Tables.{field_size, fields_of, fields_of_row, is_whole, is_whole_of_row}
@@ -60,14 +61,11 @@ by_layout layouts.Priority1 octets whole = without layouts.Priority1 octets refl
 by_layout layouts.Priority2 octets whole = without layouts.Priority2 octets refl
 by_layout layouts.Domain octets whole = without layouts.Domain octets refl
 by_layout layouts.SlaveOnly octets whole = without layouts.SlaveOnly octets refl
-by_layout layouts.LogAnnounceInterval octets whole = without layouts.LogAnnounceInterval octets refl
-by_layout layouts.AnnounceReceiptTimeout octets whole = without layouts.AnnounceReceiptTimeout octets refl
-by_layout layouts.LogSyncInterval octets whole = without layouts.LogSyncInterval octets refl
+by_layout (layouts.Setting settings.LogAnnounceInterval) octets whole = without (layouts.Setting settings.LogAnnounceInterval) octets refl
+by_layout (layouts.Setting s) octets whole = without (layouts.Setting s) octets refl
 by_layout layouts.VersionNumber octets whole = without layouts.VersionNumber octets refl
 by_layout layouts.ClockAccuracy octets whole = without layouts.ClockAccuracy octets refl
 by_layout layouts.UtcProperties octets whole = without layouts.UtcProperties octets refl
-by_layout layouts.DelayMechanism octets whole = without layouts.DelayMechanism octets refl
-by_layout layouts.LogMinPdelayReqInterval octets whole = without layouts.LogMinPdelayReqInterval octets refl
 by_layout layouts.NullPtpManagement octets whole = tt
 by_layout layouts.EnablePort octets whole = tt
 by_layout layouts.DisablePort octets whole = tt

@@ -5,15 +5,13 @@ use Rattle.ptpm_data.specs.declared.rights.Rights.{Rights}
 use Rattle.ptpm_data.specs.declared.data_sets.PortDataSet.{PortDataSet}
 use Rattle.ptpm_data.specs.declared.management_id.Layout.{Layout}
 use Rattle.ptpm_data.specs.declared.management_id.Layout.TheVariants as layouts
-use Rattle.ptpm_data.specs.declared.port_state.DelayMechanism.{DelayMechanism}
 use Rattle.ptpm_data.specs.declared.port_state.PortState.{PortState}
 use Rattle.ptpm_data.specs.declared.port_state.PortState.TheVariants as states
-use Rattle.ptpm_data.specs.Changes.{changed_at, changed_if, with_mechanism}
+use Rattle.ptpm_data.specs.Changes.{changed_at, changed_if}
 unfoldable use Rattle.ptpm_data.specs.Changes.{commanded, named_changed}
 use Rattle.ptpm_data.specs.ManagementId.{RowValue}
 use Rattle.ptpm_data.specs.PortChange.{enabled}
-use Rattle.ptpm_data.specs.PortState.{is_forwarding, mechanism_of}
-use Rattle.ptpm_data.specs.SetField.{octet}
+use Rattle.ptpm_data.specs.PortState.{is_forwarding}
 use Rattle.ptpm_network.specs.Way.{IsWayIn}
 use Rattle.ptpm_network.specs.Meanwhile.{StaysOpen, concerns, is_closing, may_close}
 use Rattle.ptpm_network.proofs.Accepting.{greatest-grows}
@@ -51,11 +49,6 @@ ports-open : (port : ℕ) (d : DataSetsValue) (change : PortDataSet → PortData
 unfolding named_changed
 ports-open port d change same = grind (arith, cond-true, cond-false, forwards-at)
 
-mechanism-open : (port : ℕ) (d : DataSetsValue) (m : Option DelayMechanism)
-    → SameOpen d (with_mechanism port d m)
-mechanism-open port d None = open-same d
-mechanism-open port d (Some m) = ports-open port d _ (λ p. refl)
-
 enabled-forwards : (s : PortState) → is_forwarding (enabled s) ≡ is_forwarding s
 enabled-forwards states.Disabled = refl
 enabled-forwards _ = refl
@@ -71,11 +64,7 @@ set-open : (layout : Layout) (port : ℕ) (octets : List ℕ) (d : DataSetsValue
     → SameOpen d (set_members layout port octets d)
 unfolding set_members
 set-open layouts.Domain port octets d n = absurd (true≢false n)
-set-open layouts.LogAnnounceInterval port octets d n = ports-open port d _ (λ p. refl)
-set-open layouts.AnnounceReceiptTimeout port octets d n = ports-open port d _ (λ p. refl)
-set-open layouts.LogSyncInterval port octets d n = ports-open port d _ (λ p. refl)
-set-open layouts.LogMinPdelayReqInterval port octets d n = ports-open port d _ (λ p. refl)
-set-open layouts.DelayMechanism port octets d n = mechanism-open port d (mechanism_of (octet 0 octets))
+set-open (layouts.Setting s) port octets d n = ports-open port d _ (λ p. refl)
 set-open _ port octets d n = record { domain = refl; ports = λ port. refl }
 
 command-open : (layout : Layout) (port : ℕ) (d : DataSetsValue)

@@ -2,7 +2,7 @@
 
 use ptpm_data::Layout::*;
 use ptpm_data::Scope::*;
-use ptpm_data::{MANAGEMENT_IDS, by_name, row};
+use ptpm_data::{MANAGEMENT_IDS, PortSetting, by_name, row};
 
 #[test]
 fn rows_by_id_and_name(rt: HostRuntime) {
@@ -14,7 +14,13 @@ fn rows_by_id_and_name(rt: HostRuntime) {
         (0x2007, "DOMAIN", Clock, 3, Domain),
         (0x200c, "VERSION_NUMBER", Port, 1, VersionNumber),
         (0x200e, "DISABLE_PORT", Port, 4, DisablePort),
-        (0x6000, "DELAY_MECHANISM", Port, 3, DelayMechanism),
+        (
+            0x6000,
+            "DELAY_MECHANISM",
+            Port,
+            3,
+            Setting(PortSetting::DelayMechanism),
+        ),
     ] {
         for found in [row(id), by_name(name)] {
             let Some(row) = found else {

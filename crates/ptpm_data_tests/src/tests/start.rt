@@ -3,7 +3,7 @@
 use crate::tests::{K, OTHER};
 use arrayvec::ArrayVec;
 use ptpm_codec::ClockIdentity;
-use ptpm_data::{ClockStart, DataSets, Member, PortStart, StartError};
+use ptpm_data::{ClockStart, DataSets, Member, PortSetting, PortStart, StartError};
 
 fn clock() -> ClockStart {
     ClockStart::new(K, 0)
@@ -40,8 +40,9 @@ fn start_faults(rt: HostRuntime) {
         log_sync: 2,
         ..port()
     };
-    assert!(rt; fault(&clock(), slow_sync) == bad(Member::LogSync));
-    assert!(rt; Member::LogSync.name() == "log_sync");
+    let sync = Member::Setting(PortSetting::LogSyncInterval);
+    assert!(rt; fault(&clock(), slow_sync) == bad(sync));
+    assert!(rt; sync.name() == "log_sync");
     let both_leaps = ClockStart {
         leap61: true,
         leap59: true,
@@ -134,66 +135,52 @@ fn one_leap_flag(rt: HostRuntime) {
     }
 }
 
-/// A port of the defaults except this member, which is an unsigned octet.
-fn port_with_number(member: Member, value: u8) -> PortStart {
+/// A port of the defaults except this setting, which is what the octet says.
+fn port_with(setting: PortSetting, octet: u8) -> PortStart {
     let mut start = port();
-    match member {
-        Member::State => start.state = value,
-        Member::ReceiptTimeout => start.receipt_timeout = value,
-        Member::DelayMechanism => start.delay_mechanism = value,
-        _ => {}
+    match setting {
+        PortSetting::LogAnnounceInterval => start.log_announce = octet.cast_signed(),
+        PortSetting::AnnounceReceiptTimeout => start.receipt_timeout = octet,
+        PortSetting::LogSyncInterval => start.log_sync = octet.cast_signed(),
+        PortSetting::DelayMechanism => start.delay_mechanism = octet,
+        PortSetting::LogMinPdelayReqInterval => start.log_min_pdelay = octet.cast_signed(),
     }
     start
 }
 
-/// A port of the defaults except this interval.
-fn port_with_interval(member: Member, value: i8) -> PortStart {
-    let mut start = port();
-    match member {
-        Member::LogAnnounce => start.log_announce = value,
-        Member::LogSync => start.log_sync = value,
-        Member::LogMinPdelay => start.log_min_pdelay = value,
-        _ => {}
-    }
-    start
-}
-
-/// Values just inside a range, and just outside.
+/// Octets just inside each range, and just outside.
 #[test]
-fn ranges_of_port_numbers(rt: HostRuntime) {
-    for (member, inside, outside) in [
-        (Member::State, [1, 9], [0, 10]),
-        (Member::ReceiptTimeout, [2, 10], [1, 11]),
-        (Member::DelayMechanism, [1, 2], [0, 3]),
-        (Member::DelayMechanism, [0xfe, 0xfe], [0xfd, 0xff]),
+fn ranges_of_settings(rt: HostRuntime) {
+    for (setting, inside, outside) in [
+        (PortSetting::LogAnnounceInterval, [0xfc, 4], [0xfb, 5]),
+        (PortSetting::AnnounceReceiptTimeout, [2, 10], [1, 11]),
+        (PortSetting::LogSyncInterval, [0xf8, 1], [0xf7, 2]),
+        (PortSetting::DelayMechanism, [1, 2], [0, 3]),
+        (PortSetting::DelayMechanism, [0xfe, 0xfe], [0xfd, 0xff]),
+        (PortSetting::LogMinPdelayReqInterval, [0xf8, 5], [0xf7, 6]),
     ] {
-        for value in inside {
-            let start = port_with_number(member, value);
-            assert!(rt; fault(&clock(), start) == None, "{member} {value}");
+        let member = Member::Setting(setting);
+        for octet in inside {
+            let start = port_with(setting, octet);
+            assert!(rt; fault(&clock(), start) == None, "{member} {octet}");
         }
-        for value in outside {
-            let start = port_with_number(member, value);
-            assert!(rt; fault(&clock(), start) == bad(member), "{member} {value}");
+        for octet in outside {
+            let start = port_with(setting, octet);
+            assert!(rt; fault(&clock(), start) == bad(member), "{member} {octet}");
         }
     }
 }
 
-/// Values just inside a range, and just outside.
 #[test]
-fn ranges_of_port_intervals(rt: HostRuntime) {
-    for (member, inside, outside) in [
-        (Member::LogAnnounce, [-4, 4], [-5, 5]),
-        (Member::LogSync, [-8, 1], [-9, 2]),
-        (Member::LogMinPdelay, [-8, 5], [-9, 6]),
+fn range_of_a_state(rt: HostRuntime) {
+    for (state, want) in [
+        (0, bad(Member::State)),
+        (1, None),
+        (9, None),
+        (10, bad(Member::State)),
     ] {
-        for value in inside {
-            let start = port_with_interval(member, value);
-            assert!(rt; fault(&clock(), start) == None, "{member} {value}");
-        }
-        for value in outside {
-            let start = port_with_interval(member, value);
-            assert!(rt; fault(&clock(), start) == bad(member), "{member} {value}");
-        }
+        let start = PortStart { state, ..port() };
+        assert!(rt; fault(&clock(), start) == want, "{state}");
     }
 }
 
@@ -215,7 +202,8 @@ fn faults_in_order(rt: HostRuntime) {
         grandmaster_class: Some(6),
         ..clock()
     };
-    assert!(rt; DataSets::new(&differs, &[late, early]).err() == bad(Member::LogMinPdelay));
+    let pdelay = Member::Setting(PortSetting::LogMinPdelayReqInterval);
+    assert!(rt; DataSets::new(&differs, &[late, early]).err() == bad(pdelay));
     assert!(rt; DataSets::new(&differs, &[port(), early]).err() == bad(Member::State));
     assert!(rt; DataSets::new(&differs, &[port()]).err() == Some(StartError::GrandmasterDiffers));
 }

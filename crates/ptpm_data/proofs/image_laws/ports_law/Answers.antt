@@ -6,7 +6,9 @@ use Rattle.ptpm_data.specs.Image.{PortFits}
 use Rattle.ptpm_data.proofs.image_laws.ports_law.Goals as goal
 
 pub loop-port-preserved : goal.loop-port-preserved
-loop-port-preserved c = All-more PortFits c.args.ports.now c.loop-port.port-index _ (omega arith) c.loop-port.invariant c.port_law.ensures
+loop-port-preserved c =
+    All-more PortFits c.args.ports.now c.loop-port.port-index c.port-item.result (omega arith) c.loop-port.invariant
+    (subst PortFits c.port-item.is c.port_law.ensures)
 
 pub returns : goal.returns
 returns c =

@@ -1,16 +1,12 @@
-use Rattle.std.proofs.Common.{arith}
-use Rattle.std.proofs.lemmas.Int.{to_z-of_z}
-use Rattle.ptpm_data.specs.Changes.{set_members}
+use Rattle.std.proofs.Common.{◌≡◌, ◌∙◌, subst, sym, true}
+use Rattle.ptpm_data.specs.declared.management_id.Layout.{Layout}
+use Rattle.ptpm_data.specs.ManagementId.{set_of}
+use Rattle.ptpm_data.specs.Refusals.{is_set_value}
+use Rattle.ptpm_data.proofs.Ranging.{set_in_range}
 use Rattle.ptpm_data.proofs.data_sets.DataSets.set_members.Goals as goal
 
-pub returns-in-LogAnnounceInterval : goal.returns-in-LogAnnounceInterval
-unfolding set_members
-returns-in-LogAnnounceInterval c = grind (arith, to_z-of_z)
-
-pub returns-in-LogSyncInterval : goal.returns-in-LogSyncInterval
-unfolding set_members
-returns-in-LogSyncInterval c = grind (arith, to_z-of_z)
-
-pub returns-in-LogMinPdelayReqInterval : goal.returns-in-LogMinPdelayReqInterval
-unfolding set_members
-returns-in-LogMinPdelayReqInterval c = grind (arith, to_z-of_z)
+pub change_ports-requires-clause-range : goal.change_ports-requires-clause-range
+unfolding set_of
+change_ports-requires-clause-range c =
+    let P : Layout → Type 0 = λ layout. is_set_value (set_of layout) c.args.octets.now ≡ true in
+    sym (set_in_range c.in-Setting.setting c.args.octets.now) ∙ subst P c.in-Setting.is c.requires.value

@@ -1,0 +1,155 @@
+-- The octets of a port's settings, read and said back; their places; and that a start may have settings in their ranges.
+use Rattle.std.proofs.Common.{arith, ◌≡◌, ◌∙◌, refl, ap, subst, sym, ℕ, ◌+◌, ◌<◌, ◌≤◌, ◌==◌, add-one, ℤ, pos, negsuc, nat_abs, true, false, List, [], ◌∷◌, map, drop, drop-cons, get_or, None, Some, slice_get, slice_index}
+use Rattle.std.specs.Prelude.{FitsSigned}
+use Rattle.std.specs.Int.{w8}
+use Rattle.std.proofs.Math.ListN.{drop_of_length-le}
+use Rattle.std.proofs.lemmas.Int.{to_z-of_z}
+use Rattle.std.proofs.lemmas.Bool.{eqb-true}
+use Rattle.std.proofs.lemmas.Option.{same_Some}
+use Rattle.ptpm_codec.specs.Ordered.{first_of}
+use Rattle.ptpm_data.specs.declared.port_setting.PortSetting.{PortSetting}
+use Rattle.ptpm_data.specs.declared.members.Member.TheVariants as members
+use Rattle.ptpm_data.specs.declared.port_setting.PortSetting.TheVariants.{LogAnnounceInterval, LogSyncInterval, LogMinPdelayReqInterval}
+use Rattle.ptpm_data.specs.declared.port_settings.PortSettings.TheInside.{Inside}
+use Rattle.ptpm_data.specs.declared.start.PortStart.{PortStart}
+use Rattle.ptpm_data.specs.declared.start.StartError.TheVariants.{BadValue}
+use Rattle.ptpm_data.specs.DataField.{i8_octet}
+use Rattle.ptpm_data.specs.PortSetting.{default_settings, octet_of, place, port_settings, row, said_by, said_of, settings_octets}
+use Rattle.ptpm_data.specs.PortSettings.{AreFive, octet_back, octets_back, settings_view}
+use Rattle.ptpm_data.specs.Ranges.{is_in_range}
+use Rattle.ptpm_data.specs.SetForm.{SetField, minus◌to◌}
+use Rattle.ptpm_data.specs.Start.{port_start_with, setting_fault, settings_fault, start_settings}
+
+-- one octet and others
+pub octet_first : {a b : ℕ} {xs ys : List ℕ} → a ≡ b → xs ≡ ys → a ∷ xs ≡ b ∷ ys
+octet_first first rest = cc
+
+-- ---- the program's octets
+
+pub octet_read : (s : PortSetting) (x : Inside) (values : PortSetting → ℤ)
+    → AreFive x
+    → settings_view x ≡ values
+    → slice_index x.octets (place s) ≡ octet_of (values s)
+octet_read s x values is view = sym (octet_back s _ (is.small (place s))) ∙ ap (λ (f : PortSetting → ℤ). octet_of (f s)) view
+
+pub octets_read : (x : Inside) (values : PortSetting → ℤ)
+    → AreFive x
+    → settings_view x ≡ values
+    → x.octets ≡ settings_octets values
+octets_read x values is view = sym (octets_back x.octets is.count is.small) ∙ ap settings_octets view
+
+pub said_back : (x : Inside) (values : PortSetting → ℤ)
+    → AreFive x
+    → settings_view x ≡ values
+    → (s : PortSetting) → said_of s (octet_of (values s)) ≡ values s
+said_back x values is view s =
+    let P : (PortSetting → ℤ) → Type 0 = λ f. said_of s (octet_of (f s)) ≡ f s in
+    subst P view (ap (said_of s) (octet_back s _ (is.small (place s))))
+
+default_fits : (s : PortSetting) → said_of s (octet_of (default_settings s)) ≡ default_settings s
+unfolding said_of octet_of
+default_fits LogAnnounceInterval = refl
+default_fits s = refl
+
+-- octets that say each say all
+pub settings_back : (values : PortSetting → ℤ)
+    → ((s : PortSetting) → said_of s (octet_of (values s)) ≡ values s)
+    → (s : PortSetting) → said_by (settings_octets values) s ≡ values s
+settings_back values fits LogAnnounceInterval = fits LogAnnounceInterval
+settings_back values fits s = fits s
+
+pub default_back : said_by (settings_octets default_settings) ≡ default_settings
+default_back = λ i s. settings_back default_settings default_fits s i
+
+-- ---- places
+
+pub listed : (s : PortSetting) → slice_get port_settings (place s) ≡ Some s
+listed LogAnnounceInterval = refl
+listed s = refl
+
+pub same_place : (s t : PortSetting) → place s == place t ≡ true → s ≡ t
+same_place s t same = same_Some s t (sym (listed s) ∙ ap (slice_get port_settings) (eqb-true _ _ same) ∙ listed t)
+
+pub place_few : (s : PortSetting) → place s ≤ 4
+place_few LogAnnounceInterval = omega arith
+place_few s = omega arith
+
+pub itself : (s : PortSetting) → place s == place s ≡ true
+itself LogAnnounceInterval = refl
+itself s = refl
+
+-- ---- a start with settings in their ranges
+
+abbrev pub start_octets : PortStart → List ℕ
+start_octets p =
+    i8_octet p.log_announce ∷ p.receipt_timeout ∷ i8_octet p.log_sync ∷ p.delay_mechanism ∷ i8_octet p.log_min_pdelay ∷ []
+
+abbrev counted : SetField → ℤ → ℤ
+counted (minus low to high) z = z
+counted _ z = pos (nat_abs z)
+
+counted_back : (s : PortSetting) (z : ℤ) → is_in_range s z ≡ true → counted (row s).range z ≡ z
+counted_back LogAnnounceInterval z is = refl
+counted_back s (pos n) is = refl
+counted_back s (negsuc n) is = cc
+
+pub settings_restart : (state : ℕ) (log_min_delay_req peer_delay : ℤ) (values : PortSetting → ℤ)
+    → ((s : PortSetting) → is_in_range s (values s) ≡ true)
+    → (s : PortSetting) → start_settings (port_start_with state log_min_delay_req peer_delay values) s ≡ values s
+settings_restart state log_min_delay_req peer_delay values range LogAnnounceInterval = refl
+settings_restart state log_min_delay_req peer_delay values range s = counted_back s (values s) (range s)
+
+-- the settings of a start, by its octets
+start_said_at : (p : PortStart)
+    → FitsSigned w8 p.log_announce
+    → FitsSigned w8 p.log_sync
+    → FitsSigned w8 p.log_min_pdelay
+    → (s : PortSetting) → said_by (start_octets p) s ≡ start_settings p s
+unfolding said_of i8_octet
+start_said_at p announce sync pdelay LogAnnounceInterval = to_z-of_z w8 p.log_announce announce
+start_said_at p announce sync pdelay LogSyncInterval = to_z-of_z w8 p.log_sync sync
+start_said_at p announce sync pdelay LogMinPdelayReqInterval = to_z-of_z w8 p.log_min_pdelay pdelay
+start_said_at p announce sync pdelay s = refl
+
+pub start_said : (p : PortStart)
+    → FitsSigned w8 p.log_announce
+    → FitsSigned w8 p.log_sync
+    → FitsSigned w8 p.log_min_pdelay
+    → said_by (start_octets p) ≡ start_settings p
+start_said p announce sync pdelay = λ i s. start_said_at p announce sync pdelay s i
+
+-- ---- the first that is out of its range
+
+fault_step : (values : PortSetting → ℤ) (i : ℕ) (d : PortSetting)
+    → i < 5
+    → first_of (map (setting_fault values) (drop i port_settings))
+    ≡ first_of (setting_fault values (get_or port_settings i d) ∷ map (setting_fault values) (drop (i + 1) port_settings))
+fault_step values i d below = rw (drop-cons port_settings i d below, add-one i) refl
+
+pub goes_on : (values : PortSetting → ℤ) (i : ℕ) (d : PortSetting)
+    → i < 5
+    → is_in_range (get_or port_settings i d) (values (get_or port_settings i d)) ≡ true
+    → first_of (map (setting_fault values) (drop i port_settings))
+    ≡ first_of (map (setting_fault values) (drop (i + 1) port_settings))
+goes_on values i d below is = fault_step values i d below ∙ rw is refl
+
+pub stops : (values : PortSetting → ℤ) (i : ℕ) (d : PortSetting)
+    → i < 5
+    → is_in_range (get_or port_settings i d) (values (get_or port_settings i d)) ≡ false
+    → first_of (map (setting_fault values) (drop i port_settings)) ≡ Some (BadValue (members.Setting (get_or port_settings i d)))
+stops values i d below is = fault_step values i d below ∙ rw is refl
+
+pub faults_end : (values : PortSetting → ℤ) (i : ℕ) → 5 ≤ i → first_of (map (setting_fault values) (drop i port_settings)) ≡ None
+faults_end values i past = ap (λ (settings : List PortSetting). first_of (map (setting_fault values) settings)) (drop_of_length-le port_settings past)
+
+none_out : (values : PortSetting → ℤ) (settings : List PortSetting)
+    → ((s : PortSetting) → is_in_range s (values s) ≡ true)
+    → first_of (map (setting_fault values) settings) ≡ None
+none_out values [] range = refl
+none_out values (s ∷ settings) range = rw (range s) (none_out values settings range)
+
+pub settings_faultless : (values : PortSetting → ℤ)
+    → ((s : PortSetting) → is_in_range s (values s) ≡ true)
+    → settings_fault values ≡ None
+unfolding settings_fault
+settings_faultless values range = none_out values port_settings range
