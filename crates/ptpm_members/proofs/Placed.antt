@@ -92,9 +92,5 @@ by_layout layouts.NullPtpManagement octets whole = tt
 by_layout layouts.EnablePort octets whole = tt
 by_layout layouts.DisablePort octets whole = tt
 
-pub setting_size : (s : PortSetting) → field_size (layouts.Setting s) ≡ 2
-setting_size settings.LogAnnounceInterval = refl
-setting_size s = refl
-
 pub placed_in : (layout : Layout) (octets : List ℕ) → is_whole layout octets ≡ true → All (IsPlaced octets) (fields_of layout)
 placed_in layout octets whole = All-from_recursion (IsPlaced octets) (fields_of layout) (by_layout layout octets whole)
