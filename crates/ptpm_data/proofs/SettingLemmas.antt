@@ -24,6 +24,9 @@ use Rattle.ptpm_data.specs.Start.{port_start_with, setting_fault, settings_fault
 pub octet_first : {a b : ℕ} {xs ys : List ℕ} → a ≡ b → xs ≡ ys → a ∷ xs ≡ b ∷ ys
 octet_first first rest = cc
 
+pub octet_last : {a b : ℕ} → a ≡ b → a ∷ [] ≡ b ∷ []
+octet_last same = ap (λ (n : ℕ). n ∷ []) same
+
 -- ---- the program's octets
 
 pub octet_read : (s : PortSetting) (x : Inside) (values : PortSetting → ℤ)
