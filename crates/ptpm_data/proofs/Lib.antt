@@ -24,3 +24,4 @@ pub mod RestoringLaws
 pub mod ObservingBack
 pub mod ImageLemmas
 pub mod OneImage
+pub mod Starting

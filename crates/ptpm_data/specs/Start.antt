@@ -81,6 +81,10 @@ default_clock identity domain = record {
   time_source = 160;
 }
 
+-- the identity of no clock
+abbrev pub no_identity : ClockIdentity
+no_identity = record { 0 = 0 ∷ 0 ∷ 0 ∷ 0 ∷ 0 ∷ 0 ∷ 0 ∷ 0 ∷ [] }
+
 abbrev pub default_port : PortStart
 default_port = port_start_with 6 (pos 0) (pos 0) default_settings
 

@@ -1,11 +1,12 @@
 //! Data sets back from their image (this project's profile).
 
-ghost use Rattle.std.specs.Prelude.{◌≡◌, ◌≤◌, ◌+◌, ◌*◌, ◌∷◌, ◌++◌, ◌↔◌, ℕ, List, length, map, IfSome, IsSomeAnd, IsTrue, Some};
+ghost use Rattle.std.specs.Prelude.{◌≡◌, ◌≤◌, ◌+◌, ◌*◌, ◌∷◌, ◌++◌, ◌↔◌, ℕ, List, length, map, IfSome, IsSomeAnd, IsTrue, Ok, Some};
 ghost use Rattle.std.specs.List.{All};
 ghost use Rattle.ptpm_data.specs.declared.data_sets.PortDataSet.{PortDataSet};
 ghost use Rattle.ptpm_data.specs.Image.{BeginsWithImage, DataSetsFit, PortFits, data_sets_octets, ports_image};
 ghost use Rattle.ptpm_data.specs.ImageReading.{IsSplit, clock_read, clock_start, current_read, default_read, parent_read, port_read, port_start, time_read};
 ghost use Rattle.ptpm_data.specs.Members.{DataSetsValue, IsConsistent};
+ghost use Rattle.ptpm_data.specs.Start.{start_of};
 
 use crate::data_sets::{
     CurrentDataSet, DataSets, DefaultDataSet, ParentDataSet, TimePropertiesDataSet,
@@ -28,13 +29,27 @@ impl DataSets {
         ensures consistent { IfSome result (λ d. IsConsistent d) }
         ensures fits { IfSome result (λ d. DataSetsFit d) }
     {
-        let read = read_image(octets);
-        let Some(sets) = &read else {
-            return None;
-        };
-        data_sets_law(sets);
-        fits_law(sets);
-        if sets.is_first_in(octets) { read } else { None }
+        let mut sets = DataSets::blank();
+        if sets.restore(octets) {
+            Some(sets)
+        } else {
+            None
+        }
+    }
+
+    /// Does what `restored` does, in place: whether an image comes first, and then these are its data sets. If none does, they are
+    /// any data sets. So the stack has room for no others.
+    pub fn restore(&mut self, octets: &[u8]) -> bool
+        ensures image { IsTrue result → BeginsWithImage self.new octets.now }
+        ensures found { (d : DataSetsValue) → IsConsistent d → DataSetsFit d → BeginsWithImage d octets.now
+            → IsTrue result × (self.new ≡ d) }
+        ensures consistent { IsConsistent self.new }
+        ensures fits { DataSetsFit self.new }
+    {
+        let read = self.read_image(octets);
+        data_sets_law(self);
+        fits_law(self);
+        read && self.is_first_in(octets)
     }
 
     /// Whether the image comes first. It is never inlined, nor is `read_image`: so the stack has room for one of them at a time.
@@ -43,6 +58,36 @@ impl DataSets {
         ensures { IsTrue result ↔ BeginsWithImage self.now octets.now }
     {
         octets.starts_with(self.image().as_slice())
+    }
+
+    /// Gives these data sets the values of an image that comes first; if none is there, any or none.
+    #[inline(never)]
+    fn read_image(&mut self, octets: &[u8]) -> bool
+        ensures { (d : DataSetsValue) (rest : List ℕ) → IsConsistent d → DataSetsFit d
+            → octets.now ≡ data_sets_octets d ++ rest
+            → IsTrue result × (self.new ≡ d) }
+    {
+        let Some((clock, text, ports)) = split_image(octets) else {
+            return false;
+        };
+        let Some(start) = read_clock(clock, text) else {
+            return false;
+        };
+        self.start_with_ports(&start, ports)
+    }
+
+    /// Starts with these values and the ports whose octets in an image these are.
+    #[inline(never)]
+    fn start_with_ports(&mut self, clock: &ClockStart, ports: &[u8]) -> bool
+        ensures { (sets : List PortDataSet) (d : DataSetsValue) → length sets ≤ 8 → All PortFits sets
+            → ports.now ≡ ports_image sets
+            → start_of clock.now (map port_start sets) ≡ Ok d
+            → IsTrue result × (self.new ≡ d) }
+    {
+        match read_ports(ports) {
+            Some(ports) => self.start(clock, ports.as_slice()).is_ok(),
+            None => false,
+        }
     }
 }
 
@@ -55,19 +100,6 @@ pub fn image_end(octets: &[u8]) -> Option<usize>
 {
     let (clock, text, ports) = split_image(octets)?;
     Some(clock.len() + 1 + text.len() + 1 + ports.len())
-}
-
-/// The data sets of an image that comes first; if none is there, any or none.
-#[inline(never)]
-fn read_image(octets: &[u8]) -> Option<DataSets>
-    ensures { (d : DataSetsValue) (rest : List ℕ) → IsConsistent d → DataSetsFit d
-        → octets.now ≡ data_sets_octets d ++ rest
-        → result ≡ Some d }
-{
-    let (clock, text, ports) = split_image(octets)?;
-    let start = read_clock(clock, text)?;
-    let ports = read_ports(ports)?;
-    DataSets::new(&start, ports.as_slice()).ok()
 }
 
 /// An image that comes first, cut into its octets of the clock, its text and its octets of the ports.
@@ -101,7 +133,8 @@ fn split_counted(octets: &[u8], size: usize) -> Option<(&[u8], &[u8])>
     octets.split_at_checked(*count as usize * size)
 }
 
-/// The start values of an image's 74 octets of the clock, with this text; none if the text is too long for a start.
+/// The start values of an image's 74 octets of the clock, with this text; none if the text is too long for a start. Never inlined.
+#[inline(never)]
 #[tactic(auto, unfolding(crate::specs::ImageReading::clock_read))]
 fn read_clock(octets: &[u8], text: &[u8]) -> Option<ClockStart>
     requires { length octets.now ≡ 74 }

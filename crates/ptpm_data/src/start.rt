@@ -1,7 +1,7 @@
 //! The values that a clock starts with (clause 8; ranges and defaults are this project's profile).
 
 ghost use Rattle.std.specs.Prelude.{◌≡◌, ◌≤◌, length, map, MatchResult, Some, None};
-ghost use Rattle.ptpm_data.specs.Start.{port_data_set, ports_fault, count_fault, grandmaster_fault, settings_fault, unless};
+ghost use Rattle.ptpm_data.specs.Start.{port_data_set, ports_fault, count_fault, grandmaster_fault, settings_fault, start_fault, unless};
 
 use crate::data_field::i8_octet;
 use crate::data_sets::{
@@ -380,9 +380,27 @@ fn judge_grandmaster(default: &DefaultDataSet, parent: &ParentDataSet) -> Result
     }
 }
 
+/// The data sets of the ports of a clock that starts so, or the first fault of the start. It is never inlined: so the stack has no
+/// room for its work when the data sets are put together.
+#[inline(never)]
+fn judged_ports(
+    clock: &ClockStart,
+    ports: &[PortStart],
+) -> Result<ArrayVec<PortDataSet, 8>, StartError>
+    ensures { MatchResult result
+        (λ sets. (start_fault clock.now ports.now ≡ None) × (sets.items ≡ map port_data_set ports.now))
+        (λ fault. start_fault clock.now ports.now ≡ Some fault) }
+{
+    count_ports(ports.len())?;
+    clock.judge()?;
+    let sets = port_data_sets(ports)?;
+    judge_grandmaster(&clock.default_data_set(), &clock.parent_data_set())?;
+    Ok(sets)
+}
+
 impl DataSets {
-    ghost use Rattle.std.specs.Prelude.{◌≡◌};
-    ghost use Rattle.ptpm_data.specs.Start.{start_of};
+    ghost use Rattle.std.specs.Prelude.{◌≡◌, [], ◌∷◌, Err, MatchResult, Ok, OnErr};
+    ghost use Rattle.ptpm_data.specs.Start.{default_clock, default_port, no_identity, start_of, started};
 
     /// The data sets of a clock that starts with these values, its ports numbered from 1.
     ///
@@ -391,19 +409,54 @@ impl DataSets {
     pub fn new(clock: &ClockStart, ports: &[PortStart]) -> Result<DataSets, StartError>
         ensures { result ≡ start_of clock.now ports.now }
     {
-        count_ports(ports.len())?;
-        clock.judge()?;
-        let ports = port_data_sets(ports)?;
-        let default = clock.default_data_set();
-        let parent = clock.parent_data_set();
-        judge_grandmaster(&default, &parent)?;
+        let ports = judged_ports(clock, ports)?;
         Ok(DataSets {
-            default,
+            default: clock.default_data_set(),
             description: Description::of(clock.user_description.as_slice()),
             current: clock.current_data_set(),
-            parent,
+            parent: clock.parent_data_set(),
             time: clock.time_data_set(),
             ports,
         })
+    }
+
+    /// Does what `new` does, in place. If it is refused, nothing changes.
+    #[tactic(auto, unfolding(crate::specs::Start::start_of))]
+    pub(crate) fn start(
+        &mut self,
+        clock: &ClockStart,
+        ports: &[PortStart],
+    ) -> Result<(), StartError>
+        ensures started { MatchResult result
+            (λ _. start_of clock.now ports.now ≡ Ok self.new)
+            (λ fault. start_of clock.now ports.now ≡ Err fault) }
+        ensures unchanged { OnErr result (self.new ≡ self.old) }
+    {
+        self.ports = judged_ports(clock, ports)?;
+        self.default = clock.default_data_set();
+        self.description = Description::of(clock.user_description.as_slice());
+        self.current = clock.current_data_set();
+        self.parent = clock.parent_data_set();
+        self.time = clock.time_data_set();
+        Ok(())
+    }
+
+    /// The data sets of a clock of one port whose identity is all zeros, with this profile's defaults: room for others, which
+    /// `restore` puts in their place.
+    #[inline(never)]
+    pub fn blank() -> DataSets
+        ensures { result ≡ started (default_clock no_identity 0) (default_port ∷ []) }
+    {
+        let clock = ClockStart::new(ClockIdentity([0; 8]), 0);
+        let mut ports = ArrayVec::new();
+        ports.push(PortDataSet::default());
+        DataSets {
+            default: clock.default_data_set(),
+            description: Description::of(clock.user_description.as_slice()),
+            current: clock.current_data_set(),
+            parent: clock.parent_data_set(),
+            time: clock.time_data_set(),
+            ports,
+        }
     }
 }

@@ -1,6 +1,7 @@
 //! What a clock begins with, before it is made.
 
-ghost use Rattle.std.specs.Prelude.{◌≡◌, ◌≢◌, IfErr, IfOk, IsOkAnd, None, Ok, OnOk, Some, take};
+ghost use Rattle.std.specs.Prelude.{◌≡◌, ◌≢◌, IfErr, IfOk, IfSome, IsOkAnd, MatchResult, None, Ok, OnOk, Some, take};
+ghost use Rattle.ptpm_table.specs.Managers.{identities, table_refusal};
 ghost use Rattle.ptpm_saved.specs.Image.{SavedClock};
 ghost use Rattle.ptpm_host.specs.Clock.{start_by, start_refusal};
 ghost use Rattle.ptpm_host.specs.Restoring.{CanRestore, IsRestoreRefused};
@@ -11,7 +12,7 @@ use crate::refusal::{ClockRestoreRefusal, StartRefusal};
 use crate::settings::{ClockSettings, ManagerSettings, NO_IDENTITY, PortSettings, port_starts};
 use ptpm_codec::ClockIdentity;
 use ptpm_data::DataSets;
-use ptpm_saved::judged;
+use ptpm_saved::judge_into;
 use std::alloc::Global;
 
 /// The data sets and the managers of a clock that may start.
@@ -55,32 +56,44 @@ impl JudgedStart {
     }
 }
 
-/// The data sets of an image, or the first reason why no clock of this identity, so many ports and these managers goes on from it. Of
-/// the managers nothing is left on the stack while the image is judged. Takes no memory.
-pub(crate) fn judged_image(
+/// Leaves the data sets of an image there, or answers the first reason why no clock of this identity, so many ports and these
+/// managers goes on from it. Of the managers nothing is left on the stack while the image is judged. Takes no memory.
+pub(crate) fn judge_image(
     identity: &[u8; 8],
     ports: usize,
     managers: &[ManagerSettings],
     image: &[u8],
-) -> Result<DataSets, ClockRestoreRefusal>
-    ensures judged { IfOk result (λ sets. (c : SavedClock)
+    sets: &mut DataSets,
+) -> Result<(), ClockRestoreRefusal>
+    ensures judged { OnOk result ((c : SavedClock)
         × CanRestore (record { 0 = identity.now }) ports managers.now image.now c
-        × (sets ≡ c.sets)) }
+        × (sets.new ≡ c.sets)) }
     ensures refused { IfErr result
         (λ e. IsRestoreRefused (record { 0 = identity.now }) ports managers.now image.now e) }
     ensures found { (c : SavedClock)
         → CanRestore (record { 0 = identity.now }) ports managers.now image.now c
-        → IsOkAnd result (λ sets. sets ≡ c.sets) }
+        → IsOkAnd result (λ _. sets.new ≡ c.sets) }
 {
-    if let Err(fault) = ConfiguredManagers::new(managers) {
-        return Err(ClockRestoreRefusal::Managers(fault));
-    }
+    judge_managers(managers)?;
     let identity = ClockIdentity(*identity);
     if identity == NO_IDENTITY {
         return Err(ClockRestoreRefusal::IdentityIsZero);
     }
-    match judged(image, &identity, ports) {
-        Ok(sets) => Ok(sets),
+    match judge_into(image, &identity, ports, sets) {
+        Ok(()) => Ok(()),
         Err(fault) => Err(ClockRestoreRefusal::Image(fault)),
+    }
+}
+
+/// The fault of these managers. Never inlined: so the stack has no room for them while the image is judged.
+#[inline(never)]
+fn judge_managers(managers: &[ManagerSettings]) -> Result<(), ClockRestoreRefusal>
+    ensures { MatchResult result
+        (λ _. table_refusal (identities (configured managers.now)) ≡ None)
+        (λ e. IfSome (table_refusal (identities (configured managers.now))) (λ fault. e ≡ ClockRestoreRefusal.Managers fault)) }
+{
+    match ConfiguredManagers::new(managers) {
+        Ok(_) => Ok(()),
+        Err(fault) => Err(ClockRestoreRefusal::Managers(fault)),
     }
 }

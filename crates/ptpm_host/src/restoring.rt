@@ -12,10 +12,12 @@ ghost use Rattle.ptpm_host.specs.Restoring.{CanRestore, IsBack, IsBegunAs, IsRes
 ghost use Rattle.ptpm_host.specs.Settings.{configured};
 
 use crate::clock::HostedClock;
-use crate::judged::judged_image;
+use crate::judged::judge_image;
 use crate::managers::ConfiguredManagers;
 use crate::refusal::ClockRestoreRefusal;
 use crate::settings::ManagerSettings;
+use ptpm_codec::OutOfMemory;
+use ptpm_data::DataSets;
 use ptpm_saved::{image_into, put_back_judged};
 use std::alloc::Global;
 
@@ -84,12 +86,28 @@ impl HostedClock {
             → MatchResult result (λ r. IsBegunAs c managers.now r.value)
             (λ e. e ≡ ClockRestoreRefusal.OutOfMemory) }
     {
-        let sets = judged_image(identity, ports, managers, image)?;
-        let Ok(mut clock) = Box::new(alloc, HostedClock::without_managers(&sets)) else {
+        let mut sets = DataSets::blank();
+        judge_image(identity, ports, managers, image, &mut sets)?;
+        let Ok(mut clock) = HostedClock::boxed_without_managers(alloc, &sets) else {
             return Err(ClockRestoreRefusal::OutOfMemory);
         };
         clock.admit_judged(managers);
         Ok(clock)
+    }
+
+    /// A clock of these data sets without managers, in a block of its own. Never inlined.
+    #[inline(never)]
+    fn boxed_without_managers(
+        alloc: Global,
+        sets: &DataSets,
+    ) -> Result<Box<HostedClock>, OutOfMemory>
+        ensures made { IfOk result (λ r. (r.value.agent.sets ≡ sets.now)
+            × IsFresh sets.now.default.identity [] (clock_in r.value) (state_in r.value).entries) }
+    {
+        match Box::new(alloc, HostedClock::without_managers(sets)) {
+            Ok(clock) => Ok(clock),
+            Err(_) => Err(OutOfMemory),
+        }
     }
 
     /// Gives a clock without managers these, of which none is refused. Never inlined.

@@ -10,4 +10,4 @@ mod restoring;
 
 pub use error::RestoreError;
 pub use image::{CLOCK_OCTETS, image_into, image_size};
-pub use restoring::{judged, put_back, put_back_judged, restored};
+pub use restoring::{judge_into, judged, put_back, put_back_judged, restored};

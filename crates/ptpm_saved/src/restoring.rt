@@ -1,6 +1,6 @@
 //! A clock back from its image (this project's profile).
 
-ghost use Rattle.std.specs.Prelude.{◌≡◌, ◌≤◌, ◌%◌, ◌↔◌, IfErr, IfNone, IfOk, IfSome, IsOkAnd, IsSome, IsSomeAnd, IsTrue, List, MatchResult, None, Some, true, if◌then◌else◌, length};
+ghost use Rattle.std.specs.Prelude.{◌≡◌, ◌≤◌, ◌%◌, ◌↔◌, IfErr, IfNone, IfOk, IfSome, IsOkAnd, IsSome, IsSomeAnd, IsTrue, List, MatchResult, None, OnOk, Some, true, if◌then◌else◌, length};
 ghost use Rattle.std.specs.FinMap as fin;
 ghost use Rattle.std.specs.List.{All};
 ghost use Rattle.std.specs.Ordering.{is_lt};
@@ -82,17 +82,38 @@ pub fn judged(
         → c.sets.default.identity ≡ identity.now → length c.sets.ports ≡ ports
         → IsOkAnd result (λ sets. sets ≡ c.sets) }
 {
+    let mut sets = DataSets::blank();
+    judge_into(image, identity, ports, &mut sets)?;
+    Ok(sets)
+}
+
+/// Does what `judged` does, with the caller's room for the data sets: so the stack has room for no others. If the image is refused,
+/// any data sets are left there.
+pub fn judge_into(
+    image: &[u8],
+    identity: &ClockIdentity,
+    ports: usize,
+    sets: &mut DataSets,
+) -> Result<(), RestoreError>
+    ensures judged { OnOk result ((c : SavedClock) × IsImageOf c image.now
+        × (sets.new ≡ c.sets) × (sets.new.default.identity ≡ identity.now)
+        × (length sets.new.ports ≡ ports)) }
+    ensures refused { IfErr result (λ e. IsRefused identity.now ports image.now e) }
+    ensures found { (c : SavedClock) → IsImageOf c image.now
+        → c.sets.default.identity ≡ identity.now → length c.sets.ports ≡ ports
+        → IsOkAnd result (λ _. sets.new ≡ c.sets) }
+{
     judge_head(image)?;
-    let Some(sets) = read_body(image) else {
+    if !read_body(image, sets) {
         return Err(RestoreError::Damaged);
-    };
+    }
     if sets.identity() != *identity {
         return Err(RestoreError::OtherClock);
     }
     if sets.port_count() as usize != ports {
         return Err(RestoreError::OtherPorts);
     }
-    Ok(sets)
+    Ok(())
 }
 
 /// Keeps the entries of an image in an agent whose table knows their managers, and answers how many were let go, since it does
@@ -110,8 +131,12 @@ pub fn put_back<T: SureTable + Drop>(image: &[u8], agent: &mut Agent<T>) -> Opti
     ensures sets { agent.new.sets ≡ agent.old.sets }
     ensures owner { T.owner agent.new.table ≡ T.owner agent.old.table }
 {
-    let _sets = read_body(image)?;
-    Some(put_back_judged(image, agent))
+    let mut sets = DataSets::blank();
+    if read_body(image, &mut sets) {
+        Some(put_back_judged(image, agent))
+    } else {
+        None
+    }
 }
 
 /// What `put_back` does with an image: its data sets are not read. Never inlined.
@@ -149,20 +174,18 @@ fn judge_head(image: &[u8]) -> Result<(), RestoreError>
     Ok(())
 }
 
-/// The data sets of an image whose entries are entries too. `None` of other octets. The entries come first: so the stack has no
-/// data sets while they are read. It is never inlined, as those below that say so: so the stack has one of their frames at a time.
+/// Whether these octets are an image, and then leaves its data sets there. The entries come first: so the stack has no work on data
+/// sets while they are read. It is never inlined, as those below that say so: so the stack has one of their frames at a time.
 #[inline(never)]
-fn read_body(image: &[u8]) -> Option<DataSets>
-    ensures sound { IfSome result
-        (λ sets. (c : SavedClock) × IsImageOf c image.now × (sets ≡ c.sets)) }
+fn read_body(image: &[u8], sets: &mut DataSets) -> bool
+    ensures sound { IsTrue result
+        → (c : SavedClock) × IsImageOf c image.now × (sets.new ≡ c.sets) }
     ensures found { (c : SavedClock) → IsImageOf c image.now
-        → IsSomeAnd result (λ sets. sets ≡ c.sets) }
+        → IsTrue result × (sets.new ≡ c.sets) }
 {
-    let entries = find_entries(image)?;
-    if judge_entries(&entries) {
-        read_sets(image)
-    } else {
-        None
+    match find_entries(image) {
+        Some(entries) => judge_entries(&entries) && read_sets(image, sets),
+        None => false,
     }
 }
 
@@ -186,22 +209,20 @@ fn find_entries(image: &[u8]) -> Option<SavedEntries<'_>>
     })
 }
 
-/// The data sets behind the head of an image. `None` where its head or its data sets are none. Never inlined.
+/// Whether a head and data sets come first, and then leaves these data sets there. Never inlined.
 #[inline(never)]
-fn read_sets(image: &[u8]) -> Option<DataSets>
-    ensures begun { IfSome result (λ d. IsBegun image.now d) }
-    ensures consistent { IfSome result (λ d. IsConsistent d) }
-    ensures fits { IfSome result (λ d. DataSetsFit d) }
-    ensures found { (c : SavedClock) → IsImageOf c image.now → result ≡ Some c.sets }
+fn read_sets(image: &[u8], sets: &mut DataSets) -> bool
+    ensures begun { IsTrue result → IsBegun image.now sets.new }
+    ensures consistent { IsConsistent sets.new }
+    ensures fits { DataSetsFit sets.new }
+    ensures found { (c : SavedClock) → IsImageOf c image.now
+        → IsTrue result × (sets.new ≡ c.sets) }
 {
     if image.len() < HEAD_OCTETS {
-        return None;
+        return false;
     }
     let (front, body) = image.split_at(HEAD_OCTETS);
-    if !is_head(front, body.len()) {
-        return None;
-    }
-    DataSets::restored(body)
+    is_head(front, body.len()) && sets.restore(body)
 }
 
 /// Whether this is the head of an image with so many octets behind it.

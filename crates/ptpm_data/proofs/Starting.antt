@@ -1,0 +1,50 @@
+-- A start without a fault gives consistent data sets.
+use Rattle.std.proofs.Common.{arith, ◌≡◌, ap, refl, ℕ, ◌≤◌, List, [], ◌∷◌, length, Option, Some, None}
+use Rattle.std.specs.Option.{option_or}
+use Rattle.std.specs.Str.{is_utf8, chars}
+use Rattle.std.proofs.lemmas.List.{length-map}
+use Rattle.ptpm_data.specs.declared.start.ClockStart.{ClockStart}
+use Rattle.ptpm_data.specs.declared.start.PortStart.{PortStart}
+use Rattle.ptpm_data.specs.ManagementId.{set_of}
+use Rattle.ptpm_data.specs.Members.{IsConsistent}
+use Rattle.ptpm_data.specs.Ranges.{is_description}
+use Rattle.ptpm_data.specs.Start.{clock_fault, count_fault, default_clock, default_port, grandmaster_fault, no_identity, port_fault, ports_fault, settings_fault, start_fault, started}
+use Rattle.ptpm_data.proofs.Ranging.{ports_start}
+use Rattle.ptpm_data.proofs.StartLemmas.{accuracy_sound, count_sound, description_small, description_sound, grandmaster_sound, identity_sound, leaps_sound}
+
+neither : {E : Type 0} (a b : Option E) → option_or a b ≡ None → (a ≡ None) × (b ≡ None)
+neither None b h = (refl, h)
+neither (Some e) b h = cc
+
+pub starts_consistent : (c : ClockStart) (ports : List PortStart) → start_fault c ports ≡ None → IsConsistent (started c ports)
+starts_consistent c ports none =
+    let count = neither _ _ none in
+    let clock = neither _ _ count.1 in
+    let rest = neither _ _ clock.1 in
+    let size = count_sound (length ports) count.0 in
+    record {
+      some_port = grind (arith, length-map);
+      at_most_eight = grind (arith, length-map);
+      identity = identity_sound c clock.0;
+      description = description_sound c clock.0;
+      accuracy = accuracy_sound c clock.0;
+      leaps = leaps_sound c clock.0;
+      ports = ports_start ports rest.0;
+      grandmaster = grandmaster_sound _ _ rest.1;
+    }
+
+pub text_fits : (c : ClockStart) (ports : List PortStart) (text : List ℕ)
+    → start_fault c ports ≡ None
+    → text ≡ c.user_description.items
+    → length text ≤ 128
+text_fits c ports text none is =
+    let clock = neither _ _ (neither _ _ none).1 in
+    let small = description_small c.user_description.items (description_sound c clock.0) in
+    let size = ap length is in omega arith
+
+pub blank_faultless : start_fault (default_clock no_identity 0) (default_port ∷ []) ≡ None
+unfolding count_fault clock_fault port_fault settings_fault ports_fault grandmaster_fault is_description set_of is_utf8 chars
+blank_faultless = refl
+
+pub blank_consistent : IsConsistent (started (default_clock no_identity 0) (default_port ∷ []))
+blank_consistent = starts_consistent _ _ blank_faultless
