@@ -448,15 +448,9 @@ impl DataSets {
         ensures { result ≡ started (default_clock no_identity 0) (default_port ∷ []) }
     {
         let clock = ClockStart::new(ClockIdentity([0; 8]), 0);
-        let mut ports = ArrayVec::new();
-        ports.push(PortDataSet::default());
-        DataSets {
-            default: clock.default_data_set(),
-            description: Description::of(clock.user_description.as_slice()),
-            current: clock.current_data_set(),
-            parent: clock.parent_data_set(),
-            time: clock.time_data_set(),
-            ports,
-        }
+        let Ok(sets) = DataSets::new(&clock, &[PortStart::new()]) else {
+            unreachable!()
+        };
+        sets
     }
 }
