@@ -20,7 +20,7 @@ use Rattle.ptpm_data.specs.PortSettings.{octet_back}
 use Rattle.ptpm_data.specs.Request.{RequestValue}
 use Rattle.ptpm_data.specs.Reply.{Answer, Value}
 use Rattle.ptpm_data.specs.SetField.{octet}
-use Rattle.ptpm_data.specs.DataField.{clock_field_of, data_field_at, data_field_of, field_of_port, octet_data_field, port_field_of}
+use Rattle.ptpm_data.specs.DataField.{clock_field_of, data_field_at, data_field_of, octet_data_field, port_field_of}
 use Rattle.ptpm_data.specs.PortChange.{port_after}
 use Rattle.ptpm_data.specs.Refusals.{is_length, is_set_length, is_set_value, is_value, refusal_at}
 use Rattle.ptpm_data.specs.Changes.{changed_by, changed_if, is_named, named_changed, set_members, with_ports}

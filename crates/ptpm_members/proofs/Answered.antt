@@ -57,6 +57,7 @@ shown b port = if b then Some port else None
 same_claims : (layout : Layout) (n : ℕ) (d : DataSetsValue) → AreSaidWith (port_of n d) layout n d
     → AreSaid (Some n) d (data_field_of layout (Some n) d) (fields_of layout)
 same_claims layouts.PortDataSet n d said = said
+same_claims (layouts.Setting settings.LogAnnounceInterval) n d said = said
 same_claims _ n d said = said
 
 module _ (port : ℕ) (d : DataSetsValue) (sized : IsSized d) (fits : DataSetsFit d) where
