@@ -9,7 +9,6 @@ use Rattle.ptpm_data.specs.declared.management_id.Scope.TheVariants.{Clock, Port
 use Rattle.ptpm_data.specs.declared.management_id.Layout.{Layout}
 use Rattle.ptpm_data.specs.declared.management_id.Layout.TheVariants.{NullPtpManagement, UserDescription, DefaultDataSet, CurrentDataSet, ParentDataSet, TimePropertiesDataSet, PortDataSet, Priority1, Priority2, Domain, SlaveOnly, Setting, VersionNumber, EnablePort, DisablePort, ClockAccuracy, UtcProperties}
 use Rattle.ptpm_data.specs.declared.management_id.Row.{Row}
-use Rattle.ptpm_data.specs.declared.port_setting.PortSetting.{PortSetting}
 use Rattle.ptpm_data.specs.declared.port_setting.PortSetting.TheVariants.{LogAnnounceInterval, AnnounceReceiptTimeout, LogSyncInterval, DelayMechanism, LogMinPdelayReqInterval}
 use Rattle.ptpm_data.specs.PortSetting as settings
 use Rattle.ptpm_data.specs.SetForm.{SetField, NoSet, Empty, TextUpTo, AnyOctet, either◌to◌or◌, NotBothLeaps}
