@@ -1,5 +1,5 @@
 -- The head of an image, its data sets and its entries, put together and taken apart.
-use Rattle.std.proofs.Common.{◌≡◌, ℕ, ◌%◌, ◌/◌, ◌≤◌, ◌||◌, false, arith, refl, sym, ◌∙◌, ap, List, [], ◌∷◌, ◌++◌, length, take, drop, Option, Some, None, IfSome, subst, nat_lt, length-append}
+use Rattle.std.proofs.Common.{◌≡◌, ℕ, ◌%◌, ◌/◌, ◌≤◌, ◌||◌, false, arith, refl, sym, ◌∙◌, ap, List, [], ◌∷◌, ◌++◌, length, take, drop, None, subst, nat_lt, length-append}
 use Rattle.std.proofs.lemmas.Bool.Decides.{nat_tests}
 use Rattle.std.proofs.lemmas.List.{take-append-drop}
 use Rattle.std.proofs.Math.Seq.{drop-append_seam, take-append_seam}
@@ -118,18 +118,17 @@ whole_image image front body back tail sets es count size fronts bodies head fir
     ∙ (λ i. (head ∙ head_wraps (length body) ∙ ap (λ b. image_head 1 (length b)) whole) i ++ whole i)
 
 -- data sets read behind a head that is right
-pub begun : (image front body : List ℕ) (read : Option DataSetsValue)
+pub begun : (image front body : List ℕ) (sets : DataSetsValue)
     → 12 ≤ length image
     → front ≡ take 12 image
     → body ≡ drop 12 image
     → front ≡ image_head 1 (length body % 4294967296)
-    → IfSome read (λ d. BeginsWithImage d body)
-    → IfSome read (λ d. IsBegun image d)
-begun image front body None long fronts bodies head first = tt
-begun image front body (Some d) long fronts bodies head first = record {
+    → BeginsWithImage sets body
+    → IsBegun image sets
+begun image front body sets long fronts bodies head first = record {
   long = long;
   head = sym fronts ∙ head ∙ ap (λ b. image_head 1 (length b % 4294967296)) bodies;
-  sets_first = subst (BeginsWithImage d) bodies first;
+  sets_first = subst (BeginsWithImage sets) bodies first;
 }
 
 -- what stands behind the data sets
@@ -152,15 +151,14 @@ opened image body back tail sets count size is consistent fits bodies backs size
 }
 
 -- data sets that are read before entries that are entries
-pub whole_body : (image octets : List ℕ) (count : ℕ) (read : Option DataSetsValue) (es : List Pair)
-    → IfSome read (λ d. IsBegun image d)
-    → IfSome read IsConsistent
-    → IfSome read DataSetsFit
+pub whole_body : (image octets : List ℕ) (count : ℕ) (sets : DataSetsValue) (es : List Pair)
+    → IsBegun image sets
+    → IsConsistent sets
+    → DataSetsFit sets
     → ((d : DataSetsValue) → IsBegun image d → IsConsistent d → DataSetsFit d → IsOpened image d count octets)
     → AreEntries es
     → length es ≡ count
     → octets ≡ entries_image es
-    → IfSome read (λ d. (c : SavedClock) × IsImageOf c image × (d ≡ c.sets))
-whole_body image octets count None es begun consistent fits opens entries size is = tt
-whole_body image octets count (Some d) es begun consistent fits opens entries size is =
-    (record { sets = d; entries = es }, (opens d begun consistent fits).whole es entries size is, refl)
+    → (c : SavedClock) × IsImageOf c image × (sets ≡ c.sets)
+whole_body image octets count sets es begun consistent fits opens entries size is =
+    (record { sets = sets; entries = es }, (opens sets begun consistent fits).whole es entries size is, refl)

@@ -213,8 +213,8 @@ fn find_entries(image: &[u8]) -> Option<SavedEntries<'_>>
 #[inline(never)]
 fn read_sets(image: &[u8], sets: &mut DataSets) -> bool
     ensures begun { IsTrue result → IsBegun image.now sets.new }
-    ensures consistent { IsConsistent sets.new }
-    ensures fits { DataSetsFit sets.new }
+    ensures consistent { IsTrue result → IsConsistent sets.new }
+    ensures fits { IsTrue result → DataSetsFit sets.new }
     ensures found { (c : SavedClock) → IsImageOf c image.now
         → IsTrue result × (sets.new ≡ c.sets) }
 {

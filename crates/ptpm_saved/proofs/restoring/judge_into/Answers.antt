@@ -1,5 +1,5 @@
 use Rattle.ptpm_saved.proofs.BodyLemmas.{image_taken, not_refused}
-use Rattle.ptpm_saved.proofs.restoring.judged.Goals as goal
+use Rattle.ptpm_saved.proofs.restoring.judge_into.Goals as goal
 
 pub returns-in_err-judge_head-clause-found : goal.returns-in_err-judge_head-clause-found
 returns-in_err-judge_head-clause-found c = λ k is own ports.
