@@ -136,8 +136,7 @@ void find_transport(struct task *task) {
 
 static void open_at_interface(struct end *end) {
     const char *what;
-    end->socket = is_ethernet ? open_ethernet(end->interface, end->station, &what)
-                              : open_udp(end->interface, is_six, EVERY_MESSAGE, &what);
+    end->socket = is_ethernet ? open_ethernet(end->interface, end->station, &what) : open_udp(end->interface, is_six, &what);
     if (end->socket < 0) refuse("nothing was sent: %s: %s%s", what, strerror(errno), right_needed(is_ethernet));
 }
 
@@ -162,9 +161,9 @@ void widen_transport(void) {
 }
 
 void receive_every_type(bool is_every) {
-    for (size_t i = 0; i < end_count && is_ethernet; i++) {
-        if (filter_ethernet(ends[i].socket, !is_every)) continue;
-        complain("%s: the filter of frames: %s", ends[i].interface, strerror(errno));
+    for (size_t i = 0; i < end_count; i++) {
+        if ((is_ethernet ? filter_ethernet : filter_udp)(ends[i].socket, !is_every)) continue;
+        complain("%s: the filter of messages: %s", ends[i].interface, strerror(errno));
     }
 }
 
