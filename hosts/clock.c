@@ -139,6 +139,7 @@ static void end_in_order(void) {
 }
 
 int main(int argc, char **argv) {
+    hold_streams();
     read_options(&options, argc, argv);
     start_clock(&options);
     open_all();
