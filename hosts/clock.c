@@ -9,6 +9,7 @@
 #include "counts.h"
 #include "monotonic.h"
 #include "netlink.h"
+#include "network_limits.h"
 #include "options.h"
 #include "output.h"
 #include "peers.h"
@@ -100,6 +101,7 @@ static void run(long end) {
     if (source >= 0) observe_all();
     wait_at_all();
     say_started();
+    say_deaf_ports();
     tell_ready();
     while (is_going_on) {
         long now = milliseconds();
