@@ -168,7 +168,8 @@ void tell_missing_addresses(void) {
     for (size_t i = 0; i < end_count; i++) {
         const char *interface = ends[i].interface;
         if (interface == NULL || is_ethernet || has_address(interface, is_six ? AF_INET6 : AF_INET)) continue;
-        complain("%s has no address of IPv%d: a clock may not hear this machine there", interface, is_six ? 6 : 4);
+        if (if_nametoindex(interface) == 0) complain("%s is gone", interface);
+        else complain("%s has no address of IPv%d: a clock may not hear this machine there", interface, is_six ? 6 : 4);
     }
 }
 

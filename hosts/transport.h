@@ -22,7 +22,7 @@ void widen_transport(void);
 /* Over UDP and Ethernet, has messages of every type come in, or, as at first, management messages alone. */
 void receive_every_type(bool is_every);
 
-/* Says which of its interfaces have no address to ask from. */
+/* Says which of its interfaces are gone, or have no address to ask from. */
 void tell_missing_addresses(void);
 
 /* What it is called in a notice. */
