@@ -21,7 +21,7 @@
 /* A change has gone through a site by then. */
 enum { BEFORE_SECOND_LOOK = 2000, TIME_TEXT = 32 };
 
-/* `ptpm site` found something, or failed. */
+/* `ptpm site` found something, or failed, or it lacks the answers. */
 enum { FINDINGS = 1 };
 
 /* The places of the domain and of the clock in a line of hexadecimal. */
@@ -72,7 +72,11 @@ static int look_at_site(struct look *look, const struct task *task, const struct
     FILE *lines = open_memstream(&look->lines, &look->size);
     if (lines == NULL) refuse("nothing was asked: %s", strerror(errno));
     look->status = collect_answers(task, domains, lines);
-    if (fclose(lines) != 0) complain("some answers are left out: %s", strerror(errno));
+    bool is_whole = !ferror(lines);
+    if (fclose(lines) != 0 || !is_whole || look->lines == NULL) {
+        complain("there is no memory for the answers");
+        return look->status = FINDINGS;
+    }
     if (look->status != ANSWERED && look->status != NOT_ANSWERED) return look->status;
     if (earlier != NULL && earlier->size > 0) leave_seen(earlier);
     struct piece parts[2] = {
