@@ -12,6 +12,7 @@
 #include "stopping.h"
 #include "transport.h"
 #include <errno.h>
+#include <poll.h>
 #include <stdbool.h>
 #include <stdlib.h>
 #include <string.h>
@@ -173,11 +174,17 @@ static void print_difference(const struct look *look, const struct look *earlier
 /* Whether a look shows the site, which may have no clock by now; otherwise something failed, and that is said. */
 static bool is_whole(const struct look *look) { return look->report.has_findings || look->status == NOT_ANSWERED; }
 
-/* Looks again and again, until the program is asked to end. */
+/* Whether nobody reads what is printed any more. A pipe and a socket show that before something is written. */
+static bool has_lost_reader(void) {
+    struct pollfd output = { STDOUT_FILENO, 0, 0 };
+    return poll(&output, 1, 0) > 0 && (output.revents & (POLLERR | POLLHUP)) != 0;
+}
+
+/* Looks again and again, until the program is asked to end, or nobody reads what it prints. */
 static int watch(struct look *earlier, const struct task *task, struct domains *domains) {
     struct look look;
     keep_clocks();
-    while (!stopped && fflush(stdout) == 0 && !ferror(stdout)) {
+    while (!stopped && fflush(stdout) == 0 && !ferror(stdout) && !has_lost_reader()) {
         show_progress("%zu clocks; the next look comes %ld s after this one", count_before, task->site.watch / 1000);
         listen_for_domains(domains, task, task->site.watch);
         if (stopped) break;
