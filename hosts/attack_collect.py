@@ -7,7 +7,7 @@ import signal
 import subprocess
 import time
 
-from attacking import ME, OTHER, Peer, check, has_own_socket, path, start, work, write
+from attacking import HOME, ME, OTHER, Peer, check, has_own_socket, path, start, work, write
 
 # The dataFields of the six ids, of a clock with one port (IEEE 1588-2019, 15.5.3).
 DEFAULT, CURRENT, PARENT, TIMES, PORT, TEXT = 0x2000, 0x2001, 0x2002, 0x2003, 0x2004, 0x0002
@@ -201,4 +201,33 @@ def programs_that_show():
           and "the program ptpm is neither beside" in site.said())
 
 
-ATTACKS = [strangers_without_end, strangers_that_never_end, junk, one_identity, ids_that_lack, signals_to_collect, programs_that_show]
+def refusals_of_memory():
+    """Each request for memory is refused, with all later ones: what is shown is the whole site, or a failure with its reason. The
+    program that shows it here needs none: it prints three findings if it is handed a line."""
+    me = bytes.fromhex(ME)
+    folder = os.path.join(work, "shown")
+    os.mkdir(folder)
+    write("shown/ptpm.c", """#include <unistd.h>
+int main(void) {
+    static const char none[] = "no clock answered\\n", three[] = "findings: 3\\n0 a offset 1\\n0 b offset 2\\n0 c offset 3\\n";
+    char one;
+    if (read(0, &one, 1) != 1) return write(1, none, sizeof none - 1) > 0 ? 3 : 1;
+    while (read(0, &one, 1) == 1) continue;
+    return write(1, three, sizeof three - 1) > 0 ? 1 : 2;
+}""")
+    refuser = os.path.join(folder, "refuse.so")
+    subprocess.run(["cc", "-O1", "-fPIC", "-shared", "-o", refuser, os.path.join(HOME, "../tools/refuse_memory.c")], check=True)
+    subprocess.run(["cc", "-o", os.path.join(folder, "ptpm"), os.path.join(folder, "ptpm.c")], check=True)
+    environment = dict(os.environ, PATH=folder + ":" + os.environ["PATH"], LD_PRELOAD=refuser)
+    wrong, refused = [], 0
+    for number in range(14, 60):
+        site = Site(lambda request: [answer(request, me)], "-t", "20", "status", "--once", env=dict(environment, REFUSE_MEMORY=f"{number}+"))
+        is_whole = site.status == 1 and len(site.lines()) == 4
+        refused += not is_whole
+        if not is_whole and not (site.status in (1, 2) and site.lines() == [] and site.said() != ""):
+            wrong.append((number, site.status, site.lines(), site.said()))
+    check(f"without memory a site is whole or fails, except {wrong}", wrong == [] and 0 < refused < 46)
+
+
+ATTACKS = [strangers_without_end, strangers_that_never_end, junk, one_identity, ids_that_lack, signals_to_collect, programs_that_show,
+           refusals_of_memory]

@@ -152,6 +152,11 @@ def reports_that_are_lost():
                               stdout=subprocess.PIPE, stderr=full)
     check("nor is one of an earlier run", (lost.returncode, lost.stdout) == (4, b"") and two.value() == "priority2 71")
     check("and the next run prints that", two.is_honest() and two.last == 0 and "ptpm-manage: priority2 71\n" in two.said)
+    write_octets("number", image(40, 0))
+    lost = subprocess.run(["sh", "-c", 'exec "$@" <&- >&- 2>&-', "sh", PROGRAM, "-m", MANAGER + "/1", "-u", path, "-k", two.number,
+                           "--target", ME, "set", "PRIORITY2", "72"])
+    check("where the streams are closed it is in no file", lost.returncode == 4 and b"priority2" not in octets("number.lock"))
+    check("and the next run prints it", two.is_honest() and two.last == 0 and "ptpm-manage: priority2 72\n" in two.said)
     two.clock.end()
 
 

@@ -9,6 +9,7 @@
 #include "counts.h"
 #include "monotonic.h"
 #include "netlink.h"
+#include "network_limits.h"
 #include "options.h"
 #include "output.h"
 #include "peers.h"
@@ -100,6 +101,7 @@ static void run(long end) {
     if (source >= 0) observe_all();
     wait_at_all();
     say_started();
+    say_deaf_ports();
     tell_ready();
     while (is_going_on) {
         long now = milliseconds();
@@ -139,6 +141,7 @@ static void end_in_order(void) {
 }
 
 int main(int argc, char **argv) {
+    hold_streams();
     read_options(&options, argc, argv);
     start_clock(&options);
     open_all();

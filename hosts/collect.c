@@ -242,6 +242,7 @@ static int end_of_collection(const struct task *task, const struct domains *doma
     if (stopped) return BY_SIGNAL + stopped;
     if (seen_count() > 0) return ANSWERED;
     complain("no answer at %s in %s to %ld message%s", transport_name(), domains_text(domains), sent, sent == 1 ? "" : "s");
+    tell_missing_addresses();
     if (!task->site.is_every_domain) complain("--domain all asks in each domain in which a clock is heard");
     return NOT_ANSWERED;
 }

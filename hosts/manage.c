@@ -57,6 +57,7 @@ static int ask(struct task *task) {
 
 int main(int argc, char **argv) {
     static struct task task;
+    hold_streams();
     setvbuf(stderr, NULL, _IOLBF, BUFSIZ);      /* so that lines of several runs stay whole */
     read_task(&task, argc, argv);
     catch_signals();

@@ -122,6 +122,14 @@ static bool is_in(const struct network *network, const uint8_t *address, size_t 
     return true;
 }
 
+bool has_address(unsigned index, sa_family_t family) {
+    if (is_stale) read_networks();
+    for (size_t i = 0; i < network_count; i++) {
+        if (networks[i].index == index && networks[i].family == family) return true;
+    }
+    return false;
+}
+
 bool is_on_link(unsigned index, const struct sockaddr *address) {
     size_t size;
     const uint8_t *octets = octets_of(address, &size);

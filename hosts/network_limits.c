@@ -3,6 +3,7 @@
 #include "message_places.h"
 #include "monotonic.h"
 #include "netlink.h"
+#include "output.h"
 #include "program.h"
 #include <stdbool.h>
 #include <string.h>
@@ -23,6 +24,14 @@ void start_limits(const struct limits *given) {
     for (int i = 0; i < PORTS; i++) {
         ptpm_rate_start(&copies[i], (uint64_t)limits.rate, time_now());
         ptpm_rate_start(&answers[i], (uint64_t)limits.rate, time_now());
+    }
+}
+
+void say_deaf_ports(void) {
+    if (limits.is_any_source || transport != UDP_IPV4) return;
+    for (size_t i = 0; i < port_count; i++) {
+        if (has_address(ports[i].index, AF_INET)) continue;
+        say("%s has no address of IPv4: until it has one, nobody is heard there without --any-source", ports[i].name);
     }
 }
 

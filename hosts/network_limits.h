@@ -23,6 +23,9 @@ struct kept_back { unsigned long strangers, again, over_rate, unanswered; };
 
 void start_limits(const struct limits *given);
 
+/* Says at which interfaces nobody is heard, since they have no address whose network a sender could be in. */
+void say_deaf_ports(void);
+
 /* Whether a datagram from a port is heard at all: it comes from an address on the link, or any may. One that is not is counted. */
 bool admit_datagram(const struct heard *heard, const struct port *port);
 

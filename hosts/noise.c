@@ -78,7 +78,7 @@ int main(int argc, char **argv) {
     enum kind kind = kind_named(argv[2]);
     long rate = decimal(argv[3], 1000000), seconds = decimal(argv[4], 1000), sent = 0;
     if (rate < 1 || seconds < 1) usage();
-    int port_socket = open_udp(argv[1], false, EVERY_MESSAGE, &what);
+    int port_socket = open_udp(argv[1], false, &what);
     if (port_socket < 0) give_up(what);
     long begin = nanoseconds(), end = begin + seconds * 1000000000;
     for (long now; (now = nanoseconds()) < end;) {

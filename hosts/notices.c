@@ -3,7 +3,10 @@
 #include <stdbool.h>
 #include <stdio.h>
 #include <stdlib.h>
+#include <sys/ioctl.h>
 #include <unistd.h>
+
+enum { MOST_PROGRESS = 256 };
 
 static bool is_quiet, is_shown;
 
@@ -31,13 +34,21 @@ _Noreturn void refuse(const char *format, ...) {
 
 void be_quiet(void) { is_quiet = true; }
 
+/* How many characters of progress one line of the terminal has room for. Of two lines the first could not be taken away again. */
+static int room_for_progress(void) {
+    struct winsize size;
+    return ioctl(STDERR_FILENO, TIOCGWINSZ, &size) == 0 && size.ws_col > 1 ? size.ws_col - 1 : MOST_PROGRESS;
+}
+
 void show_progress(const char *format, ...) {
+    char line[MOST_PROGRESS];
     va_list values;
     if (is_quiet || !isatty(STDERR_FILENO)) return;
     clear_progress();
     va_start(values, format);
-    vfprintf(stderr, format, values);
+    vsnprintf(line, sizeof line, format, values);
     va_end(values);
+    fprintf(stderr, "%.*s", room_for_progress(), line);
     fflush(stderr);
     is_shown = true;
 }

@@ -24,7 +24,7 @@ static bool is_hurried;         /* the kernel reported a change */
 static int open_socket(struct port *port, const char **what) {
     int one = 1;
     if (transport == ETHERNET) return open_ethernet(port->name, port->station, what);
-    int opened = open_udp(port->name, transport == UDP_IPV6, MANAGEMENT_MESSAGES, what);
+    int opened = open_udp(port->name, transport == UDP_IPV6, what);
     if (opened >= 0 && transport == UDP_IPV4) setsockopt(opened, IPPROTO_IP, IP_PKTINFO, &one, sizeof one);
     if (opened >= 0 && transport == UDP_IPV6) setsockopt(opened, IPPROTO_IPV6, IPV6_RECVPKTINFO, &one, sizeof one);
     return opened;

@@ -11,4 +11,8 @@ _Noreturn void usage(void);
 /* Says what went wrong, with the text of errno, and ends the program with status 2. */
 _Noreturn void give_up(const char *what);
 
+/* Holds the numbers of standard input, output and error that are closed. No file or socket of the program then gets one of them,
+   and nothing that is printed comes into it. */
+void hold_streams(void);
+
 #endif

@@ -1,5 +1,6 @@
 #define _GNU_SOURCE
 #include "report.h"
+#include "program.h"
 #include <ctype.h>
 #include <stdbool.h>
 #include <stdlib.h>
@@ -30,9 +31,10 @@ static bool is_one_of(const struct finding *finding, const char *const *names, s
 
 static bool is_passing(const struct finding *finding) { return is_one_of(finding, passing, sizeof passing / sizeof *passing); }
 
+/* Without memory for one the program ends: a report that lacks a finding would say that less is wrong. */
 static void add_finding(struct report *report, const struct finding *finding) {
     struct finding *more = reallocarray(report->findings, report->count + 1, sizeof *more);
-    if (more == NULL) return;
+    if (more == NULL) give_up("the findings");
     report->findings = more;
     report->findings[report->count++] = *finding;
 }

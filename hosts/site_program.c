@@ -1,6 +1,7 @@
 #define _GNU_SOURCE
 #include "site_program.h"
 #include "notices.h"
+#include "program.h"
 #include "stopping.h"
 #include <errno.h>
 #include <fcntl.h>
@@ -64,8 +65,9 @@ static bool start_program(pid_t *process, char *const *arguments, int from, int 
     sigemptyset(&usual);
     sigaddset(&usual, SIGPIPE);
     if (posix_spawn_file_actions_init(&files) != 0 || posix_spawnattr_init(&attributes) != 0) return false;
-    posix_spawn_file_actions_adddup2(&files, from, STDIN_FILENO);
-    posix_spawn_file_actions_adddup2(&files, to, STDOUT_FILENO);
+    errno = posix_spawn_file_actions_adddup2(&files, from, STDIN_FILENO);
+    if (errno == 0) errno = posix_spawn_file_actions_adddup2(&files, to, STDOUT_FILENO);
+    if (errno != 0) return false;               /* and without them it would read what this program reads */
     posix_spawnattr_setsigmask(&attributes, &none);
     posix_spawnattr_setsigdefault(&attributes, &usual);
     posix_spawnattr_setflags(&attributes, POSIX_SPAWN_SETSIGMASK | POSIX_SPAWN_SETSIGDEF);
@@ -82,7 +84,7 @@ static void read_all(int from, struct report *report) {
         if (wait_for(&waits, 1, TURN) <= 0) continue;
         if (room - report->size < PART) {
             char *more = realloc(report->text, room + 2 * PART + room / 2);
-            if (more == NULL) return;
+            if (more == NULL) give_up("what the program ptpm prints");
             report->text = more;
             room += 2 * PART + room / 2;
         }

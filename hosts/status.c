@@ -12,6 +12,7 @@
 #include "stopping.h"
 #include "transport.h"
 #include <errno.h>
+#include <poll.h>
 #include <stdbool.h>
 #include <stdlib.h>
 #include <string.h>
@@ -21,7 +22,7 @@
 /* A change has gone through a site by then. */
 enum { BEFORE_SECOND_LOOK = 2000, TIME_TEXT = 32 };
 
-/* `ptpm site` found something, or failed. */
+/* `ptpm site` found something, or failed, or it lacks the answers. */
 enum { FINDINGS = 1 };
 
 /* The places of the domain and of the clock in a line of hexadecimal. */
@@ -72,7 +73,11 @@ static int look_at_site(struct look *look, const struct task *task, const struct
     FILE *lines = open_memstream(&look->lines, &look->size);
     if (lines == NULL) refuse("nothing was asked: %s", strerror(errno));
     look->status = collect_answers(task, domains, lines);
-    if (fclose(lines) != 0) complain("some answers are left out: %s", strerror(errno));
+    bool is_whole = !ferror(lines);
+    if (fclose(lines) != 0 || !is_whole || look->lines == NULL) {
+        complain("there is no memory for the answers");
+        return look->status = FINDINGS;
+    }
     if (look->status != ANSWERED && look->status != NOT_ANSWERED) return look->status;
     if (earlier != NULL && earlier->size > 0) leave_seen(earlier);
     struct piece parts[2] = {
@@ -169,11 +174,17 @@ static void print_difference(const struct look *look, const struct look *earlier
 /* Whether a look shows the site, which may have no clock by now; otherwise something failed, and that is said. */
 static bool is_whole(const struct look *look) { return look->report.has_findings || look->status == NOT_ANSWERED; }
 
-/* Looks again and again, until the program is asked to end. */
+/* Whether nobody reads what is printed any more. A pipe and a socket show that before something is written. */
+static bool has_lost_reader(void) {
+    struct pollfd output = { STDOUT_FILENO, 0, 0 };
+    return poll(&output, 1, 0) > 0 && (output.revents & (POLLERR | POLLHUP)) != 0;
+}
+
+/* Looks again and again, until the program is asked to end, or nobody reads what it prints. */
 static int watch(struct look *earlier, const struct task *task, struct domains *domains) {
     struct look look;
     keep_clocks();
-    while (!stopped && fflush(stdout) == 0 && !ferror(stdout)) {
+    while (!stopped && fflush(stdout) == 0 && !ferror(stdout) && !has_lost_reader()) {
         show_progress("%zu clocks; the next look comes %ld s after this one", count_before, task->site.watch / 1000);
         listen_for_domains(domains, task, task->site.watch);
         if (stopped) break;

@@ -46,6 +46,12 @@ static void read_address(const char *text) {
     freeaddrinfo(found);
 }
 
+/* An address of IPv6 that each link may have, without the link that is meant. */
+static bool lacks_link(void) {
+    const struct sockaddr_in6 *six = (const struct sockaddr_in6 *)&clock_address;
+    return is_six && IN6_IS_ADDR_LINKLOCAL(&six->sin6_addr) && six->sin6_scope_id == 0;
+}
+
 /* Interfaces with one MAC have the same address of IPv6 for their links: then the scope says which one it is. */
 static bool is_same(const struct sockaddr *one, const struct sockaddr_storage *other) {
     if (one == NULL || one->sa_family != other->ss_family) return false;
@@ -106,6 +112,9 @@ static void add_end(const char *interface) {
 static void find_at_interfaces(struct task *task) {
     is_ethernet = task->is_ethernet;
     if (!is_ethernet) find_udp(task);
+    if (task->interface_count == 0 && lacks_link()) {
+        refuse("--udp %s: every link may have it: add --interface NAME, or write %s%%NAME", task->address, task->address);
+    }
     if (task->interface_count == 0) add_end(interface_to(task->address));
     for (int i = 0; i < task->interface_count; i++) add_end(task->interfaces[i]);
     snprintf(name, sizeof name, "%s", task->address != NULL ? task->address : ends[0].interface);
@@ -136,9 +145,32 @@ void find_transport(struct task *task) {
 
 static void open_at_interface(struct end *end) {
     const char *what;
-    end->socket = is_ethernet ? open_ethernet(end->interface, end->station, &what)
-                              : open_udp(end->interface, is_six, EVERY_MESSAGE, &what);
+    end->socket = is_ethernet ? open_ethernet(end->interface, end->station, &what) : open_udp(end->interface, is_six, &what);
     if (end->socket < 0) refuse("nothing was sent: %s: %s%s", what, strerror(errno), right_needed(is_ethernet));
+}
+
+/* If the kernel can't be asked, each interface is taken to have one. */
+static bool has_address(const char *interface, int family) {
+    struct ifaddrs *all;
+    bool is_found = false;
+    if (getifaddrs(&all) != 0) return true;
+    for (const struct ifaddrs *one = all; one != NULL && !is_found; one = one->ifa_next) {
+        char owner[IFNAMSIZ];
+        snprintf(owner, sizeof owner, "%s", one->ifa_name);
+        owner[strcspn(owner, ":")] = '\0';
+        is_found = one->ifa_addr != NULL && one->ifa_addr->sa_family == family && if_nametoindex(owner) == if_nametoindex(interface);
+    }
+    freeifaddrs(all);
+    return is_found;
+}
+
+void tell_missing_addresses(void) {
+    for (size_t i = 0; i < end_count; i++) {
+        const char *interface = ends[i].interface;
+        if (interface == NULL || is_ethernet || has_address(interface, is_six ? AF_INET6 : AF_INET)) continue;
+        if (if_nametoindex(interface) == 0) complain("%s is gone", interface);
+        else complain("%s has no address of IPv%d: a clock may not hear this machine there", interface, is_six ? 6 : 4);
+    }
 }
 
 static void open_beside(const char *path) {
@@ -162,9 +194,9 @@ void widen_transport(void) {
 }
 
 void receive_every_type(bool is_every) {
-    for (size_t i = 0; i < end_count && is_ethernet; i++) {
-        if (filter_ethernet(ends[i].socket, !is_every)) continue;
-        complain("%s: the filter of frames: %s", ends[i].interface, strerror(errno));
+    for (size_t i = 0; i < end_count; i++) {
+        if ((is_ethernet ? filter_ethernet : filter_udp)(ends[i].socket, !is_every)) continue;
+        complain("%s: the filter of messages: %s", ends[i].interface, strerror(errno));
     }
 }
 

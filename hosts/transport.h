@@ -19,8 +19,11 @@ void open_transport(const struct task *task);
 /* Gives its socket room for the answers of many clocks, 4 MiB as far as the system allows. */
 void widen_transport(void);
 
-/* Over Ethernet, has messages of every type come in, or, as at first, management messages alone. Elsewhere all come in. */
+/* Over UDP and Ethernet, has messages of every type come in, or, as at first, management messages alone. */
 void receive_every_type(bool is_every);
+
+/* Says which of its interfaces are gone, or have no address to ask from. */
+void tell_missing_addresses(void);
 
 /* What it is called in a notice. */
 const char *transport_name(void);

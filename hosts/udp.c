@@ -35,9 +35,11 @@ static const struct sock_filter wanted[] = {
     BPF_STMT(BPF_RET | BPF_K, 65535),
 };
 
-static bool filter_messages(int socket, const char **what) {
+bool filter_udp(int socket, bool is_management_alone) {
     const struct sock_fprog filter = { .len = sizeof wanted / sizeof *wanted, .filter = (struct sock_filter *)wanted };
-    return set_option(socket, SOL_SOCKET, SO_ATTACH_FILTER, &filter, sizeof filter, what, "SO_ATTACH_FILTER");
+    int none = 0;
+    return is_management_alone ? setsockopt(socket, SOL_SOCKET, SO_ATTACH_FILTER, &filter, sizeof filter) == 0
+                               : setsockopt(socket, SOL_SOCKET, SO_DETACH_FILTER, &none, sizeof none) == 0;
 }
 
 static bool join_four(int socket, const struct sockaddr_in *address, unsigned interface, const char **what) {
@@ -64,22 +66,24 @@ static bool join_six(int socket, const struct sockaddr_in6 *address, unsigned in
 }
 
 /* The socket hears nothing until it is bound, and by then it has its filter. */
-static bool join_group(int socket, const char *interface, bool is_six, enum messages messages, const char **what) {
+static bool join_group(int socket, const char *interface, bool is_six, const char **what) {
     int one = 1;
     unsigned index = if_nametoindex(interface);
     struct sockaddr_storage to;
     group(&to, is_six);
-    return index != 0 && (messages == EVERY_MESSAGE || filter_messages(socket, what))
+    if (index == 0) return false;
+    *what = "SO_ATTACH_FILTER";
+    return filter_udp(socket, true)
            && set_option(socket, SOL_SOCKET, SO_REUSEADDR, &one, sizeof one, what, "SO_REUSEADDR")
            && set_option(socket, SOL_SOCKET, SO_BINDTODEVICE, interface, strlen(interface) + 1, what, "SO_BINDTODEVICE")
            && (is_six ? join_six(socket, (struct sockaddr_in6 *)&to, index, what)
                       : join_four(socket, (struct sockaddr_in *)&to, index, what));
 }
 
-int open_udp(const char *interface, bool is_six, enum messages messages, const char **what) {
+int open_udp(const char *interface, bool is_six, const char **what) {
     *what = interface;
     int opened = socket(is_six ? AF_INET6 : AF_INET, SOCK_DGRAM | SOCK_CLOEXEC, 0);
-    if (opened < 0 || join_group(opened, interface, is_six, messages, what)) return opened;
+    if (opened < 0 || join_group(opened, interface, is_six, what)) return opened;
     int failure = errno;
     close(opened);
     errno = failure;

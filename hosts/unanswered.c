@@ -83,6 +83,7 @@ int no_answer(const struct task *task, enum unanswered what, uint16_t number, lo
              sent == 1 ? "" : "s", request_clause(task, what));
     tell_rest(task, what, number);
     if (stopped) return BY_SIGNAL + stopped;
+    tell_missing_addresses();
     if (task->is_survey && !task->is_of_clock) return NOT_ANSWERED;
     bool is_answered = (task->is_kept || task->action != PTPM_GET) && tell_value(task);
     if (stopped) return BY_SIGNAL + stopped;

@@ -1,8 +1,9 @@
 -- What a handle holds: a clock, a session, a survey, or nothing.
-use Rattle.std.specs.Prelude.{Option, Some, None}
+use Rattle.std.specs.Prelude.{◌≡◌, ℕ, Option, Some, None}
 use Rattle.ptpm_host.specs.declared.clock.HostedClock.{HostedClock}
 use Rattle.ptpm_host.specs.declared.session.HostedSession.{HostedSession}
 use Rattle.ptpm_host.specs.declared.survey.HostedSurvey.{HostedSurvey}
+use Rattle.ptpm_host.specs.Numbers.{no_session}
 use Rattle.ptpm_c.specs.declared.keeping.Keeping.{Keeping}
 use Rattle.ptpm_c.specs.declared.kept.Hosted.{Hosted}
 use Rattle.ptpm_c.specs.declared.kept.Hosted.TheVariants as hosts
@@ -43,3 +44,8 @@ session_held keeping = session_of (held keeping)
 
 abbrev pub survey_held : Keeping → Option HostedSurvey
 survey_held keeping = survey_of (held keeping)
+
+-- a call that wants a session finds none: it answers so, and the handle holds what it held
+abbrev pub FindsNoSession : Keeping → ℕ → Keeping → Type 0
+FindsNoSession before number after =
+    session_held before ≡ None → (number ≡ no_session) × (held after ≡ held before)

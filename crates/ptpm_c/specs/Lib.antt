@@ -1,5 +1,6 @@
 pub mod Keeping
 pub mod Held
+pub mod Numbered
 pub mod Turned
 pub mod Session
 pub mod Survey

@@ -2,26 +2,23 @@
 //! its header.
 #![tactic(auto)]
 
-ghost use Rattle.std.specs.Prelude.{◌≡◌, ◌≢◌, ◌≤◌, IfNone, IfSome, IsSomeAnd, None, Ok, Some, All, drop, length, take};
-ghost use Rattle.std.specs.List.{AllZip};
+ghost use Rattle.std.specs.Prelude.{◌≡◌, ◌≢◌, ◌≤◌, IfNone, IfSome, IsSomeAnd, None, Ok, Some, drop, length, take};
 ghost use Rattle.ptpm_data.specs.Changed.{changed, no_members};
 ghost use Rattle.ptpm_data.specs.DataField.{data_field_of_id};
-ghost use Rattle.ptpm_data.specs.Members.{has_port};
 ghost use Rattle.ptpm_data.specs.Start.{default_clock, default_port};
 ghost use Rattle.ptpm_data.specs.declared.observation.ObservationError.{ObservationError};
 ghost use Rattle.ptpm_host.specs.declared.clock.HostedClock.{HostedClock};
-ghost use Rattle.ptpm_host.specs.declared.refusal.HandleRefusal.{HandleRefusal};
 ghost use Rattle.ptpm_host.specs.declared.refusal.ReadRefusal.{ReadRefusal};
 ghost use Rattle.ptpm_host.specs.declared.refusal.StartRefusal.{StartRefusal};
-ghost use Rattle.ptpm_host.specs.Clock.{IsFreshClock, IsWhole, KeepsBehind, handle_refusal, messages_in, start_by, start_refusal};
-ghost use Rattle.ptpm_host.specs.Numbers.{handle_number, no_clock, no_memory, observe_number, read_number, start_number, verdict_number};
+ghost use Rattle.ptpm_host.specs.Clock.{IsFreshClock, start_by, start_refusal};
+ghost use Rattle.ptpm_host.specs.Numbers.{no_clock, no_memory, observe_number, read_number, start_number, verdict_number};
 ghost use Rattle.ptpm_agent.specs.declared.verdict.Verdict.{Verdict};
 ghost use Rattle.ptpm_host.specs.Observing.{IsObserved, left_number, observe_refusal, ports_left};
 ghost use Rattle.ptpm_host.specs.Reading.{read_refusal};
 ghost use Rattle.ptpm_host.specs.Settings.{clock_start, default_identity, port_start};
 ghost use Rattle.ptpm_c.specs.declared.kept.Hosted.TheVariants.{Nothing};
 ghost use Rattle.ptpm_c.specs.Held.{clock_held, held};
-ghost use Rattle.ptpm_c.specs.Turned.{IsTurnedTo};
+ghost use Rattle.ptpm_c.specs.Turned.{AreWritten, FindsNoClock, RefusesTurn, TakesTurn, why_not_handed};
 
 mod agreement;
 mod fields;
@@ -114,23 +111,14 @@ pub extern "C" fn ptpm_clock_handle(
 ) -> u32
     ensures turned { (c : HostedClock)
         → clock_held handle.old.keeping ≡ Some c
-        → handle_refusal (has_port port c.agent.sets) (length sent.old) ≡ None
-        → IsSomeAnd (clock_held handle.new.keeping)
-        (λ d. IsTurnedTo c port datagram.now result (messages_in (take count.new sent.new)) d) }
-    ensures refused { (c : HostedClock) (e : HandleRefusal)
+        → TakesTurn c port datagram.now sent.old result count.new sent.new
+        (clock_held handle.new.keeping) }
+    ensures refused { (c : HostedClock)
         → clock_held handle.old.keeping ≡ Some c
-        → handle_refusal (has_port port c.agent.sets) (length sent.old) ≡ Some e
-        → (result ≡ handle_number e)
-        × ((count.new ≡ 0)
-        × ((sent.new ≡ sent.old) × (clock_held handle.new.keeping ≡ Some c))) }
-    ensures within { count.new ≤ length sent.new }
-    ensures whole { All IsWhole (take count.new sent.new) }
-    ensures places { drop count.new sent.new ≡ drop count.new sent.old }
-    ensures behind { AllZip KeepsBehind sent.old sent.new }
-    ensures empty { clock_held handle.old.keeping ≡ None
-        → (result ≡ no_clock)
-        × ((count.new ≡ 0)
-        × ((sent.new ≡ sent.old) × (held handle.new.keeping ≡ held handle.old.keeping))) }
+        → RefusesTurn c port sent.old result count.new sent.new (clock_held handle.new.keeping) }
+    ensures places { AreWritten sent.old count.new sent.new }
+    ensures empty { FindsNoClock handle.old.keeping sent.old result count.new sent.new
+        handle.new.keeping }
 {
     *count = 0;
     let Some((kept, mut clock)) = handle.take_clock(alloc) else {
@@ -162,29 +150,20 @@ pub extern "C" fn ptpm_clock_handle_changed(
 ) -> u32
     ensures turned { (c : HostedClock)
         → clock_held handle.old.keeping ≡ Some c
-        → handle_refusal (has_port port c.agent.sets) (length sent.old) ≡ None
-        → IsSomeAnd (clock_held handle.new.keeping)
-        (λ d. IsTurnedTo c port datagram.now result (messages_in (take count.new sent.new)) d) }
+        → TakesTurn c port datagram.now sent.old result count.new sent.new
+        (clock_held handle.new.keeping) }
     ensures changed { (c : HostedClock)
         → clock_held handle.old.keeping ≡ Some c
-        → handle_refusal (has_port port c.agent.sets) (length sent.old) ≡ None
+        → why_not_handed c port sent.old ≡ None
         → IsSomeAnd (clock_held handle.new.keeping)
         (λ d. members.new ≡ changed c.agent.sets d.agent.sets) }
     ensures new_alone { result ≢ verdict_number Verdict.AnsweredNew → members.new ≡ no_members }
-    ensures refused { (c : HostedClock) (e : HandleRefusal)
+    ensures refused { (c : HostedClock)
         → clock_held handle.old.keeping ≡ Some c
-        → handle_refusal (has_port port c.agent.sets) (length sent.old) ≡ Some e
-        → (result ≡ handle_number e)
-        × ((count.new ≡ 0)
-        × ((sent.new ≡ sent.old) × (clock_held handle.new.keeping ≡ Some c))) }
-    ensures within { count.new ≤ length sent.new }
-    ensures whole { All IsWhole (take count.new sent.new) }
-    ensures places { drop count.new sent.new ≡ drop count.new sent.old }
-    ensures behind { AllZip KeepsBehind sent.old sent.new }
-    ensures empty { clock_held handle.old.keeping ≡ None
-        → (result ≡ no_clock)
-        × ((count.new ≡ 0)
-        × ((sent.new ≡ sent.old) × (held handle.new.keeping ≡ held handle.old.keeping))) }
+        → RefusesTurn c port sent.old result count.new sent.new (clock_held handle.new.keeping) }
+    ensures places { AreWritten sent.old count.new sent.new }
+    ensures empty { FindsNoClock handle.old.keeping sent.old result count.new sent.new
+        handle.new.keeping }
 {
     *count = 0;
     *members = ChangedMembers::NONE;

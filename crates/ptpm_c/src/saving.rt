@@ -1,14 +1,14 @@
 //! The image of a session for hosts in C: the octets in which it outlasts the host.
 
 ghost use Rattle.std.specs.Prelude.{◌≡◌, ◌≢◌, ◌≤◌, ◌<◌, ◌++◌, IsSomeAnd, None, Some, drop, length};
-ghost use Rattle.ptpm_manager.specs.declared.error.RestoreError.{RestoreError};
 ghost use Rattle.ptpm_manager.specs.Image.{session_image};
 ghost use Rattle.ptpm_manager.specs.ImageReading.{session_at};
 ghost use Rattle.ptpm_host.specs.declared.session.HostedSession.{HostedSession};
-ghost use Rattle.ptpm_host.specs.Numbers.{no_memory, no_room, no_session, restore_number};
+ghost use Rattle.ptpm_host.specs.Numbers.{no_room, no_session, restore_number};
+ghost use Rattle.ptpm_host.specs.Session.{IsAt};
 ghost use Rattle.ptpm_host.specs.SessionSettings.{settings_refusal};
 ghost use Rattle.ptpm_c.specs.Held.{held, session_held};
-ghost use Rattle.ptpm_c.specs.Session.{IsAt};
+ghost use Rattle.ptpm_c.specs.Numbered.{IsNumberedBy};
 
 use crate::handle::Handle;
 use crate::kept::{Hosted, Kept};
@@ -66,12 +66,7 @@ pub extern "C" fn ptpm_session_restore(
 ) -> u32
     ensures restored { result ≡ 0 → IsSomeAnd (session_held handle.new.keeping)
         (λ s. IsAt s (session_at image.now) None × (image.now ≡ session_image s.session)) }
-    ensures permitted { result ≡ 0 → settings_refusal settings.now image.now ≡ None }
-    ensures refused { (e : RestoreError)
-        → settings_refusal settings.now image.now ≡ Some e
-        → result ≡ restore_number e }
-    ensures memory { settings_refusal settings.now image.now ≡ None → result ≢ 0 →
-        result ≡ no_memory }
+    ensures number { IsNumberedBy restore_number (settings_refusal settings.now image.now) result }
     ensures unchanged { result ≢ 0 → held handle.new.keeping ≡ held handle.old.keeping }
 {
     let session = match HostedSession::restored(alloc, settings, image) {

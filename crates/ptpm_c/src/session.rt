@@ -3,7 +3,7 @@
 ghost use Rattle.std.specs.Prelude.{◌≡◌, ◌≢◌, ◌≤◌, false, true, IfNone, IfSome, IsSomeAnd, None, Some, drop, length, take};
 ghost use Rattle.ptpm_codec.specs.declared.message.Message.{Message};
 ghost use Rattle.ptpm_codec.specs.Canonical.{canonical};
-ghost use Rattle.ptpm_manager.specs.declared.error.BeginError.{BeginError};
+ghost use Rattle.ptpm_manager.specs.Ask.{request_at_port, request_of};
 ghost use Rattle.ptpm_manager.specs.declared.error.GiveUpRefusal.{GiveUpRefusal};
 ghost use Rattle.ptpm_manager.specs.declared.error.SendError.{SendError};
 ghost use Rattle.ptpm_manager.specs.declared.report.Report.{Report};
@@ -14,12 +14,13 @@ ghost use Rattle.ptpm_host.specs.declared.refusal.SendRefusal.{SendRefusal};
 ghost use Rattle.ptpm_host.specs.declared.refusal.SessionRefusal.{SessionRefusal};
 ghost use Rattle.ptpm_host.specs.declared.session.HostedSession.{HostedSession};
 ghost use Rattle.ptpm_host.specs.Numbers.{begin_number, give_up_number, heard_number, no_memory, no_session, report_number, resume_number, send_number, session_number, told_number};
-ghost use Rattle.ptpm_host.specs.Session.{ask_of, hand_refusal, heard_of, report_refusal};
+ghost use Rattle.ptpm_host.specs.Session.{HasBegun, IsAt, ask_of, hand_refusal, heard_of, report_refusal};
 ghost use Rattle.ptpm_host.specs.SessionSettings.{session_refusal, session_start};
 ghost use Rattle.ptpm_host.specs.Told.{told_error, told_octets, told_of};
 ghost use Rattle.ptpm_c.specs.declared.kept.Hosted.TheVariants.{Nothing};
-ghost use Rattle.ptpm_c.specs.Held.{held, session_held};
-ghost use Rattle.ptpm_c.specs.Session.{HasBegun, HasBegunAt, HasHeard, IsAt};
+ghost use Rattle.ptpm_c.specs.Held.{FindsNoSession, held, session_held};
+ghost use Rattle.ptpm_c.specs.Numbered.{IsNumberedBy};
+ghost use Rattle.ptpm_c.specs.Session.{HasHeard};
 
 use crate::handle::Handle;
 use crate::kept::{Hosted, Kept};
@@ -77,26 +78,16 @@ pub extern "C" fn ptpm_session_begin(
         → session_held handle.old.keeping ≡ Some s
         → result ≡ 0
         → IsSomeAnd (session_held handle.new.keeping)
-        (λ t. HasBegun s (ask_of action id port octets.now) t) }
-    ensures permitted { (s : HostedSession)
+        (HasBegun s (request_of (ask_of action id port octets.now))) }
+    ensures number { (s : HostedSession)
         → session_held handle.old.keeping ≡ Some s
-        → result ≡ 0
-        → begin_refusal s.session (ask_of action id port octets.now) ≡ None }
-    ensures number { (s : HostedSession) (e : BeginError)
-        → session_held handle.old.keeping ≡ Some s
-        → begin_refusal s.session (ask_of action id port octets.now) ≡ Some e
-        → result ≡ begin_number e }
-    ensures memory { (s : HostedSession)
-        → session_held handle.old.keeping ≡ Some s
-        → begin_refusal s.session (ask_of action id port octets.now) ≡ None
-        → result ≢ 0
-        → result ≡ no_memory }
+        → IsNumberedBy begin_number
+        (begin_refusal s.session (ask_of action id port octets.now)) result }
     ensures unchanged { (s : HostedSession)
         → session_held handle.old.keeping ≡ Some s
         → result ≢ 0
         → session_held handle.new.keeping ≡ Some s }
-    ensures empty { session_held handle.old.keeping ≡ None →
-        (result ≡ no_session) × (held handle.new.keeping ≡ held handle.old.keeping) }
+    ensures empty { FindsNoSession handle.old.keeping result handle.new.keeping }
 {
     let Some((kept, mut session)) = handle.take_session(alloc) else {
         return NO_SESSION;
@@ -124,26 +115,16 @@ pub extern "C" fn ptpm_session_begin_at(
         → session_held handle.old.keeping ≡ Some s
         → result ≡ 0
         → IsSomeAnd (session_held handle.new.keeping)
-        (λ t. HasBegunAt s (ask_of action id port octets.now) t) }
-    ensures permitted { (s : HostedSession)
+        (HasBegun s (request_at_port (ask_of action id port octets.now))) }
+    ensures number { (s : HostedSession)
         → session_held handle.old.keeping ≡ Some s
-        → result ≡ 0
-        → begin_at_refusal s.session (ask_of action id port octets.now) ≡ None }
-    ensures number { (s : HostedSession) (e : BeginError)
-        → session_held handle.old.keeping ≡ Some s
-        → begin_at_refusal s.session (ask_of action id port octets.now) ≡ Some e
-        → result ≡ begin_number e }
-    ensures memory { (s : HostedSession)
-        → session_held handle.old.keeping ≡ Some s
-        → begin_at_refusal s.session (ask_of action id port octets.now) ≡ None
-        → result ≢ 0
-        → result ≡ no_memory }
+        → IsNumberedBy begin_number
+        (begin_at_refusal s.session (ask_of action id port octets.now)) result }
     ensures unchanged { (s : HostedSession)
         → session_held handle.old.keeping ≡ Some s
         → result ≢ 0
         → session_held handle.new.keeping ≡ Some s }
-    ensures empty { session_held handle.old.keeping ≡ None →
-        (result ≡ no_session) × (held handle.new.keeping ≡ held handle.old.keeping) }
+    ensures empty { FindsNoSession handle.old.keeping result handle.new.keeping }
 {
     let Some((kept, mut session)) = handle.take_session(alloc) else {
         return NO_SESSION;
@@ -213,8 +194,7 @@ pub extern "C" fn ptpm_session_resume(alloc: Global, handle: &mut Handle, attemp
         → session_held handle.old.keeping ≡ Some s
         → is_waiting s.session ≡ false
         → (result ≡ resume_number SendError.Idle) × (session_held handle.new.keeping ≡ Some s) }
-    ensures empty { session_held handle.old.keeping ≡ None →
-        (result ≡ no_session) × (held handle.new.keeping ≡ held handle.old.keeping) }
+    ensures empty { FindsNoSession handle.old.keeping result handle.new.keeping }
 {
     let Some((kept, mut session)) = handle.take_session(alloc) else {
         return NO_SESSION;
@@ -240,8 +220,7 @@ pub extern "C" fn ptpm_session_give_up(alloc: Global, handle: &mut Handle) -> u3
         → session_held handle.old.keeping ≡ Some s
         → give_up_refusal s.session ≡ Some e
         → (result ≡ give_up_number e) × (session_held handle.new.keeping ≡ Some s) }
-    ensures empty { session_held handle.old.keeping ≡ None →
-        (result ≡ no_session) × (held handle.new.keeping ≡ held handle.old.keeping) }
+    ensures empty { FindsNoSession handle.old.keeping result handle.new.keeping }
 {
     let Some((kept, mut session)) = handle.take_session(alloc) else {
         return NO_SESSION;
@@ -262,8 +241,7 @@ pub extern "C" fn ptpm_session_retune(alloc: Global, handle: &mut Handle, domain
         → (result ≡ 0)
         × IsSomeAnd (session_held handle.new.keeping)
         (λ t. IsAt t (retuned s.session domain) s.report) }
-    ensures empty { session_held handle.old.keeping ≡ None →
-        (result ≡ no_session) × (held handle.new.keeping ≡ held handle.old.keeping) }
+    ensures empty { FindsNoSession handle.old.keeping result handle.new.keeping }
 {
     let Some((kept, mut session)) = handle.take_session(alloc) else {
         return NO_SESSION;
@@ -289,8 +267,7 @@ pub extern "C" fn ptpm_session_receive(alloc: Global, handle: &mut Handle, datag
         → (result ≡ no_memory)
         × (NeedsMemory (received_of s.session datagram.now)
         × (session_held handle.new.keeping ≡ Some s)) }
-    ensures empty { session_held handle.old.keeping ≡ None →
-        (result ≡ no_session) × (held handle.new.keeping ≡ held handle.old.keeping) }
+    ensures empty { FindsNoSession handle.old.keeping result handle.new.keeping }
 {
     let Some((kept, mut session)) = handle.take_session(alloc) else {
         return NO_SESSION;

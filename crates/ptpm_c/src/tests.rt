@@ -25,24 +25,40 @@ const REPLY: &[u8; 56] = b"\x0d\x12\x00\x38\x00\x00\
     \x00\x11\x22\x33\x44\x55\x66\x77\x00\x01\x00\x00\x02\x00\
     \x00\x01\x00\x04\x20\x05\x80\x00";
 
+/// The clock's identity.
+const CLOCK: [u8; 8] = [0xaa, 0xbb, 0xcc, 0xff, 0xfe, 0xdd, 0xee, 0x01];
+
+/// The identity of the manager's clock.
+const MANAGER_CLOCK: [u8; 8] = [0x00, 0x11, 0x22, 0x33, 0x44, 0x55, 0x66, 0x77];
+
+/// The manager, which may change everything.
+const MANAGER: ManagerSettings = ManagerSettings {
+    clock: MANAGER_CLOCK,
+    port: 1,
+    rights: 7,
+};
+
+/// The settings of the clock.
+fn clock_settings() -> ClockSettings {
+    ClockSettings {
+        identity: CLOCK,
+        ..ClockSettings::new()
+    }
+}
+
 #[test]
 fn a_clock_from_start_to_stop(rt: HostRuntime) {
     let mut handle = Handle::empty();
     let mut settings = ClockSettings::new();
     ptpm_clock_defaults(&mut settings);
-    settings.identity = [0xaa, 0xbb, 0xcc, 0xff, 0xfe, 0xdd, 0xee, 0x01];
+    settings.identity = CLOCK;
     let mut port = PortSettings::new();
     ptpm_port_defaults(&mut port);
-    let manager = ManagerSettings {
-        clock: [0x00, 0x11, 0x22, 0x33, 0x44, 0x55, 0x66, 0x77],
-        port: 1,
-        rights: 7,
-    };
     let mut sent = [Sent::empty(); 15];
     let mut count = 1;
     let answer = ptpm_clock_handle(rt.alloc(), &mut handle, 1, REQUEST, &mut sent, &mut count);
     assert!(rt; answer == 32 && count == 0);
-    let answer = ptpm_clock_start(rt.alloc(), &mut handle, &settings, &[port], &[manager]);
+    let answer = ptpm_clock_start(rt.alloc(), &mut handle, &settings, &[port], &[MANAGER]);
     assert!(rt; answer == 0);
     let answer = ptpm_clock_handle(rt.alloc(), &mut handle, 1, REQUEST, &mut sent, &mut count);
     assert!(rt; answer == 5 && count == 1);
@@ -72,10 +88,7 @@ fn the_longest_message_passed_on(rt: HostRuntime) {
     let mut passed_on = datagram;
     passed_on[45] = 0;
     let mut handle = Handle::empty();
-    let settings = ClockSettings {
-        identity: [0xaa, 0xbb, 0xcc, 0xff, 0xfe, 0xdd, 0xee, 0x01],
-        ..ClockSettings::new()
-    };
+    let settings = clock_settings();
     let ports = [PortSettings::new(); 2];
     let mut sent = [Sent::empty(); 15];
     let mut count = 0;
@@ -103,15 +116,7 @@ const CURRENT: &[u8; 18] = b"\x00\x01\xff\xff\xff\xff\xff\xfe\x80\x00\
 fn a_clock_that_is_observed(rt: HostRuntime) {
     let alloc = rt.alloc();
     let mut handle = Handle::empty();
-    let settings = ClockSettings {
-        identity: [0xaa, 0xbb, 0xcc, 0xff, 0xfe, 0xdd, 0xee, 0x01],
-        ..ClockSettings::new()
-    };
-    let manager = ManagerSettings {
-        clock: [0x00, 0x11, 0x22, 0x33, 0x44, 0x55, 0x66, 0x77],
-        port: 1,
-        rights: 7,
-    };
+    let settings = clock_settings();
     let disabled = PortSettings {
         state: 3,
         ..PortSettings::new()
@@ -144,7 +149,7 @@ fn a_clock_that_is_observed(rt: HostRuntime) {
     assert!(rt; ptpm_clock_observe(alloc, &mut handle, &current, &[slave], &mut left) == 32);
     assert!(rt; left == 0);
     let ports = [PortSettings::new(), disabled];
-    assert!(rt; ptpm_clock_start(alloc, &mut handle, &settings, &ports, &[manager]) == 0);
+    assert!(rt; ptpm_clock_start(alloc, &mut handle, &settings, &ports, &[MANAGER]) == 0);
     assert!(rt; ptpm_clock_observe(alloc, &mut handle, &current, &[slave; 2], &mut left) == 0);
     assert!(rt; left == 2);
     assert!(rt;
@@ -169,8 +174,8 @@ const SESSION: SessionSettings = SessionSettings {
     port: 1,
     target_ports: 2,
     first: 7,
-    clock: [0x00, 0x11, 0x22, 0x33, 0x44, 0x55, 0x66, 0x77],
-    target: [0xaa, 0xbb, 0xcc, 0xff, 0xfe, 0xdd, 0xee, 0x01],
+    clock: MANAGER_CLOCK,
+    target: CLOCK,
     domain: 0,
     hops: 1,
     attempts: 2,
@@ -286,16 +291,7 @@ fn a_session_from_its_image(rt: HostRuntime) {
 #[test]
 fn a_clock_goes_on_from_its_image(rt: HostRuntime) {
     let alloc = rt.alloc();
-    let identity = [0xaa, 0xbb, 0xcc, 0xff, 0xfe, 0xdd, 0xee, 0x01];
-    let settings = ClockSettings {
-        identity,
-        ..ClockSettings::new()
-    };
-    let manager = ManagerSettings {
-        clock: [0x00, 0x11, 0x22, 0x33, 0x44, 0x55, 0x66, 0x77],
-        port: 1,
-        rights: 7,
-    };
+    let settings = clock_settings();
     let ports = [PortSettings::new(); 2];
     let mut handle = Handle::empty();
     let mut sent = [Sent::empty(); 15];
@@ -303,7 +299,7 @@ fn a_clock_goes_on_from_its_image(rt: HostRuntime) {
     let mut size = 1;
     let mut gone = 1;
     assert!(rt; ptpm_clock_image(&mut handle, &mut image, &mut size) == 32 && size == 0);
-    assert!(rt; ptpm_clock_start(alloc, &mut handle, &settings, &ports, &[manager]) == 0);
+    assert!(rt; ptpm_clock_start(alloc, &mut handle, &settings, &ports, &[MANAGER]) == 0);
     let answer = ptpm_clock_handle(alloc, &mut handle, 1, REQUEST, &mut sent, &mut size);
     assert!(rt; answer == 5);
     let answer = ptpm_clock_image(&mut handle, &mut image[..142], &mut size);
@@ -311,15 +307,15 @@ fn a_clock_goes_on_from_its_image(rt: HostRuntime) {
     assert!(rt; ptpm_clock_image(&mut handle, &mut image, &mut size) == 0 && size == 143);
     ptpm_clock_stop(alloc, &mut handle);
     for (ports, managers, number, lost) in [
-        (3, [manager].as_slice(), 109, 0),
+        (3, [MANAGER].as_slice(), 109, 0),
         (2, [].as_slice(), 0, 1),
-        (2, [manager].as_slice(), 0, 0),
+        (2, [MANAGER].as_slice(), 0, 0),
         (3, [].as_slice(), 109, 0),
     ] {
         let answer = ptpm_clock_restore(
             alloc,
             &mut handle,
-            &identity,
+            &CLOCK,
             ports,
             managers,
             &image,
@@ -344,7 +340,7 @@ const SURVEY: SurveySettings = SurveySettings {
     port: 1,
     number: 7,
     id: 0x2005,
-    clock: [0x00, 0x11, 0x22, 0x33, 0x44, 0x55, 0x66, 0x77],
+    clock: MANAGER_CLOCK,
     domain: 0,
     hops: 1,
 };
@@ -379,7 +375,7 @@ fn a_survey_from_start_to_stop(rt: HostRuntime) {
     );
     assert!(rt; answer == 0 && size == 2 && error == 0);
     assert!(rt; octets.starts_with([0x80, 0].as_slice()));
-    assert!(rt; source.clock == [0xaa, 0xbb, 0xcc, 0xff, 0xfe, 0xdd, 0xee, 0x01]);
+    assert!(rt; source.clock == CLOCK);
     assert!(rt; source.port == 1);
     let answer = ptpm_survey_answer(
         &mut handle,
@@ -397,7 +393,6 @@ fn a_survey_from_start_to_stop(rt: HostRuntime) {
 /// The clock that is named is asked at every port, and no other clock answers.
 #[test]
 fn a_survey_of_one_clock(rt: HostRuntime) {
-    let clock = [0xaa, 0xbb, 0xcc, 0xff, 0xfe, 0xdd, 0xee, 0x01];
     let other = [0xaa, 0xbb, 0xcc, 0xff, 0xfe, 0xdd, 0xee, 0x02];
     let alloc = rt.alloc();
     let mut handle = Handle::empty();
@@ -405,7 +400,7 @@ fn a_survey_of_one_clock(rt: HostRuntime) {
     let mut size = 1;
     assert!(rt; ptpm_survey_start_at(alloc, &mut handle, &SURVEY, &other) == 0);
     assert!(rt; ptpm_survey_receive(alloc, &mut handle, REPLY) == 12);
-    assert!(rt; ptpm_survey_start_at(alloc, &mut handle, &SURVEY, &clock) == 0);
+    assert!(rt; ptpm_survey_start_at(alloc, &mut handle, &SURVEY, &CLOCK) == 0);
     assert!(rt; ptpm_survey_send(&mut handle, &mut octets, &mut size) == 0);
     assert!(rt; size == 54 && octets.starts_with(REQUEST.as_slice()));
     assert!(rt; ptpm_survey_receive(alloc, &mut handle, REPLY) == 0);
@@ -582,20 +577,12 @@ const DISABLE_PORT: &[u8; 54] = b"\x0d\x12\x00\x36\x00\x00\
 fn what_a_datagram_changes(rt: HostRuntime) {
     let alloc = rt.alloc();
     let mut handle = Handle::empty();
-    let settings = ClockSettings {
-        identity: [0xaa, 0xbb, 0xcc, 0xff, 0xfe, 0xdd, 0xee, 0x01],
-        ..ClockSettings::new()
-    };
-    let manager = ManagerSettings {
-        clock: [0x00, 0x11, 0x22, 0x33, 0x44, 0x55, 0x66, 0x77],
-        port: 1,
-        rights: 7,
-    };
+    let settings = clock_settings();
     let mut sent = [Sent::empty(); 15];
     let mut count = 0;
     let mut changed = ChangedMembers::NONE;
     let ports = [PortSettings::new(); 2];
-    assert!(rt; ptpm_clock_start(alloc, &mut handle, &settings, &ports, &[manager]) == 0);
+    assert!(rt; ptpm_clock_start(alloc, &mut handle, &settings, &ports, &[MANAGER]) == 0);
     for (datagram, number, clock, port) in [
         (SET_PRIORITY1.as_slice(), 5, 0x1_0010, 0),
         (SET_PRIORITY1.as_slice(), 6, 0, 0),

@@ -1,20 +1,22 @@
--- A session that a host keeps: what is asked of it in plain numbers, what it hears, and why it hands nothing out.
-use Rattle.std.specs.Prelude.{ℕ, ◌==◌, nat_lt, List, [], ◌∷◌, Option, None, Some, option_map, if◌then◌else◌}
+-- A session that a host keeps: what is asked of it in plain numbers, what it hears, and why it begins or hands out nothing.
+use Rattle.std.specs.Prelude.{◌≡◌, ◌≢◌, ℕ, ◌==◌, nat_lt, List, [], ◌∷◌, Err, IfErr, OnOk, Option, None, Result, Some, option_map, if◌then◌else◌}
 use Rattle.std.specs.Option.{option_or}
 use Rattle.ptpm_codec.specs.declared.message.Action.{Action}
 use Rattle.ptpm_codec.specs.declared.message.Action.TheVariants as actions
 use Rattle.ptpm_codec.specs.Ordered.{first_of}
+use Rattle.ptpm_data.specs.Request.{RequestValue}
 use Rattle.ptpm_manager.specs.declared.ask.Ask.{Ask}
 use Rattle.ptpm_manager.specs.declared.receiving.Received.{Received}
 use Rattle.ptpm_manager.specs.declared.receiving.Received.TheVariants as received
 use Rattle.ptpm_manager.specs.declared.report.Report.{Report}
-use Rattle.ptpm_manager.specs.Session.{SessionValue, send_refusal}
+use Rattle.ptpm_manager.specs.Session.{SessionValue, begun, send_refusal}
 use Rattle.ptpm_host.specs.declared.refusal.ReportRefusal.{ReportRefusal}
 use Rattle.ptpm_host.specs.declared.refusal.ReportRefusal.TheVariants as reports
 use Rattle.ptpm_host.specs.declared.refusal.SendRefusal.{SendRefusal}
 use Rattle.ptpm_host.specs.declared.refusal.SendRefusal.TheVariants as sends
 use Rattle.ptpm_host.specs.declared.session.Heard.{Heard}
 use Rattle.ptpm_host.specs.declared.session.Heard.TheVariants as heard
+use Rattle.ptpm_host.specs.declared.session.HostedSession.{HostedSession}
 use Rattle.ptpm_host.specs.Told.{room_refusal}
 
 -- ---- what is asked
@@ -29,6 +31,25 @@ asked_action action =
 
 abbrev pub ask_of : ℕ → ℕ → ℕ → List ℕ → Ask
 ask_of action id port octets = record { action = asked_action action; id = id; port = Some port; octets = octets }
+
+-- ---- a session as it is kept
+
+-- of this value, with this answer to its latest request
+abbrev pub IsAt : HostedSession → SessionValue → Option Report → Type 0
+IsAt t value report = (t.session ≡ value) × (t.report ≡ report)
+
+-- the session that was kept, with this request begun, and no answer to it yet
+abbrev pub HasBegun : HostedSession → RequestValue → HostedSession → Type 0
+HasBegun s q t = IsAt t (begun s.session q) None
+
+-- ---- what a call answers that is refused for a reason, and that also asks for memory
+
+-- `first` is the first reason to refuse it, if there is one. It is done only if there is none; a reason is named whenever there is
+-- one; and nothing else is named than the first reason, and that memory is wanting.
+pub record IsJudgedBy {T E : Type 0} (first : Option E) (memory : E) (result : Result T E) : Type 0 where
+  pub permitted : OnOk result (first ≡ None)
+  pub refused : (e : E) → first ≡ Some e → result ≡ Err e
+  pub no_other : IfErr result (λ e. e ≢ memory → first ≡ Some e)
 
 -- ---- why nothing is handed out: too little room, and then what the session is refused for
 

@@ -1,6 +1,6 @@
 //! A session with the request that it sends and the answer that it heard, as a host keeps it.
 
-ghost use Rattle.std.specs.Prelude.{◌≡◌, ◌≢◌, ◌≤◌, ◌++◌, ◌↔◌, false, true, Err, None, Some, IfErr, IfNone, IfOk, IfSome, IsSome, MatchResult, OnErr, OnOk, drop, length, take};
+ghost use Rattle.std.specs.Prelude.{◌≡◌, ◌≤◌, ◌++◌, ◌↔◌, false, true, None, Some, IfErr, IfNone, IfOk, IfSome, IsSome, MatchResult, OnErr, OnOk, drop, length, take};
 ghost use Rattle.ptpm_codec.specs.declared.message.Message.{Message};
 ghost use Rattle.ptpm_codec.specs.Canonical.{canonical};
 ghost use Rattle.ptpm_manager.specs.declared.error.BeginError.{BeginError};
@@ -11,8 +11,8 @@ ghost use Rattle.ptpm_manager.specs.Ask.{request_at_port, request_of};
 ghost use Rattle.ptpm_manager.specs.Image.{session_image};
 ghost use Rattle.ptpm_manager.specs.ImageReading.{session_at};
 ghost use Rattle.ptpm_manager.specs.Receiving.{NeedsMemory, left_by, received_of};
-ghost use Rattle.ptpm_manager.specs.Session.{begin_at_refusal, begin_refusal, begun, due_message, give_up_refusal, given_up, is_waiting, resumed, retuned, sent};
-ghost use Rattle.ptpm_host.specs.Session.{ask_of, asked_action, hand_refusal, heard_of, report_after, report_refusal};
+ghost use Rattle.ptpm_manager.specs.Session.{begin_at_refusal, begin_refusal, due_message, give_up_refusal, given_up, is_waiting, resumed, retuned, sent};
+ghost use Rattle.ptpm_host.specs.Session.{HasBegun, IsJudgedBy, ask_of, asked_action, hand_refusal, heard_of, report_after, report_refusal};
 ghost use Rattle.ptpm_host.specs.SessionSettings.{settings_refusal, session_refusal, session_start};
 ghost use Rattle.ptpm_host.specs.Told.{told_octets, told_of, told_size};
 
@@ -102,12 +102,8 @@ impl HostedSession {
         ensures session { IfOk result (λ s. s.session ≡ session_at image.now) }
         ensures image { IfOk result (λ s. image.now ≡ session_image s.session) }
         ensures report { IfOk result (λ s. s.report ≡ None) }
-        ensures permitted { OnOk result (settings_refusal settings.now image.now ≡ None) }
-        ensures refused { (e : RestoreError)
-            → settings_refusal settings.now image.now ≡ Some e
-            → result ≡ Err e }
-        ensures no_other { IfErr result (λ e. e ≢ RestoreError.OutOfMemory →
-            settings_refusal settings.now image.now ≡ Some e) }
+        ensures judged { IsJudgedBy (settings_refusal settings.now image.now)
+            RestoreError.OutOfMemory result }
     {
         let session = Session::restored(
             alloc,
@@ -151,16 +147,10 @@ impl HostedSession {
     /// and only if nothing else refuses it.
     pub fn begin(&mut self, action: u8, id: u16, port: u16, octets: &[u8]) -> Result<(), BeginError>
         ensures begun { OnOk result
-            (self.new.session
-            ≡ begun self.old.session (request_of (ask_of action id port octets.now))) }
-        ensures report { OnOk result (self.new.report ≡ None) }
-        ensures permitted { OnOk result
-            (begin_refusal self.old.session (ask_of action id port octets.now) ≡ None) }
-        ensures refused { (e : BeginError)
-            → begin_refusal self.old.session (ask_of action id port octets.now) ≡ Some e
-            → result ≡ Err e }
-        ensures no_other { IfErr result (λ e. e ≢ BeginError.OutOfMemory →
-            begin_refusal self.old.session (ask_of action id port octets.now) ≡ Some e) }
+            (HasBegun self.old (request_of (ask_of action id port octets.now)) self.new) }
+        ensures judged { IsJudgedBy
+            (begin_refusal self.old.session (ask_of action id port octets.now))
+            BeginError.OutOfMemory result }
         ensures unchanged { OnErr result (self.new ≡ self.old) }
     {
         let action = asked_action(action);
@@ -180,16 +170,10 @@ impl HostedSession {
         octets: &[u8],
     ) -> Result<(), BeginError>
         ensures begun { OnOk result
-            (self.new.session
-            ≡ begun self.old.session (request_at_port (ask_of action id port octets.now))) }
-        ensures report { OnOk result (self.new.report ≡ None) }
-        ensures permitted { OnOk result
-            (begin_at_refusal self.old.session (ask_of action id port octets.now) ≡ None) }
-        ensures refused { (e : BeginError)
-            → begin_at_refusal self.old.session (ask_of action id port octets.now) ≡ Some e
-            → result ≡ Err e }
-        ensures no_other { IfErr result (λ e. e ≢ BeginError.OutOfMemory →
-            begin_at_refusal self.old.session (ask_of action id port octets.now) ≡ Some e) }
+            (HasBegun self.old (request_at_port (ask_of action id port octets.now)) self.new) }
+        ensures judged { IsJudgedBy
+            (begin_at_refusal self.old.session (ask_of action id port octets.now))
+            BeginError.OutOfMemory result }
         ensures unchanged { OnErr result (self.new ≡ self.old) }
     {
         let action = asked_action(action);

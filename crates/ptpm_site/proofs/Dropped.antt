@@ -1,4 +1,4 @@
--- The first clocks are kept where the last ones are dropped, one after another.
+-- The first entries of a map are kept where the last ones are dropped, one after another.
 use Rattle.std.proofs.Common.{arith, ◌≡◌, ℕ, ◌+◌, ◌-◌, ◌<◌, ◌≤◌, true, List, [], ◌∷◌, ◌++◌, Option, Some, None, length, take, refl, ap, sym, ◌∙◌, ⊎_elim}
 use Rattle.std.proofs.lemmas.Bool.Decides.{nat_tests}
 use Rattle.std.proofs.lemmas.Bool.{cases_lt}
@@ -41,14 +41,14 @@ dropped-one all i old new (Some e) within are removed some =
     one_less all (keys_of new) e.0 m (omega arith)
     (ap (λ n. take n all) (sym one) ∙ sym are ∙ ap keys_of removed ∙ keys_of-last new e)
 
-pub dropped-all : {A : Type 0} (all : List A) (over i : ℕ) → over ≡ length all - CLOCKS → i ≡ over → take (length all - i) all ≡ take CLOCKS all
-dropped-all all over i is end =
+pub dropped-all : {A : Type 0} (all : List A) (limit over i : ℕ) → over ≡ length all - limit → i ≡ over → take (length all - i) all ≡ take limit all
+dropped-all all limit over i is end =
     ⊎_elim
     (λ below.
     let whole : length all - i ≡ length all = omega arith in
-    let fits : length all ≤ CLOCKS = omega arith in
-    ap (λ n. take n all) whole ∙ take-length all ∙ sym (take_all CLOCKS all fits))
-    (λ above. let rest : length all - i ≡ CLOCKS = omega arith in ap (λ n. take n all) rest) (cases_lt (length all) CLOCKS)
+    let fits : length all ≤ limit = omega arith in
+    ap (λ n. take n all) whole ∙ take-length all ∙ sym (take_all limit all fits))
+    (λ above. let rest : length all - i ≡ limit = omega arith in ap (λ n. take n all) rest) (cases_lt (length all) limit)
 
 within_limit : (t : Telling) → is_shown_whole t ≡ true → length t.clocks ≤ CLOCKS
 within_limit t h = grind (arith, nat_tests)

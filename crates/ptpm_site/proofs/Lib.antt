@@ -2,6 +2,7 @@ pub mod Agreeing
 pub mod Alike
 pub mod Circles
 pub mod Clocks
+pub mod Datagrams
 pub mod Dropped
 pub mod Keeping
 pub mod Links

@@ -18,6 +18,7 @@ pub mod PortStates
 pub mod Showing
 pub mod Standing
 pub mod Swapping
+pub mod Taking
 pub mod Telling
 pub mod Tree
 pub mod Walks

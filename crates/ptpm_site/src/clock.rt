@@ -1,6 +1,6 @@
 //! What the answers tell of one clock.
 
-ghost use Rattle.std.specs.Prelude.{◌≡◌, ℕ, ◌==◌, ◌++◌, [], ◌∷◌, OnOk, IsSome, if◌then◌else◌};
+ghost use Rattle.std.specs.Prelude.{◌≡◌, ℕ, ◌==◌, ◌-◌, ◌++◌, [], ◌∷◌, OnOk, IsSome, if◌then◌else◌, length, take};
 ghost use Rattle.std.specs.BTreeMap.{get, keys};
 ghost use Rattle.std.specs.List.{list_any};
 ghost use Rattle.std.specs.Ordering.{nat_cmp};
@@ -153,9 +153,12 @@ impl Clock {
     }
 
     /// Keeps at most so many ports, the first; how many were left out.
-    pub fn keep_first_ports(&mut self, room: usize) -> usize {
+    pub fn keep_first_ports(&mut self, room: usize) -> usize
+        ensures ports { keys self.new.ports ≡ take room (keys self.old.ports) }
+        ensures left_out { result ≡ length (keys self.old.ports) - room }
+    {
         let over = self.ports.len().saturating_sub(room);
-        for _ in 0..over {
+        for dropped in 0..over {
             let _ = self.ports.pop_last();
         }
         over

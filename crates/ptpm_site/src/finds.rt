@@ -1,7 +1,6 @@
 //! How a finding is put behind those before it.
 
 ghost use Rattle.std.specs.Prelude.{◌≡◌, ◌++◌, [], ◌∷◌, OnOk};
-ghost use Rattle.std.specs.Option.{option_to_list, option_map};
 ghost use Rattle.ptpm_site.specs.Findings.{finding, said, says, told};
 
 use crate::finding::{Finding, What};
@@ -30,18 +29,4 @@ pub fn tell<'a>(
     ensures { OnOk result (told findings.new.items ≡ told findings.old.items ++ said source (says what.entry) ∷ []) }
 {
     find(findings, source, what)
-}
-
-/// A finding, where there is one, behind all earlier ones.
-pub fn find_some<'a>(
-    findings: &mut Vec<Finding<'a>>,
-    source: Source,
-    what: Option<What<'a>>,
-) -> Result<(), AllocError>
-    ensures { OnOk result (findings.new.items ≡ findings.old.items ++ option_to_list (option_map (finding source) what.entry)) }
-{
-    match what {
-        Some(what) => find(findings, source, what),
-        None => Ok(()),
-    }
 }

@@ -1,10 +1,9 @@
 //! What is wrong with a clock's grandmaster, and with the clock that it follows.
 
 ghost use Rattle.std.specs.Prelude.{◌≡◌, ◌++◌, OnOk};
-ghost use Rattle.ptpm_site.specs.Findings.{found, found_each, grandmaster_found, grandmaster_said, parent_found, said_of_grandmaster, said_of_parent, two_found};
-ghost use Rattle.ptpm_site.specs.Grandmasters.{leading_clocks, masterless_reason, unseen_grandmaster};
+ghost use Rattle.ptpm_site.specs.Findings.{found_each, grandmaster_found, grandmaster_said, parent_found, said_of_grandmaster, said_of_parent, two_found};
+ghost use Rattle.ptpm_site.specs.Grandmasters.{leading_clocks};
 ghost use Rattle.ptpm_site.specs.Kept.{kept};
-ghost use Rattle.ptpm_site.specs.Parents.{no_master_port, unseen_parent, wrong_steps};
 
 use crate::comparing::{Compared, find_each};
 use crate::data_sets::ParentDataSet;
@@ -29,8 +28,13 @@ pub fn judge_grandmaster(
     ensures { OnOk result (findings.new.items ≡ findings.old.items ++ grandmaster_found (kept site.now) source) }
 {
     judge_two(site, source, leading, findings)?;
-    judge_masterless(site, source, findings)?;
-    judge_unseen_grandmaster(site, source, findings)
+    if let Some(why) = masterless_reason(site, source) {
+        find(findings, source, What::NoMaster(why))?;
+    }
+    if let Some(grandmaster) = unseen_grandmaster(site, source) {
+        find(findings, source, What::GrandmasterNotSeen(grandmaster))?;
+    }
+    Ok(())
 }
 
 /// `two_grandmasters`.
@@ -51,34 +55,6 @@ fn judge_two(
     }
 }
 
-/// `no_master`.
-fn judge_masterless(
-    site: &Site,
-    source: Source,
-    findings: &mut Vec<Finding<'_>>,
-) -> Result<(), AllocError>
-    ensures { OnOk result (findings.new.items ≡ findings.old.items ++ found What.NoMaster source (masterless_reason (kept site.now) source)) }
-{
-    match masterless_reason(site, source) {
-        Some(why) => find(findings, source, What::NoMaster(why)),
-        None => Ok(()),
-    }
-}
-
-/// `grandmaster_not_seen`.
-fn judge_unseen_grandmaster(
-    site: &Site,
-    source: Source,
-    findings: &mut Vec<Finding<'_>>,
-) -> Result<(), AllocError>
-    ensures { OnOk result (findings.new.items ≡ findings.old.items ++ found What.GrandmasterNotSeen source (unseen_grandmaster (kept site.now) source)) }
-{
-    match unseen_grandmaster(site, source) {
-        Some(grandmaster) => find(findings, source, What::GrandmasterNotSeen(grandmaster)),
-        None => Ok(()),
-    }
-}
-
 /// `parent_not_seen`, `parent_not_master`, `steps`, `grandmaster_differs`.
 #[tactic(auto, unfolding(crate::specs::Findings::parent_found))]
 pub fn judge_parent(
@@ -88,52 +64,16 @@ pub fn judge_parent(
 ) -> Result<(), AllocError>
     ensures { OnOk result (findings.new.items ≡ findings.old.items ++ parent_found (kept site.now) source) }
 {
-    judge_unseen_parent(site, source, findings)?;
-    judge_no_master(site, source, findings)?;
-    judge_steps(site, source, findings)?;
+    if let Some(parent) = unseen_parent(site, source) {
+        find(findings, source, What::ParentNotSeen(parent))?;
+    }
+    if let Some((parent, why)) = no_master_port(site, source) {
+        find(findings, source, What::ParentNotMaster(parent, why))?;
+    }
+    if let Some(steps) = wrong_steps(site, source) {
+        find(findings, source, What::Steps(steps))?;
+    }
     judge_said(site, source, findings)
-}
-
-/// `parent_not_seen`.
-fn judge_unseen_parent(
-    site: &Site,
-    source: Source,
-    findings: &mut Vec<Finding<'_>>,
-) -> Result<(), AllocError>
-    ensures { OnOk result (findings.new.items ≡ findings.old.items ++ found What.ParentNotSeen source (unseen_parent (kept site.now) source)) }
-{
-    match unseen_parent(site, source) {
-        Some(parent) => find(findings, source, What::ParentNotSeen(parent)),
-        None => Ok(()),
-    }
-}
-
-/// `parent_not_master`.
-fn judge_no_master(
-    site: &Site,
-    source: Source,
-    findings: &mut Vec<Finding<'_>>,
-) -> Result<(), AllocError>
-    ensures { OnOk result (findings.new.items ≡ findings.old.items ++ found (λ p. What.ParentNotMaster p.0 p.1) source (no_master_port (kept site.now) source)) }
-{
-    match no_master_port(site, source) {
-        Some((parent, why)) => find(findings, source, What::ParentNotMaster(parent, why)),
-        None => Ok(()),
-    }
-}
-
-/// `steps`.
-fn judge_steps(
-    site: &Site,
-    source: Source,
-    findings: &mut Vec<Finding<'_>>,
-) -> Result<(), AllocError>
-    ensures { OnOk result (findings.new.items ≡ findings.old.items ++ found What.Steps source (wrong_steps (kept site.now) source)) }
-{
-    match wrong_steps(site, source) {
-        Some(steps) => find(findings, source, What::Steps(steps)),
-        None => Ok(()),
-    }
 }
 
 /// `grandmaster_differs`.

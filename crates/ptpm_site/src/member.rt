@@ -341,15 +341,7 @@ impl DataSet for Description {
 /// The standard's name of a port's state; `reserved` where its number is.
 pub fn state_name(state: Option<PortState>) -> &'static str {
     match state {
-        Some(PortState::Initializing) => "INITIALIZING",
-        Some(PortState::Faulty) => "FAULTY",
-        Some(PortState::Disabled) => "DISABLED",
-        Some(PortState::Listening) => "LISTENING",
-        Some(PortState::PreMaster) => "PRE_MASTER",
-        Some(PortState::Master) => "MASTER",
-        Some(PortState::Passive) => "PASSIVE",
-        Some(PortState::Uncalibrated) => "UNCALIBRATED",
-        Some(PortState::Slave) => "SLAVE",
+        Some(state) => ptpm_members::state_name(state),
         None => "reserved",
     }
 }

@@ -1,5 +1,8 @@
 //! The answers among datagrams.
 
+ghost use Rattle.std.specs.Prelude.{OnOk};
+ghost use Rattle.ptpm_site.specs.Taking.{TakesAny, answer_in};
+
 use crate::answer::Answer;
 use crate::site::Site;
 use ptpm_codec::view;
@@ -7,7 +10,9 @@ use std::alloc::{AllocError, Global};
 
 impl Site {
     /// Takes the answer that a datagram is. One that is no answer to one of the six ids is passed over.
-    pub fn take_datagram(&mut self, alloc: Global, datagram: &[u8]) -> Result<(), AllocError> {
+    pub fn take_datagram(&mut self, alloc: Global, datagram: &[u8]) -> Result<(), AllocError>
+        ensures { OnOk result (TakesAny self.old self.new (answer_in datagram.now)) }
+    {
         let Ok(message) = view(datagram) else {
             return Ok(());
         };

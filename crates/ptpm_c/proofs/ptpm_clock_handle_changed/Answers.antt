@@ -16,11 +16,11 @@ returns-then-number-verdict_number-clause-changed c = λ c' h none.
 
 pub returns-then-number-verdict_number-clause-refused :
     goal.returns-then-number-verdict_number-clause-refused
-returns-then-number-verdict_number-clause-refused c = λ c' e h is.
+returns-then-number-verdict_number-clause-refused c = λ c' h e is.
     let before : clock_held c.args.handle.now.keeping ≡ Some c.deref.result.now = search rules in
     let kept : clock_held c.of.result.keeping ≡ Some c.deref.result.now = search rules in
-    let refused = c.ptpm_clock_handle-number.ensures.refused c' e (kept ∙ sym before ∙ h) is in
-    (refused.0, (refused.1.0, (refused.1.1.0, ap clock_of c.changed_since.ensures.unchanged ∙ refused.1.1.1)))
+    let refused = c.ptpm_clock_handle-number.ensures.refused c' (kept ∙ sym before ∙ h) e is in
+    (refused.0, (refused.1.0, ap clock_of c.changed_since.ensures.unchanged ∙ refused.1.1))
 
 pub returns-else-number-verdict_number-clause-changed :
     goal.returns-else-number-verdict_number-clause-changed
@@ -33,7 +33,7 @@ returns-else-number-verdict_number-clause-changed c = λ c' h none.
 
 pub returns-else-number-verdict_number-clause-refused :
     goal.returns-else-number-verdict_number-clause-refused
-returns-else-number-verdict_number-clause-refused c = λ c' e h is.
+returns-else-number-verdict_number-clause-refused c = λ c' h e is.
     let before : clock_held c.args.handle.now.keeping ≡ Some c.deref.result.now = search rules in
     let kept : clock_held c.of.result.keeping ≡ Some c.deref.result.now = search rules in
-    c.ptpm_clock_handle-number.ensures.refused c' e (kept ∙ sym before ∙ h) is
+    c.ptpm_clock_handle-number.ensures.refused c' (kept ∙ sym before ∙ h) e is

@@ -23,4 +23,4 @@ returns-clause-clocks c =
     let counted : length all ≡ c.len.result = omega (arith, length-keys_of c.args.self.now.clocks.entries, c.len.ensures.len) in
     let over : c.saturating_sub-over.result ≡ length all - CLOCKS = omega (arith, counted, c.saturating_sub-over.ensures) in
     let ended : c.loop-dropped.dropped ≡ c.saturating_sub-over.result = omega arith in
-    c.loop-dropped.invariant ∙ dropped-all all c.saturating_sub-over.result c.loop-dropped.dropped over ended
+    c.loop-dropped.invariant ∙ dropped-all all CLOCKS c.saturating_sub-over.result c.loop-dropped.dropped over ended
