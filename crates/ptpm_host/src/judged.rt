@@ -1,6 +1,6 @@
 //! What a clock begins with, before it is made.
 
-ghost use Rattle.std.specs.Prelude.{◌≡◌, ◌≢◌, IfErr, IfOk, IfSome, IsOkAnd, MatchResult, None, Ok, OnOk, Some, take};
+ghost use Rattle.std.specs.Prelude.{◌≡◌, ◌≢◌, IfErr, IfOk, IsOkAnd, MatchResult, None, Ok, OnOk, Some, take};
 ghost use Rattle.ptpm_table.specs.Managers.{identities, table_refusal};
 ghost use Rattle.ptpm_saved.specs.Image.{SavedClock};
 ghost use Rattle.ptpm_host.specs.Clock.{start_by, start_refusal};
@@ -13,6 +13,7 @@ use crate::settings::{ClockSettings, ManagerSettings, NO_IDENTITY, PortSettings,
 use ptpm_codec::ClockIdentity;
 use ptpm_data::DataSets;
 use ptpm_saved::judge_into;
+use ptpm_table::TableError;
 use std::alloc::Global;
 
 /// The data sets and the managers of a clock that may start.
@@ -74,7 +75,9 @@ pub(crate) fn judge_image(
         → CanRestore (record { 0 = identity.now }) ports managers.now image.now c
         → IsOkAnd result (λ _. sets.new ≡ c.sets) }
 {
-    judge_managers(managers)?;
+    if let Err(fault) = judge_managers(managers) {
+        return Err(ClockRestoreRefusal::Managers(fault));
+    }
     let identity = ClockIdentity(*identity);
     if identity == NO_IDENTITY {
         return Err(ClockRestoreRefusal::IdentityIsZero);
@@ -85,15 +88,13 @@ pub(crate) fn judge_image(
     }
 }
 
-/// The fault of these managers. Never inlined: so the stack has no room for them while the image is judged.
+/// Whether these managers can be a clock's. Never inlined: so the stack has no room for them while the image is judged.
 #[inline(never)]
-fn judge_managers(managers: &[ManagerSettings]) -> Result<(), ClockRestoreRefusal>
+fn judge_managers(managers: &[ManagerSettings]) -> Result<(), TableError>
     ensures { MatchResult result
         (λ _. table_refusal (identities (configured managers.now)) ≡ None)
-        (λ e. IfSome (table_refusal (identities (configured managers.now))) (λ fault. e ≡ ClockRestoreRefusal.Managers fault)) }
+        (λ fault. table_refusal (identities (configured managers.now)) ≡ Some fault) }
 {
-    match ConfiguredManagers::new(managers) {
-        Ok(_) => Ok(()),
-        Err(fault) => Err(ClockRestoreRefusal::Managers(fault)),
-    }
+    let _managers = ConfiguredManagers::new(managers)?;
+    Ok(())
 }
