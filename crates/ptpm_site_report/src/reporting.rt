@@ -1,5 +1,10 @@
 //! `ptpm site`: a site's tree and what is wrong with it, by the answers among lines of datagrams.
 
+ghost use Rattle.std.specs.Prelude.{◌≡◌, IfOk};
+ghost use Rattle.ptpm_site.specs.Findings.{findings_of, told};
+ghost use Rattle.ptpm_site.specs.Kept.{kept};
+ghost use Rattle.ptpm_site_report.specs.Reporting.{outcome, status};
+
 use crate::drawing::draw;
 use crate::json::Object;
 use crate::reading::read_site;
@@ -42,7 +47,9 @@ pub enum Outcome {
 
 impl Outcome {
     /// The exit status.
-    pub fn status(self) -> u8 {
+    pub fn status(self) -> u8
+        ensures { result ≡ status self }
+    {
         match self {
             Outcome::Sound => 0,
             Outcome::Findings => 1,
@@ -70,9 +77,14 @@ fn report_of<O: Write>(
     site: &Site,
     left_out: LeftOut,
     out: &mut O,
-) -> Result<Outcome, Fault> {
+) -> Result<Outcome, Fault>
+    ensures { IfOk result (λ came. came ≡ outcome (kept site.now).clocks (findings_of (kept site.now) options.limits)) }
+{
     match Picture::of(alloc, site, left_out, options.limits) {
-        Ok(picture) => print_picture(alloc, options.form, &picture, out),
+        Ok(picture) => {
+            print_picture(alloc, options.form, &picture, out)?;
+            Ok(outcome_of(&picture))
+        }
         Err(_) => Err(Fault::OutOfMemory),
     }
 }
@@ -82,17 +94,24 @@ fn print_picture<O: Write>(
     form: Form,
     picture: &Picture<'_>,
     out: &mut O,
-) -> Result<Outcome, Fault> {
+) -> Result<(), Fault> {
     match form {
-        Form::Text => Sheet(picture).print(alloc, out)?,
-        Form::Json => Object(picture).print(alloc, out)?,
-        Form::Drawing => draw(alloc, picture, out)?,
+        Form::Text => Sheet(picture).print(alloc, out),
+        Form::Json => Object(picture).print(alloc, out),
+        Form::Drawing => draw(alloc, picture, out),
     }
-    Ok(if picture.site.is_empty() {
+}
+
+/// What came of a site that is judged.
+#[tactic(auto, unfolding(ptpm_site::specs::Findings::told))]
+fn outcome_of(picture: &Picture<'_>) -> Outcome
+    ensures { result ≡ outcome picture.now.forest.sources.items (told picture.now.findings.items) }
+{
+    if picture.forest.sources.is_empty() {
         Outcome::NoClock
     } else if picture.findings.is_empty() {
         Outcome::Sound
     } else {
         Outcome::Findings
-    })
+    }
 }
