@@ -1,4 +1,4 @@
-use Rattle.std.proofs.Common.{◌<◌, ◌≡◌, ◌≤◌, ap, arith, length, List, map, sym, ℕ}
+use Rattle.std.proofs.Common.{◌<◌, ◌≤◌, ap, arith, length, List, map, sym, ℕ}
 use Rattle.std.specs.Borrow.{Bor}
 use Rattle.std.proofs.lemmas.List.{length-map}
 use Rattle.ptpm_host.specs.Words.{AreWords, most_words}
