@@ -340,9 +340,7 @@ fn settings_fault(settings: &PortSettings) -> Option<StartError>
     None
 }
 
-/// The data sets of ports that start, or the first fault. It is never inlined: so the stack has no room for its work when the data
-/// sets of a clock are put together.
-#[inline(never)]
+/// The data sets of ports that start, or the first fault.
 fn port_data_sets(ports: &[PortStart]) -> Result<ArrayVec<PortDataSet, 8>, StartError>
     requires { length ports.now ≤ 8 }
     ensures { MatchResult result
