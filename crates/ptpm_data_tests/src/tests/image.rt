@@ -34,7 +34,11 @@ fn is_image(rt: &impl Abort, sets: &DataSets, text: &str) {
     assert!(rt; &place[..size] == image.as_slice());
     assert!(rt; place[size..].iter().all(|octet| *octet == 0x5a));
     match DataSets::restored(&place) {
-        Some(again) => assert!(rt; again.image().as_slice() == image.as_slice()),
+        Some(again) => {
+            let mut twin = [0x5a; 200];
+            assert!(rt; again.image_into(&mut twin) == Some(size));
+            assert!(rt; twin == place);
+        }
         None => panic!(rt; "no image: {text}"),
     }
 }
@@ -68,9 +72,9 @@ fn image_of_a_text_and_eight_ports(rt: HostRuntime) {
     }
     match DataSets::new(&clock, &[PortStart::new(); 8]) {
         Ok(sets) => {
-            let image = sets.image();
-            assert!(rt; image.len() == 324 && image.as_slice().get(74) == Some(&128));
-            assert!(rt; DataSets::restored(image.as_slice()).is_some());
+            let mut image = [0; 324];
+            assert!(rt; sets.image_into(&mut image) == Some(324) && image[74] == 128);
+            assert!(rt; DataSets::restored(&image).is_some());
         }
         Err(fault) => panic!(rt; "{fault}"),
     }

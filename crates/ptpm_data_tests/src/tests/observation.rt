@@ -1,10 +1,12 @@
 //! Observations at a clock of two ports. The second port is disabled. What a host observes, and the data sets after it.
 
+use crate::tests::requests::{EVERY, get, run};
 use crate::tests::{K, OTHER};
+use bitflags::Flags;
 use ptpm_codec::PortIdentity;
 use ptpm_data::{
     AnnouncedGrandmaster, ClockObservation, ClockPrecedence, ClockStart, DataSets, Member,
-    ObservationError, ObservedGrandmaster, PortObservation, PortStart, PortState,
+    ObservationError, ObservedGrandmaster, PortObservation, PortStart, PortState, Rights,
 };
 use std::alloc::Global;
 use std::process::Abort;
@@ -69,27 +71,22 @@ fn slave_of_another_clock(rt: HostRuntime) {
         }
         Err(fault) => panic!(rt; "{fault}"),
     }
-    assert!(rt; sets.current.steps_removed == 1);
-    assert!(rt; sets.current.offset_from_master == 1250);
-    assert!(rt; sets.current.mean_path_delay == 0);
-    assert!(rt;
-        sets.parent.parent_port
-            == PortIdentity {
-                clock: OTHER,
-                port: 3
-            }
-    );
-    assert!(rt; sets.parent.grandmaster == OTHER);
-    assert!(rt; sets.parent.precedence == other(90).precedence);
-    assert!(rt; sets.default.precedence.priority1 == 100);
-    assert!(rt; sets.time.utc_valid && sets.time.leap61 && sets.time.utc_offset == 37);
-    match sets.ports.as_slice() {
-        [first, second] => {
-            assert!(rt; first.state == PortState::Slave && first.peer_delay == 0);
-            assert!(rt; second.state == PortState::Disabled && second.peer_delay == 7);
-        }
-        _ => panic!(rt; "not two ports"),
-    }
+    let steps = [
+        get(0x2001, EVERY, " -:000100000000000004e20000000000000000"),
+        get(
+            0x2002,
+            EVERY,
+            " -:aabbccfffeddee0200030000ffff7fffffff5a06214e5d80aabbccfffeddee02",
+        ),
+        get(0x2003, EVERY, " -:002505a0"),
+        get(
+            0x2004,
+            EVERY,
+            " 1:aabbccfffeddee01000109000000000000000000010300010002 2:aabbccfffeddee01000203000000000000000007010300010002",
+        ),
+        get(0x2005, EVERY, " -:6400"),
+    ];
+    run(&rt, &mut sets, Rights::all(), &steps);
 }
 
 #[test]
@@ -106,15 +103,22 @@ fn grandmaster_again(rt: HostRuntime) {
         };
         assert!(rt; sets.observe(&clock, &[]).is_ok());
     }
-    assert!(rt; sets.parent.grandmaster == K);
-    assert!(rt; sets.parent.parent_port == PortIdentity { clock: K, port: 0 });
-    assert!(rt; sets.parent.precedence.priority1 == 100 && sets.parent.precedence.class == 7);
+    let again = " -:aabbccfffeddee0100000000ffff7fffffff6407feffff80aabbccfffeddee01";
+    run(&rt, &mut sets, Rights::all(), &[get(0x2002, EVERY, again)]);
     let holdover = ClockObservation {
         clock_class: Some(187),
         ..ClockObservation::default()
     };
     assert!(rt; sets.observe(&holdover, &[]).is_ok());
-    assert!(rt; sets.default.precedence.class == 187 && sets.parent.precedence.class == 187);
+    let steps = [
+        get(0x2000, EVERY, " -:0100000264bbfeffff80aabbccfffeddee010000"),
+        get(
+            0x2002,
+            EVERY,
+            " -:aabbccfffeddee0100000000ffff7fffffff64bbfeffff80aabbccfffeddee01",
+        ),
+    ];
+    run(&rt, &mut sets, Rights::all(), &steps);
 }
 
 /// What a clock of two ports refuses for its grandmaster: another with its own identity.
@@ -164,9 +168,10 @@ fn refuses(
             assert!(rt; format!(in alloc; "{fault}").is_ok_and(|shown| shown.as_str() == text));
         }
     }
-    assert!(rt; sets.default == before.default && sets.current == before.current);
-    assert!(rt; sets.parent == before.parent && sets.time == before.time);
-    assert!(rt; sets.ports.as_slice() == before.ports.as_slice());
+    let (mut image, mut image_before) = ([0; 200], [0; 200]);
+    assert!(rt; sets.image_into(&mut image).is_some());
+    assert!(rt; before.image_into(&mut image_before).is_some());
+    assert!(rt; image == image_before);
 }
 
 /// A port that the clock lacks is reported before all else.

@@ -7,7 +7,7 @@ use ptpm_codec::{Action, PortIdentity};
 use ptpm_data::{ClockStart, DataSets, PortStart, Reply, Request, Rights, Value, What};
 use std::process::Abort;
 
-const EVERY: u16 = PortIdentity::EVERY_PORT;
+pub(super) const EVERY: u16 = PortIdentity::EVERY_PORT;
 
 /// A request, its dataField in hexadecimal digits, and the reply to it as `shown` writes it.
 #[derive(Clone, Copy)]
@@ -19,7 +19,7 @@ pub(super) struct Step<'a> {
     reply: &'a str,
 }
 
-fn get<'a>(id: u16, port: u16, reply: &'a str) -> Step<'a> {
+pub(super) fn get<'a>(id: u16, port: u16, reply: &'a str) -> Step<'a> {
     Step {
         action: Action::Get,
         id,
