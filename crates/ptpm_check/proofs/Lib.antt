@@ -1,3 +1,4 @@
+pub mod SameRefusal
 pub mod ItemLemmas
 pub mod KeyLemmas
 pub mod LedLemmas
