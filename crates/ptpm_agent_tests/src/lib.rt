@@ -1,5 +1,5 @@
-//! The tests of a clock's agent, by public functions of `ptpm_agent`: in a crate above it, so that its functions are not proved once more
-//! for the tests.
+//! The tests of a clock's agent, by public functions of `ptpm_agent`. They are in a crate above it,
+//! so that its functions are not proved once more for them.
 #![tactic(auto)]
 
 #[cfg(test)]

@@ -1,5 +1,5 @@
-//! The tests of data sets, requests and replies, by public functions of `ptpm_data`: in a crate above it, so that its functions are not proved once more
-//! for the tests.
+//! The tests of data sets, requests and replies, by public functions of `ptpm_data`. They are in a crate above it,
+//! so that its functions are not proved once more for them.
 #![tactic(auto)]
 
 #[cfg(test)]

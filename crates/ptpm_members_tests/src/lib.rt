@@ -1,5 +1,5 @@
-//! The tests of members of dataFields, by public functions of `ptpm_members`: in a crate above it, so that its functions are not proved once more
-//! for the tests.
+//! The tests of members of dataFields, by public functions of `ptpm_members`. They are in a crate above it,
+//! so that its functions are not proved once more for them.
 #![tactic(auto)]
 
 #[cfg(test)]

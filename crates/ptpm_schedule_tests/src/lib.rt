@@ -1,5 +1,5 @@
-//! The tests of schedules, by public functions of `ptpm_schedule`: in a crate above it, so that its functions are not proved once more
-//! for the tests.
+//! The tests of schedules, by public functions of `ptpm_schedule`. They are in a crate above it,
+//! so that its functions are not proved once more for them.
 #![tactic(auto)]
 
 #[cfg(test)]

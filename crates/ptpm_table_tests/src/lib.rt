@@ -1,5 +1,5 @@
-//! The tests of reply tables, by public functions of `ptpm_table`: in a crate above it, so that its functions are not proved once more
-//! for the tests.
+//! The tests of reply tables, by public functions of `ptpm_table`. They are in a crate above it,
+//! so that its functions are not proved once more for them.
 #![tactic(auto)]
 
 #[cfg(test)]
