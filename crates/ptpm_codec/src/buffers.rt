@@ -59,8 +59,8 @@ pub fn put_u16<const N: usize>(buffer: &mut ArrayVec<u8, N>, number: u16)
     put(buffer, &octets);
 }
 
-/// Leaves a copy of these octets in the buffer, and nothing else. They are no more than it has room for. Where it had as many,
-/// all are written over.
+/// Leaves a copy of these octets in the buffer, and nothing else. They are no more than it has room for. If it has as many
+/// octets already, they are written over in place.
 pub fn overwrite<const N: usize>(buffer: &mut ArrayVec<u8, N>, octets: &[u8])
     requires { length octets.now ≤ N }
     ensures { buffer.new.items ≡ octets.now }

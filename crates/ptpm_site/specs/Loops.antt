@@ -9,8 +9,7 @@ use Rattle.ptpm_site.specs.Following.{parent_clock}
 use Rattle.ptpm_site.specs.Telling.{Telling}
 
 -- The clocks of a loop, from one on: each is followed by its parent, and the parent of the last is the first. None if a parent is
--- less than the first, if a clock has no parent, or if n clocks do not lead back. None if a parent is less than the first, if a
--- clock has no parent, or if n clocks do not lead back to the first.
+-- less than the first, if a clock has no parent, or if n clocks do not lead back.
 abbrev pub circle : Telling → Source → ℕ → Source → Option (List ClockIdentity)
 circle t first zero here = None
 circle t first (suc n) here = option_and_then (λ parent.

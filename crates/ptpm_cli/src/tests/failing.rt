@@ -128,7 +128,7 @@ fn buffered_output_at_a_fault(rt: HostRuntime) -> Result<(), Fail> {
     Ok(())
 }
 
-/// Where the buffer cannot be written out, an earlier write failed than the script's fault.
+/// If the buffer cannot be written out, an earlier write than the script's fault failed.
 #[test]
 fn full_output_at_a_fault(rt: HostRuntime) -> Result<(), Fail> {
     let alloc = rt.alloc();

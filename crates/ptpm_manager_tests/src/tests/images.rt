@@ -120,7 +120,8 @@ const REFUSED: [(&[(usize, u8)], RestoreError); 24] = [
     (&[(43, 0)], RestoreError::Damaged),
     (&[(42, 0x80), (43, 0)], RestoreError::Damaged),
     (&[(51, 1)], RestoreError::Damaged),
-    // no request, and one after another number than 1; a RESPONSE; an id of a port at every port; port 3 of a clock of two
+    // No request, and one after another number than 1. A RESPONSE. An id of a port at every port. Port 3 of a clock of
+    // two.
     (&[(52, 0)], RestoreError::Damaged),
     (&[(52, 2)], RestoreError::Damaged),
     (&[(53, 2)], RestoreError::Damaged),
@@ -157,7 +158,7 @@ fn counts_of_an_image(rt: HostRuntime) {
     assert!(rt; is_refused(rt.alloc(), more.as_slice(), RestoreError::Damaged));
 }
 
-/// Requests that were given up stand between those begun and the latest that was reported.
+/// Requests that were given up come after the latest that was reported, and before the next that is begun.
 #[test]
 fn images_of_given_up_requests(rt: HostRuntime) {
     let mut session = session_from(rt.alloc(), 7, 2);

@@ -107,7 +107,7 @@ fn refused_events(rt: HostRuntime) -> Result<(), Fail> {
     Ok(())
 }
 
-/// Lines that are read, at the limits of their numbers, and with spaces wherever they may stand.
+/// Lines that are read, at the limits of their numbers, and with spaces wherever they may be.
 #[test]
 fn lines_within_limits(rt: HostRuntime) {
     let alloc = rt.alloc();
@@ -168,7 +168,7 @@ begin m get 20050 - - => BadId
 begin m get PRIORITY1 - 0 => BadHex
 stranger K 1 0g => BadHex";
 
-/// Two faults in one line, of which the first in order is answered, wherever it stands.
+/// Two faults in one line. The first in order is answered, wherever it is.
 const TWO_FAULTS: &str = "put => UnknownWord
 put 256 zz => UnknownWord
 begin m put => UnknownWord

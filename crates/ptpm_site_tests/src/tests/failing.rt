@@ -101,7 +101,7 @@ impl Write for FailingWriter {
     }
 }
 
-/// Whether a writer with this much room gets the beginning of what is printed, and its fault is told.
+/// Whether a writer with this much room gets the beginning of what is printed, and its fault is reported.
 fn fails_after(alloc: Global, lines: &[u8], whole: &[u8], room: usize) -> bool {
     let mut out = FailingWriter {
         taken: Vec::new(alloc),

@@ -120,9 +120,9 @@ data K 0002 0000
 data K 2000 0100000264f8feffff80aabbccfffeddee010000
 ";
 
-/// So if a reply comes late at its manager, what is reported may be no reply to the request. This is so even if each copy came in
-/// time. So if a reply comes late at its manager, what is reported may be no reply to the request, even if each copy came in
-/// time. Here the request was never sent.
+/// A reply that is 65,536 requests late is taken for the answer to the request that has its sequenceId again. So if a reply comes
+/// late at its manager, what is reported may be no reply to the request. That is so even if each copy came in time. Here the
+/// request was never sent.
 #[test]
 fn late_reply(rt: HostRuntime) -> Result<(), Fail> {
     let script = script_of_a_late_reply(rt.alloc())?;
