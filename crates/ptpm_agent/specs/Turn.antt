@@ -44,8 +44,8 @@ is_repeat looks.Repeat = true
 is_repeat looks.Conflict = false
 is_repeat looks.Old = false
 
--- The latest accepted request of a manager once more. It is answered in every domain, since a SET of DOMAIN moves the
--- clock away from managers still in another one (this project's profile).
+-- The latest accepted request of a manager once more. It is answered in every domain (this project's profile). For a
+-- SET of DOMAIN moves the clock away from managers that do not know of it yet.
 abbrev pub is_accepted_repeat : Clock → State → Message → Bool
 is_accepted_repeat c s v =
     not (is_own c v) && (is_addressed c s.sets v && (is_request v && is_repeat (look c s v)))

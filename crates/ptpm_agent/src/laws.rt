@@ -97,9 +97,9 @@ pub fn at_most_once_observed()
         ComeInTime first c ports h (deliveries_alone xs) }
 {}
 
-/// One delivery at a clock that is at a history. A copy in time takes it to where the history goes, and is sent what is due. A
-/// datagram that is no copy of a manager's request changes neither data sets nor entries, whatever came before. Nothing is said
-/// of a copy that is not in time.
+/// One delivery at a clock whose state agrees with a history. With a copy in time both go on and agree again, and the copy is
+/// sent what is due. A datagram that is no copy of a manager's request changes neither data sets nor entries, whatever came
+/// before. Nothing is said of a copy that is not in time.
 pub fn one_delivery()
     ensures begins { (first : PortIdentity → ℕ) (d : DataSetsValue)
         → StandsAt first (initial_clock_state d) (initial_history d) }
@@ -155,9 +155,9 @@ pub fn refused_changes_no_data()
         (turn c s ingress datagram).next.sets ≡ s.sets }
 {}
 
-/// Whatever comes in at a clock, in time or late, some turns are `AnsweredNew`. Its data sets and what it keeps are those that
-/// it had, after the requests of these turns. Each is carried out as the clock was in its turn, in their order, and nothing else
-/// changes them. So a stranger's request, a repeat and what is passed on leave them. What is kept of a manager is the latest of
+/// Whatever comes in at a clock, in time or late, its data sets and what it keeps change only by turns that are `AnsweredNew`.
+/// They are those that it had, after the requests of these turns. Each request is carried out as the clock was in its turn, in
+/// their order. So a stranger's request, a repeat and what is passed on leave them. What is kept of a manager is the latest of
 /// its requests among these, with the reply that was made to it then.
 pub fn requests_of_turns()
     ensures one { (c : Clock) (s : State) (ingress : ℕ) (datagram : List ℕ) →

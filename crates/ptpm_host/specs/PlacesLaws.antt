@@ -37,8 +37,8 @@ kept_twice (suc n) (x ∷ xs) (y ∷ ys) (z ∷ zs) first second messages places
   kept_twice n xs ys zs first.1 second.1 (rest_same z y (take n zs) (take n ys) messages) places,
 )
 
--- what holds for more places from the first on, holds for fewer; what holds from an earlier place
--- on, holds from a later one
+-- lists that agree in their first m elements agree in fewer; lists that agree after n elements
+-- agree after more
 take_fewer : (n m : ℕ) (xs ys : List Sent) → n ≤ m → take m xs ≡ take m ys → take n xs ≡ take n ys
 take_fewer zero m xs ys less same = refl
 take_fewer (suc n) zero xs ys less same = absurd (omega (arith, less))

@@ -66,7 +66,7 @@ impl MessageKey {
         }
     }
 
-    /// Whether it is the other one.
+    /// Whether both keys are the same.
     fn is_same(&self, other: &MessageKey) -> bool
         ensures { result ≡ same_key self.now other.now }
     {
@@ -86,7 +86,7 @@ impl MessageKey {
     }
 }
 
-/// A number in which each bit depends on the bits of another number.
+/// Mixes a number with another one, to choose a message's places.
 #[tactic(auto, unfolding(crate::specs::PassedOn::stirred))]
 fn stirred(number: u64, by: u64) -> u64
     ensures { result ≡ stirred number by }

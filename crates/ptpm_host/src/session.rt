@@ -92,7 +92,7 @@ impl HostedSession {
 
     /// The session whose image this is. Manager, managed clock, its number of ports and the first number must be those of the
     /// settings. Domain, hop field and attempts are those of the image. A request that was not answered goes on, with all
-    /// attempts before it. An image that is refused has the first reason that holds. Memory is asked for last, for the request's
+    /// attempts before it. An image is refused for the first reason that holds. Memory is asked for last, for the request's
     /// dataField.
     pub fn restored(
         alloc: Global,

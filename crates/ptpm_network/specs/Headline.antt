@@ -1,5 +1,5 @@
--- What a network promises, on one page. It may lose, repeat, reorder or duplicate messages in any way, if none arrives after
--- more than 32,768 later requests of its manager. Each clock's data sets are then those after its managers' delivered requests,
+-- What a network promises, on one page. It may lose, repeat, reorder or duplicate messages in any way. Let none arrive after
+-- more than 32,768 later requests of its manager. Then each clock's data sets are those after its managers' delivered requests,
 -- each applied once in order of first acceptance. Repeats of the latest request get the one reply that is kept, and repeats of
 -- older ones get none. Each manager reports those replies. Strangers and refused SETs change no data set.
 use Rattle.std.specs.Prelude.{◌≡◌, ℕ, ◌+◌, ◌<◌, ◌≤◌, List, ◌++◌, length, map, None}

@@ -20,8 +20,8 @@ ghost use Rattle.ptpm_network.specs.Network.{IsNetwork, Network, ports};
 ghost use Rattle.ptpm_network.specs.Stands.{StandsAfter};
 ghost use Rattle.ptpm_network.specs.State.{Frame, NetworkState, history};
 
-/// The headline. A network may lose, repeat, reorder or duplicate messages in any way, if none arrives after more than 32,768
-/// later requests of its manager. Each clock's data sets are then those after its managers' delivered requests, each applied once
+/// The headline. A network may lose, repeat, reorder or duplicate messages in any way. Let none arrive after more than 32,768
+/// later requests of its manager. Then each clock's data sets are those after its managers' delivered requests, each applied once
 /// in order of first acceptance. Repeats of the latest request get the one reply that is kept, and repeats of older ones get
 /// none. Each manager reports those replies. Strangers and refused SETs change no data set.
 pub fn headline()
@@ -85,7 +85,7 @@ pub fn strangers_change_nothing()
 {}
 
 /// Refused SETs change no data set, nor does any other request with an error among its answers. What is no numbered copy of a
-/// request leaves all that a clock has.
+/// request leaves all that a clock has as it was.
 pub fn refused_requests_change_no_data()
     ensures refused { (c : Clock) (h : History) (copy : RequestCopy) (r : ReplyValue) (a : Answer)
         (error : ErrorId) →
@@ -102,10 +102,10 @@ pub fn refused_requests_change_no_data()
         history N (arrives w c x) c ≡ history N w c }
 {}
 
-/// This needs no premise. Whatever happens in a network, in time or late, a clock has what it had before, after the requests of
-/// its turns that were `AnsweredNew`. Each is carried out as the clock was in its turn, in their order. Nothing else changes its
-/// data sets or what it keeps, at one event or at a list of them. `requests_of_turns` of ptpm_agent says what such requests
-/// leave.
+/// This holds without the premise. Whatever happens in a network, in time or late, a clock has what it had before, after the
+/// requests of its turns that were `AnsweredNew`. Each is carried out as the clock was in its turn, in their order. Nothing else
+/// changes its data sets or what it keeps, at one event or at a list of them. `requests_of_turns` of ptpm_agent says what such
+/// requests leave.
 pub fn requests_carried_out()
     ensures event { (N : Network) (r : RunningNetwork) (c : ℕ) (e : Event) (h : Happened) →
         network_event N r e ≡ Ok h →

@@ -127,7 +127,7 @@ pub fn outbox_of_turns()
 {}
 
 /// The clocks of a running network distinguish requests by sequenceIds. The network is at the machine's state when both start.
-/// If it is there before a clock's turn at a frame that is not late, it is so after it.
+/// If it is there before a clock's turn at a frame that is not late, it is there after the turn.
 pub fn clocks_stand()
     ensures first { (N : Network) (first : PortIdentity → ℕ)
         → Stands N first (initial_network N) (initial_state N) }

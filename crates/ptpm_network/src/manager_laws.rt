@@ -32,8 +32,8 @@ pub fn managers_in_time_are_served()
         StaysInTime N s (initial_network N) es }
 {}
 
-/// It is served so far when a network starts. If it was before an event that is not refused and is no late delivery for it, it is
-/// so after it. The event may be late for others.
+/// It is served so far when a network starts. If it was before, it still is after an event that is not refused and is no late
+/// delivery for it. The event may be a late delivery for others.
 pub fn served_so_far()
     ensures first { (N : Network) (s : ℕ) (r : RunningNetwork) →
         s < N.sessions → StandsAfter N [] r → IsServedSoFar N s r (account_of N s []) }

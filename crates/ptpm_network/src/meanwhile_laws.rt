@@ -39,9 +39,9 @@ pub fn answerable_meanwhile()
 ///   accepted the request by then;
 /// - after which there is room for the frames that are still to be made.
 ///
-/// A clock stays so through every event except one: a copy of a request of one of its managers for DOMAIN or DISABLE_PORT comes
-/// in. So what strangers send leaves the way open, and so does what other sessions begin and send, and what is delivered of it.
-/// SETs of all other ids are among these.
+/// A clock stays so unless a copy of a request for DOMAIN or DISABLE_PORT of one of its managers comes in there. So what
+/// strangers send leaves the way open, and so does what other sessions begin and send, and what is delivered of it. SETs of all
+/// other ids are among these.
 pub fn ways_stay_open()
     ensures nothing { (N : Network) (w : NetworkState) (s : ℕ) (hops : List Hop) (port frames : ℕ) →
         LeavesWay N w w s hops port frames }

@@ -36,8 +36,9 @@ abbrev pub handed_in_saved : List (ℕ × End) → List Incident
 handed_in_saved [] = []
 handed_in_saved (d ∷ ds) = Happens (Deliver d.0) ∷ save_at d.1 ∷ handed_in_saved ds
 
--- Each end of the way saves when a frame comes in there. The session sends its request, and one copy each way comes in at the
--- ends of the way and at last at the session. It then reports the answer and waits for nothing. Nothing else happens meanwhile.
+-- First the session saves, and each clock at which a frame waits. Then the session sends its request. One copy each way comes in
+-- at the ends of the way and at last at the session, and each end saves then. The session reports the answer and waits for
+-- nothing. Nothing else happens meanwhile.
 pub record IsAnsweredAgain (N : Network) (k : RestartingNetwork) (s : ℕ) (hops : List Hop) (port : ℕ) : Type 0 where
   pub deliveries : List (ℕ × End)
   pub along : ends_of deliveries ≡ visited hops (AtPort (N.session s).target port) ++ AtSession s ∷ []

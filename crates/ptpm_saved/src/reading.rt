@@ -28,7 +28,7 @@ pub(crate) struct SavedRequest<'a> {
 }
 
 /// Reads the entry whose image the octets begin with. Answers it and the octets after its image, and leaves its reply in
-/// `reply`. `None` if the octets do not begin with the image of an entry. The reply is then any.
+/// `reply`. `None` if the octets do not begin with the image of an entry. Then any reply may be left in `reply`.
 #[tactic(auto, using(crate::proofs::ReadingLemmas::entry_parts))]
 pub(crate) fn read_entry<'a>(
     octets: &'a [u8],

@@ -37,9 +37,9 @@ struct SavedEntries<'a> {
     octets: &'a [u8],
 }
 
-/// The clock that has this image, over a table without entries, if it is of this clock and has this many ports. Also answers how
-/// many entries were let go, since their managers are not among those of the table. An image that is refused has the first reason
-/// that holds. Takes no memory.
+/// The clock of an image, over a table without entries. The image has to be of the table's clock, with this many ports. Also
+/// answers how many entries were let go, since their managers are not among those of the table. An image is refused for the
+/// first reason that holds. Takes no memory.
 pub fn restored<T: SureTable + Drop>(
     image: &[u8],
     ports: u16,
@@ -69,8 +69,8 @@ pub fn restored<T: SureTable + Drop>(
 }
 
 /// The data sets of an image, from which a clock of this identity with this many ports goes on. The whole image is judged, also
-/// its entries. None of these is kept, since `put_back` does that. An image that is refused has the first reason that holds.
-/// Takes no memory.
+/// its entries. None of these is kept, since `put_back` does that. An image is refused for the first reason that holds. Takes no
+/// memory.
 pub fn judged(
     image: &[u8],
     identity: &ClockIdentity,
@@ -118,9 +118,8 @@ pub fn judge_into(
     Ok(())
 }
 
-/// Keeps the entries of an image in an agent, if the agent's table knows their managers. Answers how many were let go, since it
-/// does not know them. Data sets and managers stay. `None` for octets that are no image, and then nothing is kept. Takes no
-/// memory.
+/// Keeps those entries of an image in an agent whose managers the agent's table knows. Answers how many others were let go. Data
+/// sets and managers stay. `None` for octets that are no image, and then nothing is kept. Takes no memory.
 #[inline(never)]
 pub fn put_back<T: SureTable + Drop>(image: &[u8], agent: &mut Agent<T>) -> Option<u8>
     ensures kept { IfSome result

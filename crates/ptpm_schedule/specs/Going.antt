@@ -30,7 +30,7 @@ pub record Took (N : Network) (past : List machine.Event) (new : World) (e : mac
   pub permitted : refusal N (state_after N past) e ≡ None
   pub stands : StandsAfter N (past ++ e ∷ []) (running new)
 
--- nothing changed, and at any state at which the network may have been this held for an event
+-- nothing changed; and this held for an event, at any state at which the network may have been
 pub record Stayed (old new : World) (P : Network → List machine.Event → Type 0) : Type 0 where
   pub still : running new ≡ running old
   pub why : (N : Network) (past : List machine.Event)

@@ -60,7 +60,7 @@ impl Asked {
         }
     }
 
-    /// Whether it is not the other one.
+    /// Whether it is the same id as another.
     pub fn is(self, other: Asked) -> bool
         ensures { result ≡ same_id self other }
     {

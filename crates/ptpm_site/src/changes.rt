@@ -141,7 +141,7 @@ impl<'a> Standing<'a> {
     }
 }
 
-/// The first settled value that each request was answered.
+/// For each request the first settled value that was answered to it.
 #[derive(Drop)]
 struct Settled<'a> {
     first: BTreeMap<Request, Value<'a>>,

@@ -122,7 +122,7 @@ pub fn intervals_differ(own: &PortDataSet, parent: &PortDataSet) -> [Option<Diff
 }
 
 /// delayMechanism, if one port measures the delay from end to end and the other that of the link. No other
-/// pair counts as different. No other two mechanisms differ.
+/// pair counts as different.
 fn mechanism_differs(own: &PortDataSet, parent: &PortDataSet) -> Option<Differs>
     ensures { result ≡ mechanism_differs own.now parent.now }
 {

@@ -33,7 +33,8 @@ pub enum What<'a> {
     Steps(Steps),
     /// What it says of its grandmaster differs from what the grandmaster says, or the clock that it follows.
     GrandmasterDiffers(Differs),
-    /// It is the least of the clocks of a loop. These are they: each is followed by the one that it follows.
+    /// It is the least of the clocks of a loop. The list has all of them: each is followed by the one that it
+    /// follows.
     Loop(Vec<ClockIdentity>),
     /// A port is FAULTY, or stays on its way to another state.
     PortState(u16, PortState),

@@ -11,7 +11,7 @@ use crate::site::Site;
 use crate::source::Source;
 
 impl Site {
-    /// The answers of a clock with DEFAULT_DATA_SET, in the order of the lines.
+    /// A clock's answers with DEFAULT_DATA_SET, in the order of the lines.
     #[tactic(auto, unfolding(crate::specs::Kept::kept))]
     pub fn defaults(&self, source: Source) -> &[Heard<DefaultDataSet>]
         ensures { result.now ≡ (kept self.now).defaults source }
@@ -22,7 +22,7 @@ impl Site {
         }
     }
 
-    /// The answers of a clock with CURRENT_DATA_SET, in the order of the lines.
+    /// A clock's answers with CURRENT_DATA_SET, in the order of the lines.
     #[tactic(auto, unfolding(crate::specs::Kept::kept))]
     pub fn currents(&self, source: Source) -> &[Heard<CurrentDataSet>]
         ensures { result.now ≡ (kept self.now).currents source }
@@ -33,7 +33,7 @@ impl Site {
         }
     }
 
-    /// The answers of a clock with PARENT_DATA_SET, in the order of the lines.
+    /// A clock's answers with PARENT_DATA_SET, in the order of the lines.
     #[tactic(auto, unfolding(crate::specs::Kept::kept))]
     pub fn parents(&self, source: Source) -> &[Heard<ParentDataSet>]
         ensures { result.now ≡ (kept self.now).parents source }
@@ -44,7 +44,7 @@ impl Site {
         }
     }
 
-    /// The answers of a clock with TIME_PROPERTIES_DATA_SET, in the order of the lines.
+    /// A clock's answers with TIME_PROPERTIES_DATA_SET, in the order of the lines.
     #[tactic(auto, unfolding(crate::specs::Kept::kept))]
     pub fn times(&self, source: Source) -> &[Heard<TimePropertiesDataSet>]
         ensures { result.now ≡ (kept self.now).times source }
@@ -55,7 +55,7 @@ impl Site {
         }
     }
 
-    /// The answers of a clock with USER_DESCRIPTION, in the order of the lines.
+    /// A clock's answers with USER_DESCRIPTION, in the order of the lines.
     #[tactic(auto, unfolding(crate::specs::Kept::kept))]
     pub fn descriptions(&self, source: Source) -> &[Heard<Description>]
         ensures { result.now ≡ (kept self.now).descriptions source }

@@ -17,7 +17,7 @@ use crate::site::Site;
 use crate::source::Source;
 use std::alloc::{AllocError, Global};
 
-/// `incomplete`, `changed` and `identity_twice`. The ports are those of the clock that answered.
+/// `incomplete`, `changed` and `identity_twice`. `ports` are the clock's ports that answered.
 #[tactic(auto, unfolding(crate::specs::Findings::answers_told))]
 pub fn judge_answers<'a>(
     alloc: Global,
@@ -59,8 +59,8 @@ fn judge_missing(
     }
 }
 
-/// `changed` or `identity_twice`, for all data sets of a clock. The ports are those of the clock
-/// that answered.
+/// `changed` or `identity_twice`, for all data sets of a clock. `ports` are the clock's ports that
+/// answered.
 #[tactic(auto, unfolding(crate::specs::Findings::contradictions_told))]
 fn judge_contradictions<'a>(
     alloc: Global,

@@ -49,8 +49,8 @@ impl Sheet<'_> {
         Ok(())
     }
 
-    /// The findings, one a line. For grandmasters that are not seen there is one line each, which says
-    /// how many clocks name it.
+    /// The findings, one a line. Each grandmaster that is not seen has one line, which says how many
+    /// clocks name it.
     fn print_findings<O: Write>(&self, alloc: Global, out: &mut O) -> Result<(), Fault> {
         let unseen = self.unseen(alloc).map_err(|_| Fault::OutOfMemory)?;
         let lines = lines_of(self.0.findings.as_slice(), unseen.as_slice());

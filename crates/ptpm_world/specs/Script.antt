@@ -36,7 +36,7 @@ abbrev pub network_text : List (List ℕ × List ℕ) → List ℕ
 network_text [] = []
 network_text (line ∷ lines) = if is_divider line.0 then [] else line.0 ++ line_feed ++ network_text lines
 
--- What is kept of a text: all of it, or, if it is too long for a network file, a text that is too.
+-- What is kept of a text: all of it, or, if it is too long for a network file, another text that is too long.
 abbrev pub StandsFor : List ℕ → List ℕ → Type 0
 StandsFor kept whole = (kept ≡ whole) ⊎ ((262144 < length kept) × (262144 < length whole))
 

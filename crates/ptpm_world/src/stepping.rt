@@ -37,7 +37,7 @@ use ptpm_script::{End, Event, NetworkLink};
 use ptpm_table::{Outbox, ReplyTable};
 
 impl World {
-    /// Lets an event happen. An event that is refused has the first reason that holds, and then the network stays as it was.
+    /// Lets an event happen. An event is refused for the first reason that holds, and then the network stays as it was.
     /// `OutOfMemory` alone may come in place of any other answer.
     ///
     /// If no frame was delivered late before, and none is now, it is where the event leads the network machine. It refuses what
@@ -74,10 +74,10 @@ impl World {
     /// Lets events happen in their order. Stops at the first that is refused, and names its place, counted from 0; those before
     /// it happened.
     ///
-    /// The events may lose, repeat, reorder or duplicate messages in any way, if none that happens delivers a frame late and none
-    /// did before. Each clock's data sets are then those after its managers' delivered requests, each applied once in order of
-    /// first acceptance. Repeats of the latest request get the one reply that is kept, and repeats of older ones get none. Each
-    /// manager reports those replies. Strangers and refused SETs change no data set (`Headline`).
+    /// The events may lose, repeat, reorder or duplicate messages in any way. Let none that happens deliver a frame late, and let
+    /// none have done so before. Then each clock's data sets are those after its managers' delivered requests, each applied once
+    /// in order of first acceptance. Repeats of the latest request get the one reply that is kept, and repeats of older ones get
+    /// none. Each manager reports those replies. Strangers and refused SETs change no data set (`Headline`).
     ///
     /// Late or not, each clock has what it had before, after the requests of its turns that were `AnsweredNew`. Each is carried
     /// out as the clock was in its turn, in their order. Nothing else changes its data sets or what it keeps.

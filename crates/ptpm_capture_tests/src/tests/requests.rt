@@ -1,5 +1,5 @@
-//! What `pmc` of linuxptp 3.1.1 (Debian's package) sends, and what the clock of `ptpm answer` sends for it. It is over its Unix
-//! socket, UDP (IPv4 and IPv6) and Ethernet.
+//! What `pmc` of linuxptp 3.1.1 (Debian's package) sends over its Unix socket, UDP (IPv4 and IPv6) and Ethernet. Also what the
+//! clock of `ptpm answer` sends for it.
 
 use super::same_lines;
 use ptpm_commands::answer::answer;

@@ -128,7 +128,8 @@ fn buffered_output_at_a_fault(rt: HostRuntime) -> Result<(), Fail> {
     Ok(())
 }
 
-/// If the buffer cannot be written out, an earlier write than the script's fault failed.
+/// The script has a fault, and then the buffer cannot be written out. The fault of writing is reported, since the line that is
+/// lost came before the script's fault.
 #[test]
 fn full_output_at_a_fault(rt: HostRuntime) -> Result<(), Fail> {
     let alloc = rt.alloc();

@@ -120,8 +120,7 @@ const REFUSED: [(&[(usize, u8)], RestoreError); 24] = [
     (&[(43, 0)], RestoreError::Damaged),
     (&[(42, 0x80), (43, 0)], RestoreError::Damaged),
     (&[(51, 1)], RestoreError::Damaged),
-    // No request, and one after another number than 1. A RESPONSE. An id of a port at every port. Port 3 of a clock of
-    // two.
+    // no request, and one after another number than 1; a RESPONSE; an id of a port at every port; port 3 of two ports
     (&[(52, 0)], RestoreError::Damaged),
     (&[(52, 2)], RestoreError::Damaged),
     (&[(53, 2)], RestoreError::Damaged),

@@ -1,5 +1,5 @@
-//! Over 32,768 requests of one session: which deliveries are late, and what then comes of them. The promise of at-most-once
-//! execution does not cover these.
+//! Over 32,768 requests of one session: which deliveries are late, and what then comes of them. The headline does not cover
+//! these.
 
 use super::networks::{
     ONE_CLOCK, numbered_from_one, step, tell, tell_reports, tell_sets, world_of,

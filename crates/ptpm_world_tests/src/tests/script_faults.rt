@@ -16,8 +16,8 @@ fn end_of(alloc: Global, script: &[u8]) -> Result<(), ScriptError> {
     run_script(alloc, script, &mut io::sink())
 }
 
-/// Lines are counted in all that is read, also events' lines after the divider. All lines before the divider are read
-/// before the network is judged.
+/// Lines are counted from the first that is read, and those of events from the divider on. All lines before the
+/// divider are read before the network is judged.
 #[test]
 fn first_fault_and_its_line(rt: HostRuntime) {
     let alloc = rt.alloc();
