@@ -136,7 +136,7 @@ pub fn no_copy_forwarded()
         (turn c s x.ingress x.datagram).forwards ≡ [] }
 {}
 
-/// Nothing is ever kept of anyone but the configured managers.
+/// Nothing is ever kept of anyone except the configured managers.
 pub fn only_managers()
     ensures first { (c : Clock) (d : DataSetsValue)
         → AreOfManagers c (initial_clock_state d).entries }

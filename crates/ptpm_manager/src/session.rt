@@ -125,8 +125,8 @@ impl Session {
         self.domain
     }
 
-    /// Begins a request, with all its attempts before it; the ask's octets are copied. The first reason that holds is why
-    /// it is refused, and then the session stays as it was.
+    /// Begins a request, with all its attempts before it; the ask's octets are copied. It is refused for the first reason that
+    /// holds, and then the session stays as it was.
     pub fn begin(&mut self, ask: &Ask) -> Result<(), BeginError>
         ensures begun { OnOk result (self.new ≡ begun self.old (request_of ask.now)) }
         ensures permitted { OnOk result (begin_refusal self.old ask.now ≡ None) }

@@ -27,7 +27,7 @@ pub record IsTimelyCopy (N : Network) (s : ℕ) (r : RunningNetwork) (n port k :
   pub copy : is_copy (N.clock (N.session s).target) (ports N (N.session s).target) v ≡ true
 
 pub record IsServed (N : Network) (s : ℕ) (r : RunningNetwork) (a : Account) : Type 0 where
-  -- Its target carried out its requests 1 to their number, each once, in this order. It is the number of those begun or one less.
+  -- Its target carried out its requests from 1 on, each once, in this order. They are as many as were begun, or one less.
   pub accepted : (k : ℕ) → 0 < k → k ≤ accepted_count N s a → (entry : Accepted)
       × (kept_reply (manager N s) k a.accepted ≡ Some entry) × (slice_get a.begun (k - 1) ≡ Some entry.request)
   pub accepted_begun : accepted_count N s a ≤ length a.begun

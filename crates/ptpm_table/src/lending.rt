@@ -76,7 +76,7 @@ impl<'a> Model for LentEntry<'a> {
 /// An answer of the clock or of one of its ports, as it is kept.
 #[derive(Drop)]
 pub struct LentAnswer<'a> {
-    /// The port that it is of; no port where it is of the clock.
+    /// The port that it is of; no port if it is of the clock.
     pub port: Option<u16>,
     pub what: LentWhat<'a>,
 }

@@ -184,7 +184,7 @@ fn link_at(links: &[NetworkLink], end: End) -> Option<&NetworkLink>
     links.iter().find(|link| link.ends.contains(&end))
 }
 
-/// Stores a frame once for each of these ends but its own, in their order. There is room for them.
+/// Stores a frame once for each of these ends except its own, in their order. There is room for them.
 fn push_others(stored: &mut Vec<Stored>, ends: &[End], frame: Stored)
     requires { length stored.old.items + length (others frame.end ends.now)
         ≤ vec_capacity stored.old }

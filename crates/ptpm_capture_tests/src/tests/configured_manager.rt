@@ -35,7 +35,7 @@ fn clock(alloc: Global) -> Result<HostedClock, Fail> {
     Ok(HostedClock::start(alloc, &settings, &ports, &[manager]).map_err(|_| "it starts")?)
 }
 
-/// Each SET is carried out where its number is new, and a tool that starts again at 0 changes nothing twice.
+/// Each SET is carried out if its number is new, and a tool that starts again at 0 changes nothing twice.
 #[test]
 fn runs_of_a_configured_manager(rt: HostRuntime) -> Result<(), Fail> {
     let alloc = rt.alloc();

@@ -21,7 +21,7 @@ const DISABLED: &str =
 /// The places of the flags of an image, in octets of the clock.
 const FLAGS: [usize; 8] = [9, 44, 67, 68, 69, 70, 71, 72];
 
-/// These octets are what the data sets are written as, and nothing else is; and they give the same back, whatever follows them.
+/// The data sets are written as exactly these octets. Read with anything after them, these give the same data sets.
 fn is_image(rt: &impl Abort, sets: &DataSets, text: &str) {
     let image = octets(rt, text);
     let size = image.len();

@@ -30,7 +30,7 @@ fn restored(alloc: Global, image: &[u8]) -> Result<Session, RestoreError> {
     Session::restored(alloc, image, MANAGER, CLOCK, 2, 7)
 }
 
-/// These octets are what the session is written as, and nothing else is.
+/// The session is written as exactly these octets.
 fn has_image(rt: &impl Abort, session: &Session, image: &[u8]) {
     let size = image.len();
     assert!(rt; 0 < size && size < 64);

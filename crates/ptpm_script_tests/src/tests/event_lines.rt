@@ -215,7 +215,7 @@ fn read_event_succeeds_with_ample_memory(rt: HostRuntime) {
     assert!(rt; is_deliver(read(alloc, "deliver 7"), 7));
 }
 
-/// What a line is read as; read again where memory is refused once.
+/// What a line is read as. It is read again if memory is refused once.
 fn read_again(alloc: Global, line: &str) -> Result<Event, EventError> {
     match read_event(alloc, line) {
         Err(EventError::OutOfMemory) => read_event(alloc, line),

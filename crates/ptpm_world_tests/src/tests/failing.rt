@@ -32,7 +32,7 @@ fn first_script(alloc: Global) -> Result<String, AllocError> {
 }
 
 /// For each event whose line feed was read the line of the trace is there, and nothing else. The reports and data sets
-/// are never printed, also if reading fails instead of coming to the end.
+/// are never printed, even if reading fails instead of coming to the end.
 #[test]
 fn failing_reader(rt: HostRuntime) -> Result<(), Fail> {
     let script = first_script(rt.alloc())?;
