@@ -82,7 +82,7 @@ fn read_reply<'a>(request: &Request<'_>, octets: &'a [u8], reply: &mut Reply) ->
     Some(octets)
 }
 
-/// Reads this many answers in place of those that `reply` has. Answers the octets after them.
+/// Reads this many answers in place of those in `answers`. Answers the octets after them.
 fn read_answers<'a>(
     count: usize,
     of_port: bool,

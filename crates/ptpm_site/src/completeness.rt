@@ -74,7 +74,7 @@ pub fn missing_answers(
     Ok(Some(Missing { asked, ports }))
 }
 
-/// Those of the six ids that the clock neither answered nor refused.
+/// Those of these ids that the clock neither answered nor refused.
 fn missing_ids(
     alloc: Global,
     site: &Site,
