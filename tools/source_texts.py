@@ -1,5 +1,5 @@
-"""The texts of a source file in C, Rust or Python: its comments, and its strings. Each text is a list of pairs: the number of a
-line, and what is on it."""
+"""The texts of a source file in C, Rust, Rattle or Python: its comments, and its strings. Each text is a list of pairs: the number
+of a line, and what is on it."""
 import ast
 import re
 
@@ -11,6 +11,9 @@ TOKEN = re.compile(r'''(?P<comment>/\*.*?\*/|//[^\n]*)
 DOCUMENTED = (ast.Module, ast.ClassDef, ast.FunctionDef, ast.AsyncFunctionDef)
 CONVERSION = '%s'
 
+# What each line of a comment begins with, by the end of the file's name.
+MARKERS = {'.rs': '//[/!]', '.rt': '//[/!]?', '.antt': '--'}
+
 
 def lines_of(number, text):
     """The lines of a text that begins on the line of this number."""
@@ -18,11 +21,12 @@ def lines_of(number, text):
 
 
 def comments(path, source):
-    """The comments of a file: in Python its docstrings, in Rust those of `///` and `//!`."""
+    """The comments of a file: in Python its docstrings, in Rust those of `///` and `//!`, in Rattle also those of `//` and `--`."""
+    marker = next((marker for ending, marker in MARKERS.items() if path.endswith(ending)), None)
     if path.endswith('.py'):
         yield from docstrings(source)
-    elif path.endswith('.rs'):
-        yield from line_comments(source)
+    elif marker:
+        yield from line_comments(source, marker)
     else:
         for match in TOKEN.finditer(source):
             if match['comment'] and match['comment'].startswith('/*'):
@@ -35,16 +39,18 @@ def docstrings(source):
             yield lines_of(node.body[0].lineno, node.body[0].value.value)
 
 
-def line_comments(source):
-    """The lines `///` and `//!` that follow each other are one comment."""
-    comment = []
+def line_comments(source, marker):
+    """Lines that begin with the same marker and follow each other are one comment."""
+    comment, latest = [], None
     for number, line in enumerate(source.split('\n') + [''], 1):
-        match = re.match(r'\s*//[/!] ?(.*)', line)
-        if match:
-            comment.append((number, match[1]))
-        elif comment:
+        match = re.match(rf'\s*({marker})(?: |$)(.*)', line)
+        found = match and match[1]
+        if comment and found != latest:
             yield comment
             comment = []
+        if match:
+            comment.append((number, match[2]))
+        latest = found
 
 
 def strings(path, source):

@@ -1,5 +1,5 @@
--- What a boundary clock passes on: copies with one hop less (IEEE 1588-2019, 15.3.3; the conditions on states, on the domain
--- and on what is for exactly this clock are this project's profile).
+-- What a boundary clock passes on: copies with one hop less (IEEE 1588-2019, 15.3.3). The conditions on states, on the
+-- domain and on what is for exactly this clock are this project's profile.
 use Rattle.std.specs.Prelude.{ℕ, ◌-◌, ◌==◌, ◌&&◌, nat_lt, not, Bool, if◌then◌else◌, List, [], map, length, slice_set, Option, Some, None}
 use Rattle.std.specs.List.{filter, range_with_len}
 use Rattle.ptpm_codec.specs.declared.identity.ClockIdentity.{ClockIdentity}
@@ -14,7 +14,7 @@ abbrev pub egress_ports : ℕ → DataSetsValue → List ℕ
 egress_ports ingress d =
     filter (λ port. not (port == ingress) && may_forward port d) (range_with_len 1 (length d.ports))
 
--- Of sdoId 0 and the clock's domain, not from this clock, not for exactly this clock, with a hop left, and come in at a
+-- Of sdoId 0 and the clock's domain, neither from this clock nor for exactly this clock. It has a hop left, and came in at a
 -- port in a forwarding state. What is for every clock is forwarded too.
 abbrev pub is_forwarded : ClockIdentity → ℕ → DataSetsValue → Message → Bool
 is_forwarded me ingress d v =

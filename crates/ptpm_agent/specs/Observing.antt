@@ -1,6 +1,6 @@
--- At-most-once execution at a clock whose host observes: between deliveries the data sets also move by no request, when a servo
--- or the state machine of a port reports what it found. Each accepted request is applied once all the same, to the data sets as
--- they are then (this project's profile).
+-- At-most-once execution at a clock whose host observes. Between deliveries the data sets then also change without a request,
+-- when a servo or the state machine of a port reports what it found. Each accepted request is still applied once, to the data
+-- sets as they are then (this project's profile).
 use Rattle.std.specs.Prelude.{◌≡◌, ℕ, true, List, [], ◌∷◌, map, Option, Some, None}
 use Rattle.ptpm_codec.specs.declared.identity.PortIdentity.{PortIdentity}
 use Rattle.ptpm_data.specs.declared.observation.ClockObservation.{ClockObservation}

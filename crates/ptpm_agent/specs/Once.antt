@@ -1,6 +1,6 @@
 -- At-most-once execution: which copies of requests are among deliveries, which of them were accepted, and what each is to be
--- answered. It counts a manager's requests by unbounded indexes from 1 on, and has everything that was ever accepted;
--- sequenceIds, the entries of a clock and its verdicts are no part of it (this project's profile).
+-- answered. It counts a manager's requests by unbounded indexes from 1 on, and has everything that was ever accepted.
+-- SequenceIds, the entries of a clock and its verdicts are no part of it (this project's profile).
 use Rattle.std.specs.Prelude.{ℕ, ◌==◌, ◌&&◌, nat_lt, max, not, Bool, if◌then◌else◌, List, [], ◌∷◌, filter_map, Option, Some, None}
 use Rattle.std.specs.List.{find}
 use Rattle.ptpm_codec.specs.declared.identity.PortIdentity.{PortIdentity}
@@ -33,8 +33,8 @@ pub record RequestCopy : Type 0 where
   pub heard : Heard
   pub request : RequestValue
 
--- of sdoId 0, from a configured manager that is not of this clock, for exactly this clock and one of its N ports or
--- all, and a GET, SET or COMMAND
+-- Of sdoId 0, from a configured manager that is not of this clock. For exactly this clock and one of its N ports or all, and
+-- a GET, SET or COMMAND.
 abbrev pub is_copy : Clock → ℕ → Message → Bool
 is_copy c ports v =
     v.sdo == 0 && (not (is_own c v) && (is_known v.source c.managers && (is_for_this_clock c v

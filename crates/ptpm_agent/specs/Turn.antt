@@ -1,5 +1,5 @@
--- One turn of a clock: what becomes of a datagram that comes in at a port (IEEE 1588-2019, 15.3 and 15.4; numbers, kept
--- replies and the order of verdicts are this project's profile).
+-- One turn of a clock: what becomes of a datagram that comes in at a port (IEEE 1588-2019, 15.3 and 15.4). Numbers,
+-- kept replies and the order of verdicts are this project's profile.
 use Rattle.std.specs.Prelude.{ℕ, ◌==◌, ◌&&◌, ◌||◌, not, Bool, true, false, if◌then◌else◌, List, [], ◌++◌, Option, Some, None, Result, Ok, Err}
 use Rattle.std.specs.FinMap.{get, insert}
 use Rattle.ptpm_codec.specs.declared.error.DecodeError.{DecodeError}
@@ -44,8 +44,8 @@ is_repeat looks.Repeat = true
 is_repeat looks.Conflict = false
 is_repeat looks.Old = false
 
--- The latest accepted request of a manager once more. It is answered in every domain, since a SET of DOMAIN moves the
--- clock away from those who have not heard of it yet (this project's profile).
+-- The latest accepted request of a manager once more. It is answered in every domain (this project's profile). For a
+-- SET of DOMAIN moves the clock away from managers that do not know of it yet.
 abbrev pub is_accepted_repeat : Clock → State → Message → Bool
 is_accepted_repeat c s v =
     not (is_own c v) && (is_addressed c s.sets v && (is_request v && is_repeat (look c s v)))

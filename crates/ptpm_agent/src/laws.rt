@@ -50,14 +50,14 @@ pub fn at_most_once()
 
 /// At-most-once execution at a clock whose host observes. Let there be any list of deliveries and observations at a fresh
 /// clock. Let each copy of a manager's request among them come in time, as in `at_most_once`. Then:
-/// - the data sets are those after the accepted requests, each applied once, in order of first acceptance, to the data sets as
-///   they were then, with each observation in its place among them;
+/// - the data sets are those after the accepted requests, in order of first acceptance, with each observation in its place among
+///   them. Each request is applied once, to the data sets as they were then;
 /// - each copy is sent the reply that is due to it, and nothing else is sent for it;
 /// - a copy of a request that is not newly accepted changes neither data sets nor entries.
 ///
-/// A copy of the latest accepted request of its manager is due the one reply that was made from the data sets as they were when
-/// the request was accepted, whatever has happened since. For example, the reply to a GET shows what was true then. A list
-/// of deliveries without observations is the case of `at_most_once`.
+/// A copy of the latest accepted request of its manager is due one reply, whatever has happened since. It was made from the data
+/// sets as they were when the request was accepted. For example, the reply to a GET shows what was true then. A list of
+/// deliveries without observations is the case of `at_most_once`.
 pub fn at_most_once_observed()
     ensures sets { (c : Clock) (first : PortIdentity → ℕ) (d : DataSetsValue)
         (xs : List Happening) →
@@ -97,9 +97,9 @@ pub fn at_most_once_observed()
         ComeInTime first c ports h (deliveries_alone xs) }
 {}
 
-/// One delivery at a clock that is at a history: a copy in time takes it to where the history goes, and is sent what
-/// is due. A datagram that is no copy of a manager's request changes neither data sets nor entries, whatever came before.
-/// Nothing is said of a copy that is not in time.
+/// One delivery at a clock whose state agrees with a history. With a copy in time both go on and agree again, and the copy is
+/// sent what is due. A datagram that is no copy of a manager's request changes neither data sets nor entries, whatever came
+/// before. Nothing is said of a copy that is not in time.
 pub fn one_delivery()
     ensures begins { (first : PortIdentity → ℕ) (d : DataSetsValue)
         → StandsAt first (initial_clock_state d) (initial_history d) }
@@ -136,7 +136,7 @@ pub fn no_copy_forwarded()
         (turn c s x.ingress x.datagram).forwards ≡ [] }
 {}
 
-/// Nothing is ever kept of anyone but the configured managers.
+/// Nothing is ever kept of anyone except the configured managers.
 pub fn only_managers()
     ensures first { (c : Clock) (d : DataSetsValue)
         → AreOfManagers c (initial_clock_state d).entries }
@@ -145,8 +145,8 @@ pub fn only_managers()
         AreOfManagers c (turn c s ingress datagram).next.entries }
 {}
 
-/// A request that is refused, for whatever reason and whoever sent it, leaves the data sets as they were: if the reply to
-/// a datagram has an error, they stay.
+/// A request that is refused, for whatever reason and whoever sent it, leaves the data sets as they were. So they stay if the
+/// reply to a datagram has an error.
 pub fn refused_changes_no_data()
     ensures { (c : Clock) (s : State) (ingress : ℕ) (datagram : List ℕ) (v : Message)
         (r : ReplyValue) (a : Answer) (error : ErrorId) →
@@ -155,10 +155,10 @@ pub fn refused_changes_no_data()
         (turn c s ingress datagram).next.sets ≡ s.sets }
 {}
 
-/// Whatever comes in at a clock, in time or late, its data sets and what it keeps are those that it had, after the requests of its
-/// turns that were `AnsweredNew`, each as the clock was in its turn, in their order; and nothing else changes them. So a
-/// stranger's request, a repeat and what is passed on leave them. And what is kept of a manager is the latest of its requests
-/// among these, with the reply that was made of it then.
+/// Whatever comes in at a clock, in time or late, its data sets and what it keeps change only by turns that are `AnsweredNew`.
+/// They are those that it had, after the requests of these turns. Each request is carried out as the clock was in its turn, in
+/// their order. So a stranger's request, a repeat and what is passed on leave them. What is kept of a manager is the latest of
+/// its requests among these, with the reply that was made to it then.
 pub fn requests_of_turns()
     ensures one { (c : Clock) (s : State) (ingress : ℕ) (datagram : List ℕ) →
         (turn c s ingress datagram).next ≡ after_requests c s (carried_in c s datagram) }

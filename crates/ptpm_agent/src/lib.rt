@@ -1,5 +1,5 @@
-//! The management agent of one boundary clock: which messages it answers, passes on or drops, and what that promises to
-//! managers whose messages are lost, repeated or reordered (IEEE 1588-2019, clause 15).
+//! The management agent of one boundary clock: which messages it answers, passes on or drops (IEEE 1588-2019, clause
+//! 15). It also says what that promises to managers whose messages are lost, repeated or reordered.
 #![tactic(auto)]
 
 mod agent;

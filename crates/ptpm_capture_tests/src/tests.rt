@@ -1,5 +1,5 @@
-//! Datagrams that linuxptp sent, with what has to come of each: recorded from its tools, and the answers made by hand and by a
-//! second reading of the standard, never by this program.
+//! Datagrams that were recorded from the tools of linuxptp, with what has to come of each. The answers were made by hand and
+//! by a second reading of the standard, never by this program.
 
 mod configured_manager;
 mod replies;

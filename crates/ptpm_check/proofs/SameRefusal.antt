@@ -24,7 +24,7 @@ use Rattle.ptpm_script.specs.declared.net_error.NetError.{NetError}
 use Rattle.ptpm_script.specs.contracts.net_error.NetError as net_error
 use Rattle.ptpm_script.specs.contracts.net_error.NetErrorPartialEq.TheImpl.{ghosts as of_refusal}
 
--- ---- the `==` of an enum tells values of it apart, if that of each variant with fields does
+-- ---- the `==` of an enum distinguishes its values, if that of each variant with fields does
 
 abbrev AreToldApart : (Fss : List (List Part)) → Each Bool Fss → Type 0
 AreToldApart [] each = Unit {0}

@@ -1,5 +1,4 @@
--- Which refusal a fault is of, and where it is: a place in the file, and what is there. Tables, items and ports' tables are counted
--- from 1.
+-- Which refusal a fault is of, and its place in the file, with what is there. Tables, items and ports' tables are counted from 1.
 use Rattle.std.specs.Prelude.{ℕ, ◌+◌, Bool, if◌then◌else◌, List, [], ◌∷◌, ◌++◌, map, Option, Some, None, is_some}
 use Rattle.toml.specs.Data.{Members, get_member}
 use Rattle.ptpm_check.specs.declared.fault.Fault.{Fault}

@@ -1,4 +1,4 @@
--- Where a fault of a network file is.
+-- The place of a fault in a network file.
 use Rattle.std.specs.Prelude.{ℕ, List, codes}
 use Rattle.ptpm_check.specs.declared.place.Array.{Array}
 use Rattle.ptpm_check.specs.declared.place.Array.TheVariants.{Clock, Session, Link}

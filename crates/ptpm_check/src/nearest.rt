@@ -3,8 +3,9 @@
 use std::alloc::{AllocError, Global};
 use strsim::jaro_winkler;
 
-/// The name that is most like another by the measure of Jaro and Winkler, and the first of several: it counts the characters that both
-/// have at about the same place, and more if the first up to four are the same. `None` if there are no names.
+/// The name that is most like another by the measure of Jaro and Winkler, or the first of several. The measure counts the
+/// characters that both have at about the same place. It is higher if the first characters are the same, up to four. `None` if
+/// there are no names.
 pub(crate) fn nearest<'a>(
     alloc: Global,
     name: &str,

@@ -1,4 +1,4 @@
-//! Where a fault is.
+//! The place of a fault.
 
 ghost use Rattle.std.specs.Prelude.{◌≡◌};
 ghost use Rattle.ptpm_check.specs.Place.{array_key};
@@ -38,7 +38,7 @@ impl Array {
     }
 }
 
-/// Where a fault is. Lines, and the tables of an array, are counted from 1.
+/// The place of a fault. Lines, and the tables of an array, are counted from 1.
 #[derive(Clone, Copy)]
 pub enum Place<'a> {
     /// The file as a whole, or a key outside of its arrays.

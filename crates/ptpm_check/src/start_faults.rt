@@ -1,4 +1,5 @@
-//! Members with which a clock can't start, each judged by itself: by a clock of one port that has all others as this profile has them.
+//! Members with which a clock can't start. Each is judged by itself, by a clock of one port that has all other members as this
+//! profile has them.
 
 ghost use Rattle.std.specs.Prelude.{◌≡◌, ◌++◌, OnOk, map};
 ghost use Rattle.toml.specs.Data.{as_table};

@@ -28,7 +28,7 @@ send m
 deliver 1
 "#;
 
-/// A text of that script, what stands there instead, and what is written; a bar is the end of a line.
+/// A text of that script, what replaces it, and what is written. A bar is the end of a line.
 const SHAPES: &str = r#"version = 1 => version = 3 => file: version = 3: a whole number from 1 to 2
 version = 1| =>  => file: version is missing: a whole number from 1 to 2
 version = 1 => version = 1|clocks = [] => file: clocks = []: no such key; the nearest is clock
@@ -78,7 +78,7 @@ fn networks(rt: HostRuntime) -> Result<(), Fail> {
     rows_are_told(&rt, rt.alloc(), FIRST, NETWORKS)
 }
 
-/// The same of events; those behind a wrong one, or behind a wrong network, are told too.
+/// The same for events. Those after a wrong one, or after a wrong network, are reported too.
 const EVENTS: &str =
     r#"send m => snd m => line 18: "snd": begin, send, resume, retune, deliver or stranger; the nearest is send
 m get => m gett => line 17: "gett": get, set or command; the nearest is get
@@ -107,7 +107,7 @@ fn files(rt: HostRuntime) -> Result<(), Fail> {
     rows_are_told(&rt, rt.alloc(), "x", FILES)
 }
 
-/// Each row's script is told as it says, and nothing is told of the script before its edit.
+/// For each row's script what the row says is reported, and nothing is reported for the script before its edit.
 fn rows_are_told(rt: &impl Abort, alloc: Global, script: &str, rows: &str) -> Result<(), Fail> {
     for row in rows.lines() {
         let (old, rest) = row.split_once(" => ").unwrap_or((row, ""));

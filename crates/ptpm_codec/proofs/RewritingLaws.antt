@@ -1,4 +1,5 @@
--- Octets written over in a spelling: in a canonical one all that are not the same in each copy of a reply, in any one boundaryHops.
+-- Octets that are written over in a spelling: in any one boundaryHops, and in a canonical one all that differ between copies of a
+-- reply.
 use Rattle.std.proofs.Common.{◌≡◌, ◌≢◌, ℕ, ◌+◌, ◌-◌, ◌*◌, ◌%◌, ◌/◌, ◌<◌, ◌≤◌, ◌^◌, List, length, take, drop, Some, refl, sym, ap, subst, ◌∙◌, arith}
 use Rattle.std.proofs.lemmas.List.{drop-set-add, drop-set-lt, take-set-le, get_or-set_same, get_or-set_other, length-set, length-drop, take_all}
 use Rattle.std.specs.Prelude.{slice_set}

@@ -1,4 +1,4 @@
--- Where the fields of a management message are, each place stated once (IEEE 1588-2019, 13.3, 15.4 and 15.5).
+-- The places of the fields of a management message, each stated once (IEEE 1588-2019, 13.3, 15.4 and 15.5).
 use Rattle.std.specs.Prelude.{ℕ, ◌+◌, ◌*◌, ◌/◌, ◌%◌, List, take, drop, slice_index}
 use Rattle.byteorder.specs.Endian.{big_number}
 use Rattle.ptpm_codec.specs.declared.identity.ClockIdentity.{ClockIdentity}

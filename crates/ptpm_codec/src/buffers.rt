@@ -19,7 +19,7 @@ pub fn put<const N: usize>(buffer: &mut ArrayVec<u8, N>, octets: &[u8])
     let _ = buffer.try_extend_from_slice(octets);
 }
 
-/// What `put` does, of a message: most have one of a few sizes, at which LLVM makes a few moves of the copy.
+/// What `put` does, for a message. Most messages have one of a few sizes, at which LLVM makes a few moves of the copy.
 #[inline(always)]
 pub fn put_message<const N: usize>(buffer: &mut ArrayVec<u8, N>, message: &[u8])
     requires { array_vec_len buffer.old + length message.now ≤ N }
@@ -59,8 +59,8 @@ pub fn put_u16<const N: usize>(buffer: &mut ArrayVec<u8, N>, number: u16)
     put(buffer, &octets);
 }
 
-/// Leaves a copy of these octets in the buffer, and nothing else. They are no more than it has room for. Where it had as many,
-/// all are written over.
+/// Leaves a copy of these octets in the buffer, and nothing else. They are no more than it has room for. If it has as many
+/// octets already, they are written over in place.
 pub fn overwrite<const N: usize>(buffer: &mut ArrayVec<u8, N>, octets: &[u8])
     requires { length octets.now ≤ N }
     ensures { buffer.new.items ≡ octets.now }
@@ -88,7 +88,7 @@ fn resize_over<const N: usize>(buffer: &mut ArrayVec<u8, N>, octets: &[u8])
     }
 }
 
-/// What `overwrite` does, of a message: most have one of a few sizes.
+/// What `overwrite` does, for a message. Most messages have one of a few sizes.
 #[inline(always)]
 pub fn overwrite_message<const N: usize>(buffer: &mut ArrayVec<u8, N>, message: &[u8])
     requires { length message.now ≤ N }

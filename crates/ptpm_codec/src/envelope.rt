@@ -75,8 +75,8 @@ impl Envelope {
         self.answer_in(port, octets, buffer.as_mut_slice());
     }
 
-    /// Writes the message that answers this dataField from this port over a place of its size: 54 octets and the
-    /// dataField's, which are 1,418 at most.
+    /// Writes the message that answers this dataField from this port over a place of its size. That is 54 octets and those of
+    /// the dataField, which are 1,418 at most.
     #[inline(always)]
     pub fn answer_in(&self, port: u16, octets: &[u8], place: &mut [u8])
         requires small { length octets.now ≤ 1418 }

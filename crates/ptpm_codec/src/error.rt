@@ -42,7 +42,7 @@ pub enum DecodeError {
     OutOfMemory,
 }
 
-/// The name, as `TooShort`.
+/// The name, for example `TooShort`.
 impl fmt::Display for DecodeError {
     ghost use Rattle.std.specs.Prelude.{Some};
     ghost use Rattle.ptpm_codec.specs.ErrorText.{refusal_text};
@@ -114,7 +114,7 @@ impl ErrorId {
     }
 }
 
-/// The standard's name, as `NO_SUCH_ID`.
+/// The standard's name, for example `NO_SUCH_ID`.
 impl fmt::Display for ErrorId {
     ghost use Rattle.std.specs.Prelude.{Some};
     ghost use Rattle.ptpm_codec.specs.Message.{error_name};

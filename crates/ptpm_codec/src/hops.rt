@@ -8,9 +8,9 @@ use crate::buffers::fit;
 use crate::encoding::Buffer;
 use crate::places::u16_at;
 
-/// Leaves a well-formed datagram's first messageLength octets in the buffer, and nothing else, with boundaryHops (octet 45)
-/// less by one and every other octet as it came (15.3.3). The datagram is one that `view` takes, and its boundaryHops is above
-/// 0. Takes no memory.
+/// Leaves a well-formed datagram's first messageLength octets in the buffer, and nothing else. Its boundaryHops (octet 45) is
+/// less by one, and every other octet is as it came (15.3.3). The datagram is one that `view` takes, and its boundaryHops is
+/// not 0. Takes no memory.
 pub fn less_hop(datagram: &[u8], buffer: &mut Buffer)
     requires well_formed { IsWellFormed datagram.now }
     requires hops { 0 < boundary_hops datagram.now }

@@ -20,7 +20,7 @@ pub enum Action {
 impl Action {
     ghost use Rattle.ptpm_codec.specs.Message.{action_code, is_reply, reply_action};
 
-    /// Whether it answers a request, as RESPONSE and ACKNOWLEDGE do.
+    /// Whether it answers a request. RESPONSE and ACKNOWLEDGE do.
     pub fn is_reply(self) -> bool
         ensures { result ≡ is_reply self }
     {
@@ -45,7 +45,7 @@ impl Action {
     }
 }
 
-/// The standard's name, as `GET`.
+/// The standard's name, for example `GET`.
 impl fmt::Display for Action {
     ghost use Rattle.std.specs.Prelude.{Some};
     ghost use Rattle.ptpm_codec.specs.Message.{action_name};
@@ -126,8 +126,8 @@ impl Message {
         }
     }
 
-    /// Whether the fields are a message value: sdoId of 12 bits, a dataField of at most 1,418 octets and even in number,
-    /// a text of at most 255, and an action that suits the body.
+    /// Whether the fields are a message value. The sdoId has 12 bits. A dataField has an even number of
+    /// octets, at most 1,418, and a text at most 255. The action suits the body.
     pub fn valid(&self) -> bool
         ensures { IsTrue result ↔ IsValid self.now }
     {

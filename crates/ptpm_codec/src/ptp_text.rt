@@ -6,8 +6,8 @@ ghost use Rattle.ptpm_codec.specs.PtpText.{is_ptp_text, ptp_text, ptp_text_octet
 use crate::buffers::fit;
 use arrayvec::ArrayVec;
 
-/// Leaves a text of at most 255 octets as a PTPText in a buffer that has room for it, and nothing else: one octet more than the
-/// text, rounded up to an even number. The octets of the text are not judged. Takes no memory.
+/// Leaves a text of at most 255 octets as a PTPText in a buffer that has room for it, and nothing else. That is one octet more
+/// than the text, rounded up to an even number. The octets of the text are not judged. Takes no memory.
 pub fn overwrite_ptp_text<const N: usize>(buffer: &mut ArrayVec<u8, N>, text: &[u8])
     requires small { length text.now ≤ 255 }
     requires room { length (ptp_text_octets text.now) ≤ N }

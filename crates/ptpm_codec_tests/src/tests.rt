@@ -130,7 +130,7 @@ fn decode_succeeds_with_ample_memory(rt: HostRuntime) {
     assert!(rt; is_sent_as(rt.alloc(), REFUSAL, REFUSAL));
 }
 
-/// Each size of a dataField and of a text, in a message that is read and copied: a body that runs out of memory at some of
+/// Each size of a dataField and of a text, in a message that is read and copied. A body that runs out of memory at some of
 /// them fails here.
 #[test]
 fn decode_succeeds_at_every_size(rt: HostRuntime) {

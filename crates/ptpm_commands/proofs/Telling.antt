@@ -32,7 +32,7 @@ each-more c s (x ∷ xs) d =
     ap (λ l. answered c s x ++ l) (each-more c (turn c s 1 x).next xs d)
     ∙ sym (append_assoc (answered c s x) (answered_each c (turn c s 1 x).next xs) (answered c (state_behind c (turn c s 1 x).next xs) d))
 
--- what it sends for these datagrams is printed, and it stands behind them
+-- what it sends for these datagrams is printed, and this is its state after them
 pub record Answers (c : Clock) (first : State) (before after : Option (List ℕ)) (now : State) : Type 0 where
   pub datagrams : List (List ℕ)
   pub printed : Appends before after (answered_each c first datagrams)

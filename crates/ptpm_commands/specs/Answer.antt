@@ -1,5 +1,5 @@
--- `ptpm answer`: its clock as the definitions of a turn see it, by what its table of sixteen slots shows of itself, and what is
--- printed of a turn (this project's profile).
+-- `ptpm answer`: its clock as the definitions of a turn see it, and what is printed of a turn (this project's profile). The
+-- clock's table of sixteen slots is seen by what it shows of itself.
 use denote.Param.{number}
 use Rattle.std.specs.Prelude.{◌≡◌, ℕ, List, [], ◌∷◌, ◌++◌, Option, Ok, codes, decimal, flat_map}
 use Rattle.std.specs.Io.KnownBytes.{Appends}
@@ -47,7 +47,7 @@ IsAnswered digits before after = (datagram : List ℕ) × ((decode_of digits ≡
 
 -- ---- datagrams, one after another
 
--- where a clock stands after them
+-- the state of a clock after these datagrams
 abbrev pub state_behind : Clock → State → List (List ℕ) → State
 state_behind c s [] = s
 state_behind c s (datagram ∷ more) = state_behind c (turn c s 1 datagram).next more

@@ -1,4 +1,4 @@
--- The clock that `ptpm answer` shows: with two ports, every member at its default, and one configured manager, who has every
+-- The clock that `ptpm answer` shows. It has two ports and every member at its default. Its one configured manager has every
 -- right and has sent nothing yet.
 use Rattle.std.specs.Prelude.{List, [], ◌∷◌}
 use Rattle.ptpm_codec.specs.declared.identity.ClockIdentity.{ClockIdentity}

@@ -20,8 +20,8 @@ use std::alloc::Global;
 use std::io;
 use std::io::{Read, Write};
 
-/// Prints a line for each message that the clock sends for the datagram that the text spells in hexadecimal, its port and
-/// its octets; or `nothing`.
+/// Prints a line for each message that the clock sends for the datagram that the text spells in hexadecimal: its port and its
+/// octets. Prints `nothing` if it sends none.
 #[inline(never)]
 pub fn answer<O: Write>(alloc: Global, text: &str, out: &mut O) -> Result<(), Fault>
     ensures answered { OnOk result (IsAnswered text.now (O.contents out.old) (O.contents out.new)) }

@@ -1,4 +1,5 @@
-//! A datagram in a line: its hexadecimal digits, as `ptpm answer` takes them, or a line that it prints.
+//! A datagram in a line: its hexadecimal digits, in the form that `ptpm answer` takes, or in that of a line that it
+//! prints.
 
 ghost use Rattle.std.specs.Prelude.{◌≡◌, ◌⊎◌, IfErr, IfOk, IsErr, Ok, option_map};
 ghost use Rattle.ptpm_commands.specs.DatagramLine.{after_port, datagram_of, digits_of};

@@ -33,7 +33,8 @@ fn write_id<O: Write>(id: u16, out: &mut O) -> io::Result<()>
     }
 }
 
-/// The id, its name, whether it is of the clock or of each port, and G, S and C for the permitted GET, SET and COMMAND.
+/// The id, its name, and whether it is of the clock or of each port. Then G, S and C for the GET, SET and COMMAND that
+/// are permitted.
 #[tactic(auto, unfolding(crate::specs::Ids::row_line))]
 fn write_row<O: Write>(row: &Row, out: &mut O) -> io::Result<()>
     ensures { OnOk result (Appends (O.contents out.old) (O.contents out.new)
@@ -56,7 +57,7 @@ fn scope_text(scope: Scope) -> &'static str
     }
 }
 
-/// The letter of an action, where it is permitted.
+/// The letter of an action, if it is permitted.
 fn letter(permitted: bool, text: &'static str) -> &'static str
     ensures { result.now ≡ letter permitted text.now }
 {

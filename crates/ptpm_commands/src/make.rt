@@ -49,10 +49,10 @@ pub fn make<O: Write>(alloc: Global, words: &RequestWords<'_>, out: &mut O) -> R
     print_request(words, action, id, octets.as_slice(), out)
 }
 
-/// Prints the canonical spelling of the request whose dataField has these members: each is its name in the standard, `=` and its
+/// Prints the canonical spelling of the request whose dataField has these members. Each is its name in the standard, `=` and its
 /// value, in the order in which `ptpm show --members` prints them. The name of a sole member and its `=` may be left out. The
-/// value among the words plays no part. The words are judged in the order of `make`, with the members (BadMembers) in place of the
-/// value.
+/// value among the words plays no part. The words are judged in the order of `make`, with the members (BadMembers) in place of
+/// the value.
 pub fn make_with_members<O: Write>(
     alloc: Global,
     words: &RequestWords<'_>,

@@ -88,8 +88,8 @@ pub fn show_lines_as<R: Read + Drop, O: Write>(
     Ok(())
 }
 
-/// Prints as `show_lines` does, but passes over a line that is too long or holds no management message, and reports it on `err`,
-/// as the fault that it would be. What `err` does changes nothing.
+/// Prints what `show_lines` prints, but passes over a line that is too long or holds no management message. It reports the fault
+/// of such a line on `err`. What `err` does changes nothing.
 pub fn show_good_lines<R: Read + Drop, O: Write, E: Write>(
     alloc: Global,
     reader: R,

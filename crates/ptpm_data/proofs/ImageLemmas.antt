@@ -227,7 +227,7 @@ pub image_parts : (d : DataSetsValue) (rest : List ℕ)
 unfolding data_sets_octets
 image_parts d rest = simp append_assoc
 
--- where the clock's octets end, in octets that begin with an image
+-- the place at which the clock's octets end, in octets that begin with an image
 pub record IsBehind (d : DataSetsValue) (octets rest : List ℕ) : Type 0 where
   pub long : 74 ≤ length octets
   pub front : take 74 octets ≡ clock_image d

@@ -1,5 +1,5 @@
--- The management ids of this project's profile: their names, scopes and dataFields (IEEE 1588-2019, 15.5.2.3, table 59),
--- and the actions and the SETs that the profile permits.
+-- The management ids of this project's profile: their names, scopes and dataFields (IEEE 1588-2019, 15.5.2.3, table 59). Also
+-- the actions and the SETs that the profile permits.
 use Rattle.std.specs.Prelude.{ℕ, ◌==◌, Bool, true, false, if◌then◌else◌, List, [], ◌∷◌, map, Option, Some, None, find, codes, bytes_eq, bit_and}
 use Prim.Native.String.{String}
 use Rattle.ptpm_codec.specs.declared.message.Action.{Action}

@@ -1,5 +1,5 @@
--- The data sets as a finite map, from the members of the clock and of each of its ports to their values (IEEE 1588-2019,
--- clause 8): what a data sets value means, member by member.
+-- What a data sets value means, member by member (IEEE 1588-2019, clause 8). It is a finite map, from the members of the
+-- clock and of each of its ports to their values.
 use Rattle.std.specs.Prelude.{ℕ, ℤ, pos, Bool, if◌then◌else◌, List, ◌++◌, Option, Some, None, option_and_then}
 use Rattle.byteorder.specs.Endian.{big_bytes}
 use Rattle.ptpm_codec.specs.declared.identity.ClockIdentity.{ClockIdentity}
@@ -16,8 +16,8 @@ pub data MemberValue : Type 0 where
   Octets : (octets : List ℕ) → MemberValue
   PortOf : (clock : List ℕ) → (port : ℕ) → MemberValue
 
--- The same as a whole number or a list of octets alone: a portIdentity has ten, those of its clock and then those of its
--- port's number (5.3.5).
+-- The same as a whole number or a list of octets alone. A portIdentity has ten octets: those of its clock and then those
+-- of its port's number (5.3.5).
 pub data PlainValue : Type 0 where
   WholeNumber : (number : ℤ) → PlainValue
   OctetList : (octets : List ℕ) → PlainValue
@@ -27,7 +27,7 @@ plain (Number n) = WholeNumber n
 plain (Octets octets) = OctetList octets
 plain (PortOf clock port) = OctetList (clock ++ big_bytes 2 port)
 
--- where a member is: of the clock, or of a port
+-- the place of a member: at the clock, or at a port
 pub data Place : Type 0 where
   OfClock : (member : Member) → Place
   OfPort : (port : ℕ) → (member : Member) → Place

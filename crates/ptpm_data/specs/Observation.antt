@@ -1,5 +1,5 @@
--- What a host observes of its clock, and the data sets after it (members of IEEE 1588-2019, 8.2; which of them a host may
--- observe, and when it is refused, is this project's profile).
+-- What a host observes of its clock, and the data sets after it (members of IEEE 1588-2019, 8.2). Which of them a host may
+-- observe, and when it is refused, is this project's profile.
 use Rattle.std.specs.Prelude.{ℕ, nat_lt, Bool, true, false, not, ◌&&◌, ◌||◌, if◌then◌else◌, List, [], ◌∷◌, length, Option, Some, None, is_some, unwrap_or, ◌-◌, ◌==◌, slice_get}
 use Rattle.ptpm_codec.specs.declared.identity.ClockIdentity.{ClockIdentity}
 use Rattle.ptpm_codec.specs.declared.identity.PortIdentity.{PortIdentity}
@@ -73,7 +73,7 @@ abbrev pub grandmaster_parent : ObservedGrandmaster → DefaultDataSet → PortI
 grandmaster_parent Itself default = record { clock = default.identity; port = 0 }
 grandmaster_parent (Announced a) default = a.parent_port
 
--- Where no grandmaster is observed, the quality of one that is the clock itself follows the clock's own (9.3.5, table 30).
+-- If no grandmaster is observed, the quality of one that is the clock itself follows the clock's own (9.3.5, table 30).
 abbrev pub grandmaster_follows : Bool → ClockObservation → ParentDataSet → ParentDataSet
 grandmaster_follows false o p = p
 grandmaster_follows true o p = record p { precedence = quality_after o p.precedence }

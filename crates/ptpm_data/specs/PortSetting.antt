@@ -12,8 +12,8 @@ use Rattle.ptpm_data.specs.SetForm.{SetField, from◌to◌, minus◌to◌, Mecha
 
 -- ---- what each is known by
 
--- its managementId and the id's name, its own names, in the standard and in a network file, what a SET and a start may give it,
--- and the value that a port starts with
+-- Its managementId and the id's name, and its own names, in the standard and in a network file. What a SET and a start may give
+-- it, and the value that a port starts with.
 pub record Setting : Type 0 where
   pub id : ℕ
   pub id_name : List ℕ
@@ -95,7 +95,7 @@ with_setting s value values t = if place s == place t then value else values t
 abbrev pub default_settings : PortSetting → ℤ
 default_settings s = (row s).default
 
--- ---- the values of all are five numbers: so a proof tells them apart
+-- ---- the values of all are five numbers, so that a proof can distinguish them
 
 abbrev pub Five : Type 0
 Five = ℤ × (ℤ × (ℤ × (ℤ × ℤ)))

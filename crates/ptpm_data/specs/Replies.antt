@@ -24,7 +24,8 @@ named_ports port number_of_ports = filter (is_named port) (range_with_len 1 numb
 abbrev pub answerers : RequestValue → DataSetsValue → List (Option ℕ)
 answerers q d = if is_of_port q.id then map Some (named_ports q.port (length d.ports)) else None ∷ []
 
--- what is said to a request: why it is refused; else a COMMAND is done, and a GET and a SET are answered by a dataField
+-- What is answered to a request: why it is refused, if it is. If not, a COMMAND is done, and a GET and a SET are answered by
+-- a dataField.
 abbrev pub outcome : Option ErrorId → Action → List ℕ → Outcome
 outcome (Some error) action octets = Refused error
 outcome None actions.Command octets = Done
@@ -50,8 +51,8 @@ abbrev pub is_get : Action → Bool
 is_get actions.Get = true
 is_get _ = false
 
--- to any other request, which changes nothing: a GET needs no right; a SET and a COMMAND are not supported, whatever they say
--- (this project's profile)
+-- The refusal of any other request, which changes nothing. A GET needs no right. A SET and a COMMAND are not supported,
+-- whatever they say (this project's profile).
 abbrev pub read_refusal : RequestValue → Option ErrorId
 read_refusal q = if is_get q.action then refusal_of q no_rights else Some NotSupported
 

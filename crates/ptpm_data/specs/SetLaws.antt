@@ -25,8 +25,8 @@ get_of q = record { action = actions.Get; id = q.id; port = q.port; octets = [] 
 abbrev pub AreOctets : List ℕ → Type 0
 AreOctets octets = (place : ℕ) → octet place octets < 256
 
--- The dataField of an accepted SET as the standard has it: a reserved octet is 0, a text has a pad of 0 if its size would be
--- odd, and of the flags of UTC_PROPERTIES there are the three that it sets.
+-- The dataField of an accepted SET as the standard has it. A reserved octet is 0, and a text has a pad of 0 if its size
+-- would be odd. Of the flags of UTC_PROPERTIES it has the three that it sets.
 abbrev pub standard_field : Layout → List ℕ → List ℕ
 standard_field layouts.NullPtpManagement octets = []
 standard_field layouts.UserDescription octets = take (1 + octet 0 octets) octets ++ replicate ((1 + octet 0 octets) % 2) 0
@@ -37,7 +37,7 @@ abbrev pub standard_field_at : Option RowValue → List ℕ → List ℕ
 standard_field_at None octets = octets
 standard_field_at (Some e) octets = standard_field e.layout octets
 
--- A member of the clock's own becomes a number, and the grandmaster's member becomes the same if the clock is its own
+-- A member of the clock's own becomes a number. The grandmaster's member becomes the same if the clock is its own
 -- grandmaster (9.3.5, table 30). Every other member stays, whatever the data sets are.
 pub record MovesWithGrandmaster (own grandmaster : Member) (number : ℕ) (before after : DataSetsValue) : Type 0 where
   pub moved : value_of (OfClock own) after ≡ natural number

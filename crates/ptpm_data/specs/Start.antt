@@ -32,7 +32,7 @@ start_settings p LogSyncInterval = p.log_sync
 start_settings p DelayMechanism = pos p.delay_mechanism
 start_settings p LogMinPdelayReqInterval = p.log_min_pdelay
 
--- the start with these settings, of which some are octets
+-- the start with these settings; some of them are octets
 abbrev pub port_start_with : ℕ → ℤ → ℤ → (PortSetting → ℤ) → PortStart
 port_start_with state log_min_delay_req peer_delay settings = record {
   state = state;

@@ -1,4 +1,4 @@
-//! Where the answers to a request go.
+//! What takes the answers to a request.
 
 use ptpm_codec::ErrorId;
 

@@ -175,8 +175,8 @@ impl DataSets {
         1 <= port && port <= self.port_count()
     }
 
-    /// Whether a management message may come in or go out at a port to be forwarded: its state is PRE_MASTER, MASTER,
-    /// UNCALIBRATED or SLAVE (this project's profile). False if the clock lacks the port.
+    /// Whether a management message may come in or go out at a port to be forwarded. The port's state is then PRE_MASTER,
+    /// MASTER, UNCALIBRATED or SLAVE (this project's profile). False if the clock lacks the port.
     pub fn may_forward(&self, port: u16) -> bool
         ensures { result ≡ may_forward port self.now }
     {

@@ -17,7 +17,7 @@ impl DataSets {
     /// Carries out a numbered request of a manager with these rights, and answers it; a refused one changes no member. Takes
     /// no memory.
     ///
-    /// The action is GET, SET or COMMAND; the target port is one of the clock's, or every port (0xFFFF); the dataField has
+    /// The action is GET, SET or COMMAND. The target port is one of the clock's, or every port (0xFFFF). The dataField has
     /// an even number of octets, at most 1,418. The first of these refusals is the answer, once for each port that answers:
     /// 1. NO_SUCH_ID: the id is not in the table.
     /// 2. NOT_SETABLE to a SET, NOT_SUPPORTED to a GET or COMMAND: the id does not permit the action.

@@ -14,8 +14,8 @@ use crate::image_laws::fits_law;
 use arrayvec::ArrayVec;
 use ptpm_codec::{put, put_u16};
 
-/// How many octets an image has at most: 74 of the clock, a text of at most 128, eight ports of 15, and the two octets that
-/// count them.
+/// How many octets an image has at most. They are 74 of the clock, a text of at most 128, eight ports of 15, and the two
+/// octets that count them.
 pub const DATA_SETS_OCTETS: usize = 324;
 
 /// How many octets it has of the clock, before its text.

@@ -41,9 +41,9 @@ pub fn id_table_law()
     ensures ids { map (λ e. e.id) id_table ≡ MANAGEMENT_IDS }
 {}
 
-/// A clock has one to eight ports, identities of eight octets, its own not all ones, and a text of at most 128 octets of UTF-8.
-/// Its accuracy, and what a SET can change at each port, is in its range, and not both leaps are announced. Where it is its own
-/// grandmaster, its parent data set shows its own priorities and quality.
+/// A clock has one to eight ports, and identities of eight octets. Its own identity is not all ones. It has a text of at most
+/// 128 octets of UTF-8. Its accuracy, and what a SET can change at each port, is in its range, and not both leaps are
+/// announced. If it is its own grandmaster, its parent data set shows its own priorities and quality.
 pub fn data_sets_law(sets: &DataSets)
     ensures consistent { IsConsistent sets.now }
     ensures sized { IsSized sets.now }
@@ -153,9 +153,9 @@ pub fn change_law()
         → changed_by q rights d ≡ d }
 {}
 
-/// An accepted SET is answered by the dataFields as they are after it: the reply is that to a GET of the same id and target
-/// port right after it. Each answer is the SET's own octets, with reserved octets, unused flags and a text's pad as the
-/// standard has them.
+/// An accepted SET is answered by the dataFields as they are after it. The reply has what a GET of the same id and target port
+/// would be answered right after it. Each answer is the SET's own octets, with reserved octets, unused flags and a text's pad
+/// as the standard has them.
 pub fn set_law()
     ensures read_back { (q : RequestValue) (rights : Rights) (d : DataSetsValue)
         → IsAcceptedSet q rights
@@ -167,8 +167,9 @@ pub fn set_law()
         (reply_to q rights d).answers }
 {}
 
-/// An accepted SET of PRIORITY1, PRIORITY2 or CLOCK_ACCURACY moves that member to its first octet; in a clock that is its own
-/// grandmaster the grandmaster's member of that name follows (9.3.5, table 30). No other member moves, whatever the data sets.
+/// An accepted SET of PRIORITY1, PRIORITY2 or CLOCK_ACCURACY sets that member to its first octet. In a clock that is its own
+/// grandmaster the grandmaster's member of that name follows (9.3.5, table 30). No other member changes, whatever the data sets
+/// are.
 pub fn grandmaster_law()
     ensures priority1 { (q : RequestValue) (rights : Rights) (d : DataSetsValue)
         → IsAcceptedSet q rights
@@ -187,9 +188,9 @@ pub fn grandmaster_law()
         (changed_by q rights d) }
 {}
 
-/// What an observation moves, in terms of the map of members: a member that is observed has the observed value afterwards,
-/// and every other stays; if the observation is refused, each stays. The clock's identity and the number of its ports
-/// stay, and so does which of its ports are disabled.
+/// What an observation changes, in terms of the map of members. A member that is observed has the observed value afterwards,
+/// and every other one stays. If the observation is refused, each stays. The clock's identity and the number of its ports stay,
+/// and so does which of its ports are disabled.
 pub fn observation_law()
     ensures observed { (o : ClockObservation) (ports : List PortObservation) (d : DataSetsValue) (place : Place)
         → observation_refusal o ports d ≡ None
@@ -215,8 +216,8 @@ pub fn observation_law()
         → IsConsistent (observed o ports d) }
 {}
 
-/// Whatever was observed since, in however many observations, the observation of all members that data sets have brings them
-/// back: a disabled port stayed disabled, and every member that no host observes stayed as it was.
+/// Take any number of observations, and then one of all the members that data sets had before. It brings these data sets back:
+/// a disabled port stayed disabled, and every member that no host observes stayed as it was.
 pub fn observation_back_law()
     ensures { (observations : List Observation) (d : DataSetsValue)
         → IsConsistent d

@@ -70,7 +70,7 @@ pub(crate) fn set_of(layout: Layout) -> SetForm
 pub struct Row {
     /// managementId.
     pub id: u16,
-    /// The standard's name, as `PRIORITY1`.
+    /// The standard's name, for example `PRIORITY1`.
     pub name: &'static str,
     pub scope: Scope,
     /// The actions that this profile permits.

@@ -1,6 +1,6 @@
-//! What a host observes of its clock, and the data sets after it: the members that a servo, the port state machines and
-//! the best master clock algorithm find (clause 8.2). Which of them a host may observe is this project's profile: what
-//! managers alone set, such as priorities, intervals and texts, is not among them.
+//! What a host observes of its clock, and the data sets after it (clause 8.2). These are the members that a servo, the port
+//! state machines and the best master clock algorithm find. Which of them a host may observe is this project's profile. What
+//! only managers set, such as priorities, intervals and texts, is not among them.
 
 ghost use Rattle.std.specs.Prelude.{◌≡◌, ◌≤◌, length};
 ghost use Rattle.ptpm_data.specs.Observation.{disables_one, grandmaster_differs, left_disabled, ports_after};
@@ -40,8 +40,8 @@ pub struct ClockObservation {
     pub observed_variance: Option<u16>,
     /// observedParentClockPhaseChangeRate (8.2.3.5): seconds a second, times 2^40.
     pub observed_rate: Option<i32>,
-    /// The grandmaster and the parent port (8.2.3.2, 8.2.3.6 to 8.2.3.9). Where it is `None`, the quality of a grandmaster
-    /// that is the clock itself follows the clock's own.
+    /// The grandmaster and the parent port (8.2.3.2, 8.2.3.6 to 8.2.3.9). If it is `None`, the quality of a grandmaster that
+    /// is the clock itself follows the clock's own.
     pub grandmaster: Option<ObservedGrandmaster>,
     /// currentUtcOffset, in seconds (8.2.4.2). A manager sets it too, as the two leaps and `utc_valid`.
     pub utc_offset: Option<i16>,
@@ -75,7 +75,7 @@ pub enum ObservedGrandmaster {
 pub struct AnnouncedGrandmaster {
     /// parentPortIdentity (8.2.3.2).
     pub parent_port: PortIdentity,
-    /// grandmasterIdentity (8.2.3.6). Where it is the clock's own, so are the priorities and the quality.
+    /// grandmasterIdentity (8.2.3.6). If it is the clock's own, so are the priorities and the quality.
     pub identity: ClockIdentity,
     /// grandmasterClockQuality (8.2.3.7), and grandmasterPriority1 and 2 (8.2.3.8, 8.2.3.9).
     pub precedence: ClockPrecedence,
@@ -84,7 +84,7 @@ pub struct AnnouncedGrandmaster {
 /// What is observed of a port. A member that is `None` is not observed, and stays.
 #[derive(Clone, Copy, Debug, PartialEq, Eq, Default)]
 pub struct PortObservation {
-    /// portState (8.2.15.3.1). DISABLED is entered and left by COMMANDs alone: at an enabled port it is refused, and the
+    /// portState (8.2.15.3.1). Only COMMANDs disable a port or enable it. So DISABLED is refused at an enabled port, and the
     /// state of a disabled port stays, whatever is observed.
     pub state: Option<PortState>,
     /// meanLinkDelay (8.2.15.3.3): a TimeInterval, in nanoseconds times 2^16.

@@ -1,4 +1,4 @@
-//! The settings of a port: its members that a SET changes. What each is known by is told here, and nowhere else: its management
+//! The settings of a port: its members that a SET changes. What each is known by is said here, and nowhere else: its management
 //! id, its names, its range, and what a port starts with. Ranges, own names and start values are this project's profile.
 
 ghost use Rattle.std.specs.Prelude.{◌≡◌, ◌≤◌};

@@ -18,9 +18,9 @@ impl DataSets {
     ghost use Rattle.ptpm_data.specs.Changes.{IsTargetPort};
     ghost use Rattle.ptpm_data.specs.Replies.{read_reply_to};
 
-    /// Answers a request that is not numbered, and changes nothing: a GET from the data sets as they are, with the
-    /// refusals NO_SUCH_ID and NOT_SUPPORTED of `decide`; a SET and a COMMAND are NOT_SUPPORTED, whatever they say. Takes no
-    /// memory.
+    /// Answers a request that is not numbered, and changes nothing. A GET is answered from the data sets as they are, with
+    /// the refusals NO_SUCH_ID and NOT_SUPPORTED of `decide`. A SET and a COMMAND are NOT_SUPPORTED, whatever they say.
+    /// Takes no memory.
     ///
     /// The conditions are those of `decide`.
     pub fn read(&self, request: &Request<'_>) -> Reply

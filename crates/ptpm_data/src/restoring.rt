@@ -20,8 +20,8 @@ use arrayvec::ArrayVec;
 use ptpm_codec::{clock_identity_at, port_identity_at, put, u16_at};
 
 impl DataSets {
-    /// The data sets whose image comes first; octets after it are not looked at. `None` if no image is there: the
-    /// octets end within it, a value is one that no start takes, or a flag is neither 0 nor 1. Takes no memory.
+    /// The data sets whose image comes first; octets after it are not looked at. `None` if no image is there. The octets then end
+    /// within it, a value is one that no start takes, or a flag is neither 0 nor 1. Takes no memory.
     pub fn restored(octets: &[u8]) -> Option<DataSets>
         ensures image { IfSome result (λ d. BeginsWithImage d octets.now) }
         ensures found { (d : DataSetsValue) → IsConsistent d → DataSetsFit d → BeginsWithImage d octets.now
@@ -91,7 +91,7 @@ impl DataSets {
     }
 }
 
-/// Where an image that comes first ends, by the numbers in it that count its octets: no member is read.
+/// The place at which an image that comes first ends, by the numbers in it that count its octets. No member is read.
 pub fn image_end(octets: &[u8]) -> Option<usize>
     ensures within { IfSome result (λ end. end ≤ length octets.now) }
     ensures found { (d : DataSetsValue) (rest : List ℕ) → DataSetsFit d

@@ -4,8 +4,8 @@ ghost use Rattle.std.specs.Prelude.{⊤, ◌∷◌, [], codes};
 
 use bitflags::{Flag, Flags, bitflag_items};
 
-/// A set of rights. A SET of an id of the clock needs `CLOCK_SET`; a SET of an id of a port needs `PORT_SET`; a COMMAND
-/// of an id of a port but NULL_PTP_MANAGEMENT needs `PORT_COMMAND`. A GET needs none.
+/// A set of rights. A SET of an id of the clock needs `CLOCK_SET`, and one of an id of a port needs `PORT_SET`. A
+/// COMMAND of an id of a port needs `PORT_COMMAND`, except NULL_PTP_MANAGEMENT. A GET needs none.
 #[derive(Clone, Copy, PartialEq, Eq, Debug)]
 pub struct Rights(pub u8);
 

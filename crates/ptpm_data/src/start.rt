@@ -76,7 +76,7 @@ pub struct PortStart {
     pub log_min_delay_req: i8,
     /// meanLinkDelay: a TimeInterval, in nanoseconds times 2^16.
     pub peer_delay: i64,
-    /// logAnnounceInterval, log2 of seconds. Its range, and those of the four after it, are told at `PortSetting`.
+    /// logAnnounceInterval, log2 of seconds. Its range, and those of the four after it, are at `PortSetting`.
     pub log_announce: i8,
     /// announceReceiptTimeout, in announce intervals.
     pub receipt_timeout: u8,
@@ -439,8 +439,8 @@ impl DataSets {
         Ok(())
     }
 
-    /// The data sets of a clock of one port whose identity is all zeros, with this profile's defaults: room for others, which
-    /// `restore` puts in their place.
+    /// The data sets of a clock of one port whose identity is all zeros, with this profile's defaults. They are room for others,
+    /// which `restore` puts in their place.
     #[inline(never)]
     pub fn blank() -> DataSets
         ensures { result ≡ started (default_clock no_identity 0) (default_port ∷ []) }

@@ -21,8 +21,8 @@ abbrev pub IsDrawing : List ℕ → Result Drawing ScriptError → Type 0
 IsDrawing input (Ok d) = ShowsScript input d
 IsDrawing input (Err e) = is_outside e ≡ false → (scripted input).end ≡ Err e
 
--- it ended early: by the script's first fault, and then nothing was written, or reading, writing or memory failed; if reading
--- did, nothing was written either
+-- It ended early: by the script's first fault, or because reading, writing or memory failed. After the script's fault, or if
+-- reading failed, nothing was written.
 pub record HasEnded (input : List ℕ) (before after : Option (List ℕ)) (e : ScriptError) : Type 0 where
   pub fault : is_outside e ≡ false → ((scripted input).end ≡ Err e) × Keeps before after
   pub unread : e ≡ ReadFault → Keeps before after

@@ -94,8 +94,8 @@ pub record Drawn : Type 0 where
   pub messages : List drawn_message.Message
   pub changes : List Change
 
--- of an event that leads here: its row, the messages of the frames that it made, which the party sent at whom it happens, and what
--- it changed
+-- What is drawn of an event that leads here: its row, the messages of the frames that it made, and what it changed. The party at
+-- which it happens sent the messages.
 abbrev pub drawn_by : Network → Names → RunningNetwork → RunningNetwork → EventLine → Drawn
 drawn_by N names r next line =
     let at = party_at names r.frames line.event in

@@ -1,4 +1,4 @@
-//! A picture in SVG 1.1: where all of it is, and how it is written.
+//! A picture in SVG 1.1: the places of all that is in it, and how it is written.
 
 ghost use Rattle.std.specs.Prelude.{◌≡◌, IfErr, true};
 ghost use Rattle.ptpm_world.specs.ScriptError.{is_of_writing};
@@ -39,9 +39,9 @@ pub(crate) struct Chart<'a> {
     is_delivered: Vec<bool>,
     sizes: Sizes,
     lifelines: Lifelines<'a>,
-    /// Where arrows from the edge begin.
+    /// The x at which arrows from the edge begin.
     edge: usize,
-    /// Where the words for what became of events begin.
+    /// The x at which the words for what became of events begin.
     right: usize,
     width: usize,
     height: usize,
@@ -334,7 +334,7 @@ impl<'a> Chart<'a> {
         }
     }
 
-    /// Where a party's lifeline is; of nobody, the edge.
+    /// The x of a party's lifeline, or that of the edge for nobody.
     fn x(&self, party: Option<Party>) -> usize {
         match party {
             Some(party) => self.lifelines.x(party),

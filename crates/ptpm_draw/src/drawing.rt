@@ -26,11 +26,11 @@ impl Chosen {
     }
 }
 
-/// Reads a network file, the line `%%` and events from a reader, lets all of them happen, and writes a picture of those that are
+/// Reads a network file, the line `%%` and events from a reader, and lets all events happen. Writes a picture of those that are
 /// chosen, in SVG 1.1: a message sequence chart.
 ///
 /// A script that cannot be read is refused as `run_script` refuses it, and then nothing is written. Ends for every reader. The
-/// world that runs lies in a frame of its own, so that no other subcommand pays for it.
+/// world that runs is in a frame of its own, so that no other subcommand pays for it.
 #[inline(never)]
 pub fn draw<R: Read + Drop, W: Write>(
     alloc: Global,

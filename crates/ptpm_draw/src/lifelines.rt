@@ -1,4 +1,4 @@
-//! Where lifelines are: the sessions and then the clocks, each in the file's order.
+//! The places of lifelines: the sessions and then the clocks, each in the file's order.
 
 use crate::party::Party;
 use crate::text::Escaped;
@@ -11,7 +11,7 @@ pub(crate) const CHARACTER: usize = 8;
 #[derive(Clone, Copy)]
 pub(crate) struct Lifelines<'a> {
     pub(crate) network: &'a Network,
-    /// Where the first lifeline is.
+    /// The x of the first lifeline.
     pub(crate) first: usize,
     /// From one lifeline to the next.
     pub(crate) step: usize,
@@ -32,7 +32,7 @@ impl<'a> Lifelines<'a> {
         }
     }
 
-    /// Where a party's lifeline is.
+    /// The x of a party's lifeline.
     pub(crate) fn x(&self, party: Party) -> usize {
         let place = match party {
             Party::Session(place) => place,
@@ -41,7 +41,7 @@ impl<'a> Lifelines<'a> {
         self.first.saturating_add(self.step.saturating_mul(place))
     }
 
-    /// Where the last lifeline is.
+    /// The x of the last lifeline.
     pub(crate) fn last(&self) -> usize {
         let others = self.count().saturating_sub(1);
         self.first.saturating_add(self.step.saturating_mul(others))

@@ -31,7 +31,7 @@ const OF_CLOCK: [DataSet; 5] = [
 /// That which has a port's members.
 const OF_PORT: [DataSet; 1] = [DataSet::Port];
 
-/// A member, and where its value is: in which dataField, from which octet on, and how.
+/// A member, and the place of its value: in which dataField, from which octet on, and how.
 #[derive(Clone, Copy)]
 struct Place {
     member: DataSetMember,
@@ -80,7 +80,7 @@ fn push_texts(
     Ok(())
 }
 
-/// Where the member of this bit is.
+/// The place of the member of this bit.
 fn place_of(bit: u32, data_sets: &[DataSet]) -> Option<Place> {
     for data_set in data_sets {
         for Field(name, start, form) in fields(layout_of(*data_set)) {

@@ -86,8 +86,9 @@ pub struct Picture {
 }
 
 impl Picture {
-    /// Runs a script, and keeps what is drawn of it: of each event, where those before it lead, its row, the messages of the frames
-    /// that it made, from the party at whom it happens, and what it changed at its clock.
+    /// Runs a script, and keeps what is drawn of it. For each event it keeps its row, by the network that those before it lead
+    /// to. It also keeps the messages of the frames that the event made, and what it changed at its clock. These messages are
+    /// sent by the party at which the event happens.
     pub fn of(alloc: Global, script: &Script) -> Result<Picture, ScriptError>
         ensures drawn { IfOk result
             (λ p.

@@ -11,7 +11,7 @@ const LOOP: usize = 32;
 /// How long a stub is.
 const STUB: usize = 36;
 
-/// Where a label is.
+/// Which part of a label is at its place.
 #[derive(Clone, Copy, Debug, PartialEq, Eq)]
 enum Anchor {
     Start,

@@ -107,8 +107,8 @@ fn wrong_script_not_drawn(rt: HostRuntime) {
     assert!(rt; out.is_empty());
 }
 
-/// Where memory is refused, nothing is wrong with the script, and it is then drawn whole. It is written into a vector, whose own
-/// want of memory is a fault of writing.
+/// If memory is refused, nothing is wrong with the script, and it is drawn whole the next time. It is written into a vector. If
+/// that is refused memory, this is a fault of writing.
 #[test]
 fn draw_after_refused_memory(rt: HostRuntime) -> Result<(), Fail> {
     let octets = match drawn(rt.alloc(), TWO_COPIES, 1, 5) {

@@ -11,8 +11,8 @@ use Rattle.ptpm_world.specs.declared.script_error.ScriptError.{ScriptError}
 abbrev pub IsCounted : Findings → Type 0
 IsCounted f = (f.count == 0) ≡ is_none f.first
 
--- The first fault of lines of events from this one on, by its numbers in all that is read and after the divider: one that a line
--- has by itself, or that it is no event. None if each is an event or is skipped.
+-- The first fault of lines of events from this one on, by its numbers in all that is read and after the divider. It is one that
+-- a line has by itself, or that the line is no event. None if each is an event or is skipped.
 abbrev pub events_fault : ℕ → ℕ → List (List ℕ × List ℕ) → Option ScriptError
 events_fault number place [] = None
 events_fault number place (line ∷ lines) =

@@ -196,7 +196,7 @@ fn check_event<R: Read + Drop, W: Write>(
     Ok(())
 }
 
-/// Writes the fault of a line that can't be read as one. Where reading itself failed, that is the answer.
+/// Writes the fault of a line that can't be read as one. If reading itself failed, that is the answer.
 fn note_line<W: Write>(
     fault: ScriptError,
     findings: &mut Findings,

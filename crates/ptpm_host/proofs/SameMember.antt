@@ -17,7 +17,7 @@ use Rattle.ptpm_members.specs.declared.names.Member.{Member}
 use Rattle.ptpm_members.specs.contracts.names.Member as member
 use Rattle.ptpm_members.specs.contracts.names.MemberPartialEq.TheImpl.{ghosts as of_member}
 
--- ---- the `==` of an enum tells values of it apart, if that of each variant with fields does
+-- ---- the `==` of an enum distinguishes its values, if that of each variant with fields does
 
 abbrev AreToldApart : (Fss : List (List Part)) → Each Bool Fss → Type 0
 AreToldApart [] each = Unit {0}

@@ -1,5 +1,5 @@
 -- The names of the numbers that calls answer (this project's profile): in words of capitals, as the header for C has them.
--- 0 has none: of each call it says that the call was done.
+-- 0 has no name: every call says by it that it was done.
 use Rattle.std.specs.Prelude.{ℕ, ◌==◌, if◌then◌else◌, List, [], ◌∷◌, ◌++◌, codes, Option, Some, None, option_map, find}
 use Rattle.std.specs.Char.{is_ascii_uppercase, to_ascii_uppercase}
 use Rattle.std.specs.List.{flat_map}
@@ -53,7 +53,7 @@ clock_member_names =
     ∷ (87, codes "BAD_LEAP61") ∷ (88, codes "BAD_LEAP59") ∷ (89, codes "BAD_UTC_VALID") ∷ (90, codes "BAD_PTP_TIMESCALE")
     ∷ (91, codes "BAD_TIME_TRACEABLE") ∷ (92, codes "BAD_FREQUENCY_TRACEABLE") ∷ (93, codes "BAD_TIME_SOURCE") ∷ []
 
--- which member of a port is
+-- which member of a port is out of its range
 abbrev pub port_member_names : List (ℕ × List ℕ)
 port_member_names =
     (94, codes "BAD_STATE") ∷ (95, codes "BAD_LOG_MIN_DELAY_REQ") ∷ (96, codes "BAD_PEER_DELAY") ∷ (97, codes "BAD_LOG_ANNOUNCE")
@@ -72,7 +72,7 @@ answer_name number =
 
 -- ---- the words of the enums, as names have them
 
--- TOO_SHORT of TooShort: a capital that is not the first begins a word
+-- TOO_SHORT for TooShort: a capital that is not the first begins a word
 abbrev pub letters : ℕ → List ℕ
 letters c = if is_ascii_uppercase c then codes "_" ++ c ∷ [] else to_ascii_uppercase c ∷ []
 

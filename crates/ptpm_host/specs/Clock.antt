@@ -69,7 +69,7 @@ message_in s = (s.port, take s.size s.octets)
 abbrev pub IsWhole : Sent → Type 0
 IsWhole s = s.size ≤ 1472
 
--- after the message that was put into a place comes what was there
+-- after the message that was put into a place comes what was there before
 abbrev pub KeepsBehind : Sent → Sent → Type 0
 KeepsBehind before after = drop after.size after.octets ≡ drop after.size before.octets
 

@@ -15,11 +15,12 @@ id_name id = option_map (λ e. e.name) (row_of id)
 abbrev pub id_at : ℕ → Option ℕ
 id_at place = option_map (λ e. e.id) (slice_get id_table place)
 
--- stands for no id: an id has 16 bits
+-- means no id, since an id has 16 bits
 abbrev pub no_id : ℕ
 no_id = 65536
 
--- what of a name is left in this many octets: all of it, and nothing if there is none or too little room
+-- how much of a name is left in this many octets: all of it, or nothing if there is none or too little
+-- room
 abbrev pub name_within : ℕ → Option (List ℕ) → List ℕ
 name_within room None = []
 name_within room (Some name) = if nat_lt room (length name) then [] else name

@@ -1,5 +1,5 @@
--- The numbers that stand for what a call answers, in one table (this project's profile): 0 if it was done, below 32 what
--- became of a datagram or of a request, from 32 on why a call changed nothing.
+-- The numbers that calls answer, in one table (this project's profile): 0 if the call was done. Those below 32 say what
+-- became of a datagram or of a request, and those from 32 on why a call changed nothing.
 use Rattle.std.specs.Prelude.{ℕ, ◌+◌}
 use Rattle.ptpm_codec.specs.declared.error.DecodeError.{DecodeError}
 use Rattle.ptpm_codec.specs.declared.error.DecodeError.TheVariants as causes

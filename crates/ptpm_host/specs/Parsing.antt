@@ -12,7 +12,7 @@ use Rattle.ptpm_host.specs.Texts.{IsHandedOut}
 
 -- ---- the member at fault
 
--- the member stands at this place of the id's dataField, counted from 0
+-- the member is at this place of the id's dataField, counted from 0
 abbrev pub IsMemberAt : ℕ → ℕ → Member → Type 0
 IsMemberAt id place member = IsSomeAnd (slice_get (fields_of_id id) place) (λ f. f.0 ≡ member)
 
@@ -38,7 +38,7 @@ IsFitted field before after answer = MatchResult answer
     (λ count. IsHandedOut field count before after)
     (λ refusal. (refusal ≡ refusals.NoRoom) × (length before < length field))
 
--- what is answered of what the words mean
+-- what is answered for what the words mean
 abbrev pub IsAnswered : ℕ → Result (List ℕ) ParseFault → List ℕ → List ℕ → Result ℕ ParseRefusal → Type 0
 IsAnswered id (Ok field) before after answer = IsFitted field before after answer
 IsAnswered id (Err fault) before after answer = IsErrAnd answer (IsRefusal id fault)

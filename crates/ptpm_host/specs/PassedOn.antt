@@ -1,4 +1,4 @@
--- Which messages were passed on last (this project's profile): a table of places, in sixteen of which a message may be noted.
+-- Which messages were passed on last (this project's profile): a table of places. A message may be noted in sixteen of them.
 use Rattle.std.specs.Prelude.{◌≡◌, ◌<◌, ◌⊎◌, ℕ, ◌+◌, ◌-◌, ◌*◌, ◌/◌, ◌%◌, ◌^◌, ◌&&◌, ◌==◌, Bool, true, false, MatchBool, nat_lt, slice_set, bit_or, bit_xor}
 use Rattle.std.specs.List.{slice_index_or}
 use Rattle.std.specs.Int.{from_be_bytes, w64}
@@ -9,7 +9,7 @@ use Rattle.ptpm_host.specs.declared.passed_on.MessageKey.{MessageKey}
 use Rattle.ptpm_host.specs.declared.passed_on.PassedOn.{PassedOn}
 use Rattle.ptpm_host.specs.declared.passed_on.PassedOnPlace.{PassedOnPlace}
 
--- ---- what tells one message from another
+-- ---- what distinguishes one message from another
 
 abbrev pub clock_number : ClockIdentity → ℕ
 clock_number identity = from_be_bytes w64 identity.0
@@ -30,7 +30,7 @@ same_key a b =
     a.source_clock == b.source_clock && (a.target_clock == b.target_clock && (a.source_port == b.source_port
     && (a.number == b.number && (a.target_port == b.target_port && (a.id == b.id && a.action == b.action)))))
 
--- ---- where it may be noted: in sixteen places in a row, from one that its key and the table's seed make
+-- ---- where it may be noted: in sixteen places that follow each other, from one that its key and the table's seed make
 
 unfoldable pub stirred : ℕ → ℕ → ℕ
 stirred number by =
@@ -43,7 +43,7 @@ first_place seed key =
     let rest = bit_or (bit_or (key.number * 2 ^ 32) (key.id * 2 ^ 8)) key.action in
     stirred (stirred clocks ports) rest % 4096
 
--- the places in a row from a place on, and behind the last the first again
+-- the places that follow each other from a place on; after the last comes the first again
 abbrev pub place_from : ℕ → ℕ → ℕ
 place_from first i = (first + i) % 4096
 
@@ -71,7 +71,7 @@ is_live now p = nat_lt (now - p.since) p.time
 abbrev pub is_noted : ℕ → MessageKey → PassedOnPlace → Bool
 is_noted now key p = is_live now p && same_key p.key key
 
--- of the sixteen from a place on: one has the message; none has it; in each something is noted still; this one is free
+-- of the sixteen from a place on: one has the message; none has it; in each something is still noted; this one is free
 abbrev pub HasFrom : PassedOn → ℕ → ℕ → MessageKey → Type 0
 HasFrom t first now key = (i : ℕ) × (i < 16) × (is_noted now key (nth_from t first i) ≡ true)
 

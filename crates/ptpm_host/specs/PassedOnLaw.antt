@@ -1,16 +1,17 @@
--- What holds of questions that are asked one after another: a message that was let through is not let through again within its time.
+-- What holds for questions that are asked one after another: a message that was let through is not let through again within its
+-- time.
 use Rattle.std.specs.Prelude.{◌≡◌, ℕ, ◌-◌, ◌<◌, ◌≤◌, All, Bool, true, false, List, [], ◌∷◌, length}
 use Rattle.ptpm_host.specs.declared.passed_on.MessageKey.{MessageKey}
 use Rattle.ptpm_host.specs.declared.passed_on.PassedOn.{PassedOn}
 use Rattle.ptpm_host.specs.PassedOn.{IsAsked}
 
--- a message of this key that comes at a time, and is noted for a time where it is passed on
+-- a message of this key that comes at a time; if it is passed on, it is noted for a time
 pub record Ask : Type 0 where
   pub key : MessageKey
   pub now : ℕ
   pub time : ℕ
 
--- messages that come one after another, what is answered to each, and the table behind them
+-- messages that come one after another, what is answered to each, and the table after them
 abbrev pub Asked : PassedOn → List Ask → List Bool → PassedOn → Type 0
 Asked t [] [] u = u ≡ t
 Asked t [] (answer ∷ answers) u = ⊥
@@ -18,7 +19,7 @@ Asked t (a ∷ asks) [] u = ⊥
 Asked t (a ∷ asks) (answer ∷ answers) u =
     (s : PassedOn) × (IsAsked t a.key a.now a.time answer s × Asked s asks answers u)
 
--- whatever came between, and was not later than it
+-- whatever came between, if it came no later than the second message
 abbrev pub NotTwice : Type 0
 NotTwice = (t u v w : PassedOn) (a b : Ask) (between : List Ask) (answers : List Bool) (answer : Bool)
     → length t.places ≡ 4096

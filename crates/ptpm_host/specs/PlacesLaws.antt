@@ -20,7 +20,7 @@ first_same r b rs bs h = cc
 rest_same : (r b : Sent) (rs bs : List Sent) → r ∷ rs ≡ b ∷ bs → rs ≡ bs
 rest_same r b rs bs h = cc
 
--- what was written in two steps: the second left what the first wrote
+-- what was written in two steps, if the second left what the first wrote
 kept_twice : (n : ℕ) (xs ys zs : List Sent)
     → AllZip KeepsBehind xs ys
     → AllZip KeepsBehind ys zs
@@ -37,7 +37,8 @@ kept_twice (suc n) (x ∷ xs) (y ∷ ys) (z ∷ zs) first second messages places
   kept_twice n xs ys zs first.1 second.1 (rest_same z y (take n zs) (take n ys) messages) places,
 )
 
--- fewer of the first, and more of the last
+-- lists that agree in their first m elements agree in fewer; lists that agree after n elements
+-- agree after more
 take_fewer : (n m : ℕ) (xs ys : List Sent) → n ≤ m → take m xs ≡ take m ys → take n xs ≡ take n ys
 take_fewer zero m xs ys less same = refl
 take_fewer (suc n) zero xs ys less same = absurd (omega (arith, less))

@@ -1,12 +1,12 @@
--- A bucket of tokens (this project's profile): so many a second, and what a second brings at once. It counts in thousandths of a token, and
--- in milliseconds.
+-- A bucket of tokens (this project's profile): how many it gets in a second, and how many it gives at once. It counts in
+-- thousandths of a token, and in milliseconds.
 use Rattle.std.specs.Prelude.{ℕ, ◌+◌, ◌-◌, ◌*◌, min, max, nat_le, Bool, if◌then◌else◌}
 use Rattle.ptpm_host.specs.declared.rate.Rate.{Rate}
 
 abbrev pub rate_of : Rate → ℕ
 rate_of b = min b.rate 1000000
 
--- what fits
+-- how much fits in the bucket
 abbrev pub burst : Rate → ℕ
 burst b = rate_of b * 1000
 

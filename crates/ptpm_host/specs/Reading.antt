@@ -1,4 +1,5 @@
--- Why the data sets of a clock are not read by an id: no GET of it is permitted, its port is missing, or there is no room.
+-- Why a clock's data sets are not read by an id: it permits no GET, its port is missing, or there is too
+-- little room.
 use Rattle.std.specs.Prelude.{ℕ, ◌&&◌, not, nat_lt, [], ◌∷◌, Option}
 use Rattle.ptpm_codec.specs.declared.message.Action.TheVariants.{Get}
 use Rattle.ptpm_codec.specs.Ordered.{first_of}

@@ -12,7 +12,7 @@ use Rattle.ptpm_host.specs.declared.refusal.ClockRestoreRefusal.{ClockRestoreRef
 use Rattle.ptpm_host.specs.declared.refusal.ClockRestoreRefusal.TheVariants as refusals
 use Rattle.ptpm_host.specs.declared.settings.ManagerSettings.{ManagerSettings}
 
--- the image is of what was saved of a clock of this identity and so many ports, and the managers can be its managers
+-- the image is of what was saved of a clock of this identity with this many ports, and the managers can be its managers
 pub record CanRestore (identity : ClockIdentity) (ports : ℕ) (managers : List ManagerSettings) (image : List ℕ) (c : SavedClock) : Type 0 where
   pub managers_fit : table_refusal (identities (configured managers)) ≡ None
   pub not_zero : is_zero identity ≡ false
@@ -20,14 +20,14 @@ pub record CanRestore (identity : ClockIdentity) (ports : ℕ) (managers : List 
   pub own : c.sets.default.identity ≡ identity
   pub ports_are : length c.sets.ports ≡ ports
 
--- The clock goes on from what was saved: with its data sets, and with the entries of those that are its managers now. So many others
--- were let go. Managers and rights are the host's.
+-- The clock goes on from what was saved: with its data sets, and with the entries of those that are its managers now. This many
+-- other entries were let go. Managers and rights are the host's.
 pub record IsBack (c : SavedClock) (managers : List ManagerSettings) (d : HostedClock) (gone : ℕ) : Type 0 where
   pub sets_are : (state_in d).sets ≡ c.sets
   pub entries_are : IsRestored (identities (configured managers)) c.entries empty (state_in d).entries gone
   pub clock_is : clock_in d ≡ clock_with c.sets.default.identity (configured managers)
 
--- it has the data sets that were saved, and the host's managers, of whom none has an entry yet
+-- it has the data sets that were saved, and the host's managers; none of these has an entry yet
 pub record IsBegunAs (c : SavedClock) (managers : List ManagerSettings) (d : HostedClock) : Type 0 where
   pub sets_are : (state_in d).sets ≡ c.sets
   pub nothing_kept : (state_in d).entries ≡ empty

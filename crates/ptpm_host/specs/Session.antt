@@ -44,8 +44,8 @@ HasBegun s q t = IsAt t (begun s.session q) None
 
 -- ---- what a call answers that is refused for a reason, and that also asks for memory
 
--- `first` is the first reason to refuse it, if there is one. It is done only if there is none; a reason is named whenever there is
--- one; and nothing else is named than the first reason, and that memory is wanting.
+-- `first` is the first reason to refuse it, if there is one. The call is done only if there is none. If there is one, it is
+-- named. No other reason is ever named, except that memory was refused.
 pub record IsJudgedBy {T E : Type 0} (first : Option E) (memory : E) (result : Result T E) : Type 0 where
   pub permitted : OnOk result (first ≡ None)
   pub refused : (e : E) → first ≡ Some e → result ≡ Err e

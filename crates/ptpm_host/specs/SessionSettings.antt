@@ -32,8 +32,8 @@ setup_of s = record {
 abbrev pub session_start : SessionSettings → SessionValue
 session_start s = fresh (setup_of s) s.domain
 
--- a manager and its clock are two clocks, neither is the identity that means every clock (15.3.1), and the clock has one to eight
--- ports and another identity than zeros (this project's profile)
+-- A manager and its clock are two clocks, and neither has the identity that means every clock (15.3.1). The clock has one to
+-- eight ports, and its identity is not all zeros (this project's profile).
 abbrev pub session_refusal : SessionSettings → Option SessionRefusal
 session_refusal s = first_of (
     (same_clock (manager_port s).clock every_clock, refusals.ManagerIsEvery)

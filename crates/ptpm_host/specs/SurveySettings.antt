@@ -32,8 +32,8 @@ enquiry_of s = enquiry_at s every_clock
 abbrev pub survey_refusal : SurveySettings → Option SessionRefusal
 survey_refusal s = first_of ((same_clock (surveying_port s).clock every_clock, refusals.ManagerIsEvery) ∷ [])
 
--- the clock that is asked is another one, neither is the identity that means every clock, and that of the clock is not zeros (this
--- project's profile): what is judged of a session, the ports left out
+-- The clock that is asked is another one than the manager's, and neither has the identity that means every clock. That of the
+-- clock is not all zeros (this project's profile). So a survey is judged as a session is, without the ports.
 abbrev pub survey_refusal_at : SurveySettings → ClockIdentity → Option SessionRefusal
 survey_refusal_at s target = first_of (
     (same_clock (surveying_port s).clock every_clock, refusals.ManagerIsEvery)

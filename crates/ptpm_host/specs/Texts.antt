@@ -19,7 +19,7 @@ KeepsText s more t = (text before : List ℕ) → HandsOut text s.1 before s.0 �
 abbrev pub put_in : List ℕ → ℕ → List ℕ → List ℕ
 put_in octets at text = take at octets ++ text ++ drop (at + length text) octets
 
--- the text is put in at a place if there is room for all of it, and the answer is the place behind it
+-- the text is put in at a place if there is room for all of it, and the answer is the place after it
 abbrev pub IsPut : List ℕ → List ℕ → ℕ → Option ℕ → List ℕ → Type 0
 IsPut text before at (Some end) after = (end ≡ at + length text) × (end ≤ length before) × (after ≡ put_in before at text)
 IsPut text before at None after = length before < at + length text

@@ -3,8 +3,8 @@
 ghost use Rattle.std.specs.Prelude.{◌≡◌, option_map};
 ghost use Rattle.ptpm_host.specs.AnswerNames.{answer_name, clock_member_names, datagram_names, name_in, port_member_names, refusal_names};
 
-/// The name of the number that a call answers, as `ANSWERED_NEW`. None of a number that no call answers, nor of 0, which says
-/// of each call that it was done.
+/// The name of the number that a call answers, for example `ANSWERED_NEW`. `None` for a number that no call answers, and for
+/// 0, by which each call says that it was done.
 pub fn answer_name(number: u32) -> Option<&'static str>
     ensures { option_map (λ name. name.now) result ≡ answer_name number }
 {
@@ -140,7 +140,7 @@ fn clock_member_name(number: u32) -> Option<&'static str>
     }
 }
 
-/// Which member of a port is, 94 to 101.
+/// Which member of a port is out of its range, 94 to 101.
 #[tactic(auto, unfolding(crate::specs::AnswerNames::name_in))]
 fn port_member_name(number: u32) -> Option<&'static str>
     ensures { option_map (λ name. name.now) result ≡ name_in port_member_names number }

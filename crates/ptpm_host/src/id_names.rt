@@ -6,7 +6,7 @@ ghost use Rattle.ptpm_host.specs.Names.{capitals, id_at, id_name};
 
 use ptpm_data::{MANAGEMENT_IDS, Row, row};
 
-/// Stands for no managementId: an id has 16 bits.
+/// Means no managementId, since an id has 16 bits.
 pub const NO_ID: u32 = 65_536;
 
 /// The standard's name of a managementId, such as `PRIORITY1`; `None` if this profile lacks the id.

@@ -1,4 +1,4 @@
-//! What holds of names, of what is passed on, and of rates. Each law is the contract of a function that does nothing.
+//! What holds for names, for what is passed on, and for rates. Each law is the contract of a function that does nothing.
 
 ghost use Rattle.std.specs.Prelude.{◌≡◌, ◌≢◌, ◌≤◌, ◌++◌, ℕ, List, Some, codes, length};
 ghost use Rattle.ptpm_codec.specs.declared.error.ErrorId.{ErrorId};
@@ -24,9 +24,9 @@ ghost use Rattle.ptpm_host.specs.Numbers.{begin_number, give_up_number, image_nu
 ghost use Rattle.ptpm_host.specs.PassedOnLaw.{NotTwice};
 ghost use Rattle.ptpm_host.specs.RateLaw.{WithinRate};
 
-/// The number of a verdict, of a reason and of a refusal has its name, in words of capitals: `ANSWERED_NEW` for `AnsweredNew`;
-/// a malformed datagram the name of its cause. The number of a member has its name after `BAD_`. A managementErrorId that a
-/// message can name has the name that it is written by. A name of an id, of an answer or of an error has at most 27 octets.
+/// The number of a verdict, of a reason and of a refusal has its name, in words of capitals: `ANSWERED_NEW` for `AnsweredNew`.
+/// A malformed datagram has the name of its cause. The number of a member has its name after `BAD_`. A managementErrorId that
+/// a message can name has the name that it is written by. A name of an id, of an answer or of an error has at most 27 octets.
 pub fn names_law()
     ensures verdict { (v : Verdict) → answer_name (verdict_number v) ≡ verdict_word v }
     ensures reason { (r : Reason) → answer_name (reason_number r) ≡ reason_word r }

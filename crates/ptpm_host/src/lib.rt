@@ -1,4 +1,4 @@
-//! A clock, and a manager's session or survey, as the software of a device keeps them: plain numbers and octets go in, and
+//! A clock, and a manager's session or survey, as the software of a device keeps them. Plain numbers and octets go in, and
 //! messages to send come out.
 #![tactic(auto)]
 

@@ -3,8 +3,8 @@
 ghost use Rattle.std.specs.Prelude.{◌≡◌, drop, length, option_map, take};
 ghost use Rattle.ptpm_host.specs.Names.{name_within};
 
-/// Leaves a name at the head of `octets`, and answers how many octets it has: 0 if there is none, or no room for the whole.
-/// What follows it stays. Takes no memory.
+/// Leaves a name at the head of `octets`, and answers how many octets it has. That is 0 if there is none, or no room for
+/// the whole. What follows it stays. Takes no memory.
 pub fn hand_out_name(name: Option<&str>, octets: &mut [u8]) -> usize
     ensures size { result
         ≡ length (name_within (length octets.old) (option_map (λ text. text.now) name.entry)) }

@@ -1,10 +1,10 @@
-//! The numbers that stand for what a call answers, in one table: 0 if it was done, 1 to 31 what became of a datagram or of a
-//! request, from 32 on why a call changed nothing.
+//! The numbers that calls answer, in one table: 0 if the call was done. 1 to 31 say what became of a datagram or of a request,
+//! and those from 32 on why a call changed nothing.
 //!
-//! 1 to 9 are verdicts, 10 to 15 why a session or a survey ignores a datagram, 16 to 24 why it holds no message, 25 and 26 what
-//! became of a request, 27 and 28 what a survey makes of an answer; 29 to 31 are free. 32 to 47 are refusals of a call, 48 to 57
-//! of a start, 64 to 101 the members that may be out of range, in their order, 104 to 110 refusals of a restore, and from 112 on
-//! further refusals of a call.
+//! 1 to 9 are verdicts. 10 to 15 say why a session or a survey ignores a datagram, and 16 to 24 why it holds no message. 25 and
+//! 26 say what became of a request, and 27 and 28 what a survey makes of an answer. 29 to 31 are free. 32 to 47 are refusals of
+//! a call, and 48 to 57 those of a start. 64 to 101 are the members that may be out of range, in their order. 104 to 110 are
+//! refusals of a restore, and those from 112 on are further refusals of a call.
 
 ghost use Rattle.std.specs.Prelude.{◌≡◌, ◌≤◌};
 ghost use Rattle.ptpm_host.specs.Numbers.{begin_number, cause_number, clock_restore_number, give_up_number, handle_number, heard_number, image_number, managers_number, member_number, observe_number, parse_number, read_number, reason_number, report_number, restore_number, resume_number, send_number, session_number, start_number, surveyed_number, told_number, values_number, verdict_number};
@@ -39,7 +39,7 @@ pub const NO_SURVEY: u32 = 46;
 /// A struct of the host has another size than this library's.
 pub const OTHER_SIZES: u32 = 47;
 
-/// What became of a datagram, 1 to 24. A datagram that is no management message is recognized first: the numbers of the other
+/// What became of a datagram, 1 to 24. A datagram that is no management message is recognized first. The numbers of the other
 /// verdicts are in the order of the verdicts, so that LLVM makes no table of them.
 pub fn verdict_number(verdict: Verdict) -> u32
     ensures { result ≡ verdict_number verdict }

@@ -1,5 +1,5 @@
-//! What a host observes of its clock, as a host in C lays it out (clause 8.2; which members it may observe is this project's
-//! profile).
+//! What a host observes of its clock, as a host in C lays it out (clause 8.2). Which members it may observe is this
+//! project's profile.
 
 ghost use Rattle.std.specs.Prelude.{◌≡◌, ◌≤◌, length};
 ghost use Rattle.ptpm_data.specs.Observation.{is_left};
@@ -14,7 +14,7 @@ use ptpm_data::{
 };
 
 /// What is observed of a clock, those with the strictest alignment first. A flag is set if it is not 0. A flag `has_..` says
-/// whether a member is observed: if it is not, it stays.
+/// whether a member is observed. A member that is not observed stays.
 #[repr(C)]
 #[derive(Clone, Copy, Default)]
 pub struct ObservedClock {

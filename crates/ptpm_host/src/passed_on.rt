@@ -1,5 +1,5 @@
-//! Which messages were passed on last: a table of fixed size, by which a message that comes round again is known (this project's
-//! profile).
+//! Which messages were passed on last, in a table of fixed size. A message that comes round again is recognized by it (this
+//! project's profile).
 
 ghost use Rattle.std.specs.Prelude.{◌≡◌, ◌<◌, IfSome, MatchBool, MatchOption, MatchResult, false};
 ghost use Rattle.ptpm_codec.specs.declared.message.Message.{Message};
@@ -14,8 +14,8 @@ const PLACES: usize = 4096;
 /// How many places a message may be noted in.
 const TRIED: usize = 16;
 
-/// What tells one message from another: who sent it, under which sequenceId, to whom, and what it does (13.3 and 15.4). A
-/// clockIdentity is one number.
+/// What distinguishes one message from another: who sent it, under which sequenceId, to whom, and what it does (13.3 and 15.4).
+/// A clockIdentity is one number.
 #[repr(C)]
 #[derive(Clone, Copy, Debug, PartialEq, Eq)]
 pub struct MessageKey {
@@ -30,7 +30,7 @@ pub struct MessageKey {
     pub action: u8,
 }
 
-/// A message that was passed on, when, and for how long that is noted. All zeros: a free place.
+/// A message that was passed on, when, and for how long it stays noted. All zeros: a free place.
 #[repr(C)]
 #[derive(Clone, Copy, Debug)]
 pub struct PassedOnPlace {
@@ -43,7 +43,7 @@ pub struct PassedOnPlace {
 #[repr(C)]
 #[derive(Drop)]
 pub struct PassedOn {
-    /// By which nobody else can tell a message's places.
+    /// Keeps anyone else from knowing a message's places.
     seed: u64,
     places: [PassedOnPlace; 4096],
 }
@@ -51,7 +51,7 @@ pub struct PassedOn {
 const _: () = prove!(size_of::<PassedOn>() == 196_616);
 
 impl MessageKey {
-    /// That of a message.
+    /// The key of a message.
     pub fn of(message: &View<'_>) -> MessageKey
         ensures { result ≡ key_of message.now }
     {
@@ -66,7 +66,7 @@ impl MessageKey {
         }
     }
 
-    /// Whether it is this one.
+    /// Whether both keys are the same.
     fn is_same(&self, other: &MessageKey) -> bool
         ensures { result ≡ same_key self.now other.now }
     {
@@ -86,7 +86,7 @@ impl MessageKey {
     }
 }
 
-/// A number that has another one in each of its bits.
+/// Mixes a number with another one, to choose a message's places.
 #[tactic(auto, unfolding(crate::specs::PassedOn::stirred))]
 fn stirred(number: u64, by: u64) -> u64
     ensures { result ≡ stirred number by }
@@ -111,14 +111,14 @@ impl PassedOnPlace {
         },
     };
 
-    /// Whether something is noted in it still.
+    /// Whether something is still noted in it.
     fn is_live(&self, now: u64) -> bool
         ensures { result ≡ is_live now self.now }
     {
         now.saturating_sub(self.since) < self.time
     }
 
-    /// Whether a message of this key is.
+    /// Whether a message of this key is noted in it.
     fn is_noted(&self, key: &MessageKey, now: u64) -> bool
         ensures { result ≡ is_noted now key.now self.now }
     {
@@ -138,8 +138,8 @@ impl PassedOn {
         }
     }
 
-    /// Whether a message is to be passed on: none with its key is noted, and a place is free, in which it is noted from now on
-    /// for a time. What is no management message is not passed on.
+    /// Whether a message is to be passed on: if none with its key is noted, and a place is free. It is noted there from now on
+    /// for `time`. Octets that are no management message are not passed on.
     pub fn is_first(&mut self, message: &[u8], now: u64, time: u64) -> bool
         ensures asked { MatchResult (reading message.now)
             (λ v. IsAsked self.old (key_of v) now time result self.new)
@@ -151,7 +151,7 @@ impl PassedOn {
         }
     }
 
-    /// The same of the message's key.
+    /// The same for the message's key.
     fn notes(&mut self, key: &MessageKey, now: u64, time: u64) -> bool
         ensures { IsAsked self.old key.now now time result self.new }
     {
@@ -201,7 +201,7 @@ impl PassedOn {
         None
     }
 
-    /// A place from another one on, and behind the last place the first again.
+    /// A place counted from another one on. After the last place comes the first again.
     fn nth_from(&self, first: usize, i: usize) -> &PassedOnPlace
         requires first { first < 4096 }
         requires nth { i < 16 }

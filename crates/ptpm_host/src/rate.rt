@@ -1,4 +1,4 @@
-//! So many things a second, and what a second brings at once: a bucket of tokens (this project's profile).
+//! How often something may happen in a second, and how often at once: a bucket of tokens (this project's profile).
 
 ghost use Rattle.std.specs.Prelude.{◌≡◌};
 ghost use Rattle.ptpm_host.specs.Rate.{full, has_token, taken};
@@ -6,7 +6,8 @@ ghost use Rattle.ptpm_host.specs.Rate.{full, has_token, taken};
 /// The most tokens that a bucket gets in a second.
 const MOST: u64 = 1_000_000;
 
-/// Milliseconds in a second, and thousandths of a token in a token: a token a second is a thousandth of it in a millisecond.
+/// Milliseconds in a second, and thousandths of a token in a token. A rate of one token a second brings a thousandth of it
+/// in a millisecond.
 const SECOND: u64 = 1_000;
 
 /// A bucket of tokens.
@@ -36,7 +37,7 @@ impl Rate {
         }
     }
 
-    /// Takes a token; whether there was one. A time before the latest counts as that.
+    /// Takes a token. Answers whether there was one. A time before the latest one counts as the latest.
     pub fn take(&mut self, now: u64) -> bool
         ensures answer { result ≡ has_token self.old now }
         ensures taken { self.new ≡ taken self.old now }

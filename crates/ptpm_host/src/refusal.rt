@@ -49,8 +49,8 @@ pub enum ReadRefusal {
     NoRoom,
 }
 
-/// Why a session does not start, in the order in which the reasons are judged; a survey, for the first alone, and one of one clock
-/// for each but the two of ports.
+/// Why a session does not start, in the order in which the reasons are judged. A survey of every clock has the first alone, and
+/// one of one clock has each except the two about ports.
 #[derive(Clone, Copy, Debug, PartialEq, Eq)]
 pub enum SessionRefusal {
     /// The manager's clockIdentity means every clock.
@@ -67,7 +67,7 @@ pub enum SessionRefusal {
     TargetIsZero,
 }
 
-/// Why no request is handed out, in the order in which the reasons are judged; a survey's, for the first alone.
+/// Why no request is handed out, in the order in which the reasons are judged. A survey's GET is refused for the first alone.
 #[derive(Clone, Copy, Debug, PartialEq, Eq)]
 pub enum SendRefusal {
     /// There is room for fewer than 1,472 octets.
@@ -85,10 +85,10 @@ pub enum ReportRefusal {
     NoRoom,
 }
 
-/// Why words are no dataField of a SET, in the order in which the reasons are judged: of the members, one after another.
+/// Why words are no dataField of a SET, in the order in which the reasons are judged. The members are judged one after another.
 #[derive(Clone, Copy, Debug, PartialEq, Eq)]
 pub enum ParseRefusal {
-    /// They are no words in UTF-8, each with a zero octet after it; or more than any dataField takes.
+    /// They are no words in UTF-8, each with a zero octet after it, or there are more than any dataField takes.
     NotWords,
     /// The table of ids lacks the id.
     UnknownId,

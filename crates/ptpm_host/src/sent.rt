@@ -105,8 +105,8 @@ impl Sent {
         less_hop_in(datagram, &mut self.octets[..size]);
     }
 
-    /// Writes a copy of a kept message, with what depends on the copy that is answered written over, in place of the one that
-    /// is here.
+    /// Writes a copy of a kept message in place of the one that is here. What depends on the copy of the request that is
+    /// answered is written over.
     pub(crate) fn put_renewed(&mut self, port: u16, message: &[u8], renewal: &Renewal)
         requires long { 54 ≤ length message.now }
         requires small { length message.now ≤ 1472 }

@@ -91,8 +91,8 @@ impl HostedSession {
     }
 
     /// The session whose image this is. Manager, managed clock, its number of ports and the first number must be those of the
-    /// settings; domain, hop field and attempts are those of the image. A request that was not answered goes on, with all
-    /// attempts before it. The first reason that holds is why it is refused. Memory is asked for last, for the request's
+    /// settings. Domain, hop field and attempts are those of the image. A request that was not answered goes on, with all
+    /// attempts before it. An image is refused for the first reason that holds. Memory is asked for last, for the request's
     /// dataField.
     pub fn restored(
         alloc: Global,
@@ -159,8 +159,8 @@ impl HostedSession {
         Ok(())
     }
 
-    /// Does what `begin` does at the port that is named, also for an id of the clock; it has to be one of the clock's ports. There
-    /// are clocks that answer for an id of the clock too only where one of their ports is named. Any port of the clock may answer
+    /// Does what `begin` does, at the port that is named, also for an id of the clock. The port has to be one of the clock's
+    /// ports. Some clocks answer for an id of the clock too only if one of their ports is named. Any port of the clock may answer
     /// for such an id.
     pub fn begin_at(
         &mut self,

@@ -69,8 +69,8 @@ impl HostedSurvey {
         Ok(HostedSurvey::asking(alloc, settings, ClockIdentity::EVERY))
     }
 
-    /// The same of the clock of this identity alone: every port of it is asked, and what another clock says is no answer. Takes
-    /// no memory.
+    /// The same for the clock of this identity alone: every port of it is asked, and what another clock says is no answer.
+    /// Takes no memory.
     pub fn start_at(
         alloc: Global,
         settings: &SurveySettings,
@@ -154,7 +154,7 @@ impl HostedSurvey {
         ensures kept { OnOk result
             (self.new.survey.answers
             ≡ kept_by self.old.survey.answers (heard self.old.survey.enquiry datagram.now)) }
-        // Answers that are the first of each source of some datagrams, are so with this one.
+        // If the answers are the first of each source of some datagrams, they are so with this one.
         ensures first { (datagrams : List (List ℕ))
             → self.old.survey.answers ≡ first_of_each_source self.old.survey.enquiry datagrams
             → OnOk result
@@ -177,7 +177,7 @@ impl HostedSurvey {
         self.survey.answers().len()
     }
 
-    /// The answer at a place, counted from 0 in the order in which they came; a dataField is left at the head of `octets`, and
+    /// The answer at a place, counted from 0 in the order in which they came. A dataField is left at the head of `octets`, and
     /// what follows it stays. If it is refused, nothing is written. Takes no memory.
     pub fn answer(&self, place: usize, octets: &mut [u8]) -> Result<SurveyAnswer, ReportRefusal>
         ensures refusal { MatchResult result

@@ -6,7 +6,7 @@ ghost use Rattle.ptpm_members.specs.FieldText.{field_text};
 
 use ptpm_members::{FieldText, TextSink};
 
-/// Where a text goes: octets of the caller, filled from the head on.
+/// The octets of the caller that a text goes to, filled from the head on.
 #[derive(Drop)]
 struct Room<'a> {
     octets: &'a mut [u8],
@@ -45,7 +45,7 @@ impl Room<'_> {
     }
 }
 
-/// Puts a text in octets at a place, and answers the place behind it; `None` if there is no room for all of it.
+/// Puts a text in octets at a place, and answers the place after it. `None` if there is no room for all of it.
 fn put(text: &[u8], octets: &mut [u8], at: usize) -> Option<usize>
     ensures { IsPut text.now octets.old at result octets.new }
 {
@@ -56,7 +56,7 @@ fn put(text: &[u8], octets: &mut [u8], at: usize) -> Option<usize>
     Some(at + text.len())
 }
 
-/// Leaves the lines of a dataField at the head of `octets`, and answers how many octets they have; `None` if there is no room
+/// Leaves the lines of a dataField at the head of `octets`, and answers how many octets they have. `None` if there is no room
 /// for all lines. What comes after them stays. Takes no memory.
 pub fn hand_out_lines(text: &FieldText<'_>, octets: &mut [u8]) -> Option<usize>
     ensures { HandsOut (field_text text.now.lead.now text.now.id text.now.octets.now) result octets.old octets.new }

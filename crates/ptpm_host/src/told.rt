@@ -39,7 +39,7 @@ impl Told {
     }
 }
 
-/// What an answer says; a dataField is left at the head of `octets`, and what follows it stays. If it is refused,
+/// What an answer says. A dataField is left at the head of `octets`, and what follows it stays. If it is refused,
 /// nothing is written.
 pub(crate) fn tell(outcome: &Outcome, octets: &mut [u8]) -> Result<Told, ReportRefusal>
     ensures refusal { MatchResult result

@@ -9,7 +9,8 @@ use std::str;
 /// A name and a value for each of ten members, the most that a dataField has.
 pub(crate) const MOST_WORDS: usize = 20;
 
-/// The words that octets are; none if they are no words, or more than a dataField takes. Takes no memory.
+/// The words that octets are. `None` if they are no words, or more than a dataField takes. Takes no
+/// memory.
 pub(crate) fn words(octets: &[u8]) -> Option<ArrayVec<&str, MOST_WORDS>>
     ensures words { IfSome result (λ words. AreWords (map (λ w. w.now) words.items) octets.now) }
     ensures only { (words : List (List ℕ))

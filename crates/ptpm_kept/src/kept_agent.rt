@@ -89,8 +89,8 @@ impl<T: SureTable + LendingTable + Drop> KeptAgent<T> {
         Ok(())
     }
 
-    /// What becomes of a datagram that comes in at a port of the clock: one turn. The outbox then holds what may be sent: the
-    /// messages of the turn, if a restart would find the state in which they were made; else none.
+    /// What becomes of a datagram that comes in at a port of the clock: one turn. The outbox then holds what may be sent. That is
+    /// the messages of the turn, if a restart would find the state in which they were made, or else none.
     pub fn handle<S: Storage>(
         &mut self,
         storage: &mut S,

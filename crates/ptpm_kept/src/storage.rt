@@ -1,4 +1,4 @@
-//! Where a clock is saved.
+//! The storage in which a clock is saved.
 
 use crate::error::StorageFailed;
 

@@ -30,7 +30,7 @@ const SET: &str =
 const AFTER_SET: &str =
     "7074706d0101000000000085aabbccfffeddee01000164f8feffff80000000000000000000000000000000000000aabbccfffeddee01000000ffff7fffffff64f8feffff80aabbccfffeddee010025000000000000a0000206000000000000000000010300010006000000000000000000010300010001001122334455667700010007012005ffff000264000100026400";
 
-/// A storage that has an image of at most 145 octets, and whose saves fail if it is told so.
+/// A storage that has an image of at most 145 octets, and whose saves can be made to fail.
 #[derive(Drop)]
 struct Shelf {
     octets: [u8; 145],

@@ -50,7 +50,7 @@ and_assoc : (a b c : Bool) → ((a && b) && c) ≡ (a && (b && c))
 and_assoc true b c = refl
 and_assoc false b c = refl
 
--- octets are two parts, one behind the other, if they begin with the first and go on with the second
+-- octets are two parts, one after the other, if they begin with the first and go on with the second
 pub parts_short : (xs front rest : List ℕ) → length xs < length front → bytes_eq xs (front ++ rest) ≡ false
 parts_short xs [] rest short = absurd (omega arith)
 parts_short [] (f ∷ front) rest short = refl
@@ -65,7 +65,7 @@ parts_long (x ∷ xs) (f ∷ front) rest long =
     ap (λ b. (x == f) && b) (parts_long xs front rest (omega (arith, long)))
     ∙ sym (and_assoc (x == f) (bytes_eq (take (length front) xs) front) (bytes_eq (drop (length front) xs) rest))
 
--- the two parts written one behind the other over the first octets of a place
+-- the two parts written one after the other over the first octets of a place
 pub written : (front rest place : List ℕ)
     → take (length front) (front ++ drop (length front) place) ++ rest ++ drop (length front + length rest) (front ++ drop (length front) place)
     ≡ front ++ rest ++ drop (length front + length rest) place

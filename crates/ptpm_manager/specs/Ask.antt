@@ -42,16 +42,16 @@ request_at_port a = record { action = a.action; id = a.id; port = named_port a.p
 abbrev pub pending_request : Pending → RequestValue
 pending_request p = record { action = p.action; id = p.id; port = p.port; octets = p.octets }
 
--- what holds of each request that is made of an ask, to a clock with this many ports: one of them is named for an id of a port,
--- and every port for any other id, so that it has one answer
+-- What holds for each request that is made of an ask, to a clock with this many ports. For an id of a port it names one of
+-- them. For any other id it names every port, so that it has one answer.
 pub record IsRequestTo (ports : ℕ) (q : RequestValue) : Type 0 where
   pub action : IsRequestAction q.action
   pub octets : IsDataField q.octets
   pub port : is_of_port q.id ≡ true → (1 ≤ q.port) × (q.port ≤ ports)
   pub every : is_of_port q.id ≡ false → q.port ≡ every_port
 
--- what holds of each request that a session makes, also at a port that is named: one port of the clock is, or, for an id of no
--- port, every port
+-- What holds for each request that a session makes, also at a port that is named. It names one port of the clock, or, for an id
+-- of no port, every port.
 pub record IsAskedOf (ports : ℕ) (q : RequestValue) : Type 0 where
   pub action : IsRequestAction q.action
   pub octets : IsDataField q.octets

@@ -67,7 +67,7 @@ image_of setup domain issued reported unanswered =
 abbrev pub session_image : SessionValue → List ℕ
 session_image s = image_of s.setup s.domain s.issued s.reported s.unanswered
 
--- ---- the whole in two parts: what stands before the dataField, and the dataField, with which it ends
+-- ---- the whole in two parts: what comes before the dataField, and the dataField, with which it ends
 
 unfoldable pub body_front : Setup → ℕ → ℕ → ℕ → Option RequestValue → List ℕ
 body_front setup domain issued reported unanswered =

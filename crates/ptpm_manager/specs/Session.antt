@@ -24,7 +24,7 @@ abbrev pub count_limit : ℕ
 count_limit = 1000000
 
 -- How many requests a session begins at most after the latest that was reported. A clock takes a number for a new one if it is at
--- most 32,767 ahead of the latest that it accepted; the latest that was reported was accepted.
+-- most 32,767 ahead of the latest that it accepted. The latest that was reported was accepted.
 abbrev pub reach_limit : ℕ
 reach_limit = 32767
 

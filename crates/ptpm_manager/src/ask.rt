@@ -19,8 +19,8 @@ pub struct Ask {
     pub action: Action,
     /// managementId (15.5.2.3).
     pub id: u16,
-    /// The clock's port that is meant. It is used for an id of a port alone; an id of the clock, or one that is not in the
-    /// table, is asked of every port (this project's profile).
+    /// The clock's port that is asked. It is used for an id of a port alone. For an id of the clock, or one that is not in
+    /// the table, every port is asked (this project's profile).
     pub port: Option<u16>,
     /// dataField.
     pub octets: Octets,

@@ -20,7 +20,7 @@ pub enum BeginError {
     OutOfMemory,
 }
 
-/// The name, as `Busy`.
+/// The name, for example `Busy`.
 impl fmt::Display for BeginError {
     ghost use Rattle.std.specs.Prelude.{Some};
     ghost use Rattle.ptpm_manager.specs.ErrorText.{begin_error_text};
@@ -48,7 +48,7 @@ pub enum SendError {
     GaveUp,
 }
 
-/// The name, as `Idle`.
+/// The name, for example `Idle`.
 impl fmt::Display for SendError {
     ghost use Rattle.std.specs.Prelude.{Some};
     ghost use Rattle.ptpm_manager.specs.ErrorText.{send_error_text};
@@ -72,7 +72,7 @@ pub enum GiveUpRefusal {
     OutOfReach,
 }
 
-/// The name, as `Idle`.
+/// The name, for example `Idle`.
 impl fmt::Display for GiveUpRefusal {
     ghost use Rattle.std.specs.Prelude.{Some};
     ghost use Rattle.ptpm_manager.specs.ErrorText.{give_up_refusal_text};
@@ -104,7 +104,7 @@ pub enum RestoreError {
     OutOfMemory,
 }
 
-/// The name, as `NotAnImage`.
+/// The name, for example `NotAnImage`.
 impl fmt::Display for RestoreError {
     ghost use Rattle.std.specs.Prelude.{Some};
     ghost use Rattle.ptpm_manager.specs.ErrorText.{restore_error_text};

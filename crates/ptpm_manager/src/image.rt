@@ -28,12 +28,12 @@ pub(crate) const IMAGE_HEAD_OCTETS: usize = 12;
 /// How many octets the image of a session has at most: 12 of the head, 48 of the session, and its request's dataField.
 pub const SESSION_OCTETS: usize = FRONT_OCTETS + DATA_FIELD_OCTETS;
 
-/// How many octets stand before the dataField at most, and how many of these follow the head.
+/// How many octets come before the dataField at most. `BODY_OCTETS` of these follow the head.
 const FRONT_OCTETS: usize = IMAGE_HEAD_OCTETS + BODY_OCTETS;
 
 const BODY_OCTETS: usize = 48;
 
-/// Room for what stands before the dataField.
+/// Room for what comes before the dataField.
 type Front = ArrayVec<u8, FRONT_OCTETS>;
 
 /// Room for what of it follows the head.
@@ -140,7 +140,7 @@ impl Saved<'_> {
     }
 }
 
-/// Writes these two parts, one behind the other, over the first octets of a place.
+/// Writes these two parts, one after the other, over the first octets of a place.
 fn write_both(place: &mut [u8], front: &[u8], rest: &[u8])
     requires { length front.now + length rest.now ≤ length place.old }
     ensures { place.new
@@ -168,7 +168,7 @@ fn write(place: &mut [u8], at: usize, octets: &[u8])
     place[at..end].copy_from_slice(octets);
 }
 
-/// Whether octets are these two parts, one behind the other.
+/// Whether octets are these two parts, one after the other.
 #[tactic(auto, using(crate::proofs::ImageLaws::parts_short, crate::proofs::ImageLaws::parts_long))]
 fn is_made_of(octets: &[u8], front: &[u8], rest: &[u8]) -> bool
     ensures { result ≡ bytes_eq octets.now (front.now ++ rest.now) }

@@ -25,8 +25,8 @@ pub fn sent_again()
         due_message (retuned s domain) ≡ Some w → canonical w ≡ slice_set (canonical v) 4 domain }
 {}
 
-/// A session's image gives it back, with all attempts before it, to its own manager; and no two sessions that differ in anything
-/// else have the same image.
+/// A session's image restores it, with all attempts before it, for its own manager. No two sessions that differ in anything else
+/// have the same image.
 pub fn image_law()
     ensures back { (s : SessionValue) → IsConsistent s → SessionFits s
         → session_at (session_image s) ≡ anew s }

@@ -1,5 +1,5 @@
-//! The client of PTP management (IEEE 1588-2019, clause 15): sessions, which make one request at a time of one clock, and
-//! surveys, which ask every clock at once, or every port of one.
+//! The client of PTP management (IEEE 1588-2019, clause 15): sessions and surveys. A session makes one request at a time
+//! of one clock. A survey asks every clock at once, or every port of one.
 #![tactic(auto)]
 
 mod answers;

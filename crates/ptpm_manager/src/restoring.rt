@@ -27,8 +27,8 @@ const UP_TO_DATA_FIELD: usize = 60;
 
 impl Session {
     /// The session whose image this is, of this manager with this clock of this many ports. Its first request has this number.
-    /// It goes on with the request that was not answered, with all attempts before it; hop fields, attempts and domain are those
-    /// of the image. The first reason that holds is why it is refused. Memory is asked for last, for the request's dataField.
+    /// It goes on with the request that was not answered, with all attempts before it. Hop fields, attempts and domain are those
+    /// of the image. An image is refused for the first reason that holds. Memory is asked for last, for the request's dataField.
     #[tactic(auto, unfolding(crate::specs::Restoring::restore_refusal))]
     pub fn restored(
         alloc: Global,

@@ -35,9 +35,9 @@ pub(crate) enum State {
     Waiting(Pending),
 }
 
-/// One manager's requests to one clock, one at a time: a request is kept until its answer is heard or it is given up, and its number
-/// is used for no other. Contracts see how it was set up, its domain, how many requests were begun, which was reported last, the
-/// unanswered one, and how often that one may still be sent.
+/// One manager's requests to one clock, one at a time. A request is kept until its answer is heard or it is given up, and its
+/// number is used for no other. Contracts see how the session was set up, its domain, how many requests were begun, and which was
+/// reported last. They also see the unanswered request, and how often it may still be sent.
 #[derive(Debug, Drop)]
 pub struct Session {
     alloc: Global,
@@ -65,8 +65,8 @@ impl Session {
     ghost use Rattle.ptpm_manager.specs.Setup.{AreTwoClocks};
 
     /// A session of `me` that has begun nothing, with a target of one to eight ports, in a domain. Neither clock is all ones,
-    /// and they are two. The k-th request, counted from 1, has sequence number (first + k - 1) mod 65,536; each has `hops` in
-    /// both hop fields, and may be sent `attempts` times, 0 to 255. Takes no memory: `alloc` is kept for the octets of
+    /// and they are two. The k-th request, counted from 1, has sequence number (first + k - 1) mod 65,536. Each request has
+    /// `hops` in both hop fields, and may be sent `attempts` times, 0 to 255. Takes no memory: `alloc` is kept for the octets of
     /// requests and answers.
     pub fn new(
         alloc: Global,
@@ -125,8 +125,8 @@ impl Session {
         self.domain
     }
 
-    /// Begins a request, with all its attempts before it; the ask's octets are copied. The first reason that holds is why
-    /// it is refused, and then the session stays as it was.
+    /// Begins a request, with all its attempts before it; the ask's octets are copied. It is refused for the first reason that
+    /// holds, and then the session stays as it was.
     pub fn begin(&mut self, ask: &Ask) -> Result<(), BeginError>
         ensures begun { OnOk result (self.new ≡ begun self.old (request_of ask.now)) }
         ensures permitted { OnOk result (begin_refusal self.old ask.now ≡ None) }
@@ -181,9 +181,9 @@ impl Session {
         })
     }
 
-    /// Does what `begin_with` does at the port that is named, also for an id of no port; it has to be one of the clock's. There are
-    /// clocks that answer for an id of the clock too only where one of their ports is named. Such a request may be answered by any
-    /// port of the clock.
+    /// Does what `begin_with` does, at the port that is named, also for an id of the clock. The port has to be one of the clock's
+    /// ports. Some clocks answer for an id of the clock too only if one of their ports is named. Such a request may be answered
+    /// by any port of the clock.
     #[tactic(auto, unfolding(crate::specs::Session::begin_at_refusal))]
     pub fn begin_at(
         &mut self,

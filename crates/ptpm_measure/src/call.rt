@@ -45,8 +45,8 @@ impl Call {
         }
     }
 
-    /// Makes the call as often as told: how many ports, octets, answers, refusals or frames there are in the end. `None`
-    /// where it is refused.
+    /// Makes the call `count` times. Answers how many ports, octets, answers, refusals or frames there are in the end.
+    /// `None` if a call is refused.
     pub fn repeat(self, alloc: Global, count: u32) -> Option<u64> {
         match self {
             Call::Start => start_each::<16>(count),

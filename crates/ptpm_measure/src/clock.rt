@@ -21,7 +21,7 @@ pub enum Size {
     TwoPorts,
     /// Eight ports and one manager.
     EightPorts,
-    /// Two ports and sixteen managers, of which the one that asks is the last.
+    /// Two ports and sixteen managers. The one that asks is the last of them.
     SixteenManagers,
 }
 
@@ -52,7 +52,7 @@ fn table(managers: &[(PortIdentity, Rights)]) -> Option<BoundTable> {
     BoundTable::new(CLOCK, managers).ok()
 }
 
-/// The manager behind fifteen others, at ports 2 to 16 of its node.
+/// The manager after fifteen others, which are ports 2 to 16 of its node.
 fn sixteen_managers() -> [(PortIdentity, Rights); 16] {
     let mut managers = [(MANAGER, Rights::ALL); 16];
     let mut port = MANAGER.port;

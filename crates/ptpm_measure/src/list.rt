@@ -109,7 +109,7 @@ impl List {
         }
     }
 
-    /// The datagram, but for octets 0 that may follow.
+    /// The datagram, without the octets 0 that may follow.
     pub fn datagram(self) -> &'static [u8] {
         match self {
             List::View | List::Get | List::LastManager | List::Repeat => &GET_PRIORITY1,
@@ -229,7 +229,8 @@ const SET_LOG_ANNOUNCE_INTERVAL: [u8; 56] = [
     0xee, 0x01, 0xff, 0xff, 0x01, 0x01, 0x01, 0x00, 0x00, 0x01, 0x00, 0x04, 0x20, 0x09, 0x02, 0x00,
 ];
 
-/// SET of the manager to clock aabbccfffeddee02, with one hop left: 1,472 octets, of which those behind the first 54 are 0.
+/// SET of the manager to clock aabbccfffeddee02, with one hop left. It has 1,472 octets, and those after the first 54 are
+/// 0.
 const LONG_SET_OF_ANOTHER_CLOCK: [u8; 54] = [
     0x0d, 0x12, 0x05, 0xc0, 0, 0, 0, 0, 0, 0, 0, 0, 0, 0, 0, 0, 0, 0, 0, 0, 0x00, 0x11, 0x22, 0x33,
     0x44, 0x55, 0x66, 0x77, 0x00, 0x01, 0x00, 0x07, 0x04, 0x7f, 0xaa, 0xbb, 0xcc, 0xff, 0xfe, 0xdd,

@@ -1,5 +1,5 @@
-//! The program `ptpm_measure`: one datagram, handled by one clock as often as told, or another call that is repeated, so that
-//! a counter of instructions (callgrind) tells by the difference of two runs what one of them costs.
+//! The program `ptpm_measure`. One clock handles one datagram as many times as the command line says, or another call is
+//! repeated. A counter of instructions (callgrind) then shows by the difference of two runs what one time costs.
 #![tactic(auto)]
 
 mod call;
@@ -26,7 +26,7 @@ fn main(rt: HostRuntime) -> ExitCode {
     }
 }
 
-/// Runs the list that the words name, or all of them; whether the words are understood.
+/// Runs the list that the words name, or all of them. Answers whether the words are understood.
 fn measure(rt: &HostRuntime) -> io::Result<bool> {
     let alloc = rt.alloc();
     let words: Vec<String> = std::env::args(rt)?.collect(alloc)?;
@@ -52,7 +52,7 @@ fn measure(rt: &HostRuntime) -> io::Result<bool> {
     Ok(known)
 }
 
-/// Prints the call's name, and what it tells in the end.
+/// Prints the call's name, and what it answers in the end.
 fn show_call(rt: &HostRuntime, call: Call, count: u32) -> io::Result<()> {
     let name = call.name();
     match call.repeat(rt.alloc(), count) {
@@ -61,8 +61,8 @@ fn show_call(rt: &HostRuntime, call: Call, count: u32) -> io::Result<()> {
     }
 }
 
-/// Prints the list's name, the verdict on its last datagram, and how many messages of how many octets were sent for it;
-/// where it is only read, the sum of the sequenceIds.
+/// Prints the list's name, the verdict on its last datagram, and how many messages of how many octets were sent for it. For a
+/// list that is only read it prints the sum of the sequenceIds.
 fn show(rt: &HostRuntime, list: List, count: u32) -> io::Result<()> {
     let name = list.name();
     if list == List::View {

@@ -1,4 +1,4 @@
-//! A network of the clock and its manager, in which the manager's GET of PRIORITY1 is delivered as often as told.
+//! A network of the clock and its manager, in which the manager's GET of PRIORITY1 is delivered again and again.
 
 use ptpm_world::{Event, Network, World, read_event};
 use std::alloc::Global;
@@ -21,7 +21,7 @@ attempts = 1
 ends = ["clock.1", "manager"]
 "#;
 
-/// Delivers the request once, and then as often as told: how many frames are held, the request among them.
+/// Delivers the request once, and then `count` times. Answers how many frames are held, the request among them.
 pub fn deliver_each(alloc: Global, count: u32) -> Option<u32> {
     let network = Network::from_toml(alloc, NETWORK).ok()?;
     let mut world = World::new(alloc, &network).ok()?;

@@ -1,4 +1,4 @@
-//! A datagram handled as often as told.
+//! A datagram that is handled again and again.
 
 ghost use Rattle.std.specs.Prelude.{◌≤◌};
 
@@ -19,8 +19,8 @@ pub struct Outcome {
     pub octets: usize,
 }
 
-/// Handles the list's datagram as often as told, at a clock that has answered one request before. `None` where the clock
-/// lacks the port 1.
+/// Handles the list's datagram `count` times, at a clock that has answered one request before. `None` if the clock has no
+/// port 1.
 pub fn handle_each(list: List, count: u32) -> Option<Outcome> {
     let mut clock = fresh_clock(list.clock())?;
     let mut out = Outbox::new();
@@ -40,7 +40,7 @@ pub fn handle_each(list: List, count: u32) -> Option<Outcome> {
     })
 }
 
-/// Reads the list's datagram as often as told: the sum of the sequenceIds that were read.
+/// Reads the list's datagram `count` times. Answers the sum of the sequenceIds that were read.
 pub fn view_each(list: List, count: u32) -> u32 {
     let mut datagrams = Datagrams::of(list);
     let mut sum = 0_u32;
@@ -50,7 +50,7 @@ pub fn view_each(list: List, count: u32) -> u32 {
     sum
 }
 
-/// The sequenceId of a message, and 0 where the datagram holds none. It is not inlined, so that each datagram is read whole.
+/// The sequenceId of a message, or 0 if the datagram holds none. It is not inlined, so that each datagram is read whole.
 #[inline(never)]
 fn number_of(datagram: &[u8]) -> u16 {
     match view(datagram) {
@@ -59,7 +59,7 @@ fn number_of(datagram: &[u8]) -> u16 {
     }
 }
 
-/// Makes a clock of two ports, one manager and so many slots, and an outbox, as often as told: how many ports all have
+/// Makes a clock of two ports, one manager and `SLOTS` slots, and an outbox, `count` times. Answers how many ports all have
 /// together.
 pub fn start_each<const SLOTS: usize>(count: u32) -> Option<u64>
     requires one { 1 ≤ SLOTS }

@@ -1,11 +1,11 @@
-//! The manager's end: requests that are sent, and answers that are heard, as often as told. Each request is a GET of PRIORITY1.
+//! The manager's end: requests that are sent, and answers that are heard, again and again. Each request is a GET of PRIORITY1.
 
 use crate::clock::{CLOCK, MANAGER};
 use ptpm_codec::{Action, Buffer, Octets};
 use ptpm_manager::{Ask, Received, Session};
 use std::alloc::Global;
 
-/// Sends one request as often as told, with an attempt more each time: how many octets it has.
+/// Sends one request `count` times, with one more attempt each time. Answers how many octets it has.
 pub fn send_each(alloc: Global, count: u32) -> Option<usize> {
     let mut session = fresh_session(alloc);
     session.begin(&get_priority1(alloc)?).ok()?;
@@ -17,7 +17,7 @@ pub fn send_each(alloc: Global, count: u32) -> Option<usize> {
     Some(buffer.len())
 }
 
-/// Begins a request and hears its answer, as often as told: the number of the last request that was answered, from 1.
+/// Begins a request and hears its answer, `count` times. Answers the number of the last request that was answered, from 1.
 pub fn receive_each(alloc: Global, count: u32) -> Option<u64> {
     let mut session = fresh_session(alloc);
     let ask = get_priority1(alloc)?;
@@ -36,7 +36,7 @@ pub fn receive_each(alloc: Global, count: u32) -> Option<u64> {
     Some(answered)
 }
 
-/// Hears an answer under the number before the request's, as often as told: how often it was ignored.
+/// Hears an answer under the number before the request's, `count` times. Answers how often it was ignored.
 pub fn ignore_each(alloc: Global, count: u32) -> Option<u32> {
     let mut session = fresh_session(alloc);
     session.begin(&get_priority1(alloc)?).ok()?;

@@ -26,7 +26,7 @@ use Rattle.ptpm_members.proofs.Placing.{AreSaid, AreSaidWith, clock_said, field_
 
 -- ---- one of the clock's ports
 
--- an element that is there, of which holds what holds of all
+-- an element that is there; what holds of all holds of it
 held_at : {X : Type 0} (P : X → Type 0) (xs : List X) (i : ℕ) → i < length xs → All P xs → (x : X) × (slice_get xs i ≡ Some x) × P x
 held_at P [] i below all = absurd (omega arith)
 held_at P (x ∷ xs) zero below all = (x, refl, all 0 x (omega arith))

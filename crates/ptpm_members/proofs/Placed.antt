@@ -14,7 +14,7 @@ use Rattle.ptpm_members.specs.FieldText.{IsPlaced}
 use Rattle.ptpm_members.specs.Tables.{field_size, fields_of, form_size, is_whole}
 use Rattle.ptpm_members.specs.ValueText.{HasNumber, HasValue}
 
--- whether a form's octets from a place on end within so many
+-- whether a form's octets from a place on end within this many
 abbrev number_fits : ℕ → ℕ → ℕ → Bool
 number_fits size at n = nat_le 1 n && (nat_le n 8 && nat_le (at + n) size)
 

@@ -4,7 +4,8 @@ use Rattle.std.specs.Fmt.{HasWritten}
 use Rattle.std.specs.declared.fmt.Formatter.{Formatter}
 use Rattle.ptpm_members.specs.declared.formatted.Formatted.{Formatted}
 
--- t is s after this text: if no write failed, what was written at s from some formatter on is at t followed by the text
+-- t is s after this text. If no write failed, what was written at s from some formatter on is at t, followed by the
+-- text.
 pub record HasPushed {W : Type 0} (took : W → List ℕ → W → Type 0) (s : Formatted W) (text : List ℕ) (t : Formatted W) : Type 0 where
   pub same_reference : t.formatter.ghost_name ≡ s.formatter.ghost_name
   pub earlier : IsOk t.result → IsOk s.result

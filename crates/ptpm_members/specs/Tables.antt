@@ -68,7 +68,7 @@ form_size forms.PortState = 1
 form_size forms.DelayMechanism = 1
 form_size forms.Text = 0
 
--- where the last of the members ends
+-- the place at which the last of the members ends
 abbrev pub end_of : Option Field → ℕ
 end_of None = 0
 end_of (Some f) = f.1 + form_size f.2

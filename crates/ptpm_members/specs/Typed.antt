@@ -89,7 +89,7 @@ escaped text =
     if octet 0 text == 0x5c && octet 1 text == 0x78 then option_map (octet 0) (result_ok (decode_sized (take 2 (drop 2 text)) 1))
     else None
 
--- the octets that a typed text stands for, after so many that an escape has had
+-- the octets that a typed text means, after this many octets that belong to an escape before it
 abbrev pub meant_next : Option ℕ → ℕ → List ℕ → List ℕ → List ℕ
 meant_next None c skipped plain = c ∷ plain
 meant_next (Some octet) c skipped plain = octet ∷ skipped

@@ -57,7 +57,7 @@ mechanism_text n = mechanism_named n (mechanism_of n)
 
 -- ---- a TimeInterval: nanoseconds, with all digits of their fraction
 
--- the digits of so many 65536ths, of which there is at least one: k of them at most
+-- the decimal digits of n 65536ths: one at least if k is not 0, and k at most
 unfoldable pub fraction_digits : ℕ → ℕ → List ℕ
 fraction_digits zero n = []
 fraction_digits (suc k) n =

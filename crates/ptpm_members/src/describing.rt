@@ -29,7 +29,7 @@ pub(crate) fn described(typed: &str) -> Option<ArrayVec<u8, 128>>
     is_description(text.as_slice()).then_some(text)
 }
 
-/// The octet that is meant first, and what is typed behind it.
+/// The octet that is meant first, and what is typed after it.
 fn next_octet(typed: &[u8]) -> Option<(u8, &[u8])>
     ensures none { IfNone result (typed.now ≡ []) }
     ensures next { IfSome result (λ r. meant typed.now ≡ r.0 ∷ meant r.1.now) }

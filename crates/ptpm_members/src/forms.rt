@@ -1,4 +1,4 @@
-//! Where a member stands in a dataField, and how.
+//! The place of a member in a dataField, and its form there.
 
 ghost use Rattle.std.specs.Prelude.{◌≡◌};
 ghost use Rattle.ptpm_members.specs.Tables.{form_size};

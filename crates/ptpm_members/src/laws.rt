@@ -12,8 +12,8 @@ ghost use Rattle.ptpm_members.specs.Parsed.{parsed};
 ghost use Rattle.ptpm_members.specs.RoundTrip.{IsInRange, words_of};
 ghost use Rattle.ptpm_members.specs.Tables.{IsSaid, fields_of_id, is_whole_of_id};
 
-/// What a GET of an id is answered has a member at each of its places: the octets there are the member's value in the data
-/// sets, whatever these are. And it has as many octets as its members take, and a reserved one if that number is odd.
+/// The answer to a GET of an id has a member at each of its places. The octets there are the member's value in the data sets,
+/// whatever these are. It has as many octets as its members take, and a reserved one if that number is odd.
 ///
 /// For an id of a port, the port is one of the clock's; and the clock's members are numbers of their types.
 pub fn member_law()
@@ -25,7 +25,7 @@ pub fn member_law()
         → is_whole_of_id id (data_field_of_id id port d) ≡ true }
 {}
 
-/// Whatever a SET of an id may have comes back from its text: the words of its lines are taken for the same dataField, in which
+/// Whatever a SET of an id may have comes back from its text. The words of its lines are taken for the same dataField, in which
 /// reserved octets and bits are 0.
 pub fn typed_again_law()
     ensures { (id : ℕ) (row : RowValue) (octets : List ℕ) → row_of id ≡ Some row

@@ -25,8 +25,8 @@ pub enum ParseFault {
     NoValue(Member),
 }
 
-/// The dataField that words mean for a SET of an id: the name and the value of each member, in the order and spelling of a
-/// `FieldText`. A sole member's name may be left out. Takes no memory.
+/// The dataField that words mean for a SET of an id. They are the name and the value of each member, in the order and
+/// spelling of a `FieldText`. A sole member's name may be left out. Takes no memory.
 #[tactic(auto, using(crate::proofs::ParsingLemmas::few_fields), unfolding(crate::specs::Parsed::parsed))]
 pub fn parse(id: u16, words: &[&str]) -> Result<Value, ParseFault>
     ensures { octets_or result ≡ parsed id (map (λ w. w.now) words.now) }

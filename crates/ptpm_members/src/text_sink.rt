@@ -1,4 +1,4 @@
-//! Where a text goes, piece by piece.
+//! What a text is written to, piece by piece.
 
 /// Takes a text in pieces, each of them after those before it. A piece is never refused: a sink that has no room for one leaves
 /// it out, and knows that it did. So what is said of a sink holds whether there was room or not, which std's `fmt::Write` does

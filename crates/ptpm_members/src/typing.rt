@@ -16,7 +16,7 @@ use ptpm_data::DelayMechanism;
 /// The octets of a value that is typed.
 pub(crate) type Octets = ArrayVec<u8, 2>;
 
-/// The octets that a text means as a value of this form; `None` if it is none, or no SET has a member of this form.
+/// The octets that a text means as a value of this form. `None` if it is none, or no SET has a member of this form.
 #[tactic(auto, unfolding(crate::specs::Typed::typed, ptpm_data::specs::DataField::i8_octet))]
 pub(crate) fn typed(form: Form, text: &str) -> Option<Octets>
     ensures { option_map (λ v. v.items) result ≡ typed form text.now }

@@ -127,7 +127,7 @@ fn push_sign<T: TextSink>(number: i64, sink: &mut T)
     }
 }
 
-/// The digits of so many 65536ths, a number of them at most.
+/// The decimal digits of `number` 65536ths, at most `digits` of them.
 #[tactic(auto, unfolding(crate::specs::ValueText::fraction_digits))]
 fn push_fraction<T: TextSink>(digits: u8, number: u32, sink: &mut T)
     requires { number < 65536 }

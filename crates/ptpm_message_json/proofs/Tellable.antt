@@ -17,7 +17,7 @@ use Rattle.ptpm_message_json.specs.Names.{quality_name}
 abbrev HasItsQuality : List ℕ → Field → Type 0
 HasItsQuality octets f = HasQuality (quality_name f.0) f.1 octets
 
--- whether a ClockQuality at a place ends within so many octets
+-- whether a ClockQuality at a place ends within this many octets
 abbrev quality_fits : Option (List ℕ) → ℕ → ℕ → Bool
 quality_fits None at size = true
 quality_fits (Some name) at size = nat_le (at + 4) size

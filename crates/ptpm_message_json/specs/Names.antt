@@ -32,7 +32,7 @@ mechanism_or_other n (Some mechanism) = mechanism_name mechanism
 abbrev pub mechanism_said : ℕ → List ℕ
 mechanism_said n = mechanism_or_other n (mechanism_of n)
 
--- ---- a ClockQuality (5.3.7) is told as one object
+-- ---- a ClockQuality (5.3.7) is shown as one object
 
 -- the name of the one whose first member this is
 abbrev pub data_set_quality : DataSetMember → Option (List ℕ)

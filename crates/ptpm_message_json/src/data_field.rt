@@ -11,8 +11,8 @@ use ptpm_members::{Field, members_in};
 use serde_json::{Map, Value, put};
 use std::alloc::{AllocError, Global};
 
-/// Puts the dataField of an id: `members`, an object of them by the standard's names; or `dataField`, the octets in hexadecimal, if
-/// they are no dataField of that id, or have no member.
+/// Puts the dataField of an id. That is `members`, an object of them by the standard's names. If the octets are no dataField of
+/// that id, or have no member, it is `dataField`, the octets in hexadecimal.
 #[tactic(auto, unfolding(crate::specs::DataField::put_data_field))]
 pub(crate) fn put_data_field(
     alloc: Global,

@@ -1,4 +1,4 @@
--- Where no delivery of a list of events is late, it is late for no session.
+-- If no delivery of a list of events is late, none is late for any session.
 use Rattle.ptpm_network.proofs.Common.{arith, ◌≡◌, ℕ, List, [], ◌∷◌, Option, Some, None, Result, Ok, Err, false, refl, ◌∙◌, ap, and_right, is_none, if◌then◌else◌, option_map, AllByRecursion, PortIdentity, SessionValue, IsOfOrigin, IsReached, AreInTime, happens, is_late_delivery, is_late_frame, step, taken, IsNetwork, Network, Frame, held, Happened, network_event, RunningNetwork, Refusal, refusal, Event, IsInRange, frame_at, AreFirsts, Stands, NetworkState, Origin, RequestOf, ReplyTo, Neither, is_late, is_late_at}
 use Rattle.ptpm_network.specs.ByManager.{StaysInTime, in_time_while, is_behind, is_for, is_late_for, is_late_frame_for}
 use Rattle.ptpm_network.proofs.Held.{frame_at-map}

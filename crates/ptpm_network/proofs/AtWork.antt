@@ -1,4 +1,4 @@
--- A session whose own messages come in time and that gives up now and then: what its own acts, what it hears and the turns of its
+-- A session whose own messages come in time and that gives up now and then. What its own acts, what it hears and the turns of its
 -- target make of it.
 use Rattle.ptpm_network.proofs.Common.{arith, ◌≡◌, ℕ, ◌+◌, ◌-◌, ◌<◌, ◌≤◌, inl, inr, is_some, nat_le, not, Bool, List, [], ◌∷◌, ◌++◌, length, length-append, Option, Some, None, true, false, refl, sym, ◌∙◌, ap, subst, ⊎_elim, false≢true, slice_get, all_append, all_weaker, AllByRecursion, PortIdentity, reading, Answer, RequestValue, Accepted, greatest, kept_reply, State, Report, received_of, reports_by, reports_of, IsAsked, IsNetwork, Network, manager, ports, Held, Origin, ReplyTo, SessionValue, answered, begun, is_waiting, get_last, first_of-none}
 use Rattle.std.proofs.lemmas.Bool.{leb-false}
@@ -28,7 +28,7 @@ pub record IsAtWork (N : Network) (s : ℕ) (value : SessionValue) (reports : Li
   pub order : RiseFrom 0 reports value.reported
   pub held : IsHeld N s clock frames a
 
--- ---- how far the latest report is behind
+-- ---- how many requests were begun since the latest that was reported
 
 pub reach-within : (issued reported : ℕ) (o : Option RequestValue) → IsInReach issued reported o → issued ≤ reported + reach_limit
 reach-within issued reported None reach = let within = reach.1 in omega arith

@@ -108,7 +108,7 @@ module _ (N : Network) (s k : ℕ) (accepted : List Accepted) (begun : List Requ
       search (ap with_less_hop says.is ∙ less_hop-canonical (reply_at (N.session s).setup.target says.heard says.entry.reply says.ingress says.hops says.answer)
       (reply-valid (N.session s).setup.target says.heard says.entry.request says.entry.reply says.ingress says.hops says.answer says.says.answers (sendable-one says.entry.request says.entry says.answer says.one says.says.answers)) says.message.fits)
 
--- ---- in the machine, where all sessions are
+-- ---- in the machine, with all sessions
 
 reached-keeps : (N : Network) (w : NetworkState) (s : ℕ)
     → IsReached N w → s < N.sessions

@@ -1,4 +1,4 @@
--- What a message of each origin is: one with a session's identity is its own request, and one that is told to a session is a reply
+-- What a message of each origin is. One with a session's identity is its own request, and one that comes to a session is a reply
 -- to it. That holds of what comes in in the machine, and of every frame of a running network, in time or late.
 use Rattle.ptpm_network.proofs.Common.{arith, ◌≡◌, ℕ, ◌<◌, List, Some, true, false, sym, ◌∙◌, not-true, true≢false, same_Some, Message, Fits, action_of, is_reply, message_of, copy_parts, is_copy, IsForeign, IsMessage, IsReached, IsNetwork, Network, manager, NetworkState, Origin, RequestOf, ReplyTo, Neither}
 use Rattle.ptpm_network.proofs.Frames.{IsHeard, says_reply, says_request}

@@ -1,5 +1,5 @@
--- A running network makes of every event what the machine does: it refuses what that refuses, for the same reason, and else
--- goes where it goes.
+-- A running network makes of every event what the machine does. It refuses what that refuses, for the same reason, and
+-- otherwise it takes the same step.
 use Rattle.ptpm_network.proofs.Common.{arith, by_test, result_err, Result, Ok, Err, Happened, unless_refused, network_event, delivers, goes_on, ◌≡◌, ℕ, ◌<◌, ◌≤◌, nat_lt, not, List, [], ◌∷◌, ◌++◌, Option, Some, None, false, refl, sym, ◌∙◌, ap, subst, is_none, if◌then◌else◌, option_map, option_or, AllByRecursion, first_of, length, length-map, PortIdentity, received_of, SessionValue, send_refusal, is_waiting, begun, Begin, Deliver, Event, FramesAtMaximum, IsInRange, Refusal, Resume, Retune, Send, SendRefused, Stranger, begin_refused, send_refused, forged, frame_at, frames_limit, no_frame, no_port, no_room, no_session, refusal, Held, RunningNetwork, held, network_run, reaches, IsFrame, IsReached, AreInTime, begun_in, delivered, delivered_at, delivered_at_clock, happens, is_late_delivery, is_late_frame, report_from, run, step, step_by, strange_frame, taken, AtPort, AtSession, End, HasEnd, IsNetwork, Network, AreFirsts, Stands, Frame, NetworkState, initial_state, is_late, is_idle, session_value, le_trans}
 use Rattle.ptpm_manager.specs.Ask as ask
 use Rattle.ptpm_network.proofs.Frames.{heard-frame}

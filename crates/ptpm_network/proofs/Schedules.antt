@@ -132,7 +132,7 @@ retune-sent : map (λ f. f.octets)
 unfolding refusal happens begin_refusal send_refusal ask_refusal target_port row_of port_identity_octets tlv_octets
 retune-sent = refl
 
--- A SET of DOMAIN is answered in the former domain, and its repeat too; then the clock is heard in the new one alone, and a
+-- A SET of DOMAIN is answered in the former domain, and its repeat too. Then the clock is heard in the new one alone, and a
 -- reply in the former one comes too late.
 abbrev other_domain : NetworkState
 other_domain = run one_clock (initial_state one_clock) (
@@ -159,7 +159,7 @@ retune-frames = refl
 abbrev clock_of : ℕ → ClockIdentity
 clock_of c = record { 0 = 0xaa ∷ 0xbb ∷ 0xcc ∷ 0xff ∷ 0xfe ∷ 0xdd ∷ 0xee ∷ c ∷ [] }
 
--- the session at port 1 of clock 0, whose ports 2 and 3 lead to clocks 1 and 2, which are linked by their ports 2
+-- The session is at port 1 of clock 0, whose ports 2 and 3 lead to clocks 1 and 2. These are linked by their ports 2.
 abbrev pub ring_of_three_clocks : Network
 ring_of_three_clocks = record {
   clocks = 3;
@@ -177,8 +177,8 @@ in_ring es = run ring_of_three_clocks (initial_state ring_of_three_clocks) es
 abbrev seen : Frame → End × ℕ × ℕ × Origin
 seen f = (f.end, octet 45 f.octets, f.forwardings, f.origin)
 
--- clock 0 passes the request on at ports 2 and 3; clock 2 passes its copy on at port 2, with no hop left; clock 1 replies at
--- its port 2, where the copy came in, with as many hops as the copy had lost
+-- Clock 0 passes the request on at ports 2 and 3. Clock 2 passes its copy on at port 2, with no hop left. Clock 1 replies at
+-- its port 2, at which the copy came in, with as many hops as the copy had lost.
 ring_of_three_clocks-frames : map seen
     (in_ring (Begin 0 get_priority1 ∷ Send 0 ∷ Deliver 1 ∷ Deliver 3 ∷ Deliver 4 ∷ [])).frames
     ≡ (AtPort 0 1, 2, 0, RequestOf 0 1) ∷ (AtPort 1 1, 1, 1, RequestOf 0 1)

@@ -55,8 +55,8 @@ entries-others m c s v _ other = refl
 abbrev pub with_accepted : Account → List Accepted → Account
 with_accepted a es = record { begun = a.begun; accepted = es }
 
--- What the turn is given: a copy of the session's request k is in the clock's window, and j is the index under which it is accepted,
--- if it is new.
+-- What the turn is given. A copy of the session's request k is in the clock's window. If it is new, it is accepted under
+-- the index j.
 pub record IsGiven (m : PortIdentity) (a : Account) (k j : ℕ) : Type 0 where
   pub window : k ≤ length a.begun → InWindow (greatest m a.accepted) k
   pub index : k ≤ length a.begun → greatest m a.accepted < k → j ≡ k

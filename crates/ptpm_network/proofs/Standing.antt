@@ -37,7 +37,7 @@ module _ (N : Network) (first : PortIdentity → ℕ) (r : RunningNetwork) (w : 
         ∙ sym (map-append held w.frames (made_frames N c (history N w c) port f));
   }
 
--- and it stands so as it starts
+-- and it is at the machine's state when it starts
 pub stands-initial_state : (N : Network) (first : PortIdentity → ℕ)
     → Stands N first (initial_network N) (initial_state N)
 stands-initial_state N first = record {

@@ -42,8 +42,8 @@ abbrev pub StaysInTime : Network → ℕ → RunningNetwork → List Event → T
 StaysInTime N s r [] = Unit {0}
 StaysInTime N s r (e ∷ es) = in_time_while (network_event N r e) (is_late_for N s r e) (λ next. StaysInTime N s next es)
 
--- a session's requests in the order in which it began them, and those that its target carried out, the latest first, each with
--- its place among them, from 1 on, and the reply that the clock gave to it then
+-- A session's requests in the order in which it began them, and those that its target carried out, the latest first. Each of the
+-- latter has its place among them, from 1 on, and the reply that the clock gave to it then.
 pub record Account : Type 0 where
   pub begun : List RequestValue
   pub accepted : List Accepted

@@ -10,7 +10,7 @@ use Rattle.ptpm_network.specs.Machine.{delivery}
 use Rattle.ptpm_network.specs.Network.{AtPort, Network, ports}
 use Rattle.ptpm_network.specs.State.{Frame, NetworkState, history}
 
--- frame n is on its way to a port of a clock, for which it is a copy of a request of one of its managers
+-- frame n is on its way to a port of a clock, and is a copy of a request by a manager of that clock
 pub record IsCopyAt (N : Network) (w : NetworkState) (n c port : ℕ) (f : Frame)
     (copy : RequestCopy) : Type 0 where
   pub frame : frame_at w.frames n ≡ Some f

@@ -1,5 +1,4 @@
--- What the network has to do for a request to be answered: what one copy of the request brings about at the session's target,
--- and one of the reply at the session.
+-- How a request is answered: what one copy of it does at the session's target, and one copy of the reply at the session.
 use Rattle.std.specs.Prelude.{◌≡◌, ℕ, ◌-◌, ◌≤◌, true, List, [], ◌∷◌, ◌++◌, length, ◌⊎◌}
 use Rattle.ptpm_codec.specs.Layout.{boundary_hops, domain_number}
 use Rattle.ptpm_manager.specs.declared.report.Report.{Report}
@@ -11,15 +10,15 @@ use Rattle.ptpm_network.specs.State.{NetworkState, ReplyTo, greatest_accepted, h
 abbrev pub HasRoom : NetworkState → Type 0
 HasRoom w = length w.frames ≤ frames_limit
 
--- A session's target hears a copy of the session's last request: it is in the clock's domain, or a repeat, since the clock
--- has accepted that request already.
+-- A session's target hears a copy of the session's last request. The copy is in the clock's domain, or the clock has accepted
+-- that request already, so that it is a repeat.
 abbrev pub IsHeardBy : Network → NetworkState → ℕ → List ℕ → Type 0
 IsHeardBy N w s octets =
     (domain_number octets ≡ (history N w (N.session s).target).sets.default.domain)
     ⊎ (greatest_accepted N w s ≡ issued w s)
 
--- Between the states w and u the target of a session has replied to a copy of the session's last request, which came in at
--- this port: one message, the reply, goes to each other end of the link there, and nothing else is sent. It is in the copy's
+-- Between the states w and u the target of a session has replied to a copy of the session's last request. The copy came in at
+-- this port. One message, the reply, goes to each other end of the link there, and nothing else is sent. It is in the copy's
 -- domain, and has as many hops as the copy has lost.
 pub record HasReplied (N : Network) (w u : NetworkState) (s port : ℕ) (copy : List ℕ) : Type 0 where
   pub reply : List ℕ

@@ -129,7 +129,8 @@ pub record IsServedInOrder (N : Network) (s : ℕ) (r : RunningNetwork) (a : Acc
   pub reported_accepted : (r.session s).reported ≤ greatest (manager N s) a.accepted
   pub accepted_begun : greatest (manager N s) a.accepted ≤ (r.session s).issued
   pub within_reach : (r.session s).issued ≤ (r.session s).reported + reach_limit
-  -- A copy of the last that was carried out gets the reply that was given then, in whatever domain, and a copy of an older one none.
+  -- A copy of the last one that was carried out gets the reply that was given then, in any domain. A copy of an older one gets
+  -- none.
   pub latest : (n port k : ℕ) (h : Held) (v : Message) → IsTimelyCopy N s r n port k h v → k ≡ greatest (manager N s) a.accepted
       → (entry : Accepted) × (kept_reply (manager N s) k a.accepted ≡ Some entry)
       × ((turn (N.clock (N.session s).target) (r.clock (N.session s).target) port h.octets).replies

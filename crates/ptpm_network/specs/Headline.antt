@@ -1,7 +1,7 @@
--- What a network promises, on one page. However it loses, repeats, reorders or duplicates messages, if none arrives after more
--- than 32,768 later requests of its manager, each clock's data sets are those after its managers' delivered requests, each
--- applied once in order of first acceptance; repeats of the latest get the one reply kept, older ones none; each manager
--- reports those replies; strangers and refused SETs change no data set.
+-- What a network promises, on one page. It may lose, repeat, reorder or duplicate messages in any way. Let none arrive after
+-- more than 32,768 later requests of its manager. Then each clock's data sets are those after its managers' delivered requests,
+-- each applied once in order of first acceptance. Repeats of the latest request get the one reply that is kept, and repeats of
+-- older ones get none. Each manager reports those replies. Strangers and refused SETs change no data set.
 use Rattle.std.specs.Prelude.{◌≡◌, ℕ, ◌+◌, ◌<◌, ◌≤◌, List, ◌++◌, length, map, None}
 use Rattle.std.specs.List.{AllByRecursion}
 use Rattle.ptpm_agent.specs.Laws.{due_messages}
@@ -24,8 +24,8 @@ pub record IsPromised (N : Network) (events : List Event) : Type 0 where
 
 -- The promise, of the running network r, while the machine is in the state w.
 pub record Headline (N : Network) (w : NetworkState) (r : RunningNetwork) : Type 0 where
-  -- A clock's data sets are those that it started with after the requests accepted among the copies that came in at it, each
-  -- applied once, in order of first acceptance.
+  -- A clock's data sets are those that it started with, after the requests that were accepted among the copies that came in at
+  -- it. Each of these is applied once, in order of first acceptance.
   pub sets : (c : ℕ) → c < N.clocks → (r.clock c).sets
       ≡ (applied_once (N.clock c) (initial_history (N.start c)) (copies_at N w c)).sets
   -- Its frames are the machine's, in which the delivery of a copy makes frames of the reply that is due to it, and no others.
@@ -33,7 +33,8 @@ pub record Headline (N : Network) (w : NetworkState) (r : RunningNetwork) : Type
   pub delivered : (n c port : ℕ) (f : Frame) (copy : RequestCopy) → IsCopyAt N w n c port f copy
       → (happens N w (Deliver n)).frames ≡ w.frames ++ reply_frames N c (reply_origin f.origin)
       (due_messages (N.clock c) copy (due_reply (N.clock c) (history N w c) copy))
-  -- To a copy of the latest request accepted of its manager the reply is due that was kept for it, to one of an older none.
+  -- The reply that was kept for the latest accepted request of a manager is due to each copy of it. To a copy of an older one
+  -- no reply is due.
   pub latest : (n c port : ℕ) (f : Frame) (copy : RequestCopy) → IsCopyAt N w n c port f copy
       → greatest copy.heard.source (history N w c).accepted ≡ copy.index → IsKeptFor (N.clock c) (history N w c) copy
   pub older : (c : ℕ) (copy : RequestCopy) → copy.index < greatest copy.heard.source (history N w c).accepted
@@ -45,7 +46,8 @@ pub record Headline (N : Network) (w : NetworkState) (r : RunningNetwork) : Type
   pub reported : (s : ℕ) → s < N.sessions → length (r.reports s) ≤ greatest_accepted N w s
   pub accepted : (s : ℕ) → s < N.sessions → greatest_accepted N w s ≤ issued w s
   pub begun : (s : ℕ) → s < N.sessions → issued w s ≤ length (r.reports s) + 1
-  -- A stranger changes no data set, nor what was accepted; a request that is refused, as a SET without the right, no data set.
+  -- A stranger changes neither a data set nor what was accepted. A request that is refused, such as a SET without the right,
+  -- changes no data set.
   pub strangers : (c port d : ℕ) (datagram : List ℕ) → IsInRange (Stranger c port datagram)
       → history N (step N w (Stranger c port datagram)) d ≡ history N w d
   pub refused : (c : ℕ) (x : Delivery) → IsRefusedAt N w c x → (history N (arrives w c x) c).sets ≡ (history N w c).sets

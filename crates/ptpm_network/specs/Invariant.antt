@@ -1,5 +1,5 @@
--- What holds of the network machine in every state that it reaches: how far a session and its target can be apart, and what
--- each frame says.
+-- What holds for the network machine in every state that it reaches. It says how far a session and its target can be apart,
+-- and what each frame says.
 use Rattle.std.specs.Prelude.{◌≡◌, ◌≢◌, ℕ, ◌+◌, ◌-◌, ◌<◌, ◌≤◌, ◌^◌, false, List, [], ◌∷◌, length, slice_get, Some, None}
 use Rattle.std.specs.List.{AllByRecursion}
 use Rattle.ptpm_codec.specs.declared.identity.PortIdentity.{PortIdentity}
@@ -24,7 +24,7 @@ use Rattle.ptpm_network.specs.State.{Frame, NetworkState, Origin, RequestOf, Rep
 
 -- ---- a session and what its target accepted of it
 
--- a request that a session begins at a clock of this many ports: it can be sent, and for an id of a port it names one port
+-- A request that a session begins at a clock of this many ports. It can be sent. For an id of a port it names one port.
 pub record IsAsked (ports : ℕ) (q : RequestValue) : Type 0 where
   pub action : IsRequestAction q.action
   pub id : q.id < 2 ^ 16
@@ -75,8 +75,8 @@ pub record IsRequestFrame (setup : Setup) (begun : List RequestValue) (k : ℕ)
   pub hops : ℕ
   pub is : octets ≡ canonical (record (request_message setup domain k request) { hops = hops })
 
--- the canonical spelling of the one answer kept for request k, except domainNumber, the hops, and, if the answer is of
--- the clock, the source's portNumber
+-- The canonical spelling of the one answer that is kept for request k, except domainNumber and the hops. If the answer is
+-- of the clock, the source's portNumber is excepted too.
 pub record IsReplyFrame (setup : Setup) (accepted : List Accepted) (k : ℕ)
     (octets : List ℕ) : Type 0 where
   pub positive : 0 < k

@@ -19,9 +19,9 @@ pub record LeavesWay (N : Network) (w u : NetworkState) (s : ℕ) (hops : List H
   pub way : IsWay N w s hops port → IsWay N u s hops port
   pub room : length w.frames + frames ≤ frames_limit → length u.frames + frames ≤ frames_limit
 
--- After these events, which began in the state w, frames come in at these ends one after another, and at last a session has
--- reported its request. Before each of them any others may happen that leave the way, and room for the frames that are still to
--- be made at the ends after it.
+-- The events `past` began in the state w. After them frames come in at these ends one after another, and at last a session has
+-- reported its request. Before each of these frames other events may happen, if they leave the way open. They also leave room
+-- for the frames that are still to be made at the ends after it.
 abbrev pub ComeInMeanwhile : Network → NetworkState → ℕ → List Hop → ℕ → ℕ → List Event → List End → Type 0
 ComeInMeanwhile N w s hops port ends past [] = HasReported w (run N w past) s
 ComeInMeanwhile N w s hops port ends past (e ∷ es) = (others : List Event) → AllByRecursion IsInRange others
@@ -29,7 +29,7 @@ ComeInMeanwhile N w s hops port ends past (e ∷ es) = (others : List Event) →
     → (number : ℕ) × ComesIn N (run N w (past ++ others)) number e
     × ComeInMeanwhile N w s hops port ends ((past ++ others) ++ Deliver number ∷ []) es
 
--- A session waits for a report and may send once more, a way leads to its target, and there is room for the frames of one copy
+-- A session waits for a report and may send once more, and a way leads to its target. There is room for the frames of one copy
 -- each way, if no link has more than this many ends.
 pub record IsReady (N : Network) (w : NetworkState) (s : ℕ) (hops : List Hop) (port ends : ℕ) : Type 0 where
   pub busy : is_idle (w.session s) ≡ false
@@ -37,8 +37,8 @@ pub record IsReady (N : Network) (w : NetworkState) (s : ℕ) (hops : List Hop) 
   pub way : IsWay N w s hops port
   pub room : length w.frames + made_each_way ends hops ≤ frames_limit
 
--- The unanswered request of a session can be answered over these clocks whatever else happens meanwhile: the session sends it,
--- one copy each way comes in at the ends of the way and at last at the session, and the request is reported.
+-- The unanswered request of a session can be answered over these clocks, whatever else happens meanwhile. The session sends it,
+-- and one copy each way comes in at the ends of the way and at last at the session. Then the request is reported.
 pub record IsAnswerableMeanwhile (N : Network) (w : NetworkState) (s : ℕ) (hops : List Hop) (port ends : ℕ) : Type 0 where
   pub sent : refusal N w (Send s) ≡ None
   pub come_in : ComeInMeanwhile N w s hops port ends (Send s ∷ [])

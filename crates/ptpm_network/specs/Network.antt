@@ -10,7 +10,8 @@ use Rattle.ptpm_agent.specs.Turn.{Clock}
 use Rattle.ptpm_manager.specs.declared.setup.Setup.{Setup}
 use Rattle.ptpm_network.specs.DataSets.{AreDataSets}
 
--- where a message is sent and comes in: at a port of a clock, or at a session; each by its place in the file, from 0
+-- The end at which a message is sent or comes in: a port of a clock, or a session. Each is given by its place in the
+-- file, from 0.
 pub data End : Type 0 where
   AtPort : (clock : ℕ) → (port : ℕ) → End
   AtSession : (session : ℕ) → End

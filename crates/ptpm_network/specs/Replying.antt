@@ -17,7 +17,7 @@ answers_copy _ = false
 abbrev pub origin_by : Verdict → Origin → Origin
 origin_by verdict o = if answers_copy verdict then reply_origin o else Neither
 
--- What a clock sends for a datagram that came in at a port: what leaves at that port is the reply, and anything else is passed
+-- What a clock sends for a datagram that came in at a port. What leaves at that port is the reply, and anything else is passed
 -- on.
 abbrev pub posted_by : List (List End) → ℕ → ℕ → Origin → Origin → ℕ × List ℕ → List Held
 posted_by links c ingress passed reply m =

@@ -97,7 +97,8 @@ nothing_to_resume s = first_of ((not (is_waiting s), SendRefused sends.Idle) ∷
 
 -- ---- one event
 
--- what an event does that is not refused: a session did what it was asked, or a clock or a session decided this of a datagram
+-- What an event does if it is not refused. A session did what it was asked, or a clock or a session decided this about a
+-- datagram.
 pub data Deed : Type 0 where
   Done : Deed
   Decided : (verdict : Verdict) → Deed

@@ -1,4 +1,4 @@
--- What a manager may rely on while its own messages come in time, whatever comes late of others; and where it may.
+-- What a manager may rely on while its own messages come in time, however late those of others come. Also in which states it may.
 use Rattle.std.specs.Prelude.{◌≡◌, ℕ, ◌+◌, ◌-◌, ◌<◌, ◌≤◌, true, false, List, [], ◌++◌, length, slice_get, Some, Ok}
 use Rattle.ptpm_codec.specs.declared.message.Message.{Message}
 use Rattle.ptpm_codec.specs.Reading.{message_of}
@@ -17,7 +17,7 @@ use Rattle.ptpm_network.specs.State.{RequestOf, outcomes_kept}
 abbrev pub accepted_count : Network → ℕ → Account → ℕ
 accepted_count N s a = greatest (manager N s) a.accepted
 
--- frame n is on its way to a port of the session's target, and is a copy of the session's request k that is not late
+-- frame n is on its way to a port of the session's target, and is a copy of the session's request k in time
 pub record IsTimelyCopy (N : Network) (s : ℕ) (r : RunningNetwork) (n port k : ℕ) (h : Held) (v : Message) : Type 0 where
   pub frame : frame_at r.frames n ≡ Some h
   pub end : h.end ≡ AtPort (N.session s).target port
@@ -27,7 +27,7 @@ pub record IsTimelyCopy (N : Network) (s : ℕ) (r : RunningNetwork) (n port k :
   pub copy : is_copy (N.clock (N.session s).target) (ports N (N.session s).target) v ≡ true
 
 pub record IsServed (N : Network) (s : ℕ) (r : RunningNetwork) (a : Account) : Type 0 where
-  -- Its target carried out its requests 1 to their number, each once, in this order. It is the number of those begun or one less.
+  -- Its target carried out its requests from 1 on, each once, in this order. They are as many as were begun, or one less.
   pub accepted : (k : ℕ) → 0 < k → k ≤ accepted_count N s a → (entry : Accepted)
       × (kept_reply (manager N s) k a.accepted ≡ Some entry) × (slice_get a.begun (k - 1) ≡ Some entry.request)
   pub accepted_begun : accepted_count N s a ≤ length a.begun
@@ -37,7 +37,8 @@ pub record IsServed (N : Network) (s : ℕ) (r : RunningNetwork) (a : Account) :
       × (outcomes_kept (manager N s) a.accepted (accepted_count N s a) ≡ r.reports s ++ rest)
   pub reported_accepted : length (r.reports s) ≤ accepted_count N s a
   pub begun_reported : length a.begun ≤ length (r.reports s) + 1
-  -- A copy of the last that was carried out gets the reply that was given then, in whatever domain, and a copy of an older one none.
+  -- A copy of the last one that was carried out gets the reply that was given then, in any domain. A copy of an older one gets
+  -- none.
   pub latest : (n port k : ℕ) (h : Held) (v : Message) → IsTimelyCopy N s r n port k h v → k ≡ accepted_count N s a
       → (entry : Accepted) × (kept_reply (manager N s) k a.accepted ≡ Some entry)
       × ((turn (N.clock (N.session s).target) (r.clock (N.session s).target) port h.octets).replies
@@ -45,8 +46,8 @@ pub record IsServed (N : Network) (s : ℕ) (r : RunningNetwork) (a : Account) :
   pub older : (n port k : ℕ) (h : Held) (v : Message) → IsTimelyCopy N s r n port k h v → k < accepted_count N s a
       → (turn (N.clock (N.session s).target) (r.clock (N.session s).target) port h.octets).replies ≡ []
 
--- The running network r came from its start by events without a late delivery for this session, however late it was for
--- others, and this is the session's account of them.
+-- The running network r came from its start by events without a late delivery for this session. Deliveries for others may have
+-- been late. This is the session's account of these events.
 pub data HasAccount (N : Network) (s : ℕ) : RunningNetwork → Account → Type 0 where
   AtStart : (r : RunningNetwork) → s < N.sessions → StandsAfter N [] r → HasAccount N s r (account_of N s [])
   After : (r : RunningNetwork) (a : Account) (e : Event) (h : Happened) → HasAccount N s r a → IsInRange e

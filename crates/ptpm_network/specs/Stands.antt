@@ -1,5 +1,5 @@
--- When a running network is at a state of the machine: its clocks and sessions in states of their own, in which requests
--- are distinguished by sequenceIds, and its frames without what no receiver can see.
+-- When a running network is at a state of the machine. Its clocks and sessions have states of their own, in which
+-- requests are distinguished by sequenceIds. Its frames lack what no receiver can see.
 use Rattle.std.specs.Prelude.{◌≡◌, ℕ, ◌<◌, List, map}
 use Rattle.ptpm_codec.specs.declared.identity.PortIdentity.{PortIdentity}
 use Rattle.ptpm_agent.specs.Laws.{StandsAt}
@@ -23,8 +23,8 @@ pub record Stands (N : Network) (first : PortIdentity → ℕ) (r : RunningNetwo
   pub reports : (s : ℕ) → s < N.sessions → r.reports s ≡ (w.session s).reports
   pub frames : r.frames ≡ map held w.frames
 
--- The running network r has gone through these events, and is where they lead the machine, whatever first sequenceIds are
--- given to those who manage nothing.
+-- The running network r has gone through these events, and is at the state to which they lead the machine. This holds for
+-- any first sequenceIds of those who manage nothing.
 pub record StandsAfter (N : Network) (events : List Event) (r : RunningNetwork) : Type 0 where
   pub promised : IsPromised N events
   pub stands : (first : PortIdentity → ℕ) → AreFirsts N first

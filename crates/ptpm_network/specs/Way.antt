@@ -13,7 +13,7 @@ use Rattle.ptpm_network.specs.State.{Frame, NetworkState, greatest_accepted, his
 
 -- ---- a way
 
--- a clock on the way: the request comes in at its near port and is passed on at its far port, and the reply the other way
+-- A clock on the way. The request comes in at its near port and is passed on at its far port, and the reply goes the other way.
 pub record Hop : Type 0 where
   pub clock : ℕ
   pub near : ℕ
@@ -38,8 +38,9 @@ pub record PassesOn (N : Network) (w : NetworkState) (target domain : ℕ) (h : 
   pub near : may_forward h.near (history N w h.clock).sets ≡ true
   pub far : may_forward h.far (history N w h.clock).sets ≡ true
 
--- A way from a session to a port of its target in this domain: each clock on it passes messages on in that domain, the session's
--- boundaryHops suffice, and the target hears the request, as it is in that domain too or has accepted the request already.
+-- A way from a session to a port of its target in this domain. Each clock on it passes messages on in that domain, and the
+-- session's boundaryHops suffice. The target hears the request, since it is in that domain too or has accepted the request
+-- already.
 pub record IsWayIn (N : Network) (w : NetworkState) (s domain : ℕ) (hops : List Hop)
     (port : ℕ) : Type 0 where
   pub leads : Leads N (AtSession s) hops (AtPort (N.session s).target port)
@@ -100,8 +101,8 @@ abbrev pub visited : List Hop → End → List End
 visited [] to = to ∷ []
 visited (h ∷ hops) to = AtPort h.clock h.near ∷ (visited hops to ++ AtPort h.clock h.far ∷ [])
 
--- The unanswered request of a session can be answered over these clocks: the session sends it, one copy each way comes in at
--- the ends of the way and at last at the session, with no other event between, and the request is reported.
+-- The unanswered request of a session can be answered over these clocks. The session sends it, and one copy each way comes in at
+-- the ends of the way and at last at the session. No other event happens between, and then the request is reported.
 pub record IsAnswerable (N : Network) (w : NetworkState) (s : ℕ) (hops : List Hop)
     (port : ℕ) : Type 0 where
   pub sent : refusal N w (Send s) ≡ None

@@ -17,8 +17,8 @@ use Rattle.ptpm_network.specs.State.{NetworkState, accepted_at_target, copies_at
 abbrev pub entries_of : PortIdentity → ℕ → List Accepted → List Accepted
 entries_of m k accepted = filter (λ a. same_identity m a.manager && a.index == k) accepted
 
--- The moment at which a clock carried a request out: the copies that had come in before, the one that joined then, and those
--- that came in after it. The request is the copy's, and the reply is made of the data sets as they stood then.
+-- The moment at which a clock carried a request out. Some copies came in before; one was accepted then; and some came in
+-- after it. The request is the copy's, and the reply is made from the data sets as they were then.
 pub record WasCarriedOut (c : Clock) (start : DataSetsValue) (copies : List RequestCopy)
     (entry : Accepted) : Type 0 where
   pub before : List RequestCopy
@@ -28,8 +28,8 @@ pub record WasCarriedOut (c : Clock) (start : DataSetsValue) (copies : List Requ
   pub joined : joins (applied_once c (initial_history start) before) copy ≡ true
   pub is : entry ≡ accepted_from c (applied_once c (initial_history start) before) copy
 
--- A report of a session is worth this: the request that the session began under the report's index was carried out exactly
--- once at the session's target, and the outcome is the one answer that the clock gave to it then.
+-- A report of a session is worth this. The request that the session began under the report's index was carried out exactly
+-- once at the session's target. The outcome is the one answer that the clock gave to it then.
 pub record IsWorth (N : Network) (w : NetworkState) (s : ℕ) (report : Report) : Type 0 where
   pub entry : Accepted
   pub once : entries_of (manager N s) report.index (accepted_at_target N w s) ≡ entry ∷ []

@@ -13,7 +13,7 @@ ghost use Rattle.ptpm_network.specs.RunningNetwork.{RunningNetwork};
 /// manager:
 /// - its target carried out some of its requests, each as it was begun, once at most, and in the order in which they were begun;
 /// - its reports are replies that were given then, in the same order, and the last is not later than the last that was carried out;
-/// - a copy of the last that was carried out gets the reply given then, a copy of an older one none;
+/// - a copy of the last that was carried out gets the reply given then, and a copy of an older one gets none;
 /// - the fence: once a request is reported, each earlier one was carried out before, or never will be. What is kept for it stays as
 ///   it is, whatever comes.
 ///

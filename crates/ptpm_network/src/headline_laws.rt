@@ -20,10 +20,10 @@ ghost use Rattle.ptpm_network.specs.Network.{IsNetwork, Network, ports};
 ghost use Rattle.ptpm_network.specs.Stands.{StandsAfter};
 ghost use Rattle.ptpm_network.specs.State.{Frame, NetworkState, history};
 
-/// The headline. However a network loses, repeats, reorders or duplicates messages, if none arrives after more than 32,768 later
-/// requests of its manager, each clock's data sets are those after its managers' delivered requests, each applied once in order
-/// of first acceptance. Then repeats of the latest get the one reply kept, older ones none; each manager reports those replies;
-/// strangers and refused SETs change no data set.
+/// The headline. A network may lose, repeat, reorder or duplicate messages in any way. Let none arrive after more than 32,768
+/// later requests of its manager. Then each clock's data sets are those after its managers' delivered requests, each applied once
+/// in order of first acceptance. Repeats of the latest request get the one reply that is kept, and repeats of older ones get
+/// none. Each manager reports those replies. Strangers and refused SETs change no data set.
 pub fn headline()
     ensures { (N : Network) (events : List Event) (r : RunningNetwork) →
         StandsAfter N events r → Headline N (state_after N events) r }
@@ -84,8 +84,8 @@ pub fn strangers_change_nothing()
         ≡ history N (state_after N es) clock }
 {}
 
-/// Refused SETs change no data set, nor does any other request with an error among its answers; and what is no numbered copy of
-/// a request leaves all that a clock has.
+/// Refused SETs change no data set, nor does any other request with an error among its answers. What is no numbered copy of a
+/// request leaves all that a clock has as it was.
 pub fn refused_requests_change_no_data()
     ensures refused { (c : Clock) (h : History) (copy : RequestCopy) (r : ReplyValue) (a : Answer)
         (error : ErrorId) →
@@ -102,9 +102,10 @@ pub fn refused_requests_change_no_data()
         history N (arrives w c x) c ≡ history N w c }
 {}
 
-/// Without the premise: whatever happens in a network, in time or late, what a clock has is what it had before, after the requests
-/// of its turns that were `AnsweredNew`, each as the clock was in its turn, in their order. Nothing else changes its data sets
-/// or what it keeps, at one event or at a list of them. `requests_of_turns` of ptpm_agent says what such requests leave.
+/// This holds without the premise. Whatever happens in a network, in time or late, a clock has what it had before, after the
+/// requests of its turns that were `AnsweredNew`. Each is carried out as the clock was in its turn, in their order. Nothing else
+/// changes its data sets or what it keeps, at one event or at a list of them. `requests_of_turns` of ptpm_agent says what such
+/// requests leave.
 pub fn requests_carried_out()
     ensures event { (N : Network) (r : RunningNetwork) (c : ℕ) (e : Event) (h : Happened) →
         network_event N r e ≡ Ok h →

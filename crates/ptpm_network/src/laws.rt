@@ -30,9 +30,9 @@ pub fn every_schedule()
 {}
 
 /// One request at a time. After every list of events, late deliveries among them, for each session:
-/// - the greatest index that its target accepted is the number of its requests or one less, and what was accepted of it is
-///   exactly 1 to that index;
-/// - it has as many reports as requests or one less, and they are the outcomes of the replies that are kept for its first
+/// - the greatest index that its target accepted is the number of its requests, or one less. Exactly the requests from 1 to
+///   that index were accepted;
+/// - it has as many reports as requests, or one less. They are the outcomes of the replies that are kept for its first
 ///   requests, in order.
 pub fn one_request_at_a_time()
     ensures accepted_begun { (N : Network) (es : List Event) (s : ℕ) →
@@ -70,8 +70,8 @@ pub fn hops_lost()
         frame_at (state_after N es).frames n ≡ Some f → f.forwardings ≤ f.first_hops }
 {}
 
-/// An event makes at most 225 frames: at most 15 messages leave a clock in a turn, seven copies that are passed on and eight
-/// answers, and a link takes each of them to 15 other ends at most. So there are never over 400,000 frames.
+/// An event makes at most 225 frames. At most 15 messages leave a clock in a turn: seven copies that are passed on and eight
+/// answers. A link takes each of them to at most 15 other ends. So there are never over 400,000 frames.
 pub fn at_most_225_frames()
     ensures event { (N : Network) (es : List Event) (e : Event) →
         IsNetwork N → AllByRecursion IsInRange es →
@@ -85,8 +85,8 @@ pub fn at_most_225_frames()
 /// - a copy of a manager's request that is not late lies in it, whatever came before;
 /// - each copy that came in at a clock has the sequenceId that its index gives, late or not;
 /// - if no delivery of a list of events was late, all of them lie in the window;
-/// - then a clock that takes its turn at each of them has the data sets after its managers' accepted requests, each applied
-///   once, in order of first acceptance.
+/// - a clock that takes its turn at each of them then has the data sets after its managers' accepted requests. Each of these is
+///   applied once, in order of first acceptance.
 pub fn in_the_window()
     ensures copy { (N : Network) (es : List Event) (first : PortIdentity → ℕ) (n c port : ℕ)
         (f : Frame) (copy : RequestCopy) →
@@ -112,8 +112,8 @@ pub fn in_the_window()
         ≡ (history N (state_after N es) c).sets }
 {}
 
-/// Let a clock be at its history, and the copy in its window. What the clock sends in one turn is what the machine makes
-/// frames of: the copies that are passed on, and the reply that is due to a numbered copy, or what any other request reads.
+/// Let a clock be at its history, and the copy in its window. The machine makes frames of exactly what the clock sends in one
+/// turn. That is the copies that are passed on, and the reply: the one due to a numbered copy, or what any other request reads.
 pub fn outbox_of_turns()
     ensures forwards { (c : Clock) (first : PortIdentity → ℕ) (s : State) (h : History)
         (ingress : ℕ) (f : Frame) → StandsAt first s h →
@@ -126,8 +126,8 @@ pub fn outbox_of_turns()
         (copy_of c (length h.sets.ports) (delivery ingress f)) }
 {}
 
-/// A running network, whose clocks distinguish requests by sequenceIds, is at the machine's state: as both start, and,
-/// if it was there before, after a clock's turn at a frame that is not late.
+/// The clocks of a running network distinguish requests by sequenceIds. The network is at the machine's state when both start.
+/// If it is there before a clock's turn at a frame that is not late, it is there after the turn.
 pub fn clocks_stand()
     ensures first { (N : Network) (first : PortIdentity → ℕ)
         → Stands N first (initial_network N) (initial_state N) }
@@ -141,8 +141,8 @@ pub fn clocks_stand()
         (delivered_at_clock N (state_after N es) c ingress f) }
 {}
 
-/// A session takes a frame that is not late for the answer to its request, by the octets of the frame, exactly if the frame
-/// belongs to the reply to that request; and then it reports the same.
+/// Let a frame that is not late come in at a session. By its octets the session takes it for the answer to its request exactly
+/// if it belongs to the reply to that request. It then reports what the machine reports.
 pub fn answers_by_octets()
     ensures { (N : Network) (es : List Event) (n s : ℕ) (f : Frame) (report : Report) →
         IsNetwork N → AllByRecursion IsInRange es →
@@ -153,9 +153,9 @@ pub fn answers_by_octets()
         ≡ received.Answered report) }
 {}
 
-/// What is taken of a list of events is all before the first that is refused. It is the whole list if none of it is refused
-/// in its turn, and what the other laws ask of a list holds of what is taken of it. Of two lists, one after another, it is the
-/// first and what is taken of the second, if the first is taken whole.
+/// Of a list of events those before the first that is refused are taken. That is the whole list if none of it is refused in its
+/// turn. What the other laws ask of a list holds for those that are taken. Of two lists, one after another, the first is taken
+/// and what is taken of the second, if the first is taken whole.
 pub fn events_taken()
     ensures whole { (N : Network) (w : NetworkState) (es : List Event) →
         ((front rest : List Event) (e : Event) → es ≡ front ++ e ∷ rest
@@ -170,8 +170,8 @@ pub fn events_taken()
         ≡ front ++ taken N (run N w front) rest }
 {}
 
-/// Two lists of events, one after another, lead to where the second leads from where the first does; and no delivery of both is
-/// late if none of either is.
+/// Two lists of events happen one after another: the second goes on from the state to which the first leads. If neither has a
+/// late delivery, both together have none.
 pub fn events_appended()
     ensures run { (N : Network) (w : NetworkState) (front rest : List Event) →
         run N w (front ++ rest) ≡ run N (run N w front) rest }
@@ -183,8 +183,8 @@ pub fn events_appended()
 /// events as the machine does:
 /// - if it is at a state that the machine reaches, it refuses the events that the machine refuses, for the same reasons;
 /// - after an event that is not refused, and is no late delivery, it is at the machine's next state;
-/// - so, from any such state, it goes through the events up to the first that is refused, and is where they lead the
-///   machine, if none of these delivers a frame late.
+/// - so from any such state it goes through the events up to the first that is refused. It is then at the state to which they
+///   lead the machine, if none of them delivers a frame late.
 pub fn running_networks_stand()
     ensures refused { (N : Network) (es : List Event) (first : PortIdentity → ℕ)
         (r : RunningNetwork) (e : Event) →

@@ -1,6 +1,6 @@
-//! A network of boundary clocks and the sessions that manage them, as a machine in which messages are lost, repeated and
-//! reordered as a list of events says (IEEE 1588-2019, clause 15): its definitions, the invariant that each event keeps, and
-//! what the network promises over every list of events.
+//! A network of boundary clocks and the sessions that manage them, as a machine (IEEE 1588-2019, clause 15). A list of
+//! events says how messages are lost, repeated and reordered. Here are its definitions, the invariant that each event keeps,
+//! and what the network promises over every list of events.
 #![tactic(auto)]
 
 mod giving_up_laws;

@@ -12,11 +12,10 @@ ghost use Rattle.ptpm_network.specs.Served.{IsServed, IsServedSoFar};
 ghost use Rattle.ptpm_network.specs.Stands.{StandsAfter};
 ghost use Rattle.ptpm_network.specs.State.{initial_state};
 
-/// One late manager disturbs its own requests at most. Over every list of events, up to the first that is refused, and with the
-/// messages of any other manager as late as can be: a manager none of whose copies came late to its target, and to which no reply
-/// came late, is served.
-/// - Its target carried out its requests 1 to their number, each once, in this order; their number is that of the requests begun,
-///   or one less.
+/// One late manager disturbs at most its own requests. This holds over every list of events, up to the first that is refused,
+/// however late the messages of any other manager come. A manager is served if none of its copies came late to its target, and no
+/// reply came late to it.
+/// - Its target carried out its requests from 1 on, each once, in this order. They are as many as were begun, or one less.
 /// - What was reported to it are the first of the replies given then, in order.
 /// - A copy of the last of them gets that reply again, in whatever domain; a copy of an older one gets none.
 ///
@@ -33,8 +32,8 @@ pub fn managers_in_time_are_served()
         StaysInTime N s (initial_network N) es }
 {}
 
-/// It is served so far as a network starts, and, if it was before, after an event that is not refused and is no late
-/// delivery for it, however late it is for others.
+/// It is served so far when a network starts. If it was before, it still is after an event that is not refused and is no late
+/// delivery for it. The event may be a late delivery for others.
 pub fn served_so_far()
     ensures first { (N : Network) (s : ℕ) (r : RunningNetwork) →
         s < N.sessions → StandsAfter N [] r → IsServedSoFar N s r (account_of N s []) }

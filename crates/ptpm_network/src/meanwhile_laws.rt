@@ -13,11 +13,12 @@ ghost use Rattle.ptpm_network.specs.Stands.{StandsAfter};
 ghost use Rattle.ptpm_network.specs.State.{NetworkState, greatest_accepted, issued};
 ghost use Rattle.ptpm_network.specs.Way.{Hop, IsAnswerable, LinksHaveAtMost, ReportsAfter};
 
-/// Nothing else keeps a request from its answer. After every list of events, late deliveries among them: let a session wait
-/// for a report and have an attempt left, let a way lead to its target, and let there be room for the frames. Then the session
-/// sends the request, one copy each way comes in at the ends of the way, and the request is reported. Before each of these
-/// deliveries any number of other events may happen that leave the way. With no others this is what `answerable_along_a_way`
-/// says. A network that runs reports as the machine does, if none of all these events is refused or late.
+/// Nothing else keeps a request from its answer. Take any list of events, late deliveries among them. After it let a session
+/// wait for a report and have an attempt left. Let a way lead to its target, and let there be room for the frames. Then the
+/// session sends the request, one copy each way comes in at the ends of the way, and the request is reported. Before each of
+/// these deliveries any number of other events may happen that leave the way open. With no others this is what
+/// `answerable_along_a_way` says. A network that runs reports as the machine does, if none of all these events is refused or
+/// late.
 pub fn answerable_meanwhile()
     ensures answered { (N : Network) (es : List Event) (s : ℕ) (hops : List Hop) (port ends : ℕ) →
         IsNetwork N → AllByRecursion IsInRange es → s < N.sessions → LinksHaveAtMost N ends →
@@ -32,15 +33,15 @@ pub fn answerable_meanwhile()
         ReportsAfter N r s es }
 {}
 
-/// What leaves a way as it was: events one after another, if each does, and an event
+/// A way is left open by events one after another, if each does so, and by an event
 /// - by which its session begins nothing, is not retuned, and hears no reply to its last request;
-/// - by which each clock on the way stays in its domain and forwards at the same ports, and so does the target, unless it has
+/// - by which each clock on the way stays in its domain and forwards at the same ports. So does the target, unless it has
 ///   accepted the request by then;
 /// - after which there is room for the frames that are still to be made.
 ///
-/// A clock stays so through every event but one: a copy of a request for DOMAIN or DISABLE_PORT, of one of its managers, comes
-/// in there. So what strangers send, what other sessions begin and send, and what is delivered of it leaves the way, SETs of
-/// all other ids among them.
+/// A clock stays so unless a copy of a request for DOMAIN or DISABLE_PORT of one of its managers comes in there. So what
+/// strangers send leaves the way open, and so does what other sessions begin and send, and what is delivered of it. SETs of all
+/// other ids are among these.
 pub fn ways_stay_open()
     ensures nothing { (N : Network) (w : NetworkState) (s : ℕ) (hops : List Hop) (port frames : ℕ) →
         LeavesWay N w w s hops port frames }

@@ -18,9 +18,9 @@ ghost use Rattle.ptpm_network.specs.Way.{Hop, IsAnswerable, IsWay, IsWayIn, Link
 
 /// One copy each way suffices. After every list of events, for the last request that a session has begun:
 /// - its copies and those of the reply are never late, and a delivery is not refused if there is room for frames;
-/// - a copy of the request that comes in at a port of the session's target, in the clock's domain or as a repeat, makes a copy
+/// - a copy of the request may come in at a port of the session's target, in the clock's domain or as a repeat. It makes a copy
 ///   of the reply for each other end of that port's link, and no other frame;
-/// - a copy of the reply that comes in at the session, in the session's domain and while the request is not reported, is
+/// - a copy of the reply may come in at the session, in the session's domain and while the request is not reported. It is
 ///   reported then, and the session waits for nothing after it.
 pub fn one_copy_each_way()
     ensures in_time { (w : NetworkState) (s : ℕ) →
@@ -44,11 +44,11 @@ pub fn one_copy_each_way()
         HasReported (state_after N es) (step N (state_after N es) (Deliver n)) s }
 {}
 
-/// Nothing deadlocks. After every list of events, late deliveries among them: let a session wait for a report and have an
-/// attempt left, let a way lead to its target over clocks that pass messages on, and let there be room for the frames. Then
-/// the request can be answered. The session sends it. One copy comes in at each clock of the way and at the target, then one
-/// at each clock on the way back and at the session, with no other event between. Then the request is reported. No event of
-/// these is refused, and no delivery is late, so a running network goes through them as the machine does.
+/// Nothing deadlocks. Take any list of events, late deliveries among them. After it let a session wait for a report and have an
+/// attempt left. Let a way lead to its target over clocks that pass messages on, and let there be room for the frames. Then the
+/// request can be answered. The session sends it. One copy comes in at each clock of the way and at the target. Then one comes
+/// in at each clock on the way back and at the session. No other event happens between. Then the request is reported. No event
+/// of these is refused, and no delivery is late, so a running network goes through them as the machine does.
 pub fn answerable_along_a_way()
     ensures answered { (N : Network) (es : List Event) (s : ℕ) (hops : List Hop) (port ends : ℕ) →
         IsNetwork N → AllByRecursion IsInRange es → s < N.sessions →
@@ -87,9 +87,9 @@ pub fn running_networks_answer()
         RunsToReport N r s hops port }
 {}
 
-/// Attempts that are used up, or a domain of its own, keep no session from it for good. While it waits for a report, no event
-/// that resumes or retunes it is refused. If a way leads to its target and there is room for the frames, the request can be
-/// answered, whatever else happens meanwhile that leaves the way, once the session
+/// A session that has used up its attempts, or is in another domain, is not kept from its answer for good. While it waits for a
+/// report, no event that resumes or retunes it is refused. Let a way lead to its target, and let there be room for the frames.
+/// Whatever else happens meanwhile and leaves the way open, the request can be answered once the session
 /// - is resumed with an attempt or more, if the way is in its domain;
 /// - is retuned, if the way is in the domain that it is retuned to and it has an attempt left;
 /// - is retuned and resumed.

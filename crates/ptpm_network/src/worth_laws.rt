@@ -16,8 +16,8 @@ ghost use Rattle.ptpm_network.specs.Worth.{IsWorth, entries_of};
 
 /// What is reported was carried out exactly once. After every list of events, late deliveries among them:
 /// - the reports of a session are of its requests 1, 2, 3, .. in their order;
-/// - each is worth this: its request, as the session began it, was carried out exactly once at the session's target, and the
-///   report gives the one answer that the clock made at that moment, of its data sets as they were then;
+/// - each is worth this: its request, as the session began it, was carried out exactly once at the session's target. The report
+///   gives the one answer that the clock made at that moment, from its data sets as they were then;
 /// - no request of any manager was carried out more than once at any clock, reported or not;
 /// - a request that is not reported is the last that its session began, and until it is reported the session begins no other.
 pub fn reported_exactly_once()
@@ -43,7 +43,7 @@ pub fn reported_exactly_once()
 /// A network that runs, whose clocks and sessions distinguish requests by sequenceIds and octets, reports no less. Wherever it
 /// is after events without a late delivery:
 /// - the reports of a session are of its requests 1, 2, 3, .. in their order;
-/// - each is worth what it is in the machine: its request was carried out exactly once, and the report gives the one answer that
+/// - each is worth what it is in the machine. Its request was carried out exactly once, and the report gives the one answer that
 ///   the clock made then.
 pub fn running_networks_report()
     ensures in_order { (N : Network) (past : List Event) (r : RunningNetwork) (s i : ℕ)

@@ -160,7 +160,7 @@ module _ (N : Network) (n : IsNetwork N) (k : RestartingNetwork) (u : NetworkSta
   timely-here octets (ReplyTo s j) (place, says) t = ap (is_late_at j) (begun-here s place) ∙ t
   timely-here octets Neither says t = refl
 
-  -- where it goes by an event that is not refused, and leads there
+  -- an event that is not refused leads to the same state
   goes-there : (e : Event) (next : RestartingNetwork) (h : Happened)
       → IsInRange e → refusal N u e ≡ None → is_late_delivery u e ≡ false
       → network_event N (running k) e ≡ Ok h → Is k next h.network

@@ -1,4 +1,4 @@
--- Where no frame waits and each change is saved at once, an event does what it does in a network that runs.
+-- If no frame waits and each change is saved at once, an event does what it does in a network that runs.
 use Rattle.ptpm_network.proofs.Common.{by_test, arith, ◌≡◌, ℕ, ◌==◌, ◌<◌, Bool, true, false, not, List, [], ◌∷◌, ◌++◌, map, append-nil, Option, Some, None, option_map, option_or, refl, sym, ◌∙◌, ap, subst, true≢false, eqb-true, eq-eqb, cond-true, cond-false, first_of, filter, Ok, Err, Result, result_err, State, turn, Verdict, SessionValue, Report, begin_refusal, begun, resumed, retuned, send_refusal, sent, answered, received_of, is_waiting, Event, Begin, Send, Resume, Retune, Deliver, Stranger, Refusal, BeginRefused, SendRefused, forged, frame_at, no_frame, no_port, no_room, no_session, strange_frame, with_place, with_place-other, with_place-same, at_place, End, AtPort, AtSession, Network, Held, Happened, Frame, RunningNetwork, after_turn, delivers, held, hears, network_event, nothing_to_resume, reaches, seen, sends_in, turn_frames, unless_refused, with_session_value}
 use Rattle.ptpm_manager.specs.Ask as ask
 use Rattle.ptpm_manager.specs.declared.error.SendError.TheVariants as send_errors

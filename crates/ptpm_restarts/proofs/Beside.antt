@@ -1,4 +1,5 @@
--- What a network that never crashes is beside one that does, if the changes of these clocks and sessions that are not saved will be lost.
+-- A network that never crashes, compared with one that does, if the changes of these clocks and sessions that are not saved will
+-- be lost.
 use Rattle.ptpm_network.proofs.Common.{by_test, arith, ◌≡◌, ℕ, ◌&&◌, ◌==◌, ◌⊎◌, inl, inr, Bool, true, false, List, ◌++◌, map, refl, sym, ◌∙◌, ap, subst, eqb-true, eq-eqb, true≢false, State, with_place, Held, RunningNetwork, at_place, at_places, with_place-other, with_place-same}
 use Rattle.ptpm_restarts.specs.Restarting.{RestartingNetwork, SessionLog, log_of, running, sent_or_waiting, turned, with_log}
 use Rattle.ptpm_restarts.specs.Incidents.{crashes_clock, saves_clock}

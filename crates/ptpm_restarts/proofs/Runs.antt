@@ -1,4 +1,5 @@
--- One incident after another: what a network that never crashes does meanwhile, and where it is at last.
+-- One incident after another: what a network that never crashes does meanwhile, and the state that it
+-- comes to.
 use Rattle.ptpm_network.proofs.Common.{State, true≢false, arith, ◌≡◌, ℕ, ◌<◌, ◌&&◌, Bool, true, false, List, [], ◌∷◌, ◌++◌, Option, Some, None, append_assoc, append-nil, refl, sym, ◌∙◌, ap, subst, is_none, cond-true, result_err, all_weaker, AllByRecursion, Contains, Ok, Result, Report, SessionValue, received_of, Event, Begin, Send, Resume, Retune, Deliver, Stranger, Refusal, IsInRange, frame_at, no_room, run, step, taken, initial_state, with_place, AtSession, HasEnd, IsNetwork, Network, Held, Happened, RunningNetwork, goes_on, initial_network, network_event, network_run, StandsAfter, IsReached, IsWorth, NetworkState, all_append, at_place}
 use Rattle.ptpm_manager.specs.declared.receiving.Received.TheVariants as received
 use Rattle.ptpm_network.specs.Events.{refusal}

@@ -1,5 +1,5 @@
--- Frames that were sent here, or wait, and those of a network that never crashes: it sent the first, and those that wait at a clock
--- whose changes will not be lost.
+-- Frames that were sent here, or wait, and those of a network that never crashes. It sent the first, and those that wait at a
+-- clock whose changes will not be lost.
 use Rattle.ptpm_network.proofs.Common.{by_test, arith, ◌≡◌, ℕ, ◌+◌, ◌≤◌, ◌==◌, not, Bool, true, false, if◌then◌else◌, List, [], ◌∷◌, ◌++◌, map, length, length-append, length-map, refl, sym, ◌∙◌, subst, cond-true, cond-false, filter, AllByRecursion, Contains, with_place, Held, all_append, all_get, all_made, all_weaker, with_place-other, with_place-same, true≢false}
 use Rattle.std.proofs.Common.{get_or}
 use Rattle.std.proofs.lemmas.Option.{slice_get-get_or}

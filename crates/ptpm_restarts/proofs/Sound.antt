@@ -1,4 +1,4 @@
--- What is stored of a session is never ahead of what is live, and is older if a request is under way that is not saved. All its
+-- What is stored of a session is never ahead of what is live. It is older if a request is under way that is not saved. All its
 -- reports were made.
 use Rattle.ptpm_network.proofs.Common.{arith, ◌≡◌, ◌<◌, ◌≤◌, ap, is_some, Bool, true, false, List, [], ◌∷◌, ◌++◌, refl, sym, ◌∙◌, true≢false, AllByRecursion, Contains, Report, RequestValue, SessionValue, begun, is_waiting}
 use Rattle.ptpm_manager.specs.declared.setup.Setup.{Setup}

@@ -1,6 +1,7 @@
--- What restarts change, on one page: nothing but which messages come. However often its clocks and sessions crash, a network that saves
--- in time is as one that never crashed and went through some of the same events, in the same order. So what `Headline` promises of
--- that one holds of it. Whatever a session reported, before a crash too, is worth a report there.
+-- What restarts change, on one page: nothing but which messages come. A network's clocks and sessions may crash at any time, as
+-- often as they like. If the network saves in time, it is as one that never crashed and went through some of the same events, in
+-- the same order. So what `Headline` promises for that one holds for it. Whatever a session reported, also before a crash, is
+-- worth a report there.
 use Rattle.std.specs.Prelude.{◌≡◌, ℕ, ◌<◌, false, Bool, List, [], ◌∷◌, Option, Some, None}
 use Rattle.std.specs.List.{AllByRecursion, Contains}
 use Rattle.ptpm_network.specs.Events.{Event, Deliver, IsInRange, frame_at}

@@ -1,5 +1,5 @@
--- How a network goes on that was restarted: as any network does. A request that was under way is answered along a way by sending it
--- again, and if each saves at once all is as in a network that runs.
+-- How a network that was restarted goes on: as any network does. A request that was under way is answered along a way by sending
+-- it again. If each saves at once, all is as in a network that runs.
 use Rattle.std.specs.Prelude.{◌≡◌, ℕ, false, List, [], ◌∷◌, ◌++◌, map, Option, Some, None}
 use Rattle.std.specs.List.{AllByRecursion, Contains}
 use Rattle.ptpm_codec.specs.declared.identity.PortIdentity.{PortIdentity}
@@ -36,8 +36,9 @@ abbrev pub handed_in_saved : List (ℕ × End) → List Incident
 handed_in_saved [] = []
 handed_in_saved (d ∷ ds) = Happens (Deliver d.0) ∷ save_at d.1 ∷ handed_in_saved ds
 
--- Where these save, the session sends its request and one copy each way comes in at the ends of the way and at last at the session,
--- it reports the answer and waits for nothing then. Nothing else happens meanwhile.
+-- First the session saves, and each clock at which a frame waits. Then the session sends its request. One copy each way comes in
+-- at the ends of the way and at last at the session, and each end saves then. The session reports the answer and waits for
+-- nothing. Nothing else happens meanwhile.
 pub record IsAnsweredAgain (N : Network) (k : RestartingNetwork) (s : ℕ) (hops : List Hop) (port : ℕ) : Type 0 where
   pub deliveries : List (ℕ × End)
   pub along : ends_of deliveries ≡ visited hops (AtPort (N.session s).target port) ++ AtSession s ∷ []

@@ -17,11 +17,11 @@ ghost use Rattle.ptpm_restarts.specs.Incidents.{CrashClock, CrashSession, Happen
 ghost use Rattle.ptpm_restarts.specs.Restarting.{RestartingNetwork, held_frames, running};
 ghost use Rattle.ptpm_restarts.specs.Storage.{saved_as};
 
-/// A request that was under way is answered by sending it again. A network that is as one that never crashed is at the state to
-/// which the events of that one lead the machine, with fewer frames. Let a session of it wait for an answer and be allowed to send, let a way lead to its
-/// target, and let there be room for the frames. Then the session saves, and each clock at which a frame waits. The session sends its
-/// request. One copy each way comes in at the ends of the way, and each end saves then. At last the session reports the answer, and
-/// waits for nothing. None of these deliveries is late.
+/// A request that was under way is answered by sending it again. Let a network be as one that never crashed. It is at the state
+/// to which the events of that one lead the machine, with fewer frames. Let a session of it wait for an answer and be allowed to
+/// send. Let a way lead to its target, and let there be room for the frames. Then the session saves, and each clock at which a
+/// frame waits. The session sends its request. One copy each way comes in at the ends of the way, and each end saves then. At
+/// last the session reports the answer, and waits for nothing. None of these deliveries is late.
 pub fn answered_after_restarts()
     ensures stands { (N : Network) (is : List Incident) (k : RestartingNetwork)
         (a : IsAsIfNever N is k) → StandsWithFewer N (state_after N a.events) (running k) }
@@ -34,8 +34,8 @@ pub fn answered_after_restarts()
         IsAnsweredAgain N k s hops port }
 {}
 
-/// If no frame waits, no session has an unsaved change, and each change is saved at once, all is as in a network that runs. An event is
-/// refused for the same reason, or makes the same of the network; and after the save that it makes due this is so again.
+/// If no frame waits, no session has an unsaved change, and each change is saved at once, all is as in a network that runs. An
+/// event is refused for the same reason, or makes the same of the network. After the save that it makes due this is so again.
 pub fn saved_at_once()
     ensures refused { (N : Network) (k : RestartingNetwork) (e : Event) →
         IsCalm k → refused N k e ≡ result_err (network_event N (running k) e) }
@@ -45,8 +45,8 @@ pub fn saved_at_once()
         × IsCalm (after_incidents N k (Happens e ∷ save_due k e)) }
 {}
 
-/// A session that starts again goes on with what it saved, in any domain and with as many attempts as it is given: it is one that
-/// crashed, was retuned and was resumed.
+/// A session that starts again goes on with what it saved, in any domain and with any number of attempts. It is one that crashed,
+/// was retuned and was resumed.
 pub fn started_again()
     ensures domain { (N : Network) (k : RestartingNetwork) (s domain : ℕ) →
         s < N.sessions →
@@ -58,8 +58,8 @@ pub fn started_again()
         ≡ saved_as (record ((k.session s).stored) { session = resumed (retuned (k.session s).stored.session domain) attempts }) }
 {}
 
-/// What is not saved has not happened. Let a clock answer a request for the first time, and crash before it saves; or let a session begin a
-/// request, and crash before it saves. If nothing was unsaved before, the network is then as it was: no frame has left.
+/// What is not saved has not happened. Let a clock answer a request for the first time, or let a session begin a request, and
+/// crash before it saves. If nothing was unsaved before, the network is then as it was: no frame has left.
 pub fn undone_before_the_save()
     ensures clock { (N : Network) (k : RestartingNetwork) (n c port : ℕ) (h : Held) →
         frame_at k.frames n ≡ Some h → h.end ≡ AtPort c port →

@@ -1,5 +1,6 @@
-//! Networks whose clocks and sessions lose power at any moment, and are restarted: what that changes if each clock saves before it
-//! answers, and each session before it asks (this project's profile). Definitions and laws alone, over the machine of `ptpm_network`.
+//! Networks whose clocks and sessions lose power at any moment, and are restarted. It says what that changes if each clock saves
+//! before it answers, and each session before it asks (this project's profile). It has definitions and laws alone, over the
+//! machine of `ptpm_network`.
 #![tactic(auto)]
 
 mod going_on;

@@ -10,15 +10,15 @@ ghost use Rattle.ptpm_restarts.specs.AsIfNever.{IsAsIfNever, IsPromisedRestartin
 ghost use Rattle.ptpm_restarts.specs.Incidents.{Incident, after_incidents};
 ghost use Rattle.ptpm_restarts.specs.Restarting.{RestartingNetwork, initial_restarting, running};
 
-/// Restarts lose messages alone. The clocks of a network save before they answer, and its sessions before they ask. Any of them may
-/// crash at any moment, and as often as it likes; it goes on from what it saved. If no frame is delivered late:
+/// Restarts do nothing but lose messages. The clocks of a network save before they answer, and its sessions before they ask. Any
+/// of them may crash at any moment, and as often as it likes; it goes on from what it saved. If no frame is delivered late:
 /// - the network is as one that never crashed, which went through some of the same events, in the same order. Each clock has the same
 ///   data sets and entries, each session the same request under way and the same reports. Every frame that was sent here was sent
 ///   there, to the same end and with the same octets;
 /// - so the headline holds of the network, among the frames of that one;
-/// - what is reported there was reported here, once or more. All that was ever reported here, before a crash too, is worth a report
-///   there: its request was carried out exactly once, and it has the one answer of that moment. So an answer that is reported again
-///   is the same.
+/// - what is reported there was reported here, once or more. All that was ever reported here, also before a crash, is worth a
+///   report there. Its request was carried out exactly once, and it has the one answer of that moment. So an answer that is
+///   reported again is the same.
 ///
 /// The premises are those of the headline, and that storage gives back what was saved last. When anyone saves or crashes is free.
 pub fn restarts_lose_messages_alone()

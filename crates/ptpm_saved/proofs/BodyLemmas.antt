@@ -117,7 +117,7 @@ whole_image image front body back tail sets es count size fronts bodies head fir
     ∙ (λ i. sym fronts i ++ sym bodies i)
     ∙ (λ i. (head ∙ head_wraps (length body) ∙ ap (λ b. image_head 1 (length b)) whole) i ++ whole i)
 
--- data sets read behind a head that is right
+-- data sets that are read after a head that is right
 pub begun : (image front body : List ℕ) (sets : DataSetsValue)
     → 12 ≤ length image
     → front ≡ take 12 image
@@ -131,7 +131,7 @@ begun image front body sets long fronts bodies head first = record {
   sets_first = subst (BeginsWithImage sets) bodies first;
 }
 
--- what stands behind the data sets
+-- what comes after the data sets
 pub opened : (image body back tail : List ℕ) (sets : DataSetsValue) (count size : ℕ)
     → IsBegun image sets
     → IsConsistent sets

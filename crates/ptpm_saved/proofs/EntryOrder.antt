@@ -89,7 +89,7 @@ split_at [] i inside = absurd (omega (arith, inside))
 split_at (x ∷ es) zero inside = (x, refl, refl)
 split_at (x ∷ es) (suc i) inside = split_at es i (omega (arith, inside))
 
--- a manager behind the front of a list is found behind it
+-- a manager that comes after the first entries of a list is found among the others
 find_behind : (es : List Pair) (i : ℕ) (q : PortIdentity)
     → is_sorted identity_cmp es ≡ true
     → i ≤ length es

@@ -125,7 +125,7 @@ answer_at q r i a fits is =
 pub reply_small : (q : RequestValue) (r : ReplyValue) → FitsRequest q r → length (answers_image r.answers) ≤ 240
 reply_small q r fits = answers_small (is_of_port q.id) q.action r.answers fits.count fits.answers
 
--- where an answer was lent, at this place
+-- if an answer was lent, at this place
 pub record IsGiven (xs : List Answer) (i : ℕ) (a : Answer) : Type 0 where
   pub on : answers_image (take (i + 1) xs) ≡ answers_image (take i xs) ++ answer_image a
   pub size : length (answers_image (take (i + 1) xs)) ≡ length (answers_image (take i xs)) + length (answer_image a)
@@ -142,7 +142,7 @@ given xs i a is =
       room = omega (arith, ap length on, length-append (answers_image (take i xs)) (answer_image a), answers_within xs (suc i));
     }
 
--- where an answer is the next one, behind these
+-- if an answer is the next one, after these
 pub record IsNextAnswer (all done rest : List Answer) (a : Answer) : Type 0 where
   pub there : slice_get all (length done) ≡ Some a
   pub on : answers_image (done ++ a ∷ []) ≡ answers_image done ++ answer_image a
@@ -186,7 +186,7 @@ entries_within : (es : List (PortIdentity × Entry)) (i : ℕ) → length (entri
 unfolding entries_image
 entries_within es i = flat_within entry_image es i
 
--- where an entry was lent, at this place
+-- if an entry was lent, at this place
 pub record IsEntryAt (es : List (PortIdentity × Entry)) (i : ℕ) (e : PortIdentity × Entry) : Type 0 where
   pub on : entries_image (take (i + 1) es) ≡ entries_image (take i es) ++ entry_image e
   pub size : length (entries_image (take (i + 1) es)) ≡ length (entries_image (take i es)) + length (entry_image e)
@@ -205,7 +205,7 @@ entry_given es fs i e same is =
       room = omega (arith, ap length on, length-append (entries_image (take i es)) (entry_image e), entries_within es (suc i));
     }
 
--- where the next entry of a table was lent, at this place
+-- if the next entry of a table was lent, at this place
 pub record IsLent (m : Entries) (i : ℕ) (x : ManagerEntry) : Type 0 where
   pub there : slice_get (entries m) i ≡ Some (x.manager, x.entry)
   pub on : entries_image (take (i + 1) (entries m)) ≡ entries_image (take i (entries m)) ++ entry_image (x.manager, x.entry)

@@ -85,7 +85,7 @@ sorted_push (x ∷ y ∷ es) e h after =
     let parts = sorted_parts x (y ∷ es) h in
     and_from _ _ (below_push x.0 (y ∷ es) e parts.0 (first_before x (y ∷ es) e.0 h after)) (sorted_push (y ∷ es) e parts.1 after)
 
--- what stands in a list in order comes after what stands before it
+-- an element of a list in order comes after those before it
 sorted_after : (es : List Pair) (e : Pair) (more : List Pair)
     → is_sorted identity_cmp (es ++ e ∷ more) ≡ true
     → IsAfter (after_at es (length es)) e.0
@@ -105,7 +105,8 @@ last_after es e = ap (λ o. option_map (λ (x : Pair). x.0) o) (sym (at_end es e
 
 -- ---- so far
 
--- Of so many entries in these octets the first ones were read. Whoever reads the octets as entries reads these first.
+-- Of this many entries in these octets the first ones were read. Whoever reads the octets as entries reads these
+-- first.
 pub record IsReadSoFar (octets : List ℕ) (count place : ℕ) (rest : List ℕ) (last : Option PortIdentity) : Type 0 where
   pub read : List Pair
   pub size : length read ≡ place
@@ -146,7 +147,7 @@ sound_of : (read more : List Pair) (e : Pair) → All EntryIsSound (read ++ e �
 sound_of [] more e all = All-head EntryIsSound e more all
 sound_of (x ∷ read) more e all = sound_of read more e (All-tail EntryIsSound x (read ++ e ∷ more) all)
 
--- no entry stands there: so these are no entries
+-- no entry comes first: so these are no entries
 pub cut_short : (octets : List ℕ) (count place : ℕ) (rest : List ℕ) (last : Option PortIdentity)
     → IsReadSoFar octets count place rest last
     → place < count
@@ -158,7 +159,7 @@ cut_short octets count place rest last h less none es entries size is =
     none g.0 (entries_image g.1)
     (sound_of h.read g.1 g.0 (subst (All EntryIsSound) (f.1 ∙ ap (λ m. h.read ++ m) g.2) entries.sound)) g.3
 
--- an entry stands there, and does not come after the last: so these are no entries
+-- an entry comes first, and is not after the last one: so these are no entries
 pub out_of_order : (octets : List ℕ) (count place : ℕ) (rest : List ℕ) (last : Option PortIdentity) (e : Pair) (next : List ℕ)
     → IsReadSoFar octets count place rest last
     → place < count
@@ -254,7 +255,7 @@ pub none_kept : (ms : List PortIdentity) (es : List Pair) (octets : List ℕ) (b
     → IsKeptSoFar ms es 0 octets before before 0
 none_kept ms es octets before is = record { rest_is = is; entries = refl; gone_is = refl }
 
--- the entry at a place, in front of the octets of those behind it
+-- the entry at a place, before the octets of those after it
 pub record IsInFront (es : List Pair) (place : ℕ) (rest : List ℕ) : Type 0 where
   pub entry : Pair
   pub there : slice_get es place ≡ Some entry

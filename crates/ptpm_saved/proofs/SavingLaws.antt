@@ -30,7 +30,8 @@ front _ (x ∷ xs) ys _ is (Loses z zs all part) = Loses z (x ∷ xs) all (front
 
 -- ---- the device
 
--- What is settled led to where notes have led what is saved; what happened since led to what is live, and is lost where power fails.
+-- What is settled led to the state to which notes have led what is saved. What happened since led to what is live, and is lost if
+-- power fails.
 pub record Stands {S A N M : Type 0} (p : Process S A N M) (can_be : S → Type 0) (s : S) (cs : List A) (d : Device S M) : Type 0 where
   pub settled : List (Happening A N)
   pub since : List (Happening A N)
@@ -72,7 +73,7 @@ module _ {S A N M : Type 0} (p : Process S A N M) where
     after_can_be t (Came x ∷ hs) can = after_can_be (p.after t x) hs (sound.after_can_be t x can)
     after_can_be t (Noted n ∷ hs) can = after_can_be (p.noted t n) hs (sound.noted_can_be t n can)
 
-    -- where nothing is unsaved, what is live is where what is settled led
+    -- if nothing is unsaved, what is live is the state to which what is settled led
     at_rest : (cs : List A) (d : Device S M) (h : Stands p can_be s cs d) → d.is_unsaved ≡ false → d.live ≡ after_all p s h.settled
     at_rest cs d h clean = h.live_is ∙ ap (after_all p (after_all p s h.settled)) (h.nothing_since clean)
 
@@ -95,7 +96,7 @@ module _ {S A N M : Type 0} (p : Process S A N M) where
         subst (λ l. IsPartOf l (cs ++ x ∷ [])) (sym (append-nil (inputs (hs ++ Came x ∷ [])) ∙ inputs-append hs (Came x ∷ [])))
         (joined (inputs hs) cs (x ∷ []) (x ∷ []) (front (inputs hs ++ gs) (inputs hs) gs cs refl part) (all_of (x ∷ [])))
 
-    -- an input that changes nothing, where nothing is unsaved
+    -- an input that changes nothing, if nothing is unsaved
     took_at_rest : (cs : List A) (d : Device S M) (x : A)
         → Stands p can_be s cs d
         → d.is_unsaved ≡ false
@@ -118,7 +119,7 @@ module _ {S A N M : Type 0} (p : Process S A N M) where
           waits = h.waits ∙ ap (all_messages p (after_all p s h.settled)) (h.nothing_since clean);
         }
 
-    -- an input behind which it has to be saved
+    -- an input after which it has to be saved
     took_unsaved : (cs : List A) (d : Device S M) (x : A)
         → Stands p can_be s cs d
         → Stands p can_be s (cs ++ x ∷ []) (took p true d x)

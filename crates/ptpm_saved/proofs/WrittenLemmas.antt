@@ -1,14 +1,14 @@
--- Octets written into a place, one part behind the other.
+-- Octets written into a place, one part after the other.
 use Rattle.std.proofs.Common.{◌≡◌, ℕ, ◌+◌, ◌≤◌, sym, ◌∙◌, ap, List, [], ◌++◌, length, take, drop, append_assoc, append-nil, arith, length-append, length-take-le, drop-drop}
 use Rattle.std.proofs.lemmas.List.{take_at, take-append-drop}
 use Rattle.std.proofs.Math.Seq.{drop-append-add}
 use Rattle.ptpm_saved.specs.Written.{over}
 
--- what stands behind a part
+-- what comes after a part
 rest_is : (front rest : List ℕ) (mid n : ℕ) → length front ≡ mid → drop (mid + n) (front ++ rest) ≡ drop n rest
 rest_is front rest mid n size = ap (λ m. drop (m + n) (front ++ rest)) (sym size) ∙ drop-append-add front rest n
 
--- the part that is written behind another
+-- the part that is written after another
 pub over_on : (at mid : ℕ) (xs ys place : List ℕ)
     → mid ≡ at + length xs
     → mid ≤ length place
@@ -47,7 +47,7 @@ over_before at xs ys place size room =
     ∙ sym (append_assoc xs ys tail)
     ∙ ap (λ n. (xs ++ ys) ++ drop n place) end
 
--- three parts one behind the other, and one before them at the beginning
+-- three parts one after the other, and one before them at the beginning
 pub all_written : (first a b d p p₁ p₂ p₃ p₄ : List ℕ) (at end next : ℕ)
     → p₁ ≡ over at a p
     → end ≡ at + length a
@@ -64,7 +64,7 @@ all_written first a b d p p₁ p₂ p₃ p₄ at end next one ends two nexts thr
     ∙ over_on at next (a ++ b) d p (omega (arith, ends, nexts, length-append a b)) room)
     ∙ over_before at first ((a ++ b) ++ d) p size (omega (arith, ends, nexts, room))
 
--- four parts, one behind the other
+-- four parts, one after the other
 pub four_written : (a b d e p p₁ p₂ p₃ p₄ : List ℕ) (at first second third : ℕ)
     → p₁ ≡ over at a p
     → first ≡ at + length a

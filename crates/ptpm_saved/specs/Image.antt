@@ -1,5 +1,5 @@
--- The image of a clock: the octets in which its data sets, and what is kept of each manager, outlast the clock's power. A head says
--- what the image is of. Numbers of several octets have the highest octet first (this project's profile).
+-- The image of a clock: the octets in which its data sets, and what is kept of each manager, survive the loss of power. A head
+-- says what the image is of. Numbers of several octets have the highest octet first (this project's profile).
 use Rattle.std.specs.Prelude.{◌≤◌, ℕ, IsTrue, List, [], ◌∷◌, ◌++◌, length, Option, Some, None}
 use Rattle.std.specs.FinMap as fin
 use Rattle.std.specs.FinMap.{is_sorted}
@@ -30,7 +30,7 @@ outcome_image (reply.Value octets) = 0 ∷ length octets ∷ octets
 outcome_image reply.Done = 1 ∷ []
 outcome_image (reply.Refused error) = 2 ∷ big_bytes 2 (error_number error)
 
--- behind the port that it is of, where it is of one
+-- after the port that it is of, if it is of one
 unfoldable pub answer_image : Answer → List ℕ
 answer_image a = port_octets a.port ++ outcome_image a.outcome
 
@@ -78,7 +78,7 @@ clock_image s = saved_image (saved_of s)
 
 -- ---- what a clock can have saved
 
--- an entry that a table would keep, of numbers of their types
+-- an entry that a table would keep, whose numbers are within their types
 pub record EntryIsSound (e : PortIdentity × Entry) : Type 0 where
   pub keepable : IsKeepable e.1
   pub fits : EntryFits (record { manager = e.0; entry = e.1 })

@@ -12,11 +12,11 @@ use Rattle.ptpm_codec.specs.declared.identity.PortIdentity.{PortIdentity}
 abbrev pub entry_read : SavedRequest → ReplyValue → PortIdentity × Entry
 entry_read s r = (s.manager, record { number = s.number; request = s.request; reply = r })
 
--- the answer is of a port where the id is
+-- the answer is of a port exactly if the id is of the ports
 abbrev pub IsOfPort : Bool → Answer → Type 0
 IsOfPort of_port a = is_some a.port ≡ of_port
 
--- numbers of their types
+-- numbers that are within their types
 pub record RequestFits (q : RequestValue) : Type 0 where
   pub id : q.id < 2 ^ 16
   pub port : q.port < 2 ^ 16

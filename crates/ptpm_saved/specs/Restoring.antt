@@ -1,4 +1,4 @@
--- Which clock octets restore, over the table of a clock with these managers, and why they restore none (this project's profile).
+-- Which clock is restored from octets, over the table of a clock with these managers, and why none is (this project's profile).
 use Rattle.std.specs.Prelude.{◌≡◌, ◌≢◌, ℕ, ◌+◌, ◌%◌, ◌≤◌, ◌==◌, ◌||◌, not, nat_lt, Bool, if◌then◌else◌, List, [], ◌∷◌, length, take, drop, bytes_eq, Option, Some, None}
 use Rattle.std.specs.FinMap as fin
 use Rattle.ptpm_codec.specs.declared.identity.ClockIdentity.{ClockIdentity}
@@ -20,18 +20,18 @@ pub record IsImageOf (c : SavedClock) (octets : List ℕ) : Type 0 where
 
 -- ---- an image, read as far as its data sets
 
--- its head is right, and these data sets are behind it
+-- its head is right, and these data sets come after it
 pub record IsBegun (image : List ℕ) (sets : DataSetsValue) : Type 0 where
   pub long : 12 ≤ length image
   pub head : take 12 image ≡ image_head clock_kind (length (drop 12 image) % 4294967296)
   pub sets_first : BeginsWithImage sets (drop 12 image)
 
--- with so many entries behind them it is the image of the clock of these data sets and these entries
+-- with this many entries after them it is the image of the clock that has these data sets and these entries
 pub record IsOpened (image : List ℕ) (sets : DataSetsValue) (count : ℕ) (octets : List ℕ) : Type 0 where
   pub whole : (es : List (PortIdentity × Entry)) → AreEntries es → length es ≡ count → octets ≡ entries_image es
       → IsImageOf (record { sets = sets; entries = es }) image
 
--- what the image of this clock is opened as
+-- what is found when the image of this clock is opened
 pub record OpensAs (c : SavedClock) (sets : DataSetsValue) (count : ℕ) (octets : List ℕ) : Type 0 where
   pub sets_are : sets ≡ c.sets
   pub count_is : count ≡ length c.entries
@@ -39,7 +39,7 @@ pub record OpensAs (c : SavedClock) (sets : DataSetsValue) (count : ℕ) (octets
 
 -- ---- the entries that stay
 
--- an entry stays where its manager is one of these
+-- an entry stays if its manager is one of these
 abbrev pub kept_by : Bool → Entries → PortIdentity × Entry → Entries
 kept_by known entries e = if known then fin.insert entries e.0 e.1 else entries
 
@@ -52,7 +52,7 @@ abbrev pub let_go : List PortIdentity → List (PortIdentity × Entry) → ℕ
 let_go managers [] = 0
 let_go managers (e ∷ es) = if is_known e.0 managers then let_go managers es else 1 + let_go managers es
 
--- these entries were put into a table where their managers are known to it, and so many were let go
+-- these entries were put into a table if their managers are known to it, and this many others were let go
 pub record IsRestored (managers : List PortIdentity) (es : List (PortIdentity × Entry)) (before after : Entries) (gone : ℕ) : Type 0 where
   pub entries : after ≡ kept_of managers es before
   pub gone_is : gone ≡ let_go managers es
@@ -66,7 +66,7 @@ head_refusal octets = first_of (
     ∷ (not (octet 4 octets == clock_kind), restores.OtherKind)
     ∷ [])
 
--- what the head says is why
+-- the head is the reason
 abbrev pub IsRefusedByHead : List ℕ → RestoreError → Type 0
 IsRefusedByHead octets restores.NotAnImage = head_refusal octets ≡ Some restores.NotAnImage
 IsRefusedByHead octets restores.OtherVersion = head_refusal octets ≡ Some restores.OtherVersion
@@ -75,7 +75,7 @@ IsRefusedByHead octets restores.Damaged = ⊥
 IsRefusedByHead octets restores.OtherClock = ⊥
 IsRefusedByHead octets restores.OtherPorts = ⊥
 
--- the octets are an image, of a clock of this identity or of none
+-- the octets are an image of a clock of this identity; below, of a clock of another one
 pub record IsOfClock (me : ClockIdentity) (octets : List ℕ) (c : SavedClock) : Type 0 where
   pub image : IsImageOf c octets
   pub own : c.sets.default.identity ≡ me
@@ -90,7 +90,7 @@ pub record HasOtherPorts (me : ClockIdentity) (ports : ℕ) (octets : List ℕ) 
   pub of_clock : IsOfClock me octets clock
   pub other : length clock.sets.ports ≢ ports
 
--- why octets restore no clock of this identity and so many ports
+-- why no clock of this identity with this many ports is restored from the octets
 abbrev pub IsRefused : ClockIdentity → ℕ → List ℕ → RestoreError → Type 0
 IsRefused me ports octets restores.NotAnImage = head_refusal octets ≡ Some restores.NotAnImage
 IsRefused me ports octets restores.OtherVersion = head_refusal octets ≡ Some restores.OtherVersion

@@ -1,16 +1,16 @@
--- A process that saves its state before it sends, and whose power may fail at any moment. What it is, functions say; what is promised
--- of it holds whatever they are, where they are sound (this project's profile).
+-- A process that saves its state before it sends, and whose power may fail at any moment. Functions say what the process is. What
+-- is promised holds whatever they are, if they are sound (this project's profile).
 use Rattle.std.specs.Prelude.{◌≡◌, Bool, true, false, ◌||◌, List, [], ◌∷◌, ◌++◌}
 
 -- ---- what it is
 
 pub record Process (S A N M : Type 0) : Type 0 where
-  -- where an input leads, and what is to be sent for it
+  -- the state to which an input leads, and what is to be sent for it
   pub after : S → A → S
   pub messages : S → A → List M
-  -- whether an input leads elsewhere
+  -- whether an input leads to another state
   pub changes : S → A → Bool
-  -- where a note leads, for which nothing is saved; and the note that leads back to a state
+  -- the state to which a note leads, for which nothing is saved; and the note that leads back to a state
   pub noted : S → N → S
   pub back : S → N
 
@@ -18,8 +18,8 @@ abbrev pub noted_each : {S A N M : Type 0} → Process S A N M → List N → S 
 noted_each p [] s = s
 noted_each p (n ∷ ns) s = noted_each p ns (p.noted s n)
 
--- An input that is said to change nothing changes nothing. Of the states that it can be in, one note leads back to each, whatever was
--- noted since; and inputs and notes lead to such states.
+-- An input that is said to change nothing changes nothing. One note leads back to each state that it can be in, whatever was
+-- noted since. Inputs and notes lead to such states.
 pub record IsSound {S A N M : Type 0} (p : Process S A N M) (can_be : S → Type 0) : Type 0 where
   pub unchanged : (s : S) (x : A) → p.changes s x ≡ false → p.after s x ≡ s
   pub goes_back : (s : S) (notes : List N) → can_be s → p.noted (noted_each p notes s) (p.back s) ≡ s
@@ -53,9 +53,9 @@ all_messages p s (h ∷ hs) = messages_of p s h ++ all_messages p (after_one p s
 pub record Device (S M : Type 0) : Type 0 where
   pub live : S
   pub saved : S
-  -- whether it has to be saved before what is made now may be sent
+  -- whether it has to be saved before what it makes now may be sent
   pub is_unsaved : Bool
-  -- what waits for that, what may be sent, and what was
+  -- what waits to be saved, what may be sent, and what was sent
   pub waiting : List M
   pub ready : List M
   pub sent : List M
@@ -72,7 +72,7 @@ pub data Event (A N : Type 0) : Type 0 where
   -- it starts again from what it saved, and what was not sent is lost
   Fails : Event A N
 
--- an input, behind which it has to be saved or not
+-- an input, after which it has to be saved or not
 abbrev pub took : {S A N M : Type 0} → Process S A N M → Bool → Device S M → A → Device S M
 took p true d x =
     record d { live = p.after d.live x; is_unsaved = true; waiting = d.waiting ++ p.messages d.live x }
@@ -112,8 +112,9 @@ comings [] = []
 comings (Comes x ∷ es) = x ∷ comings es
 comings (e ∷ es) = comings es
 
--- It is as one whose power never fails is after what stands. The inputs that stand are some of those that came, in their order; and what
--- it sent is some of what that one sends for what stands, in its order: so a failure loses inputs and messages, and does nothing else.
+-- The process is as one whose power never fails would be after some of the inputs and notes, those that count (`stands`). The
+-- inputs that count are some of those that came, in their order. What it sent is some of what the other one sends for those that
+-- count, in its order. So a failure loses inputs and messages, and does nothing else.
 pub record IsAsIfPowered {S A N M : Type 0} (p : Process S A N M) (s : S) (es : List (Event A N)) (d : Device S M) : Type 0 where
   pub stands : List (Happening A N)
   pub live : d.live ≡ after_all p s stands

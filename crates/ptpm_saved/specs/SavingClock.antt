@@ -17,11 +17,11 @@ abbrev pub is_new : Verdict → Bool
 is_new verdicts.AnsweredNew = true
 is_new _ = false
 
--- the observation of all that a host may observe, as it is
+-- the observation that leaves all that a host may observe as it is
 abbrev pub as_observed : DataSetsValue → Observation
 as_observed d = record { clock = clock_observation d; ports = map port_observation d.ports }
 
--- a turn has to be saved where its verdict is AnsweredNew
+-- a turn has to be saved if its verdict is AnsweredNew
 abbrev pub clock_process : Clock → Process State Datagram Observation (ℕ × List ℕ)
 clock_process c = record {
   after = λ s x. (turn c s x.0 x.1).next;
@@ -31,6 +31,6 @@ clock_process c = record {
   back = λ s. as_observed s.sets;
 }
 
--- what every agent's data sets keep
+-- what the data sets of every agent satisfy
 abbrev pub CanBe : State → Type 0
 CanBe s = IsConsistent s.sets

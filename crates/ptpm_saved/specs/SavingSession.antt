@@ -1,6 +1,6 @@
--- A session that saves before it asks: the process whose inputs are what it is asked, when it is to send or to give up, and the
--- datagrams that it hears. In which domain it is, and how often it may still send, are notes: no image needs them to be as they are. What it reports
--- is told before it is saved, and is none of its messages here.
+-- A session that saves before it asks. Its inputs are what it is asked, when it is to send or to give up, and the datagrams that
+-- it hears. Its domain, and how often it may still send, are notes: no image needs them to be as they are. A report is handed out
+-- before it is saved, and is none of the messages here.
 use Rattle.std.specs.Prelude.{ℕ, Bool, true, false, not, if◌then◌else◌, List, [], ◌∷◌, is_some, Option, Some, None}
 use Rattle.ptpm_codec.specs.declared.message.Message.{Message}
 use Rattle.ptpm_codec.specs.Canonical.{canonical}
@@ -32,7 +32,7 @@ abbrev pub given_up_unless : Option GiveUpRefusal → SessionValue → SessionVa
 given_up_unless None s = given_up s
 given_up_unless (Some refusal) s = s
 
--- that an attempt is used is noted, and changes nothing here
+-- that an attempt was used is a note, and changes nothing here
 abbrev pub session_after : SessionValue → SessionInput → SessionValue
 session_after s (Begins a) = begun_unless (begin_refusal s a) s a
 session_after s IsToSend = s

@@ -10,7 +10,7 @@ pub enum RestoreError {
     NotAnImage,
     /// It is an image in another version.
     OtherVersion,
-    /// It is an image of something else than a clock.
+    /// It is an image of something other than a clock.
     OtherKind,
     /// It is no image of a clock: octets are missing, further ones follow, or one has a value that no image has there.
     Damaged,
@@ -20,7 +20,7 @@ pub enum RestoreError {
     OtherPorts,
 }
 
-/// The name, as `NotAnImage`.
+/// The name, for example `NotAnImage`.
 impl fmt::Display for RestoreError {
     ghost use Rattle.std.specs.Prelude.{Some};
     ghost use Rattle.ptpm_saved.specs.ErrorText.{restore_error_text};

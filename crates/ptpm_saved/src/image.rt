@@ -1,4 +1,4 @@
-//! The image of a clock: the octets in which it outlasts its power (this project's profile).
+//! The image of a clock: the octets in which it survives the loss of power (this project's profile).
 
 ghost use Rattle.std.specs.Prelude.{◌≡◌, ◌≤◌, ◌+◌, ◌*◌, ◌++◌, ◌↔◌, ◌⊎◌, ◌<◌, false, length, drop, IfSome, IfNone, IsSome, IsTrue};
 ghost use Rattle.std.specs.FinMap as fin;
@@ -32,11 +32,11 @@ const ANSWERS_OCTETS: usize = 240;
 /// the answers.
 const ENTRY_OCTETS: usize = FRONT_OCTETS + DATA_FIELD_OCTETS + 1 + ANSWERS_OCTETS;
 
-/// How many octets the image of a clock has at most: 12 of the head, those of the data sets, one that counts the entries, and
-/// sixteen entries.
+/// How many octets the image of a clock has at most. They are 12 of the head, those of the data sets, one that counts the
+/// entries, and sixteen entries.
 pub const CLOCK_OCTETS: usize = HEAD_OCTETS + DATA_SETS_OCTETS + 1 + 16 * ENTRY_OCTETS;
 
-/// Room for what stands before the dataField.
+/// Room for what comes before the dataField.
 type Front = ArrayVec<u8, FRONT_OCTETS>;
 
 /// How many octets a clock's image has.
@@ -116,9 +116,9 @@ fn outcome_size(what: &LentWhat<'_>) -> usize
     }
 }
 
-/// Writes a clock's image over the first octets of a place, and answers how many there are: 104 to 27,185. The others stay.
-/// `None`, and nothing is written, where the place has too few. Where it has room for every clock, the entries are gone through
-/// once; otherwise once more before, for their sizes. Takes no memory.
+/// Writes a clock's image over the first octets of a place, and answers how many there are: 104 to 27,185. The other octets stay.
+/// `None` if the place has too few octets, and then nothing is written. The entries are gone through once if the place has room
+/// for the image of every clock. Otherwise they are gone through twice, first for their sizes. Takes no memory.
 #[tactic(auto, unfolding(crate::specs::Written::over))]
 pub fn image_into<T: LendingTable + Drop>(agent: &Agent<T>, place: &mut [u8]) -> Option<usize>
     ensures room { IsSome result
@@ -135,7 +135,7 @@ pub fn image_into<T: LendingTable + Drop>(agent: &Agent<T>, place: &mut [u8]) ->
     Some(write_image(agent, place))
 }
 
-/// Whether so many octets are room for a clock's image. Nothing is counted where they are room for that of every clock.
+/// Whether this many octets are room for a clock's image. If they are room for the image of every clock, nothing is counted.
 fn has_room<T: LendingTable + Drop>(agent: &Agent<T>, room: usize) -> bool
     ensures room { IsTrue result → (CLOCK_OCTETS ≤ room)
         ⊎ (length (clock_image (state_of T.entries agent.now)) ≤ room) }
@@ -224,7 +224,7 @@ fn write_entry(place: &mut [u8], at: usize, entry: &LentEntry<'_>) -> usize
     write_answers(place, third, entry)
 }
 
-/// What stands in front of the dataField of an entry's request.
+/// What comes before the dataField of an entry's request.
 #[tactic(auto, unfolding(ptpm_codec::specs::Canonical::port_identity_octets))]
 #[inline(always)]
 fn front(entry: &LentEntry<'_>, request: &Request<'_>) -> Front
@@ -311,7 +311,7 @@ fn write_what(place: &mut [u8], at: usize, what: &LentWhat<'_>) -> usize
     }
 }
 
-/// What `write` does, of a value. The data sets of eight ports have 26 octets each: of such a copy LLVM makes a few moves.
+/// What `write` does, for a value. The data sets of eight ports have 26 octets each: of such a copy LLVM makes a few moves.
 #[inline(always)]
 fn write_value(place: &mut [u8], at: usize, octets: &[u8]) -> usize
     requires { at + length octets.now ≤ length place.old }
@@ -324,7 +324,7 @@ fn write_value(place: &mut [u8], at: usize, octets: &[u8]) -> usize
     }
 }
 
-/// The head of the image of a clock, before so many octets.
+/// The head of the image of a clock, for this many octets after it.
 #[tactic(auto, unfolding(ptpm_manager::specs::Image::image_head))]
 pub(crate) fn head(size: usize) -> [u8; HEAD_OCTETS]
     requires { size ≤ 4294967295 }

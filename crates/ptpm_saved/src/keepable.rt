@@ -9,7 +9,7 @@ ghost use Rattle.ptpm_table.specs.Entries.{FitsAnswer, FitsCount, FitsOutcome};
 use ptpm_codec::Action;
 use ptpm_data::{PortAnswer, Scope, What, row};
 
-/// Whether an id is of the ports.
+/// Whether the members of an id belong to the ports.
 pub(crate) fn is_of_port(id: u16) -> bool
     ensures { result ≡ is_of_port id }
 {
@@ -19,7 +19,7 @@ pub(crate) fn is_of_port(id: u16) -> bool
     }
 }
 
-/// Whether a reply to a request can have so many answers.
+/// Whether a reply to a request can have this many answers.
 pub(crate) fn fits_count(of_port: bool, count: usize) -> bool
     ensures { IsTrue result ↔ FitsCount of_port count }
 {

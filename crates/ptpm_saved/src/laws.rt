@@ -19,7 +19,7 @@ use ptpm_agent::Agent;
 use ptpm_data::{data_sets_law, fits_law};
 use ptpm_table::LendingTable;
 
-/// Every clock can be saved: so its image restores it, whole where the managers are the same.
+/// Every clock can be saved. Its image restores it, and nothing is lost if the managers are the same.
 pub fn clock_law<T: LendingTable + Drop>(agent: &Agent<T>)
     ensures saved { IsSaved (saved_of (state_of T.entries agent.now)) }
     ensures known { All (λ e. is_known e.0 (T.owner agent.now.table).managers ≡ true)
@@ -31,21 +31,23 @@ pub fn clock_law<T: LendingTable + Drop>(agent: &Agent<T>)
     entries_law(agent.table());
 }
 
-/// A clock that saves before it answers may lose its power at any moment and as often as it likes: it has what the datagrams and
-/// observations that stand make of its start, as if its power had never failed; and what it sent is some of what it sends then. A
-/// restart is one observation.
+/// A clock that saves before it answers may lose its power at any moment and as often as it likes. Some of its datagrams and
+/// observations then count. It has what these make of its start, as if its power had never failed. What it sent is some of what
+/// it sends then. A restart is one observation.
 pub fn saving_clock_law()
     ensures { (c : Clock) (s : State) (es : List (Event Datagram Observation)) → IsConsistent s.sets
         → IsAsIfPowered (clock_process c) s es (happen_all (clock_process c) (started s) es) }
 {}
 
-/// The same of a session that saves before it asks: what it sent is some of what it sends whose manager's power never fails.
+/// The same for a session that saves before it asks. What it sent is some of what it would send if its manager's power never
+/// failed.
 pub fn saving_session_law()
     ensures { (s : SessionValue) (es : List (Event SessionInput SessionNote))
         → IsAsIfPowered session_process s es (happen_all session_process (started s) es) }
 {}
 
-/// The entries of a table are sixteen at most, in the order of their managers, and of its managers; and a table would keep each.
+/// The entries of a table are sixteen at most, in the order of their managers. Their managers are those of the table, and the
+/// table would keep each entry.
 fn entries_law<T: LendingTable>(table: &T)
     ensures entries { AreEntries (fin.entries (T.entries table.now)) }
     ensures known { All (λ e. is_known e.0 (T.owner table.now).managers ≡ true)

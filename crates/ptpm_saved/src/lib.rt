@@ -1,4 +1,4 @@
-//! What outlasts a clock's power: its image, and the clock back from it.
+//! What survives a clock's loss of power: its image, and the clock that is restored from it.
 #![tactic(auto)]
 
 mod error;

@@ -1,4 +1,4 @@
-//! The entries of a clock's image, read from the octets in front.
+//! Reads the entries of a clock's image, from the first octets on.
 
 ghost use Rattle.std.specs.Prelude.{◌≡◌, ◌<◌, ◌≤◌, ◌^◌, ◌∷◌, ◌++◌, ℕ, All, IfSome, IsSomeAnd, List, Option, Some, length, map};
 ghost use Rattle.byteorder.specs.Endian.{big_bytes};
@@ -27,8 +27,8 @@ pub(crate) struct SavedRequest<'a> {
     pub(crate) request: Request<'a>,
 }
 
-/// The entry whose image stands in front, and what stands behind it; the reply is left in its place. `None` where no image
-/// of an entry stands there, whatever the reply is then.
+/// Reads the entry whose image the octets begin with. Answers it and the octets after its image, and leaves its reply in
+/// `reply`. `None` if the octets do not begin with the image of an entry. Then any reply may be left in `reply`.
 #[tactic(auto, using(crate::proofs::ReadingLemmas::entry_parts))]
 pub(crate) fn read_entry<'a>(
     octets: &'a [u8],
@@ -53,7 +53,7 @@ pub(crate) fn read_entry<'a>(
     Some((entry, octets))
 }
 
-/// The reply to a request, by its answers, and what stands behind them.
+/// Reads the reply to a request, by its answers. Answers the octets after them.
 fn read_reply<'a>(request: &Request<'_>, octets: &'a [u8], reply: &mut Reply) -> Option<&'a [u8]>
     requires { IsRequestAction request.now.action }
     ensures sound { IfSome result
@@ -82,7 +82,7 @@ fn read_reply<'a>(request: &Request<'_>, octets: &'a [u8], reply: &mut Reply) ->
     Some(octets)
 }
 
-/// So many answers, in the place of what is there, and what stands behind them.
+/// Reads this many answers in place of those in `answers`. Answers the octets after them.
 fn read_answers<'a>(
     count: usize,
     of_port: bool,
@@ -151,7 +151,7 @@ fn read_what(octets: &[u8]) -> Option<(What, &[u8])>
     }
 }
 
-/// A dataField, behind its size.
+/// A dataField, after its size.
 fn read_value(octets: &[u8]) -> Option<(What, &[u8])>
     ensures sound { IfSome result
         (λ p. 0 ∷ octets.now ≡ outcome_image (outcome_of p.0) ++ p.1.now) }

@@ -1,4 +1,4 @@
-//! A clock back from its image (this project's profile).
+//! Restores a clock from its image (this project's profile).
 
 ghost use Rattle.std.specs.Prelude.{◌≡◌, ◌≤◌, ◌%◌, ◌↔◌, IfErr, IfNone, IfOk, IfSome, IsOkAnd, IsSome, IsSomeAnd, IsTrue, List, MatchResult, None, OnOk, Some, true, if◌then◌else◌, length};
 ghost use Rattle.std.specs.FinMap as fin;
@@ -29,7 +29,7 @@ use std::cmp::Ordering;
 /// How many entries a clock has at most, one for each manager.
 const ENTRIES: u8 = 16;
 
-/// The entries of an image, as its octets say before they are read.
+/// The entries of an image, before they are read.
 #[derive(Drop)]
 struct SavedEntries<'a> {
     /// How many there are.
@@ -37,8 +37,9 @@ struct SavedEntries<'a> {
     octets: &'a [u8],
 }
 
-/// The clock whose image this is, over a table without entries, of a clock of so many ports; and how many entries were let go,
-/// since their managers are not among those of the table. The first reason that holds is why it is refused. Takes no memory.
+/// The clock of an image, over a table without entries. The image has to be of the table's clock, with this many ports. Also
+/// answers how many entries were let go, since their managers are not among those of the table. An image is refused for the
+/// first reason that holds. Takes no memory.
 pub fn restored<T: SureTable + Drop>(
     image: &[u8],
     ports: u16,
@@ -55,7 +56,7 @@ pub fn restored<T: SureTable + Drop>(
         → IsOkAnd result (λ r. (r.0.sets ≡ c.sets)
         × IsRestored (T.owner table).managers c.entries fin.empty (T.entries r.0.table) r.1) }
 
-    // The image of a clock, whose managers are all known to the table, restores this clock, and lets none of them go.
+    // The image of a clock whose managers are all known to the table restores this clock, and lets none of them go.
     ensures back { (s : State) → IsSaved (saved_of s) → image.now ≡ clock_image s
         → s.sets.default.identity ≡ (T.owner table).identity → length s.sets.ports ≡ ports
         → All (λ e. is_known e.0 (T.owner table).managers ≡ true) (fin.entries s.entries)
@@ -67,8 +68,9 @@ pub fn restored<T: SureTable + Drop>(
     Ok((agent, gone))
 }
 
-/// The data sets of an image from which a clock of this identity and so many ports goes on. The whole image is judged, its entries
-/// too, and none is kept: `put_back` does that. The first reason that holds is why it is refused. Takes no memory.
+/// The data sets of an image, from which a clock of this identity with this many ports goes on. The whole image is judged, also
+/// its entries. None of these is kept, since `put_back` does that. An image is refused for the first reason that holds. Takes no
+/// memory.
 pub fn judged(
     image: &[u8],
     identity: &ClockIdentity,
@@ -87,8 +89,8 @@ pub fn judged(
     Ok(sets)
 }
 
-/// Does what `judged` does, with the caller's room for the data sets: so the stack has room for no others. If the image is refused,
-/// any data sets are left there.
+/// Does what `judged` does, with the caller's room for the data sets. So the stack needs no room for others. If the image is
+/// refused, any data sets may be left there.
 pub fn judge_into(
     image: &[u8],
     identity: &ClockIdentity,
@@ -116,8 +118,8 @@ pub fn judge_into(
     Ok(())
 }
 
-/// Keeps the entries of an image in an agent whose table knows their managers, and answers how many were let go, since it does
-/// not. Data sets and managers stay. `None` of octets that are no image, and then nothing is kept. Takes no memory.
+/// Keeps those entries of an image in an agent whose managers the agent's table knows. Answers how many others were let go. Data
+/// sets and managers stay. `None` for octets that are no image, and then nothing is kept. Takes no memory.
 #[inline(never)]
 pub fn put_back<T: SureTable + Drop>(image: &[u8], agent: &mut Agent<T>) -> Option<u8>
     ensures kept { IfSome result
@@ -139,7 +141,7 @@ pub fn put_back<T: SureTable + Drop>(image: &[u8], agent: &mut Agent<T>) -> Opti
     }
 }
 
-/// What `put_back` does with an image: its data sets are not read. Never inlined.
+/// Does what `put_back` does, with an image that was judged before. Its data sets are not read. Never inlined.
 #[inline(never)]
 pub fn put_back_judged<T: SureTable + Drop>(image: &[u8], agent: &mut Agent<T>) -> u8
     requires { (c : SavedClock) × IsImageOf c image.now }
@@ -174,8 +176,9 @@ fn judge_head(image: &[u8]) -> Result<(), RestoreError>
     Ok(())
 }
 
-/// Whether these octets are an image, and then leaves its data sets there. The entries come first: so the stack has no work on data
-/// sets while they are read. It is never inlined, as those below that say so: so the stack has one of their frames at a time.
+/// Whether these octets are an image. If so, leaves its data sets in `sets`. The entries come first, so that the stack has no
+/// work on data sets while they are read. It is never inlined, and so are those below that say so. Then the stack has the frame
+/// of one of them at a time.
 #[inline(never)]
 fn read_body(image: &[u8], sets: &mut DataSets) -> bool
     ensures sound { IsTrue result
@@ -189,7 +192,8 @@ fn read_body(image: &[u8], sets: &mut DataSets) -> bool
     }
 }
 
-/// The entries of an image, where its data sets end by the numbers in them. `None` where they do not end within it.
+/// The entries of an image, which begin after the octets that its data sets take by the numbers in them. `None` if the data sets
+/// do not end within the image.
 fn find_entries(image: &[u8]) -> Option<SavedEntries<'_>>
     ensures opened { IfSome result (λ o. (d : DataSetsValue) → IsBegun image.now d
         → IsConsistent d → DataSetsFit d → IsOpened image.now d o.count o.octets.now) }
@@ -209,7 +213,7 @@ fn find_entries(image: &[u8]) -> Option<SavedEntries<'_>>
     })
 }
 
-/// Whether a head and data sets come first, and then leaves these data sets there. Never inlined.
+/// Whether a head and data sets come first. If so, leaves these data sets in `sets`. Never inlined.
 #[inline(never)]
 fn read_sets(image: &[u8], sets: &mut DataSets) -> bool
     ensures begun { IsTrue result → IsBegun image.now sets.new }
@@ -225,14 +229,14 @@ fn read_sets(image: &[u8], sets: &mut DataSets) -> bool
     is_head(front, body.len()) && sets.restore(body)
 }
 
-/// Whether this is the head of an image with so many octets behind it.
+/// Whether this is the head of an image with this many octets after it.
 fn is_head(front: &[u8], size: usize) -> bool
     ensures { IsTrue result ↔ front.now ≡ image_head 1 (size % 4294967296) }
 {
     front == head(size % 4_294_967_296).as_slice()
 }
 
-/// Whether so many entries stand there and nothing else, in the order of their managers. They are read, and none is kept. Never
+/// Whether there are this many entries in the order of their managers, and nothing else. They are read, and none is kept. Never
 /// inlined.
 #[inline(never)]
 fn judge_entries(entries: &SavedEntries<'_>) -> bool
@@ -263,7 +267,7 @@ fn judge_entries(entries: &SavedEntries<'_>) -> bool
     octets.is_empty()
 }
 
-/// Keeps the entries of which the agent's table knows the managers, and answers how many the others are. Never inlined.
+/// Keeps the entries whose managers the agent's table knows. Answers how many others there are. Never inlined.
 #[inline(never)]
 fn keep_entries<T: SureTable + Drop>(entries: &SavedEntries<'_>, agent: &mut Agent<T>) -> u8
     requires { (es : List (PortIdentity × Entry)) × AreEntries es
@@ -289,7 +293,7 @@ fn keep_entries<T: SureTable + Drop>(entries: &SavedEntries<'_>, agent: &mut Age
     gone
 }
 
-/// Keeps an entry where the agent's table knows its manager, and answers how many are let go: none or one.
+/// Keeps an entry if the agent's table knows its manager. Answers how many are let go: none or one.
 fn keep<T: SureTable + Drop>(agent: &mut Agent<T>, entry: &SavedRequest<'_>, reply: &Reply) -> u8
     requires { IsKeepable (entry_read entry.now reply.now).1 }
     ensures entries { T.entries agent.new.table
@@ -308,7 +312,7 @@ fn keep<T: SureTable + Drop>(agent: &mut Agent<T>, entry: &SavedRequest<'_>, rep
     }
 }
 
-/// Whether a manager comes after another one; any does after none.
+/// Whether a manager comes after another one. After `None` any manager does.
 fn comes_after(who: &PortIdentity, other: Option<PortIdentity>) -> bool
     ensures { IsTrue result ↔ IsAfter other who.now }
 {

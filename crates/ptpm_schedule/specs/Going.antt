@@ -30,7 +30,7 @@ pub record Took (N : Network) (past : List machine.Event) (new : World) (e : mac
   pub permitted : refusal N (state_after N past) e ≡ None
   pub stands : StandsAfter N (past ++ e ∷ []) (running new)
 
--- nothing changed, and wherever the network stood this held of an event
+-- nothing changed; and this held for an event, at any state at which the network may have been
 pub record Stayed (old new : World) (P : Network → List machine.Event → Type 0) : Type 0 where
   pub still : running new ≡ running old
   pub why : (N : Network) (past : List machine.Event)
@@ -44,7 +44,8 @@ IsLateAfter e N past = is_late_delivery (state_after N past) e ≡ true
 abbrev pub IsRefused : machine.Event → Network → List machine.Event → Type 0
 IsRefused e N past = IsRefusedAfter N past e
 
--- An event that happened did so, wherever the network stood. Any other changed nothing: it would have been late, or was refused.
+-- An event that happened did so at any state at which the network may have been. Any other changed nothing: it would have been
+-- late, or was refused.
 abbrev pub Became : World → World → Event → Tried → Type 0
 Became old new e (Happened did) = (N : Network) (past : List machine.Event)
     → IsOf N old
@@ -79,7 +80,7 @@ pub record WentOn (N : Network) (names : Names) (past : List machine.Event) (ask
   pub stands : StandsAfter N (past ++ map (placed names) wrote.events) (running new)
   pub asks : AreAsked N names past asked wrote.events
 
--- the same network went on, wherever it stood
+-- the same network went on, from any state at which it may have been
 pub record Goes (asked : List Event) (old new : World) (before after : Option (List ℕ)) (had has : ℕ) : Type 0 where
   pub same : IsSame old new
   pub goes : (N : Network) (past : List machine.Event)
@@ -87,7 +88,7 @@ pub record Goes (asked : List Event) (old new : World) (before after : Option (L
       → StandsAfter N past (running old)
       → WentOn N (names_in old) past asked new before after had has
 
--- It ended early: a schedule has no more than 2,000,000 lines, or writing or memory failed. Where writing did not fail, it went on
+-- It ended early: a schedule has no more than 2,000,000 lines, or writing or memory failed. If writing did not fail, it went on
 -- so far.
 pub record HasStopped (old : World) (before after : Option (List ℕ)) (had has : ℕ) (e : ScriptError) : Type 0 where
   pub own : is_outside e ≡ false → (e ≡ TooManyLines) × (2000000 ≤ has)

@@ -1,5 +1,5 @@
-//! Scripts for networks that lose and repeat messages: which of them arrive, and in what order, is drawn by chance, and the same
-//! seed draws the same (this project's profile).
+//! Scripts for networks that lose and repeat messages. Which messages arrive, and in what order, is drawn by chance, and the
+//! same seed draws the same (this project's profile).
 #![tactic(auto)]
 
 mod chances;

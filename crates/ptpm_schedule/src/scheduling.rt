@@ -15,15 +15,15 @@ use std::io;
 use std::io::{Read, Write};
 
 /// Reads a script whose events are those of sessions: `begin`, `resume` and `retune`. Writes a whole script with the same network.
-/// In it each request is sent and its messages are delivered, in an order that is drawn, some never and some twice, and it is sent
-/// again, until it is answered or has no attempts left.
+/// In it each request is sent, and its messages are delivered in an order that is drawn, some never and some twice. It is sent
+/// again until it is answered or has no attempts left.
 ///
-/// An event waits until its session's request before it is answered or has no attempts left. If it is refused then, it has no
-/// line, and is reported on `err`; what `err` does changes nothing. Each line that is written is one that happens, and none of them
-/// delivers a frame late (`IsScheduled`). The same chances and the same script give the same octets.
+/// An event waits until the request that its session began before is answered or has no attempts left. If it is refused then, it
+/// has no line, and is reported on `err`; what `err` does changes nothing. Each line that is written is one that happens, and
+/// none of them delivers a frame late (`IsScheduled`). The same chances and the same script give the same octets.
 ///
 /// A script that cannot be read is refused as `run_script` refuses it; any other event is UnknownWord. Nothing is written then. Ends
-/// for every reader. What would have over 2,000,000 lines ends with TooManyLines after as many.
+/// for every reader. A script that would have over 2,000,000 lines ends with TooManyLines after as many.
 #[inline(never)]
 pub fn schedule<R: Read + Drop, W: Write, E: Write>(
     alloc: Global,

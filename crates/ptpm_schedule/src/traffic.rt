@@ -169,7 +169,7 @@ impl<'a> Traffic<'a> {
         }
     }
 
-    /// Delivers one of the frames that are under way. Where there are none, one of the sessions that wait sends again.
+    /// Delivers one of the frames that are under way. If there are none, one of the sessions that wait sends again.
     fn go_on<W: Write>(&mut self, world: &mut World, out: &mut W) -> Result<(), ScriptError>
         ensures { Went result [] world.old world.new (W.contents out.old) (W.contents out.new)
             self.old.lines self.new.lines }
@@ -204,7 +204,7 @@ impl<'a> Traffic<'a> {
         Ok(())
     }
 
-    /// Lets the session at a place send. Where it may not, it waits no more.
+    /// Lets the session at a place send. If it may not, it waits no more.
     fn send<W: Write>(
         &mut self,
         world: &mut World,

@@ -148,7 +148,7 @@ fn gives(
     Ok(())
 }
 
-/// Where nothing is lost or repeated, each message arrives once.
+/// If nothing is lost or repeated, each message arrives once.
 #[test]
 fn shortest_schedule(rt: HostRuntime) -> Result<(), Fail> {
     let events =
@@ -205,7 +205,7 @@ resume m 0
     gives(&rt, rt.alloc(), chances(100, 0, 7), events, wanted, told)
 }
 
-/// Where all is repeated, each message arrives twice. Over 100 is 100.
+/// If all is repeated, each message arrives twice. A chance over 100 counts as 100.
 #[test]
 fn everything_repeated(rt: HostRuntime) -> Result<(), Fail> {
     let alloc = rt.alloc();
@@ -281,7 +281,7 @@ fn schedule_first(alloc: Global, space: &mut [u8]) -> Result<(), ScriptError> {
     )
 }
 
-/// Where memory is refused, what was written is the beginning of the schedule, and the same script is then scheduled whole.
+/// If memory is refused, what was written is the beginning of the schedule, and the same script is then scheduled whole.
 #[test]
 fn schedule_after_refused_memory(rt: HostRuntime) -> Result<(), Fail> {
     let mut space = [0; 1_024];

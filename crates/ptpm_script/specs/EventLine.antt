@@ -1,5 +1,6 @@
 -- What a line of a script does (this project's profile), by its words. A line that is no event is refused with the first
--- that holds of: an unknown verb or action, a wrong number of words, and then a bad number, id, or hexadecimal digits.
+-- of these that holds. They are an unknown verb or action, a wrong number of words, a bad number, a bad id, and bad
+-- hexadecimal digits.
 use Rattle.std.specs.Prelude.{ℕ, if◌then◌else◌, List, [], ◌∷◌, codes, bytes_eq, Option, Some, None, option_map, Result, Ok, Err, ◌≡◌, ◌⊎◌, drop}
 use Rattle.std.specs.Result.{result_ok}
 use Rattle.hex.specs.Hex.{decode_of}

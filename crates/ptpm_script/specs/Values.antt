@@ -1,4 +1,4 @@
--- The values at the keys of a table (this project's profile). Where a key is absent, or holds another kind, there is none.
+-- The values at the keys of a table (this project's profile). If a key is absent, or holds another kind, there is none.
 use Rattle.std.specs.Prelude.{ℕ, ◌-◌, ℤ, pos, negsuc, nat_le, int_le, Bool, ◌&&◌, if◌then◌else◌, List, [], take, Option, Some, None, option_and_then, unwrap_or}
 use Rattle.ptpm_codec.specs.declared.identity.ClockIdentity.{ClockIdentity}
 use Rattle.ptpm_codec.specs.declared.identity.PortIdentity.{PortIdentity}

@@ -59,7 +59,7 @@ pub enum EventError {
     OutOfMemory,
 }
 
-/// The name, as `WordCount`.
+/// The name, for example `WordCount`.
 impl fmt::Display for EventError {
     ghost use Rattle.std.specs.Prelude.{Some};
     ghost use Rattle.ptpm_script.specs.ErrorText.{event_error_text};

@@ -1,5 +1,5 @@
-//! Networks of clocks and sessions, and what happens in them, as texts (this project's profile): which network a network file
-//! describes, and which event a line of a script asks for.
+//! Networks of clocks and sessions, and what happens in them, as texts (this project's profile). It says which network a
+//! network file describes, and which event a line of a script asks for.
 #![tactic(auto)]
 
 mod clock_entries;

@@ -9,7 +9,7 @@ ghost use Rattle.ptpm_script.specs.NetworkView.{network_value};
 use crate::network::Network;
 
 /// A network that a text is keeps its limits. Each clock can start, with 1 to 8 ports and an identity that is not all ones.
-/// No two clocks and no two sessions have one name or one identity, no session has a clock's name or clockIdentity, and each
+/// No two clocks and no two sessions have one name or one identity. No session has a clock's name or clockIdentity, and each
 /// has a target that is there. The ends of links are there, and no end is given twice.
 pub fn accepted_networks()
     ensures { (text : List ℕ) (n : NetworkValue) → network_of text ≡ Ok n → IsAccepted n }

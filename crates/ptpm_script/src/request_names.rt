@@ -21,7 +21,8 @@ pub fn action_named(word: &str) -> Option<Action>
     }
 }
 
-/// The managementId that a word means: a name of the table, as `PRIORITY1`, or four hexadecimal digits of either case.
+/// The managementId that a word means. The word is a name of the table, for example `PRIORITY1`, or four hexadecimal
+/// digits of either case.
 #[tactic(auto, unfolding(crate::specs::RequestNames::id_named))]
 pub fn id_named(word: &str) -> Option<u16>
     ensures { result ≡ id_named word.now }

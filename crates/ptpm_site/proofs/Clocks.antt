@@ -1,4 +1,4 @@
--- What a map of clocks keeps once one of them got its place, or told something.
+-- What a map of clocks keeps after one of them got its place, or after an answer of one was added.
 use Rattle.std.proofs.Common.{◌≡◌, ℕ, Bool, true, false, cond, ◌||◌, List, [], ◌++◌, Option, Some, None, append-nil, refl, ap, sym, ◌∙◌}
 use Rattle.std.specs.BTreeMap.{BTreeMap, get, insert_entry, is_at, keys}
 use Rattle.std.proofs.lemmas.Map.Views.{tells_apart}
@@ -32,7 +32,7 @@ placed_seen fresh None new false e = ap is_some e
 placed_seen fresh (Some c) new true e = ap is_some e
 placed_seen fresh (Some c) new false e = ap is_some e
 
--- at the clock that told something it stands behind what was kept
+-- at the clock of the answer it is added after what was kept
 pub told_field : {B : Type 0} → (f : Clock → List B) (before after : Clock) (more : List B) (old new : Option Clock) (b : Bool)
     → new ≡ cond b (Some after) old
     → (b ≡ true → old ≡ Some before)
@@ -77,7 +77,7 @@ tie_or source s b = ap (λ t. b || t) (tied_sources source s)
 tie_cond : {X : Type 0} → (source s : Source) (x y : X) → cond (is_at (source_cmp source) s) x y ≡ cond (same_source source s) x y
 tie_cond source s x y = ap (λ t. cond t x y) (tied_sources source s)
 
--- a clock of which nothing was heard got its place
+-- a clock without answers got its place
 pub placed : (old new : BTreeMap Source Clock) (source : Source) (fresh : Clock)
     → IsSilent fresh
     → is_some (get source_cmp old source) ≡ false
@@ -126,7 +126,7 @@ known old source there is_there = record {
   ports = λ s n. refl;
 }
 
--- a clock that has its place told something
+-- an answer of a clock that has its place was added
 pub told : (old new : BTreeMap Source Clock) (source : Source) (request : Request) (t : Told) (before after : Clock)
     → get source_cmp old source ≡ Some before
     → ((q : Source) → get source_cmp new q ≡ cond (is_at (source_cmp source) q) (Some after) (get source_cmp old q))

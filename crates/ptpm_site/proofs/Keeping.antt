@@ -1,4 +1,4 @@
--- Each answer that is taken is kept, and what counts is what the answers tell.
+-- Each answer that is taken is kept, and what counts is what the answers say.
 use Rattle.std.proofs.Common.{◌≡◌, ℕ, ◌||◌, Bool, true, false, cond, List, [], ◌∷◌, ◌++◌, Option, Some, None, refl, sym, ◌∙◌, ap, append-nil}
 use Rattle.std.specs.List.{filter, filter_map, fold, cons_option, list_any}
 use Rattle.std.specs.Option.{option_map, option_map_or, option_and_then, option_to_list}
@@ -68,7 +68,7 @@ ports_of-more s answers a =
     ap (fold (λ ns x. place_number ns (port_number x.told)) []) (filter-append (λ x. same_source x.source s) answers (a ∷ []))
     ∙ numbers_here s answers a (same_source a.source s)
 
--- one more answer that is taken is kept behind all others
+-- one more answer that is taken is kept after all others
 pub Keeps-more : (old new : Site) (answers : List Answer) (a : Answer) → Takes old new a → Keeps old answers → Keeps new (answers ++ a ∷ [])
 Keeps-more old new answers a t k = record {
   clocks = t.clocks ∙ ap (λ cs. place_clock cs a) k.clocks ∙ sym (fold_more place_clock [] answers a);

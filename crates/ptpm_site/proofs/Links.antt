@@ -17,7 +17,7 @@ use Rattle.ptpm_site.specs.Loops.{AreLeast, circle, comes_back, is_least, loop_o
 use Rattle.ptpm_site.specs.Telling.{Telling}
 use Rattle.ptpm_site.proofs.Sources.{sources_total}
 
--- what a walk finds behind a next clock, by how that compares to the first
+-- what a walk finds after a next clock, by how that compares to the first
 abbrev behind : ClockIdentity → Ordering → Option (List ClockIdentity) → Option (List ClockIdentity)
 behind c o more = match_ordering o None (Some (c ∷ [])) (option_map (λ clocks. c ∷ clocks) more)
 

@@ -1,4 +1,4 @@
--- The first two answers, of which the later says otherwise than the earlier.
+-- The first two answers that differ, by the later one and then by the earlier one.
 use Rattle.std.proofs.Common.{◌≡◌, Bool, true, false, cond, List, [], ◌∷◌, ◌++◌, Option, Some, None, map, refl, ap, ◌∙◌}
 use Rattle.std.specs.List.{find}
 use Rattle.std.specs.Option.{option_map, option_or}
@@ -16,7 +16,7 @@ find-map q f (x ∷ xs) =
       | false ↦ find-map q f xs
     ]
 
--- what is told of a pair whose later statement is this
+-- what is reported of a pair whose later statement is this
 abbrev pub told_with : Member → Statement → MemberValue → ToldChange
 told_with m later before = record { member = m; before = before; after = later.value }
 
@@ -26,7 +26,7 @@ told_pair : (m : Member) (later : Statement) (o : Option Statement) (rest : Opti
 told_pair m later None rest = refl
 told_pair m later (Some e) rest = refl
 
--- with one more answer: the first earlier one that it contradicts, or what comes behind it
+-- with one more answer: the first earlier one that it contradicts, or what comes after it
 pub first_told-next : (c : Contradiction) (m : Member) (earlier : List Statement) (later : Statement) (xs : List Statement)
     → first_told c m (pairs_behind earlier (later ∷ xs))
     ≡ option_or (option_map (told_with m later) (option_map (λ e. e.value) (find (λ e. contradicts c e later) earlier)))

@@ -37,7 +37,7 @@ AreNumbered-pass indices passed p h within new =
           (cases_eq q p);
     }
 
--- no place stands twice
+-- no place comes twice
 pub same_index : (indices : List (Option ℕ)) (passed : List ℕ) → AreNumbered indices passed
     → (k l : ℕ) → k < length passed → l < length passed → get_or passed k 0 ≡ get_or passed l 0 → k ≡ l
 same_index indices passed h k l a b e = same_Some k l (sym (h.each k a) ∙ ap (λ q. get_or indices q None) e ∙ h.each l b)

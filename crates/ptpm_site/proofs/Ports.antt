@@ -7,7 +7,7 @@ and_false : (b : Bool) → (b && false) ≡ false
 and_false true = refl
 and_false false = refl
 
--- where it fails of one it fails
+-- if it fails for one number, it fails
 pub holds_to-fails : (p : ℕ → Bool) (n last : ℕ) → n < last → p (n + 1) ≡ false → holds_to p last ≡ false
 holds_to-fails p n zero l h = absurd (omega arith)
 holds_to-fails p n (suc m) l h =

@@ -1,4 +1,4 @@
--- What is told of a clock stands behind what was told of those before it.
+-- What is reported of a clock comes after what was reported of those before it.
 use Rattle.std.proofs.Common.{◌≡◌, List, [], ◌∷◌, ◌++◌, append_assoc, ap, ◌∙◌}
 use Rattle.std.proofs.lemmas.List.{map-append}
 use Rattle.ptpm_site.specs.declared.finding.Finding.{Finding}
@@ -17,7 +17,7 @@ pub told_more : (findings : List Finding) (s : Source) (w : What) → told (find
 unfolding told
 told_more findings s w = map-append (λ f. said f.source (says f.what)) findings (finding s w ∷ [])
 
--- what is told of a clock, part by part
+-- what is reported of a clock, part by part
 pub one_clock : (t : Telling) (limits : Limits) (s : Source) (old above loop here all : List Finding)
     → above ≡ old ++ found_above t s
     → told loop ≡ told above ++ loop_told t s

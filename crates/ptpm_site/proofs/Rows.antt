@@ -10,7 +10,7 @@ use Rattle.ptpm_site.specs.declared.tree.Row.{Row}
 use Rattle.ptpm_site.specs.declared.tree.Row.TheVariants as row
 use Rattle.ptpm_site.specs.Tree.{IsGrown, place_of, places_of, rows_at}
 
--- no mark behind the last is as good as one that says no
+-- no mark past the last is as good as one that says no
 pub get_or-more_false : (xs : List Bool) (p : ℕ) → get_or (xs ++ false ∷ []) p false ≡ get_or xs p false
 get_or-more_false [] zero = refl
 get_or-more_false [] (suc p) = refl

@@ -1,4 +1,4 @@
--- The first settled value that each request was told.
+-- The first settled value that was answered to each request.
 use Rattle.std.proofs.Common.{arith, ◌≡◌, Bool, true, false, not, ◌&&◌, cond, List, [], ◌∷◌, ◌++◌, Option, Some, None, refl, ap, sym, ◌∙◌}
 use Rattle.std.proofs.lemmas.Bool.{true≢false}
 use Rattle.std.proofs.lemmas.Map.Text.{is_eq-slice_cmp}
@@ -17,7 +17,7 @@ use Rattle.ptpm_site.specs.Standing.{TellsTwice, if_other, request_cmp, settled_
 use Rattle.ptpm_site.proofs.StandingLemmas.{not_if_alike, nothing_more, or_none}
 use Rattle.ptpm_site.proofs.Values.{same_request-Decides, same_value-equiv}
 
--- ---- the order of requests tells apart what the test of equality tells apart
+-- ---- the order of requests distinguishes what the test of equality distinguishes
 
 tied_requests : (a b : Request) → eq_by_cmp request_cmp a b ≡ same_request a b
 tied_requests a b = grind (arith, is_eq-slice_cmp)
@@ -43,7 +43,7 @@ one_more s seen y z h =
     ∙ ap (λ o. option_or o (option_map (λ e. e.value) (cond (twice y z) (Some y) None))) (h.alike z)
     ∙ ap (option_or (settled_otherwise s z)) (told_if (twice y z) y)
 
--- what is kept goes on to tell where each contradiction of the new one is told
+-- what is kept still shows every contradiction, if it shows each one of the new statement
 stays : (s : Settled) (seen : List Statement) (y : Statement) → TellsTwice s seen
     → ((z : Statement) → settled_otherwise s z ≡ None → twice y z ≡ false)
     → TellsTwice s (seen ++ y ∷ [])
@@ -77,7 +77,7 @@ cases : {P : Type 0} (b : Bool) → (b ≡ true → P) → (b ≡ false → P) �
 cases true f g = f refl
 cases false f g = g refl
 
--- a request that was told a value tells each contradiction of one that says the same
+-- a request that has a kept value shows each contradiction of a statement that says the same
 pub tells-known : (s : Settled) (seen : List Statement) (y : Statement) (before : MemberValue)
     → settled_of s y.request ≡ Some before
     → find (λ e. twice e y) seen ≡ None
@@ -96,7 +96,7 @@ tells-known s seen y before kept none tells = stays s seen y tells (λ z k.
           sym (same_value-equiv.congr before y.value z.value told)
           ∙ none_other z.value before (ap (option_and_then (if_other z.value)) (sym here) ∙ k)
 
--- one that was told none is told its first
+-- a request that has none gets its first value
 first_here : (s t v : Bool) (x : MemberValue) → s ≡ true → t ≡ true → cond (s && t && not v) (Some x) None ≡ cond v None (Some x)
 first_here true true true x h k = refl
 first_here true true false x h k = refl

@@ -1,4 +1,4 @@
--- The order of clocks tells apart what the test of equality tells apart.
+-- The order of clocks distinguishes what the test of equality distinguishes.
 use Rattle.std.proofs.Common.{arith, ◌≡◌, ℕ, ap, List}
 use Rattle.std.proofs.lemmas.Map.Lookups.{CmpEqualImpliesEq, exact_bytes, exact_pairs, exact_unsigned}
 use Rattle.std.proofs.lemmas.Map.Text.{is_eq-slice_cmp}

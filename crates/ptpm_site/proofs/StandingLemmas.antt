@@ -131,7 +131,7 @@ one_more : (s : Standing) (seen : List Statement) (y z : Statement) → StandsFo
 one_more s seen y z h =
     find-append (λ e. changed e z) seen (y ∷ []) ∙ ap (λ o. option_or o (cond (changed y z) (Some y) None)) (h.alike z)
 
--- those that stood go on to stand for all where each change of the new one is one of theirs
+-- those that were kept still replace all others, if each change of the new one is a change of one of them
 stays : (s : Standing) (seen : List Statement) (y : Statement) → StandsFor s seen
     → ((z : Statement) → find (λ e. changed e z) (standing_of s) ≡ None → changed y z ≡ false)
     → StandsFor s (seen ++ y ∷ [])

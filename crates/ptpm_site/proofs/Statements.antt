@@ -13,7 +13,7 @@ use Rattle.ptpm_site.specs.Changes.{Statement, ToldChange, contradiction, contra
 use Rattle.ptpm_site.specs.Members.{MemberValue}
 use Rattle.ptpm_site.proofs.Pairs.{first_told-next, told_with}
 
--- the first two of which the later is one of the answers from a place on
+-- the first two, if the later one is one of the answers from a place on
 abbrev pub ahead : {A : Type 0} → Contradiction → (A → Member → Option MemberValue) → Member → List (Heard A) → ℕ → Option ToldChange
 ahead c says m heard i = first_told c m (pairs_behind (statements says m (take i heard)) (statements says m (drop i heard)))
 

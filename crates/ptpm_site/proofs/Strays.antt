@@ -25,7 +25,7 @@ stray_step : (f : List (Option ℕ)) (first n : ℕ) (o : Option ℕ)
 stray_step f first n None h = refl
 stray_step f first n (Some q) h = at_next first q (comes_back f first n q) (h q refl).0 (h q refl).1
 
--- a walk that stays among places of which none is the first does not come back
+-- a walk does not come back if it stays among places that do not include the first
 pub strays : (f : List (Option ℕ)) (T : ℕ → Type 0) (first : ℕ)
     → (T first → ⊥)
     → ((x q : ℕ) → first < x → T x → follows f x ≡ Some q → T q)
@@ -131,7 +131,7 @@ module _ (f : List (Option ℕ)) (indices : List (Option ℕ)) (old P : List ℕ
           (cases_lt l j))
           (λ q e. between_on i q (omega arith) before e)
 
-    -- from one behind it too, by the end
+    -- from one after it too, by the end
     module _ (i : ℕ) (after : j < i) (within_i : i < length P) (less : get_or P j 0 < get_or P i 0) where
       abbrev Around : ℕ → Type 0
       Around k = ((i < k) ⊎ ((back ≤ k) × (k ≤ j))) × (k < length P)

@@ -1,4 +1,4 @@
--- Two answers that are apart tell the same in either order.
+-- Two answers that are apart say the same in either order.
 use Rattle.std.proofs.Common.{◌≡◌, ℕ, ◌==◌, ◌&&◌, ◌||◌, ◌⊎◌, Bool, true, false, cond, List, [], ◌∷◌, ◌++◌, Option, Some, None, inl, inr, ⊎_elim, refl, ap, sym, ◌∙◌}
 use Rattle.std.proofs.lemmas.Bool.{cases_Bool, eqb-true, eqb-false, true≢false}
 use Rattle.std.proofs.lemmas.Cmp.{nat_cmp_total}
@@ -59,11 +59,11 @@ module _ {K : Type 0} (cmp : K → K → Ordering) (total : IsTotalOrder cmp) (e
   below : (a b : K) → cmp a b ≡ Greater → cmp b a ≡ Less
   below a b h = total.antisymm b a ∙ ap ordering_reverse h
 
-  -- a key below all that follows stands before them
+  -- a key below all that follows comes before them
   first_stays : (a b : K) (es : List K) → cmp a b ≡ Less → insert_key cmp (a ∷ es) b ≡ a ∷ insert_key cmp es b
   first_stays a b es h = insert_by a es b Greater (above a b h)
 
-  -- the lesser goes before the head, and the greater behind it
+  -- the lesser goes before the head, and the greater after it
   before_head : (a b e : K) (es : List K) (o : Ordering) → cmp b e ≡ o → cmp a b ≡ Less → cmp a e ≡ Less
       → a ∷ insert_key cmp (e ∷ es) b ≡ insert_key cmp (insert_key cmp (e ∷ es) b) a
   before_head a b e es Less p h l =
@@ -176,7 +176,7 @@ heard_here says a b others false false h = refl
 one_source : (a s : Source) → same_source a s ≡ true → a ≡ s
 one_source a s h = tells_apart exact_sources a s (tied_sources a s ∙ h)
 
--- of one clock they tell of two things
+-- if they are of one clock, they are about two things
 tell_apart : (a b : Answer) (s : Source) → AreApart a b → same_source a.source s ≡ true → same_source b.source s ≡ true → tells_of_one a.told b.told ≡ false
 tell_apart a b s apart p q =
     let one : same_source a.source b.source ≡ true = ap (λ x. same_source a.source x) (one_source b.source s q) ∙ p in

@@ -6,11 +6,11 @@ use Rattle.ptpm_site.specs.Following.{followed}
 use Rattle.ptpm_site.specs.PortStates.{is_following, measures_link}
 use Rattle.ptpm_site.specs.Telling.{Telling}
 
--- the amount of a TimeInterval is above so many nanoseconds; a limit itself is allowed
+-- the amount of a TimeInterval is above this many nanoseconds; an amount equal to the limit is allowed
 abbrev pub is_above : ℤ → ℕ → Bool
 is_above interval nanoseconds = nat_lt (nanoseconds * 65536) (unsigned_abs interval)
 
--- a TimeInterval beyond a limit; without a limit none is
+-- a TimeInterval that is beyond a limit; without a limit none is
 abbrev pub beyond : ℤ → Option ℕ → Option ℤ
 beyond interval limit = option_and_then (λ n. if is_above interval n then Some interval else None) limit
 

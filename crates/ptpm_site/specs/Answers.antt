@@ -1,4 +1,4 @@
--- What the answers among the lines tell, whatever program reads them (IEEE 1588-2019, 15.4.1 and 15.5.3).
+-- What the answers among the lines say, whatever program reads them (IEEE 1588-2019, 15.4.1 and 15.5.3).
 use Rattle.std.specs.Prelude.{ℕ, ◌==◌, ◌&&◌, ◌-◌, Bool, false, List, [], Option, Some, None, length, slice_get, if◌then◌else◌}
 use Rattle.std.specs.declared.cmp.Ordering.{Ordering}
 use Rattle.std.specs.BTreeSet.{insert_key}
@@ -22,11 +22,11 @@ use Rattle.ptpm_site.specs.declared.told.Told.{Told}
 use Rattle.ptpm_site.specs.declared.told.Told.TheVariants as told
 use Rattle.ptpm_site.specs.Ids.{same_id}
 
--- a key goes to its place in the order, unless it is there
+-- a key goes to its place in the order, unless it is there already
 unfoldable pub place : {K : Type 0} → (K → K → Ordering) → List K → K → List K
 place cmp keys k = if list_any (eq_by_cmp cmp k) keys then keys else insert_key cmp keys k
 
--- ---- whose an answer is
+-- ---- which clock an answer is of
 
 -- a clock of a domain: the same domainNumber, and the same clockIdentity
 abbrev pub same_source : Source → Source → Bool
@@ -40,7 +40,7 @@ answers_of s answers = filter (λ a. same_source a.source s) answers
 abbrev pub source_cmp : Source → Source → Ordering
 source_cmp a b = ordering_then (nat_cmp a.domain b.domain) (slice_cmp nat_cmp a.clock.0 b.clock.0)
 
--- a clock is seen where it gave one answer, or one error, to one of the six ids
+-- a clock is seen if it gave one answer, or one error, to one of the six ids
 abbrev pub is_seen : Source → List Answer → Bool
 is_seen s answers = list_any (λ a. same_source a.source s) answers
 
@@ -51,7 +51,7 @@ place_clock clocks a = place source_cmp clocks a.source
 abbrev pub clocks_of : List Answer → List Source
 clocks_of answers = fold place_clock [] answers
 
--- ---- what an answer tells, and which request it came to
+-- ---- what an answer says, and which request it came to
 
 abbrev pub default_told : Told → Option DefaultDataSet
 default_told (told.Default set) = Some set
@@ -73,22 +73,22 @@ abbrev pub description_told : Told → Option Description
 description_told (told.Description set) = Some set
 description_told _ = None
 
--- the id that a clock refuses to tell
+-- the id that a clock refuses to answer
 abbrev pub refusal_told : Told → Option Asked
 refusal_told (told.Refused asked) = Some asked
 refusal_told _ = None
 
--- it refuses to tell this id
+-- it refuses to answer this id
 abbrev pub refuses : Asked → Told → Bool
 refuses id (told.Refused asked) = same_id asked id
 refuses id _ = false
 
--- of the port of this number
+-- the data set of the port of this number
 abbrev pub port_told : ℕ → Told → Option PortDataSet
 port_told n (told.Port m set) = if m == n then Some set else None
 port_told n _ = None
 
--- the number of the port that it is of
+-- the number of the port that the answer is of
 abbrev pub port_number : Told → Option ℕ
 port_number (told.Port m set) = Some m
 port_number _ = None
@@ -100,7 +100,7 @@ heard says a = option_map (λ set. record { request = a.request; set = set }) (s
 abbrev pub heard_now : {A : Type 0} → (Told → Option A) → Request → Told → List (Heard A)
 heard_now says request t = option_to_list (option_map (λ set. record { request = request; set = set }) (says t))
 
--- of all answers of a clock, those that tell this, in the order of their lines
+-- of all answers of a clock, those that say this, in the order of their lines
 abbrev pub all_heard : {A : Type 0} → (Told → Option A) → Source → List Answer → List (Heard A)
 all_heard says s answers = filter_map (heard says) (answers_of s answers)
 
@@ -116,7 +116,7 @@ place_number ns (Some n) = place nat_cmp ns n
 abbrev pub ports_of : Source → List Answer → List ℕ
 ports_of s answers = fold (λ ns a. place_number ns (port_number a.told)) [] (answers_of s answers)
 
--- ---- of all answers of a clock to one id, and of one port, the last line counts
+-- ---- of all answers of a clock to one id, and of those of one port, the last line counts
 
 abbrev pub counting : {A : Type 0} → List (Heard A) → Option A
 counting heard = option_map (λ h. h.set) (slice_get heard (length heard - 1))

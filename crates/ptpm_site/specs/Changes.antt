@@ -1,4 +1,5 @@
--- What the answers of a clock say otherwise: those to two requests (`changed`), and those to one (`identity_twice`).
+-- What differs between the answers of a clock: those to two requests (`changed`), and those to one
+-- (`identity_twice`).
 use Rattle.std.specs.Prelude.{◌==◌, ◌&&◌, Bool, true, false, not, List, [], ◌∷◌, ◌++◌, Option, find, map}
 use Rattle.std.specs.List.{filter_map}
 use Rattle.std.specs.Option.{option_map, option_map_or}
@@ -37,18 +38,19 @@ abbrev pub is_settled : MemberValue → Bool
 is_settled (State state) = option_map_or is_settled_state state false
 is_settled _ = true
 
--- which answers are held against each other: those to two requests, or those to one
+-- which answers are compared with each other: those to two requests, or those to one
 abbrev pub are_held : Contradiction → Request → Request → Bool
 are_held sort.Changed a b = not (same_request a b)
 are_held sort.IdentityTwice a b = same_request a b
 
--- an answer says otherwise than an earlier one, whose value was settled
+-- an answer differs from an earlier one, whose value was settled
 abbrev pub contradicts : Contradiction → Statement → Statement → Bool
 contradicts c earlier later = is_settled earlier.value && are_held c earlier.request later.request && not (same_value earlier.value later.value)
 
 -- ---- all answers
 
--- each of a list with each earlier one, by the later and then by the earlier; some stand before all
+-- each element of a list with each earlier one, by the later and then by the earlier; `earlier` comes before the
+-- list
 abbrev pub pairs_behind : {A : Type 0} → List A → List A → List (A × A)
 pairs_behind earlier [] = []
 pairs_behind earlier (later ∷ xs) = map (λ e. (e, later)) earlier ++ pairs_behind (earlier ++ later ∷ []) xs
@@ -63,7 +65,7 @@ statement_of says m h = option_map (λ v. record { request = h.request; value = 
 abbrev pub statements : {A : Type 0} → (A → Member → Option MemberValue) → Member → List (Heard A) → List Statement
 statements says m heard = filter_map (statement_of says m) heard
 
--- a member that two answers say otherwise: the value of the earlier, and of the later
+-- a member in which two answers differ: its value in the earlier one and in the later one
 pub record ToldChange : Type 0 where
   pub member : Member
   pub before : MemberValue
@@ -72,7 +74,7 @@ pub record ToldChange : Type 0 where
 abbrev pub told_change : Change → ToldChange
 told_change c = record { member = c.member; before = value_of c.before; after = value_of c.after }
 
--- of a member the first two answers, by the line of the later, and then of the earlier
+-- the first two answers that contradict each other in a member, by the line of the later, and then of the earlier
 abbrev pub first_told : Contradiction → Member → List (Statement × Statement) → Option ToldChange
 first_told c m pairs = option_map (λ p. record { member = m; before = p.0.value; after = p.1.value }) (find (λ p. contradicts c p.0 p.1) pairs)
 

@@ -1,4 +1,5 @@
--- Where a clock says otherwise than its grandmaster, or than the port that it follows: `grandmaster_differs`, `utc`, `intervals`.
+-- The members in which a clock differs from its grandmaster, or from the port that it follows: `grandmaster_differs`, `utc`,
+-- `intervals`.
 use Rattle.std.specs.Prelude.{ℤ, pos, ◌&&◌, ◌||◌, Bool, List, [], ◌∷◌, Option, Some, None, if◌then◌else◌}
 use Rattle.ptpm_site.specs.declared.data_sets.DefaultDataSet.{DefaultDataSet}
 use Rattle.ptpm_site.specs.declared.data_sets.DelayMechanism.{DelayMechanism}
@@ -21,7 +22,7 @@ use Rattle.ptpm_site.specs.PortStates.{is_following, measures_end_to_end, measur
 abbrev pub measure_otherwise : Option DelayMechanism → Option DelayMechanism → Bool
 measure_otherwise a b = measures_link a && measures_end_to_end b || measures_end_to_end a && measures_link b
 
--- ---- a member that is said otherwise, with both values
+-- ---- a member in which two clocks differ, with both values
 
 abbrev pub value_differs : Member → Value → Value → Option Differs
 value_differs m own other = if same_value (value_of own) (value_of other) then None else Some (record { member = m; own = own; other = other })
@@ -37,11 +38,11 @@ mechanism_differs own other =
     if measure_otherwise own.delay_mechanism other.delay_mechanism
     then Some (record { member = member.DelayMechanism; own = value.Mechanism own.delay_mechanism; other = value.Mechanism other.delay_mechanism }) else None
 
--- grandmasterIdentity, where a clock names another than the clock that it follows
+-- grandmasterIdentity, if a clock names another one than the clock that it follows
 abbrev pub other_grandmaster : ParentDataSet → ParentDataSet → Option Differs
 other_grandmaster own parent = value_differs member.GrandmasterIdentity (value.Clock own.grandmaster) (value.Clock parent.grandmaster)
 
--- ---- the members that are compared, each where it is said otherwise
+-- ---- the members that are compared, each if the two differ in it
 
 -- what a clock says of its grandmaster, and the grandmaster's DEFAULT_DATA_SET
 abbrev pub grandmaster_differs : ParentDataSet → DefaultDataSet → List (Option Differs)

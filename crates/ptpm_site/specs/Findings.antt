@@ -1,4 +1,4 @@
--- The findings of a site, finding by finding, in their order: by clock, by the table of findings, by port.
+-- The findings of a site, in order of the clock, the table of findings, and the port.
 use Rattle.std.specs.Prelude.{ℕ, ◌++◌, List, [], ◌∷◌, Option, Some, None, if◌then◌else◌, option_and_then, is_some, map}
 use Rattle.std.specs.List.{flat_map}
 use Rattle.std.specs.Option.{option_map, option_map_or, option_to_list}
@@ -33,11 +33,11 @@ use Rattle.ptpm_site.specs.Telling.{Telling}
 abbrev pub finding : Source → What → Finding
 finding s w = record { source = s; what = w }
 
--- the finding, where there is one
+-- the finding, if there is one
 abbrev pub found : {A : Type 0} → (A → What) → Source → Option A → List Finding
 found says s o = option_to_list (option_map (λ a. finding s (says a)) o)
 
--- a finding for each member that is said otherwise
+-- a finding for each member in which the two differ
 abbrev pub found_each : Compared → Source → List (Option Differs) → List Finding
 found_each c s differs = flat_map (found (what_differs c) s) differs
 
@@ -46,18 +46,18 @@ found_each c s differs = flat_map (found (what_differs c) s) differs
 unfoldable pub two_found : Telling → Source → List Finding
 two_found t s = if is_one_of_two t s then finding s what.TwoGrandmasters ∷ [] else []
 
--- what it says of its grandmaster, beside that
+-- what it says of its grandmaster, compared with what that one says
 unfoldable pub said_of_grandmaster : Telling → Source → ParentDataSet → List (Option Differs)
 said_of_grandmaster t s own = option_map_or (λ d. grandmaster_differs own d) (t.default (beside s own.grandmaster)) []
 
--- and beside the clock that it follows
+-- and compared with what the clock that it follows says
 unfoldable pub said_of_parent : Telling → Source → ParentDataSet → List (Option Differs)
 said_of_parent t s own = option_map_or (λ p. other_grandmaster own p ∷ []) (t.parent (beside s own.parent.clock)) []
 
 unfoldable pub grandmaster_said : Telling → Source → List (Option Differs)
 grandmaster_said t s = option_map_or (λ own. said_of_grandmaster t s own ++ said_of_parent t s own) (t.parent s) []
 
--- what a clock that is not its own grandmaster says of UTC otherwise than its grandmaster
+-- the members in which a clock that is not its own grandmaster differs from its grandmaster about UTC
 unfoldable pub utc_said : Telling → Source → List (Option Differs)
 utc_said t s = option_map_or (λ p.
     if same_clock p.grandmaster s.clock then []
@@ -74,7 +74,7 @@ link_delay_found t limits s n = found (what.LinkDelay n) s (option_and_then (λ 
 unfoldable pub link_delays_found : Telling → Limits → Source → List Finding
 link_delays_found t limits s = if is_some (followed t s) then flat_map (link_delay_found t limits s) (t.ports s) else []
 
--- what a port says otherwise than the port that its clock follows
+-- the members in which a port differs from the port that its clock follows
 unfoldable pub interval_found : Telling → Source → ℕ → List Finding
 interval_found t s n = found_each (compared.Port n) s (option_map_or (λ own. option_map_or (λ set.
     option_map_or (λ parent. intervals_differ set parent) (t.port (beside s own.parent.clock) own.parent.port) [])
@@ -139,19 +139,19 @@ loop_told t s = option_to_list (option_map (λ clocks. said s (Loop clocks)) (lo
 unfoldable pub incomplete_told : Telling → Source → List Said
 incomplete_told t s = option_to_list (option_map (λ m. said s (Lacks m.0 m.1)) (lacking t s))
 
--- a member that two answers say otherwise, unless it moves with nothing changed
+-- a member in which two answers differ, unless its value moves though nothing was changed
 unfoldable pub member_told : {A : Type 0} → Contradiction → Source → Option ℕ → (A → Member → Option MemberValue) → List (Heard A) → Member → List Said
 member_told how s port says_of heard m =
     if is_moving m then [] else option_to_list (option_map (λ change. said s (Otherwise how port change)) (contradiction how says_of m heard))
 
--- each member of a data set that two answers say otherwise
+-- each member of a data set in which two answers differ
 unfoldable pub set_told : {A : Type 0} → Contradiction → Source → Option ℕ → List Member → (A → Member → Option MemberValue) → List (Heard A) → List Said
 set_told how s port members says_of heard = flat_map (member_told how s port says_of heard) members
 
 unfoldable pub port_set_told : Contradiction → Telling → Source → ℕ → List Said
 port_set_told how t s n = set_told how s (Some n) port_members port_says (t.heard s n)
 
--- of the data sets of the clock
+-- for the data sets of the clock
 unfoldable pub clock_sets_told : Contradiction → Telling → Source → List Said
 clock_sets_told how t s =
     set_told how s None default_members default_says (t.defaults s)
@@ -159,14 +159,14 @@ clock_sets_told how t s =
     ++ set_told how s None parent_members parent_says (t.parents s)
     ++ set_told how s None time_members time_says (t.times s)
 
--- and of its ports, and its description
+-- and for its ports, and its description
 unfoldable pub contradictions_told : Contradiction → Telling → Source → List Said
 contradictions_told how t s =
     clock_sets_told how t s
     ++ flat_map (port_set_told how t s) (t.ports s)
     ++ set_told how s None description_members description_says (t.descriptions s)
 
--- what its answers lack, and what they say otherwise
+-- what its answers lack, and where they differ
 unfoldable pub answers_told : Telling → Source → List Said
 answers_told t s = incomplete_told t s ++ contradictions_told sort.Changed t s ++ contradictions_told sort.IdentityTwice t s
 

@@ -11,7 +11,7 @@ use Rattle.ptpm_site.specs.Telling.{Telling}
 abbrev pub beside : Source → ClockIdentity → Source
 beside s clock = record { domain = s.domain; clock = clock }
 
--- a clock is its own grandmaster where grandmasterIdentity is its own
+-- a clock is its own grandmaster if grandmasterIdentity is its own
 abbrev pub is_own_grandmaster : Telling → Source → Bool
 is_own_grandmaster t s = option_map_or (λ p. same_clock p.grandmaster s.clock) (t.parent s) false
 
@@ -19,16 +19,16 @@ is_own_grandmaster t s = option_map_or (λ p. same_clock p.grandmaster s.clock) 
 abbrev pub followed : Telling → Source → Option PortIdentity
 followed t s = option_and_then (λ p. if same_clock p.grandmaster s.clock then None else Some p.parent) (t.parent s)
 
--- a clock's parent: the clock that it follows, where that is seen
+-- a clock's parent: the clock that it follows, if that one is seen
 abbrev pub parent_clock : Telling → Source → Option Source
 parent_clock t s = option_and_then (λ p. if t.seen (beside s p.clock) then Some (beside s p.clock) else None) (followed t s)
 
--- the place of a clock's parent among all clocks, where it has one
+-- the place of a clock's parent among all clocks, if it has one
 pub record IsParentPlace (t : Telling) (s : Source) (place : Option ℕ) : Type 0 where
   pub within : (q : ℕ) → place ≡ Some q → q < length t.clocks
   pub parent : (d : Source) → parent_clock t s ≡ option_map (λ q. slice_index_or t.clocks q d) place
 
--- of each clock, in their order, the place of its parent
+-- for each clock, in their order, the place of its parent
 pub record ArePlaced (t : Telling) (followed : List (Option ℕ)) : Type 0 where
   pub count : length followed ≡ length t.clocks
   pub each : (p : ℕ) (d : Source) → p < length t.clocks → IsParentPlace t (slice_index_or t.clocks p d) (slice_index_or followed p None)

@@ -14,6 +14,6 @@ number_of id.PortDataSet = 0x2004
 abbrev pub same_id : Asked → Asked → Bool
 same_id a b = number_of a == number_of b
 
--- in the order in which they are told
+-- in the order in which they are reported
 abbrev pub six : List Asked
 six = id.DefaultDataSet ∷ id.CurrentDataSet ∷ id.ParentDataSet ∷ id.TimePropertiesDataSet ∷ id.PortDataSet ∷ id.UserDescription ∷ []

@@ -1,4 +1,5 @@
--- What the program keeps of the answers that it took: of each clock what they told, in the order of their lines.
+-- What the program keeps of the answers that it took: for each clock what they said, in the order of their
+-- lines.
 use Rattle.std.specs.Prelude.{◌≡◌, ℕ, ◌||◌, ◌++◌, List, [], Option, is_some, IsSome, if◌then◌else◌}
 use Rattle.std.specs.BTreeMap.{keys}
 use Rattle.std.specs.Option.{option_map_or}
@@ -19,7 +20,7 @@ use Rattle.ptpm_site.specs.declared.told.Told.{Told}
 use Rattle.ptpm_site.specs.Answers.{all_heard, clocks_of, current_told, default_told, description_told, heard_now, is_seen, parent_told, place, place_clock, place_number, port_number, port_told, ports_of, refusal_told, same_source, source_cmp, time_told}
 use Rattle.ptpm_site.specs.Kept.{clock_at, port_heard}
 
--- ---- what is kept of a clock, nothing of one that is not seen
+-- ---- what is kept of a clock; nothing for one that is not seen
 
 abbrev pub defaults_at : Site → Source → List (Heard DefaultDataSet)
 defaults_at site s = option_map_or (λ c. c.defaults.items) (clock_at site s) []
@@ -45,7 +46,7 @@ ports_at site s n = option_map_or (λ c. port_heard c n) (clock_at site s) []
 abbrev pub numbers_at : Site → Source → List ℕ
 numbers_at site s = option_map_or (λ c. keys c.ports) (clock_at site s) []
 
--- all of what the answers told is kept, and nothing else
+-- all that the answers said is kept, and nothing else
 pub record Keeps (site : Site) (answers : List Answer) : Type 0 where
   pub clocks : keys site.clocks ≡ clocks_of answers
   pub seen : (s : Source) → is_some (clock_at site s) ≡ is_seen s answers
@@ -58,15 +59,15 @@ pub record Keeps (site : Site) (answers : List Answer) : Type 0 where
   pub numbers : (s : Source) → numbers_at site s ≡ ports_of s answers
   pub ports : (s : Source) (n : ℕ) → ports_at site s n ≡ all_heard (port_told n) s answers
 
--- what a request was told by one clock, at another nothing
+-- what one clock answered to a request; at another clock nothing
 abbrev pub told_now : {A : Type 0} → (Told → Option A) → Source → Source → Request → Told → List (Heard A)
 told_now says source s request t = if same_source source s then heard_now says request t else []
 
--- what an answer adds at a clock: what it tells where it is the clock's, else nothing
+-- what an answer adds at a clock: what it says if it is of that clock, otherwise nothing
 abbrev pub added : {A : Type 0} → (Told → Option A) → Source → Answer → List (Heard A)
 added says s a = told_now says a.source s a.request a.told
 
--- a clock of which nothing was heard
+-- a clock without answers
 pub record IsSilent (c : Clock) : Type 0 where
   pub defaults : c.defaults.items ≡ []
   pub currents : c.currents.items ≡ []
@@ -77,7 +78,7 @@ pub record IsSilent (c : Clock) : Type 0 where
   pub numbers : keys c.ports ≡ []
   pub ports : (n : ℕ) → port_heard c n ≡ []
 
--- a clock told something, which stands behind all that it told
+-- a clock said something more, which is added after all that it said before
 pub record Grows (before after : Clock) (request : Request) (t : Told) : Type 0 where
   pub defaults : after.defaults.items ≡ before.defaults.items ++ heard_now default_told request t
   pub currents : after.currents.items ≡ before.currents.items ++ heard_now current_told request t
@@ -88,7 +89,7 @@ pub record Grows (before after : Clock) (request : Request) (t : Told) : Type 0 
   pub numbers : keys after.ports ≡ place_number (keys before.ports) (port_number t)
   pub ports : (n : ℕ) → port_heard after n ≡ port_heard before n ++ heard_now (port_told n) request t
 
--- a clock gets its place, and nothing more is kept
+-- a clock gets its place, and nothing else changes
 pub record Places (old new : Site) (source : Source) : Type 0 where
   pub clocks : keys new.clocks ≡ place source_cmp (keys old.clocks) source
   pub there : IsSome (clock_at new source)
@@ -102,7 +103,7 @@ pub record Places (old new : Site) (source : Source) : Type 0 where
   pub numbers : (s : Source) → numbers_at new s ≡ numbers_at old s
   pub ports : (s : Source) (n : ℕ) → ports_at new s n ≡ ports_at old s n
 
--- what a clock that has its place tells is kept
+-- what is said by a clock that has its place is kept
 pub record Tells (old new : Site) (source : Source) (request : Request) (t : Told) : Type 0 where
   pub clocks : keys new.clocks ≡ keys old.clocks
   pub seen : (s : Source) → is_some (clock_at new s) ≡ is_some (clock_at old s)

@@ -1,4 +1,4 @@
--- What the program keeps of a site, as what counts of it.
+-- What counts of a site, read from what the program keeps of it.
 use Rattle.std.specs.Prelude.{ℕ, Bool, false, List, [], Option, Vec, is_some, option_and_then}
 use Rattle.std.specs.declared.alloc.Global.{Global}
 use Rattle.std.specs.BTreeMap.{BTreeMap, get, keys}
@@ -21,7 +21,7 @@ clock_at site s = get source_cmp site.clocks s
 abbrev pub port_kept : Clock → ℕ → Option PortDataSet
 port_kept c n = option_and_then (λ heard. counting heard.items) (get nat_cmp c.ports n)
 
--- what is kept of the answers that tell of a port, in the order of their lines
+-- what is kept of the answers for a port, in the order of their lines
 abbrev pub heard_of : BTreeMap ℕ (Vec (Heard PortDataSet) Global) → ℕ → List (Heard PortDataSet)
 heard_of ports n = option_map_or (λ heard. heard.items) (get nat_cmp ports n) []
 

@@ -75,7 +75,8 @@ same_value _ _ = false
 
 -- ---- the members of each data set, in the standard's order, and what it says of them
 
--- offsetFromMaster, meanDelay, meanLinkDelay, and what is observed of a parent move with nothing changed (this project's profile)
+-- the values of offsetFromMaster, meanDelay, meanLinkDelay, and of what is observed of a parent move though nothing was changed
+-- (this project's profile)
 abbrev pub is_moving : Member → Bool
 is_moving member.OffsetFromMaster = true
 is_moving member.MeanDelay = true
@@ -141,7 +142,7 @@ time_says d member.PtpTimescale = Some (Flag d.ptp_timescale)
 time_says d member.TimeSource = Some (Number (pos d.time_source))
 time_says d _ = None
 
--- but for its portIdentity
+-- except its portIdentity
 abbrev pub port_members : List Member
 port_members =
     member.PortState ∷ member.LogMinDelayReqInterval ∷ member.MeanLinkDelay ∷ member.LogAnnounceInterval ∷ member.AnnounceReceiptTimeout

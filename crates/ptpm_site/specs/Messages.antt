@@ -1,4 +1,4 @@
--- Which messages are answers to one of the six ids, and what each tells (IEEE 1588-2019, 15.4.1 and 15.5.3).
+-- Which messages are answers to one of the six ids, and what each says (IEEE 1588-2019, 15.4.1 and 15.5.3).
 use Rattle.std.specs.Prelude.{ℕ, ◌==◌, Bool, true, false, List, Option, Some, None, if◌then◌else◌, is_some, option_and_then}
 use Rattle.std.specs.List.{find}
 use Rattle.std.specs.Option.{option_map}
@@ -26,7 +26,7 @@ use Rattle.ptpm_site.specs.declared.told.Told.TheVariants as told
 use Rattle.ptpm_site.specs.Ids.{number_of, six}
 use Rattle.ptpm_site.specs.Octets.{current_read, default_read, parent_read, port_read, time_read}
 
--- userDescription is a PTPText (5.3.9); what is no UTF-8 in it is replaced
+-- userDescription is a PTPText (5.3.9); octets that are no UTF-8 are replaced
 unfoldable pub description_read : List ℕ → Option (List ℕ)
 description_read octets = if is_ptp_text octets then Some (utf8_lossy (ptp_text octets)) else None
 
@@ -34,7 +34,7 @@ description_read octets = if is_ptp_text octets then Some (utf8_lossy (ptp_text 
 abbrev pub asked_of : ℕ → Option Asked
 asked_of n = find (λ a. number_of a == n) six
 
--- ---- what an answer tells, with a list for its text
+-- ---- what an answer says, with a list for its text
 
 pub data Content : Type 0 where
   Default : (set : DefaultDataSet) → Content
@@ -54,11 +54,11 @@ content (told.Port n set) = Port n set
 content (told.Description description) = Description (string_bytes description.text)
 content (told.Refused asked) = Refused asked
 
--- PORT_DATA_SET tells of a port of the clock that sent it
+-- PORT_DATA_SET counts only for a port of the clock that sent it
 unfoldable pub port_told_by : Message → Option (PortIdentity × PortDataSet) → Option Content
 port_told_by m o = option_and_then (λ p. if same_clock p.0.clock m.source.clock then Some (Port p.0.port p.1) else None) o
 
--- what the dataField of a message tells of an id
+-- what the dataField of a message says of an id
 abbrev pub data_told : Asked → Message → Option Content
 data_told id.UserDescription m = option_map Description (description_read (octets_of m.body))
 data_told id.DefaultDataSet m = option_map Default (default_read (octets_of m.body))
@@ -71,7 +71,7 @@ data_told id.PortDataSet m = port_told_by m (port_read (octets_of m.body))
 unfoldable pub content_told : Asked → Message → Option Content
 content_told a m = if is_some (error_of m.body) then Some (Refused a) else data_told a m
 
--- ---- whose an answer is, and which request it came to
+-- ---- which clock an answer is of, and which request it came to
 
 abbrev pub source_of : Message → Source
 source_of m = record { domain = m.domain; clock = m.source.clock }
@@ -91,7 +91,7 @@ abbrev pub is_response : Action → Bool
 is_response action.Response = true
 is_response _ = false
 
--- the answer that a message is: a RESPONSE to one of the six that tells something
+-- the answer that a message is: a RESPONSE to one of the six that says something
 unfoldable pub answer_of : Message → Option Answered
 answer_of m =
     if is_response (action_of m.body)

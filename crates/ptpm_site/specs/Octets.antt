@@ -14,7 +14,7 @@ use Rattle.ptpm_site.specs.declared.data_sets.ParentDataSet.{ParentDataSet}
 use Rattle.ptpm_site.specs.declared.data_sets.PortDataSet.{PortDataSet}
 use Rattle.ptpm_site.specs.declared.data_sets.TimePropertiesDataSet.{TimePropertiesDataSet}
 
--- whether a bit of an octet is set; bit 0 is the least
+-- whether a bit of an octet is set; bit 0 is the least significant one
 abbrev pub flag_at : ℕ → ℕ → List ℕ → Bool
 flag_at place bit octets = bit_at (octet place octets) bit == 1
 
@@ -22,13 +22,13 @@ flag_at place bit octets = bit_at (octet place octets) bit == 1
 unfoldable pub quality_at : ℕ → List ℕ → ClockQuality
 quality_at place octets = record { class = octet place octets; accuracy = octet (place + 1) octets; variance = number_at (place + 2) octets }
 
--- how a port measures delay (8.2.15.4.4), if the number is one's
+-- how a port measures delay (8.2.15.4.4); none if the number is reserved
 abbrev pub mechanism_of : ℕ → Option DelayMechanism
 mechanism_of n =
     if n == 1 then Some mechanisms.EndToEnd else if n == 2 then Some mechanisms.PeerToPeer else if n == 3 then Some mechanisms.CommonPeerToPeer
     else if n == 4 then Some mechanisms.Special else if n == 0xfe then Some mechanisms.NoMechanism else None
 
--- what a dataField of this length tells
+-- what a dataField says if it has this length
 abbrev pub of_length : {A : Type 0} → ℕ → List ℕ → A → Option A
 of_length n octets told = if length octets == n then Some told else None
 

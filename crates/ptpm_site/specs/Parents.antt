@@ -1,4 +1,4 @@
--- Whether the clock that a clock follows fits it: `parent_not_seen`, `parent_not_master`, `steps`.
+-- Whether a clock fits the clock that it follows: `parent_not_seen`, `parent_not_master`, `steps`.
 use Rattle.std.specs.Prelude.{ℕ, ◌==◌, ◌+◌, ◌||◌, Bool, false, nat_lt, Option, Some, None, if◌then◌else◌, option_and_then}
 use Rattle.std.specs.Option.{option_map, option_map_or}
 use Rattle.ptpm_codec.specs.declared.identity.PortIdentity.{PortIdentity}
@@ -10,11 +10,11 @@ use Rattle.ptpm_site.specs.Following.{beside, followed, is_own_grandmaster}
 use Rattle.ptpm_site.specs.PortStates.{is_leading}
 use Rattle.ptpm_site.specs.Telling.{Telling}
 
--- the port that it follows, where that port's clock is not seen
+-- the port that it follows, if that port's clock is not seen
 abbrev pub unseen_parent : Telling → Source → Option PortIdentity
 unseen_parent t s = option_and_then (λ p. if t.seen (beside s p.clock) then None else Some p) (followed t s)
 
--- a clock lacks a port that is 0, or above its numberPorts where DEFAULT_DATA_SET was answered
+-- a clock has no port 0, and none above its numberPorts if DEFAULT_DATA_SET was answered
 abbrev pub lacks_port : Telling → Source → ℕ → Bool
 lacks_port t s n = n == 0 || option_map_or (λ d. nat_lt d.number_of_ports n) (t.default s) false
 
@@ -24,12 +24,12 @@ why_no_master t s n =
     if lacks_port t s n then Some why.NoPort
     else option_and_then (λ set. if is_leading set.state then None else Some (why.InState set.state)) (t.port s n)
 
--- the port that it follows, where that port's clock is seen and the port gives no time
+-- the port that it follows, if that port's clock is seen and the port gives no time
 abbrev pub no_master_port : Telling → Source → Option (PortIdentity × NoMaster)
 no_master_port t s = option_and_then (λ p. if t.seen (beside s p.clock)
     then option_map (λ w. (p, w)) (why_no_master t (beside s p.clock) p.port) else None) (followed t s)
 
--- stepsRemoved: 0 at a grandmaster, else one more than at the clock that it follows
+-- stepsRemoved is 0 at a grandmaster, and otherwise one more than at the clock that it follows
 abbrev pub steps_at_grandmaster : ℕ → Option Steps
 steps_at_grandmaster n = if n == 0 then None else Some (record { steps = n; parent = None })
 

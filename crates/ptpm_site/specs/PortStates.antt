@@ -24,7 +24,7 @@ is_following (Some states.Slave) = true
 is_following (Some states.Uncalibrated) = true
 is_following _ = false
 
--- a port in MASTER, PRE_MASTER or PASSIVE gives time, is about to, or stands by
+-- a port in MASTER, PRE_MASTER or PASSIVE gives time, is about to, or is on standby
 abbrev pub is_giving : Option PortState → Bool
 is_giving (Some states.Master) = true
 is_giving (Some states.PreMaster) = true
@@ -50,11 +50,11 @@ is_of groups.Taking state = is_following state
 is_of groups.Passive state = is_passive state
 is_of groups.Slave state = is_slave state
 
--- a port that answered so is in a state of a group
+-- a port that answered is in a state of a group
 abbrev pub is_port_of : PortGroup → Option PortDataSet → Bool
 is_port_of group o = option_map_or (λ set. is_of group set.state) o false
 
--- what holds of each number from 1 on to this
+-- this holds for each number from 1 on to the last
 abbrev pub holds_to : (ℕ → Bool) → ℕ → Bool
 holds_to p zero = true
 holds_to p (suc n) = p (suc n) && holds_to p n
@@ -81,12 +81,13 @@ measures_end_to_end _ = false
 abbrev pub is_another : Request → Request → Bool
 is_another a b = same_identity a.target b.target && not (a.number == b.number)
 
--- what the latest of some answers, that came to another request of the same requester, says of the state
+-- whether the state is on the way in the latest answer that came to another request of the same requester
 abbrev pub was_on_the_way : Request → List (Heard PortDataSet) → Bool
 was_on_the_way request earlier =
     option_map_or (λ h. option_map_or is_on_the_way h.set.state false) (find (λ h. is_another h.request request) (reverse earlier)) false
 
--- a port is FAULTY in the answer that counts, or on its way in it and in the latest earlier one to another request of the same requester
+-- A port is FAULTY in the answer that counts, or on its way in two answers. The two are that one, and the latest earlier one to
+-- another request of the same requester.
 abbrev pub is_bad : Heard PortDataSet → List (Heard PortDataSet) → PortState → Bool
 is_bad last earlier states.Faulty = true
 is_bad last earlier state = is_on_the_way state && was_on_the_way last.request earlier

@@ -1,4 +1,5 @@
--- What is kept of earlier statements: those that stand for all while none is a change of another, and what each request was told.
+-- What is kept of earlier statements: those that replace all others while none is a change of another, and the first value for
+-- each request.
 use Rattle.std.specs.Prelude.{◌≡◌, ◌&&◌, Bool, true, false, List, [], ◌∷◌, Option, Some, None, if◌then◌else◌, option_and_then}
 use Rattle.std.specs.declared.cmp.Ordering.{Ordering}
 use Rattle.std.specs.BTreeMap.{get}
@@ -18,7 +19,7 @@ use Rattle.ptpm_site.specs.Members.{MemberValue, same_value, value_of}
 abbrev pub statement : Stated → Statement
 statement s = record { request = s.request; value = value_of s.value }
 
--- ---- what tells a change
+-- ---- what shows a change
 
 abbrev pub standing_of : Standing → List Statement
 standing_of standing.Nothing = []
@@ -29,7 +30,7 @@ standing_of (standing.Two first other) = statement first ∷ statement other ∷
 abbrev pub same_statement : Statement → Statement → Bool
 same_statement a b = same_request a.request b.request && same_value a.value b.value
 
--- those that stand are settled, and two of them are not the same, but no change
+-- those that are kept are settled; two of them are not the same, and neither is a change of the other
 abbrev pub IsInOrder : Standing → Type 0
 IsInOrder standing.Nothing = Unit {0}
 IsInOrder (standing.One first) = is_settled (value_of first.value) ≡ true
@@ -37,28 +38,28 @@ IsInOrder (standing.Two first other) =
     (is_settled (value_of first.value) ≡ true) × (is_settled (value_of other.value) ≡ true)
     × (same_statement (statement first) (statement other) ≡ false) × (contradicts sort.Changed (statement first) (statement other) ≡ false)
 
--- whatever comes next, the first of them that it changes is the first of all that it changes
+-- whatever comes next, the first statement that it is a change of is the same among those that are kept as among all
 pub record StandsFor (s : Standing) (seen : List Statement) : Type 0 where
   pub in_order : IsInOrder s
   pub alike : (later : Statement) → find (λ e. contradicts sort.Changed e later) seen ≡ find (λ e. contradicts sort.Changed e later) (standing_of s)
 
--- ---- what tells that a request was answered twice
+-- ---- what shows that a request was answered twice
 
 -- by who asked, and then by sequenceId
 abbrev pub request_cmp : Request → Request → Ordering
 request_cmp a b = ordering_then (identity_cmp a.target b.target) (nat_cmp a.number b.number)
 
--- the first settled value that a request was told
+-- the first settled value that was answered to a request
 abbrev pub settled_of : Settled → Request → Option MemberValue
 settled_of s request = option_map value_of (get request_cmp s.first request)
 
 abbrev pub if_other : MemberValue → MemberValue → Option MemberValue
 if_other now before = if same_value before now then None else Some before
 
--- and where a later statement says another
+-- and that value, if a later statement says another
 abbrev pub settled_otherwise : Settled → Statement → Option MemberValue
 settled_otherwise s later = option_and_then (if_other later.value) (settled_of s later.request)
 
--- whatever comes next, what is kept is the value of the first that it contradicts
+-- whatever comes next, the value that is kept is that of the first statement that it contradicts
 pub record TellsTwice (s : Settled) (seen : List Statement) : Type 0 where
   pub alike : (later : Statement) → option_map (λ e. e.value) (find (λ e. contradicts sort.IdentityTwice e later) seen) ≡ settled_otherwise s later

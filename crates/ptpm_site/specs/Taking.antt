@@ -10,13 +10,13 @@ use Rattle.ptpm_site.specs.Messages.{Answered, answer_of, answered}
 unfoldable pub answer_in : List ℕ → Option Answered
 answer_in datagram = option_and_then answer_of (message_of datagram)
 
--- an answer that says this is taken
+-- the answer that is taken says this
 pub record TakesAnswer (old new : Site) (says : Answered) : Type 0 where
   pub answer : Answer
   pub said : answered answer ≡ says
   pub taken : Takes old new answer
 
--- where there is no answer, all stays as it was
+-- if there is no answer, all stays as it was
 abbrev pub TakesAny : Site → Site → Option Answered → Type 0
 TakesAny old new None = new ≡ old
 TakesAny old new (Some says) = TakesAnswer old new says

@@ -1,4 +1,4 @@
--- What counts of a site: the clocks that are seen, and of each the data sets of those of its answers that count.
+-- What counts of a site: the clocks that are seen, and for each its data sets, each from the answer that counts.
 use Rattle.std.specs.Prelude.{◌≡◌, ℕ, Bool, List, Option, is_some}
 use Rattle.std.specs.List.{list_any}
 use Rattle.ptpm_site.specs.declared.answer.Answer.{Answer}
@@ -23,7 +23,7 @@ pub record Telling : Type 0 where
   pub current : Source → Option CurrentDataSet
   pub parent : Source → Option ParentDataSet
   pub time : Source → Option TimePropertiesDataSet
-  -- all that was heard of each, in the order of the lines
+  -- all that was answered for each, in the order of the lines
   pub defaults : Source → List (Heard DefaultDataSet)
   pub currents : Source → List (Heard CurrentDataSet)
   pub parents : Source → List (Heard ParentDataSet)
@@ -33,7 +33,7 @@ pub record Telling : Type 0 where
   pub refused : Source → Asked → Bool
   -- the numbers of the ports that answered, ascending
   pub ports : Source → List ℕ
-  -- of a port all that was heard, in the order of the lines
+  -- all that was answered for a port, in the order of the lines
   pub heard : Source → ℕ → List (Heard PortDataSet)
   pub port : Source → ℕ → Option PortDataSet
 
@@ -45,7 +45,7 @@ has_port_of t s group = list_any (λ n. is_port_of group (t.port s n)) (t.ports 
 abbrev pub has_ports_to : Telling → Source → ℕ → Bool
 has_ports_to t s last = holds_to (λ n. is_some (t.port s n)) last
 
--- what the answers tell
+-- what the answers say
 abbrev pub told_by : List Answer → Telling
 told_by answers = record {
   clocks = clocks_of answers;
@@ -65,7 +65,8 @@ told_by answers = record {
   port = λ s n. port_of s n answers;
 }
 
--- the same clocks and ports answered, and of each clock, id and port the same answers stand in the same order, whatever stands between them
+-- the same clocks and ports answered; and each clock, id and port has the same answers in the same order, whatever comes between
+-- them
 pub record IsToldAlike (xs ys : List Answer) : Type 0 where
   pub clocks : clocks_of xs ≡ clocks_of ys
   pub seen : (s : Source) → is_seen s xs ≡ is_seen s ys

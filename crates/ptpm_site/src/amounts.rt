@@ -8,14 +8,14 @@ use crate::data_sets::PortDataSet;
 use crate::site::Site;
 use crate::source::Source;
 
-/// Whether the amount of a TimeInterval is above so many nanoseconds; a limit itself is allowed.
+/// Whether the amount of a TimeInterval is above this many nanoseconds. An amount equal to the limit is allowed.
 fn is_above(interval: i64, nanoseconds: u64) -> bool
     ensures { result ≡ is_above interval nanoseconds }
 {
     nanoseconds.saturating_mul(65_536) < interval.unsigned_abs()
 }
 
-/// A TimeInterval, where it is beyond the limit; without a limit none is.
+/// A TimeInterval that is beyond the limit, or `None`. Without a limit none is beyond it.
 fn beyond(interval: i64, limit: Option<u64>) -> Option<i64>
     ensures { result ≡ beyond interval limit }
 {
@@ -26,7 +26,7 @@ fn beyond(interval: i64, limit: Option<u64>) -> Option<i64>
     }
 }
 
-/// offsetFromMaster of a clock that is not its own grandmaster, where it is beyond the limit.
+/// offsetFromMaster of a clock that is not its own grandmaster, if it is beyond the limit.
 pub fn large_offset(site: &Site, source: Source, limit: Option<u64>) -> Option<i64>
     ensures { result ≡ large_offset (kept site.now) source limit }
 {
@@ -35,7 +35,7 @@ pub fn large_offset(site: &Site, source: Source, limit: Option<u64>) -> Option<i
     beyond(current.offset_from_master, limit)
 }
 
-/// meanDelay of a clock that is not its own grandmaster, where it is beyond the limit.
+/// meanDelay of a clock that is not its own grandmaster, if it is beyond the limit.
 pub fn large_delay(site: &Site, source: Source, limit: Option<u64>) -> Option<i64>
     ensures { result ≡ large_delay (kept site.now) source limit }
 {
@@ -44,7 +44,7 @@ pub fn large_delay(site: &Site, source: Source, limit: Option<u64>) -> Option<i6
     beyond(current.mean_delay, limit)
 }
 
-/// meanLinkDelay of a port in SLAVE or UNCALIBRATED that measures the delay of its link, where it is beyond the limit.
+/// meanLinkDelay of a port in SLAVE or UNCALIBRATED that measures the delay of its link, if it is beyond the limit.
 pub fn large_link_delay(port: &PortDataSet, limit: Option<u64>) -> Option<i64>
     ensures { result ≡ large_link_delay port.now limit }
 {

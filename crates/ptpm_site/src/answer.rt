@@ -35,8 +35,9 @@ pub struct Answer {
 impl Answer {
     ghost use Rattle.ptpm_site.specs.Messages.{answer_of, answered};
 
-    /// The answer that a message is; none where it is no RESPONSE to one of the six, where its dataField has another
-    /// length, or where PORT_DATA_SET names another clock than its source.
+    /// The answer that a message is. It is `None` if the message is no RESPONSE to one of the six ids, or its
+    /// dataField has another length. It is also `None` if PORT_DATA_SET names another clock than the one that sent
+    /// it.
     #[tactic(auto, unfolding(crate::specs::Messages::answer_of))]
     pub fn of(alloc: Global, message: &View<'_>) -> Result<Option<Answer>, AllocError>
         ensures { IfOk result (λ found. option_map answered found ≡ answer_of message.now) }
@@ -79,7 +80,7 @@ fn request_of(message: &View<'_>) -> Request
     }
 }
 
-/// What a message tells of the id that was asked.
+/// What a message says of the id that was asked for.
 #[tactic(auto, unfolding(crate::specs::Messages::content_told))]
 fn told(alloc: Global, asked: Asked, message: &View<'_>) -> Result<Option<Told>, AllocError>
     ensures { IfOk result (λ found. option_map content found ≡ content_told asked message.now) }
@@ -91,7 +92,7 @@ fn told(alloc: Global, asked: Asked, message: &View<'_>) -> Result<Option<Told>,
     }
 }
 
-/// What the dataField of a message tells of the id that was asked.
+/// What the dataField of a message says of the id that was asked for.
 fn data_told(alloc: Global, asked: Asked, message: &View<'_>) -> Result<Option<Told>, AllocError>
     ensures { IfOk result (λ found. option_map content found ≡ data_told asked message.now) }
 {
@@ -106,7 +107,7 @@ fn data_told(alloc: Global, asked: Asked, message: &View<'_>) -> Result<Option<T
     }
 }
 
-/// What PORT_DATA_SET tells; none where it names another clock than its source.
+/// What PORT_DATA_SET says. `None` if it names another clock than the one that sent it.
 #[tactic(auto, unfolding(crate::specs::Messages::port_told_by))]
 fn port_told(octets: &[u8], message: &View<'_>) -> Option<Told>
     ensures { option_map content result ≡ port_told_by message.now (port_read octets.now) }

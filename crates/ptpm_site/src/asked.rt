@@ -14,7 +14,7 @@ pub enum Asked {
     PortDataSet,
 }
 
-/// The six, in the order in which they are told.
+/// The six, in the order in which they are reported.
 pub fn six() -> [Asked; 6]
     ensures { result ≡ six }
 {
@@ -31,7 +31,7 @@ pub fn six() -> [Asked; 6]
 impl Asked {
     ghost use Rattle.ptpm_site.specs.Messages.{asked_of};
 
-    /// That of a managementId; none where it is none of the six.
+    /// The id of the six with this managementId, or `None` for any other managementId.
     pub fn of_id(id: u16) -> Option<Asked>
         ensures { result ≡ asked_of id }
     {
@@ -60,7 +60,7 @@ impl Asked {
         }
     }
 
-    /// Whether it is another.
+    /// Whether it is the same id as another.
     pub fn is(self, other: Asked) -> bool
         ensures { result ≡ same_id self other }
     {

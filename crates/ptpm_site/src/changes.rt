@@ -1,4 +1,4 @@
-//! What changed from one answer to another, and what two answers to one request say otherwise.
+//! What changed from one answer to another, and how answers to one request differ.
 
 ghost use Rattle.std.specs.Prelude.{◌≡◌, ◌++◌, [], ◌∷◌, false, List, None, IfOk, OnOk, find};
 ghost use Rattle.std.specs.List.{list_all};
@@ -14,16 +14,16 @@ use ptpm_data::PortState;
 use std::alloc::{AllocError, Global};
 use std::collections::BTreeMap;
 
-/// Which answers are held against each other.
+/// Which answers are compared with each other.
 #[derive(Clone, Copy)]
 pub enum Contradiction {
-    /// Those to two requests: what they say otherwise changed.
+    /// Answers to two requests. If they differ, the value changed.
     Changed,
-    /// Those to one request: what they say otherwise says that two clocks have one identity.
+    /// Answers to one request. If they differ, two clocks have one identity.
     IdentityTwice,
 }
 
-/// A member that two answers of a clock say otherwise: the value of the earlier, and of the later.
+/// A member that differs between two answers of a clock: its value in the earlier one and in the later one.
 #[derive(Clone, Copy)]
 pub struct Change<'a> {
     pub member: Member,
@@ -48,7 +48,7 @@ impl<'a> Stated<'a> {
         })
     }
 
-    /// Whether a later value that differs is a change: a portState on its way to another is none.
+    /// Whether a later value that differs is a change. The portState of a port on its way to another state is not settled.
     fn is_settled(&self) -> bool
         ensures { result ≡ is_settled (value_of self.now.value) }
     {
@@ -74,7 +74,7 @@ impl<'a> Stated<'a> {
         self.is_settled() && self.request != later.request && self.value != later.value
     }
 
-    /// Whether another came to the same request and says the same value.
+    /// Whether another statement came to the same request and says the same value.
     fn is_same(&self, other: &Stated<'a>) -> bool
         ensures { result ≡ same_statement (statement self.now) (statement other.now) }
     {
@@ -82,8 +82,9 @@ impl<'a> Stated<'a> {
     }
 }
 
-/// The statements that stand for all earlier ones while none of these is a change of another: then all that are settled came to
-/// one request, or say one value, so the first of them, and the first that is not the same, show whether another is a change.
+/// The statements that are kept in place of all earlier ones, as long as none of these is a change of another. Then all settled
+/// statements came to one request or say one value. So two of them show whether a later one is a change: the first, and the
+/// first that differs from it in request or value.
 #[derive(Clone, Copy)]
 enum Standing<'a> {
     Nothing,
@@ -92,7 +93,7 @@ enum Standing<'a> {
 }
 
 impl<'a> Standing<'a> {
-    /// The first that a later statement is a change of.
+    /// The first of them that a later statement is a change of.
     fn changed_by(&self, later: &Stated<'a>) -> Option<Stated<'a>>
         ensures { option_map statement result ≡ find (λ e. contradicts Contradiction.Changed e (statement later.now)) (standing_of self.now) }
     {
@@ -117,7 +118,7 @@ impl<'a> Standing<'a> {
         }
     }
 
-    /// Those that stand once a statement came that is a change of none.
+    /// What is kept after a statement that is a change of none.
     fn with(&self, next: &Stated<'a>) -> Standing<'a>
         ensures { (seen : List Statement) → StandsFor self.now seen
             → find (λ e. contradicts Contradiction.Changed e (statement next.now)) seen ≡ None
@@ -140,7 +141,7 @@ impl<'a> Standing<'a> {
     }
 }
 
-/// The first settled value that each request was told.
+/// For each request the first settled value that was answered to it.
 #[derive(Drop)]
 struct Settled<'a> {
     first: BTreeMap<Request, Value<'a>>,
@@ -155,7 +156,7 @@ impl<'a> Settled<'a> {
         }
     }
 
-    /// The value that the request of a later statement was told, where it says another.
+    /// The value that was kept for the request of a later statement, if that statement says another.
     fn contradicted_by(&self, later: &Stated<'a>) -> Option<Value<'a>>
         ensures { option_map value_of result ≡ settled_otherwise self.now (statement later.now) }
     {
@@ -167,7 +168,7 @@ impl<'a> Settled<'a> {
         }
     }
 
-    /// Keeps what a statement says that contradicts none.
+    /// Keeps the value of a statement that contradicts no earlier one.
     fn add(&mut self, next: &Stated<'a>) -> Result<(), AllocError>
         ensures { OnOk result ((seen : List Statement) → TellsTwice self.old seen
             → find (λ e. contradicts Contradiction.IdentityTwice e (statement next.now)) seen ≡ None
@@ -184,7 +185,7 @@ impl<'a> Settled<'a> {
     }
 }
 
-/// The first change of a member: two answers to different requests that say it otherwise.
+/// The first change of a member: the first two answers to different requests that differ in it.
 pub fn first_change<'a, T: DataSet>(heard: &'a [Heard<T>], member: Member) -> Option<Change<'a>>
     ensures { option_map told_change result ≡ contradiction Contradiction.Changed T.says member heard.now }
 {
@@ -205,7 +206,7 @@ pub fn first_change<'a, T: DataSet>(heard: &'a [Heard<T>], member: Member) -> Op
     None
 }
 
-/// The first contradiction in a member: two answers to one request that say it otherwise.
+/// The first contradiction in a member: the first two answers to one request that differ in it.
 pub fn first_contradiction<'a, T: DataSet>(
     alloc: Global,
     heard: &'a [Heard<T>],
@@ -230,7 +231,7 @@ pub fn first_contradiction<'a, T: DataSet>(
     Ok(None)
 }
 
-/// Whether two answers say a member otherwise.
+/// Whether any two answers differ in a member.
 pub fn is_said_otherwise<T: DataSet>(heard: &[Heard<T>], member: Member) -> bool
     ensures { (how : Contradiction) → result ≡ false → contradiction how T.says member heard.now ≡ None }
 {
@@ -240,7 +241,7 @@ pub fn is_said_otherwise<T: DataSet>(heard: &[Heard<T>], member: Member) -> bool
     }
 }
 
-/// Whether all these answers say a member as another does.
+/// Whether all these answers say of a member what the first one says.
 fn all_say_as<T: DataSet>(first: &Heard<T>, others: &[Heard<T>], member: Member) -> bool
     ensures { result ≡ list_all (λ h. option_eq same_value (T.says first.now.set member) (T.says h.set member)) others.now }
 {

@@ -1,4 +1,4 @@
-//! What the answers tell of one clock.
+//! What the answers say of one clock.
 
 ghost use Rattle.std.specs.Prelude.{◌≡◌, ℕ, ◌==◌, ◌-◌, ◌++◌, [], ◌∷◌, OnOk, IsSome, if◌then◌else◌, length, take};
 ghost use Rattle.std.specs.BTreeMap.{get, keys};
@@ -20,14 +20,15 @@ use crate::told::Told;
 use std::alloc::{AllocError, Global};
 use std::collections::BTreeMap;
 
-/// A data set that an answer told, and the request that the answer came to.
+/// A data set that an answer had, and the request that the answer came to.
 #[derive(Drop)]
 pub struct Heard<T> {
     pub request: Request,
     pub set: T,
 }
 
-/// What the answers of a clock tell, of each data set in the order of their lines. The last counts.
+/// What the answers of a clock say, for each data set in the order of their lines. The last one
+/// counts.
 #[derive(Drop)]
 pub struct Clock {
     pub defaults: Vec<Heard<DefaultDataSet>>,
@@ -37,12 +38,12 @@ pub struct Clock {
     pub descriptions: Vec<Heard<Description>>,
     /// By portNumber.
     pub ports: BTreeMap<u16, Vec<Heard<PortDataSet>>>,
-    /// Of the ids for which an error came.
+    /// The ids that an error came for.
     pub refused: Vec<Heard<Asked>>,
 }
 
 impl Clock {
-    /// A clock that told nothing yet.
+    /// A clock that has said nothing yet.
     pub fn new(alloc: Global) -> Clock
         ensures { IsSilent result }
     {
@@ -57,7 +58,7 @@ impl Clock {
         }
     }
 
-    /// Takes what an answer of the clock tells, behind all earlier ones.
+    /// Takes what an answer of the clock says, after all earlier ones.
     pub fn take(&mut self, alloc: Global, request: Request, told: Told) -> Result<(), AllocError>
         ensures defaults { OnOk result (self.new.defaults.items
             ≡ self.old.defaults.items ++ heard_now default_told request told) }
@@ -89,48 +90,48 @@ impl Clock {
         Ok(())
     }
 
-    /// DEFAULT_DATA_SET, where it was answered.
+    /// The last DEFAULT_DATA_SET that was answered, if there is one.
     pub fn default(&self) -> Option<DefaultDataSet>
         ensures { result ≡ counting self.now.defaults.items }
     {
         last_of(self.defaults.as_slice())
     }
 
-    /// CURRENT_DATA_SET, where it was answered.
+    /// The last CURRENT_DATA_SET that was answered, if there is one.
     pub fn current(&self) -> Option<CurrentDataSet>
         ensures { result ≡ counting self.now.currents.items }
     {
         last_of(self.currents.as_slice())
     }
 
-    /// PARENT_DATA_SET, where it was answered.
+    /// The last PARENT_DATA_SET that was answered, if there is one.
     pub fn parent(&self) -> Option<ParentDataSet>
         ensures { result ≡ counting self.now.parents.items }
     {
         last_of(self.parents.as_slice())
     }
 
-    /// TIME_PROPERTIES_DATA_SET, where it was answered.
+    /// The last TIME_PROPERTIES_DATA_SET that was answered, if there is one.
     pub fn time(&self) -> Option<TimePropertiesDataSet>
         ensures { result ≡ counting self.now.times.items }
     {
         last_of(self.times.as_slice())
     }
 
-    /// userDescription, where it was answered.
+    /// The last userDescription that was answered, if there is one.
     pub fn description(&self) -> Option<&str> {
         let heard = self.descriptions.last()?;
         Some(heard.set.text.as_str())
     }
 
-    /// PORT_DATA_SET of a port, where it was answered.
+    /// The last PORT_DATA_SET that was answered for a port, if there is one.
     pub fn port(&self, number: u16) -> Option<PortDataSet>
         ensures { result ≡ port_kept self.now number }
     {
         last_of(self.ports.get(&number)?.as_slice())
     }
 
-    /// What was heard of a port, in the order of the lines.
+    /// All that was answered for a port, in the order of the lines.
     pub fn heard(&self, number: u16) -> &[Heard<PortDataSet>]
         ensures { result.now ≡ port_heard self.now number }
     {
@@ -152,7 +153,7 @@ impl Clock {
         })
     }
 
-    /// Keeps at most so many ports, the first; how many were left out.
+    /// Keeps at most `room` ports, those with the lowest numbers. Answers how many it left out.
     pub fn keep_first_ports(&mut self, room: usize) -> usize
         ensures ports { keys self.new.ports ≡ take room (keys self.old.ports) }
         ensures left_out { result ≡ length (keys self.old.ports) - room }
@@ -172,7 +173,7 @@ impl Clock {
     }
 }
 
-/// What was heard of a port stands behind all that was heard of it.
+/// Adds an answer for a port, after all earlier ones.
 fn put_port(
     alloc: Global,
     ports: &mut BTreeMap<u16, Vec<Heard<PortDataSet>>>,
@@ -188,7 +189,7 @@ fn put_port(
     Ok(())
 }
 
-/// A port of which nothing was heard gets its place.
+/// Adds a port that has no answer yet, unless it is there.
 fn place_port(
     alloc: Global,
     ports: &mut BTreeMap<u16, Vec<Heard<PortDataSet>>>,
@@ -205,7 +206,7 @@ fn place_port(
     Ok(())
 }
 
-/// What was heard of a port that has its place stands behind all that was heard of it.
+/// Adds an answer for a port that is there, after all earlier ones.
 fn push_heard(
     ports: &mut BTreeMap<u16, Vec<Heard<PortDataSet>>>,
     number: u16,
@@ -222,7 +223,7 @@ fn push_heard(
     Ok(())
 }
 
-/// The data set of the answer that counts: the last.
+/// The data set that counts: that of the last answer.
 pub fn last_of<T: Copy>(heard: &[Heard<T>]) -> Option<T>
     ensures { result ≡ counting heard.now }
 {

@@ -1,4 +1,4 @@
-//! What is told of members that two clocks say otherwise.
+//! Findings for the members in which two clocks differ.
 
 ghost use Rattle.std.specs.Prelude.{◌≡◌, ◌++◌, OnOk};
 ghost use Rattle.ptpm_site.specs.Differences.{what_differs};
@@ -13,16 +13,16 @@ use std::alloc::AllocError;
 /// What a clock is compared with.
 #[derive(Clone, Copy)]
 pub enum Compared {
-    /// Its grandmaster, or the clock that it follows: what they say of the grandmaster.
+    /// Its grandmaster, or the clock that it follows: what both say of the grandmaster.
     Grandmaster,
-    /// Its grandmaster: what they say of UTC.
+    /// Its grandmaster: what both say of UTC.
     Time,
-    /// Its port of this number, with the port that it follows.
+    /// Its port of this number, compared with the port that it follows.
     Port(u16),
 }
 
 impl Compared {
-    /// What is wrong where a member is said otherwise.
+    /// What is wrong if the two differ in a member.
     fn what(self, differs: Differs) -> What<'static>
         ensures { result ≡ what_differs self differs }
     {
@@ -34,7 +34,7 @@ impl Compared {
     }
 }
 
-/// A finding for each member that is said otherwise, behind all earlier ones.
+/// Adds a finding for each member in which the two differ, after all earlier findings.
 pub fn find_each(
     findings: &mut Vec<Finding<'_>>,
     source: Source,

@@ -1,4 +1,4 @@
-//! What of a clock was not answered.
+//! What a clock did not answer.
 
 ghost use Rattle.std.specs.Prelude.{◌≡◌, ◌++◌, IfOk, OnOk, filter};
 ghost use Rattle.std.specs.Option.{option_map};
@@ -11,7 +11,7 @@ use crate::source::Source;
 use std::alloc::{AllocError, Global};
 
 impl Site {
-    /// How many answers came to an id; of PORT_DATA_SET, how many ports answered.
+    /// How many answers came to an id. For PORT_DATA_SET, how many ports answered.
     fn answers_to(&self, source: Source, asked: Asked) -> usize
         ensures { result ≡ answers_to (kept self.now) source asked }
     {
@@ -32,8 +32,8 @@ impl Site {
         self.answers_to(source, asked) == 0 && !self.refuses(source, asked)
     }
 
-    /// The highest port that has to answer: numberPorts, of a clock that answered some port and refused none; else none has
-    /// to.
+    /// The highest port that has to answer: numberPorts, if some port of the clock answered and PORT_DATA_SET was not
+    /// refused. Otherwise 0, for none has to.
     fn last_port(&self, source: Source) -> u16
         ensures { result ≡ last_port (kept self.now) source }
     {
@@ -47,15 +47,15 @@ impl Site {
     }
 }
 
-/// What a clock was asked, and neither answered nor refused.
+/// What a clock was asked for, and neither answered nor refused.
 #[derive(Drop)]
 pub struct Missing {
     pub asked: Vec<Asked>,
-    /// Ports, in runs of the first and the last.
+    /// Ports, as runs: the first and the last of each.
     pub ports: Vec<(u16, u16)>,
 }
 
-/// What a clock neither answered nor refused, where that is anything. Given are its ports that answered.
+/// What a clock neither answered nor refused, or `None` if there is nothing. `ports` are its ports that answered.
 #[tactic(auto, unfolding(crate::specs::Completeness::lacking))]
 pub fn missing_answers(
     alloc: Global,
@@ -74,7 +74,7 @@ pub fn missing_answers(
     Ok(Some(Missing { asked, ports }))
 }
 
-/// Which of these ids lack.
+/// Those of these ids that the clock neither answered nor refused.
 fn missing_ids(
     alloc: Global,
     site: &Site,
@@ -92,7 +92,7 @@ fn missing_ids(
     Ok(missing)
 }
 
-/// The gaps that these ports leave, up to the last that has to answer.
+/// The gaps between these ports, up to the last port that has to answer.
 fn missing_ports(alloc: Global, ports: &[u16], last: u16) -> Result<Vec<(u16, u16)>, AllocError>
     ensures { IfOk result (λ runs. runs.items ≡ gaps 0 last ports.now) }
 {
@@ -106,7 +106,7 @@ fn missing_ports(alloc: Global, ports: &[u16], last: u16) -> Result<Vec<(u16, u1
     Ok(runs)
 }
 
-/// The ports above one and up to another are a gap, where there are any.
+/// Adds the ports above `low` and up to `high` as a gap, if there are any.
 fn put_gap(runs: &mut Vec<(u16, u16)>, low: u16, high: u16) -> Result<(), AllocError>
     ensures { OnOk result (runs.new.items ≡ runs.old.items ++ gap low high) }
 {

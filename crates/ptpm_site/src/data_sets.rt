@@ -1,4 +1,4 @@
-//! The data sets of a clock as its answers tell them (clauses 8.2 and 15.5.3): every member, whatever its value.
+//! The data sets of a clock as its answers have them (clauses 8.2 and 15.5.3): every member, whatever its value.
 
 ghost use Rattle.std.specs.Prelude.{◌≡◌, ◌+◌, ◌≤◌, length};
 ghost use Rattle.ptpm_site.specs.Octets.{current_read, default_read, mechanism_of, parent_read, port_read, quality_at, time_read};
@@ -81,10 +81,10 @@ pub enum DelayMechanism {
     NoMechanism,
 }
 
-/// PORT_DATA_SET, but for its portIdentity.
+/// PORT_DATA_SET, without its portIdentity.
 #[derive(Clone, Copy)]
 pub struct PortDataSet {
-    /// portState; none where its number is reserved.
+    /// portState. `None` if its number is reserved.
     pub state: Option<PortState>,
     pub log_min_delay_req: i8,
     /// A TimeInterval, in nanoseconds times 2^16.
@@ -92,7 +92,7 @@ pub struct PortDataSet {
     pub log_announce: i8,
     pub receipt_timeout: u8,
     pub log_sync: i8,
-    /// delayMechanism; none where its number is reserved.
+    /// delayMechanism. `None` if its number is reserved.
     pub delay_mechanism: Option<DelayMechanism>,
     pub log_min_pdelay: i8,
     /// versionNumber, of four bits.
@@ -100,7 +100,7 @@ pub struct PortDataSet {
 }
 
 impl ClockQuality {
-    /// That in the four octets from a place.
+    /// The ClockQuality in the four octets from a place.
     #[tactic(auto, unfolding(crate::specs::Octets::quality_at))]
     fn at(octets: &[u8], place: usize) -> ClockQuality
         requires { place + 4 ≤ length octets.now }
@@ -115,7 +115,7 @@ impl ClockQuality {
 }
 
 impl DefaultDataSet {
-    /// What a dataField tells; none where its length is another.
+    /// Reads a dataField. `None` if it has another length.
     #[tactic(auto, unfolding(crate::specs::Octets::default_read))]
     pub fn read(octets: &[u8]) -> Option<DefaultDataSet>
         ensures { result ≡ default_read octets.now }
@@ -137,7 +137,7 @@ impl DefaultDataSet {
 }
 
 impl CurrentDataSet {
-    /// What a dataField tells; none where its length is another.
+    /// Reads a dataField. `None` if it has another length.
     #[tactic(auto, unfolding(crate::specs::Octets::current_read))]
     pub fn read(octets: &[u8]) -> Option<CurrentDataSet>
         ensures { result ≡ current_read octets.now }
@@ -154,7 +154,7 @@ impl CurrentDataSet {
 }
 
 impl ParentDataSet {
-    /// What a dataField tells; none where its length is another.
+    /// Reads a dataField. `None` if it has another length.
     #[tactic(auto, unfolding(crate::specs::Octets::parent_read))]
     pub fn read(octets: &[u8]) -> Option<ParentDataSet>
         ensures { result ≡ parent_read octets.now }
@@ -176,7 +176,7 @@ impl ParentDataSet {
 }
 
 impl TimePropertiesDataSet {
-    /// What a dataField tells; none where its length is another.
+    /// Reads a dataField. `None` if it has another length.
     #[tactic(auto, unfolding(crate::specs::Octets::time_read))]
     pub fn read(octets: &[u8]) -> Option<TimePropertiesDataSet>
         ensures { result ≡ time_read octets.now }
@@ -198,7 +198,7 @@ impl TimePropertiesDataSet {
 }
 
 impl PortDataSet {
-    /// What a dataField tells, and of which port; none where its length is another.
+    /// Reads a dataField: its portIdentity and the data set. `None` if it has another length.
     #[tactic(auto, unfolding(crate::specs::Octets::port_read))]
     pub fn read(octets: &[u8]) -> Option<(PortIdentity, PortDataSet)>
         ensures { result ≡ port_read octets.now }
@@ -253,7 +253,7 @@ impl PortDataSet {
 }
 
 impl DelayMechanism {
-    /// That of a number, if it is one's.
+    /// The mechanism with this number, or `None` if the number is reserved.
     fn from_number(number: u8) -> Option<DelayMechanism>
         ensures { result ≡ mechanism_of number }
     {

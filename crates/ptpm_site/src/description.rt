@@ -7,7 +7,7 @@ ghost use Rattle.std.specs.String.{string_bytes};
 use ptpm_codec::{is_ptp_text, text_of_ptp_text};
 use std::alloc::{AllocError, Global};
 
-/// USER_DESCRIPTION, as text; what is no UTF-8 in it is replaced.
+/// USER_DESCRIPTION as text. Octets that are no UTF-8 are replaced.
 #[derive(Drop)]
 pub struct Description {
     pub text: String,
@@ -16,7 +16,7 @@ pub struct Description {
 impl Description {
     ghost use Rattle.ptpm_site.specs.Messages.{description_read};
 
-    /// What a dataField tells; none where it is no PTPText.
+    /// Reads a dataField. `None` if it is no PTPText.
     #[tactic(auto, unfolding(crate::specs::Messages::description_read))]
     pub fn read(alloc: Global, octets: &[u8]) -> Result<Option<Description>, AllocError>
         ensures { IfOk result (λ found. option_map (λ d. string_bytes d.text) found ≡ description_read octets.now) }

@@ -1,4 +1,4 @@
-//! Where a clock says otherwise than its grandmaster or the port that it follows.
+//! The members in which a clock differs from its grandmaster or from the port that it follows.
 
 ghost use Rattle.std.specs.Prelude.{◌≡◌};
 ghost use Rattle.ptpm_site.specs.Differences.{flag_differs, grandmaster_differs, intervals_differ, mechanism_differs, number_differs, other_grandmaster, utc_differs, value_differs};
@@ -6,7 +6,7 @@ ghost use Rattle.ptpm_site.specs.Differences.{flag_differs, grandmaster_differs,
 use crate::data_sets::{DefaultDataSet, ParentDataSet, PortDataSet, TimePropertiesDataSet};
 use crate::member::{Member, Value};
 
-/// A member that two clocks say otherwise.
+/// A member in which two clocks differ, with both values.
 #[derive(Clone, Copy)]
 pub struct Differs {
     pub member: Member,
@@ -14,7 +14,7 @@ pub struct Differs {
     pub other: Value<'static>,
 }
 
-/// The member, where the values differ.
+/// The member, if the values differ.
 fn value_differs(member: Member, own: Value<'static>, other: Value<'static>) -> Option<Differs>
     ensures { result ≡ value_differs member own.entry other.entry }
 {
@@ -24,21 +24,21 @@ fn value_differs(member: Member, own: Value<'static>, other: Value<'static>) -> 
     Some(Differs { member, own, other })
 }
 
-/// The member, where the numbers differ.
+/// The member, if the numbers differ.
 fn number_differs(member: Member, own: i64, other: i64) -> Option<Differs>
     ensures { result ≡ number_differs member own other }
 {
     value_differs(member, Value::Number(own), Value::Number(other))
 }
 
-/// The member, where the flags differ.
+/// The member, if the flags differ.
 fn flag_differs(member: Member, own: bool, other: bool) -> Option<Differs>
     ensures { result ≡ flag_differs member own other }
 {
     value_differs(member, Value::Flag(own), Value::Flag(other))
 }
 
-/// What a clock says of its grandmaster and the grandmaster's DEFAULT_DATA_SET does not.
+/// The members in which what a clock says of its grandmaster differs from the grandmaster's DEFAULT_DATA_SET.
 pub fn grandmaster_differs(
     own: &ParentDataSet,
     grandmaster: &DefaultDataSet,
@@ -64,7 +64,7 @@ pub fn grandmaster_differs(
     ]
 }
 
-/// grandmasterIdentity, where a clock names another than the clock that it follows.
+/// grandmasterIdentity, if a clock names another one than the clock that it follows.
 pub fn other_grandmaster(own: &ParentDataSet, parent: &ParentDataSet) -> Option<Differs>
     ensures { result ≡ other_grandmaster own.now parent.now }
 {
@@ -75,7 +75,7 @@ pub fn other_grandmaster(own: &ParentDataSet, parent: &ParentDataSet) -> Option<
     )
 }
 
-/// What a clock says of UTC and its grandmaster does not.
+/// The members in which what a clock says of UTC differs from what its grandmaster says.
 pub fn utc_differs(
     own: &TimePropertiesDataSet,
     grandmaster: &TimePropertiesDataSet,
@@ -103,8 +103,8 @@ pub fn utc_differs(
     ]
 }
 
-/// What a port in SLAVE or UNCALIBRATED says otherwise than the port that it follows: logAnnounceInterval, and a
-/// delayMechanism that measures another delay.
+/// The members in which a port in SLAVE or UNCALIBRATED differs from the port that it follows. These are
+/// logAnnounceInterval, and delayMechanism if the two measure different delays.
 pub fn intervals_differ(own: &PortDataSet, parent: &PortDataSet) -> [Option<Differs>; 2]
     ensures { result ≡ intervals_differ own.now parent.now }
 {
@@ -121,8 +121,8 @@ pub fn intervals_differ(own: &PortDataSet, parent: &PortDataSet) -> [Option<Diff
     ]
 }
 
-/// delayMechanism, where one port measures the delay from end to end and the other that of the link; others say nothing
-/// against a link.
+/// delayMechanism, if one port measures the delay from end to end and the other that of the link. No other
+/// pair counts as different.
 fn mechanism_differs(own: &PortDataSet, parent: &PortDataSet) -> Option<Differs>
     ensures { result ≡ mechanism_differs own.now parent.now }
 {

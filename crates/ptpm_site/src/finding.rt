@@ -16,7 +16,7 @@ pub struct Finding<'a> {
     pub what: What<'a>,
 }
 
-/// What is wrong, in the order in which it is told of a clock.
+/// What is wrong, in the order in which the findings of a clock are reported.
 #[derive(Drop)]
 pub enum What<'a> {
     /// It is one of two or more clocks of the domain that are their own grandmasters and have a port in MASTER.
@@ -31,9 +31,10 @@ pub enum What<'a> {
     ParentNotMaster(PortIdentity, NoMaster),
     /// stepsRemoved is not 0 at a grandmaster, or not one more than that of the clock that it follows.
     Steps(Steps),
-    /// It says otherwise of the grandmaster than that does, or than the clock that it follows.
+    /// What it says of its grandmaster differs from what the grandmaster says, or the clock that it follows.
     GrandmasterDiffers(Differs),
-    /// It is the least of clocks that follow each other, which are these, each followed by the one that it follows.
+    /// It is the least of the clocks of a loop. The list has all of them: each is followed by the one that it
+    /// follows.
     Loop(Vec<ClockIdentity>),
     /// A port is FAULTY, or stays on its way to another state.
     PortState(u16, PortState),
@@ -43,11 +44,11 @@ pub enum What<'a> {
     Delay(i64),
     /// meanLinkDelay of a port is beyond the limit.
     LinkDelay(u16, i64),
-    /// It says otherwise of UTC than its grandmaster.
+    /// What it says of UTC differs from what its grandmaster says.
     Utc(Differs),
-    /// A port says otherwise than the port that it follows.
+    /// A port differs from the port that it follows.
     Intervals(u16, Differs),
-    /// Not all that was asked was answered.
+    /// Not all that it was asked for was answered.
     Incomplete(Missing),
     /// Answers to two requests differ.
     Changed(Option<u16>, Change<'a>),

@@ -1,4 +1,4 @@
-//! How a finding is put behind those before it.
+//! How a finding is added after those before it.
 
 ghost use Rattle.std.specs.Prelude.{◌≡◌, ◌++◌, [], ◌∷◌, OnOk};
 ghost use Rattle.ptpm_site.specs.Findings.{finding, said, says, told};
@@ -7,7 +7,7 @@ use crate::finding::{Finding, What};
 use crate::source::Source;
 use std::alloc::AllocError;
 
-/// A finding, behind all earlier ones.
+/// Adds a finding after all earlier ones.
 pub fn find<'a>(
     findings: &mut Vec<Finding<'a>>,
     source: Source,
@@ -19,7 +19,7 @@ pub fn find<'a>(
     Ok(())
 }
 
-/// The same, of a finding that is told by what it says.
+/// The same, with a contract by what the finding says.
 #[tactic(auto, using(crate::proofs::Reports::told_more))]
 pub fn tell<'a>(
     findings: &mut Vec<Finding<'a>>,

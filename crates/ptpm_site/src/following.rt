@@ -19,7 +19,8 @@ impl Site {
         }
     }
 
-    /// The port that a clock follows; none where it is its own grandmaster, or did not say.
+    /// The port that a clock follows. `None` if it is its own grandmaster, or did not answer
+    /// PARENT_DATA_SET.
     pub fn followed(&self, source: Source) -> Option<PortIdentity>
         ensures { result ≡ followed (kept self.now) source }
     {
@@ -31,7 +32,7 @@ impl Site {
         }
     }
 
-    /// The clock that a clock follows, where that is seen.
+    /// The clock that a clock follows, if that one is seen.
     pub fn parent_clock(&self, source: Source) -> Option<Source>
         ensures { result ≡ parent_clock (kept self.now) source }
     {

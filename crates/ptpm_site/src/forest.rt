@@ -15,7 +15,8 @@ use ptpm_codec::PortIdentity;
 use std::alloc::{AllocError, Global};
 use std::ops::Range;
 
-/// A clock that follows one that is seen: by that, by its port, and by itself.
+/// A clock that follows one that is seen. They are ordered by the one that is followed, its port, and the
+/// follower.
 #[derive(Clone, Copy, PartialEq, Eq, PartialOrd, Ord)]
 pub struct Follower {
     above: usize,
@@ -23,7 +24,8 @@ pub struct Follower {
     pub place: usize,
 }
 
-/// A clock that follows one that is not seen: by its domain, by the port that it follows, and by itself.
+/// A clock that follows one that is not seen. They are ordered by domain, the port that is followed, and
+/// the follower.
 #[derive(Clone, Copy, PartialEq, Eq, PartialOrd, Ord)]
 pub struct Lost {
     domain: u8,
@@ -35,11 +37,11 @@ pub struct Lost {
 #[derive(Drop)]
 pub struct Forest {
     pub sources: Vec<Source>,
-    /// The clock that each follows, where it follows one that is seen.
+    /// The place of the clock that each follows, if it follows one that is seen.
     pub followed: Vec<Option<usize>>,
-    /// In their order.
+    /// Sorted.
     followers: Vec<Follower>,
-    /// In their order.
+    /// Sorted.
     lost: Vec<Lost>,
 }
 
@@ -105,7 +107,7 @@ impl Forest {
     }
 }
 
-/// The clocks that follow another.
+/// The clocks that follow another, while they are collected.
 #[derive(Drop)]
 struct Following {
     followers: Vec<Follower>,
@@ -113,7 +115,8 @@ struct Following {
 }
 
 impl Following {
-    /// Adds the clock at a place, where it follows another, whose clock stands at this place if it is seen.
+    /// Adds the clock at a place, if it follows another. `above` is the place of that other clock, or
+    /// `None` if it is not seen.
     fn add(
         &mut self,
         site: &Site,
@@ -140,7 +143,7 @@ impl Following {
     }
 }
 
-/// Of each of all clocks, in their order, the place of its parent.
+/// For each clock, in their order, the place of its parent.
 fn parent_places(
     alloc: Global,
     site: &Site,
@@ -166,7 +169,7 @@ fn parent_place(site: &Site, sources: &[Source], source: Source) -> Option<usize
     place_among(sources, site.parent_clock(source)?)
 }
 
-/// The place of a clock among others, which stand in their order.
+/// The place of a clock among others, which are sorted.
 fn place_among(sources: &[Source], source: Source) -> Option<usize>
     requires { IsStrictlySortedBy source_cmp sources.now }
     ensures { MatchOption result (list_any (eq_by_cmp source_cmp source) sources.now ≡ false)

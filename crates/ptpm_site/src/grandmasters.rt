@@ -21,7 +21,7 @@ impl Site {
     }
 }
 
-/// The clocks that are their own grandmasters and have a port in MASTER, of all clocks.
+/// Those of all clocks that are their own grandmasters and have a port in MASTER.
 pub fn leading(alloc: Global, site: &Site, sources: &[Source]) -> Result<Vec<Source>, AllocError>
     ensures { IfOk result (λ found. found.items ≡ filter (leads (kept site.now)) sources.now) }
 {
@@ -55,7 +55,7 @@ pub enum Masterless {
     Lost(ClockIdentity),
 }
 
-/// Why a clock has no master, where all its ports answered.
+/// Why a clock has no master, if it has none and all its ports answered.
 pub fn masterless_reason(site: &Site, source: Source) -> Option<Masterless>
     ensures { result ≡ masterless_reason (kept site.now) source }
 {
@@ -88,7 +88,8 @@ fn masterless_grandmaster(
     }
 }
 
-/// Why a clock that names another as its grandmaster takes no time. A clock of a class below 128 may stand by.
+/// Why a clock that names another as its grandmaster takes no time. A clock of a class below 128 may be on
+/// standby.
 fn masterless_follower(
     site: &Site,
     source: Source,
@@ -106,7 +107,7 @@ fn masterless_follower(
     Some(Masterless::Lost(grandmaster))
 }
 
-/// The grandmaster that a clock names, where it is not seen.
+/// The grandmaster that a clock names, if that one is not seen.
 pub fn unseen_grandmaster(site: &Site, source: Source) -> Option<ClockIdentity>
     ensures { result ≡ unseen_grandmaster (kept site.now) source }
 {

@@ -1,4 +1,4 @@
-//! All that was heard of the data sets of a clock, of which the last counts.
+//! All answers of a clock for each data set. The last one counts.
 
 ghost use Rattle.std.specs.Prelude.{◌≡◌};
 ghost use Rattle.ptpm_site.specs.Kept.{kept};
@@ -11,7 +11,7 @@ use crate::site::Site;
 use crate::source::Source;
 
 impl Site {
-    /// What was heard of a clock's DEFAULT_DATA_SET, in the order of the lines.
+    /// A clock's answers with DEFAULT_DATA_SET, in the order of the lines.
     #[tactic(auto, unfolding(crate::specs::Kept::kept))]
     pub fn defaults(&self, source: Source) -> &[Heard<DefaultDataSet>]
         ensures { result.now ≡ (kept self.now).defaults source }
@@ -22,7 +22,7 @@ impl Site {
         }
     }
 
-    /// What was heard of a clock's CURRENT_DATA_SET, in the order of the lines.
+    /// A clock's answers with CURRENT_DATA_SET, in the order of the lines.
     #[tactic(auto, unfolding(crate::specs::Kept::kept))]
     pub fn currents(&self, source: Source) -> &[Heard<CurrentDataSet>]
         ensures { result.now ≡ (kept self.now).currents source }
@@ -33,7 +33,7 @@ impl Site {
         }
     }
 
-    /// What was heard of a clock's PARENT_DATA_SET, in the order of the lines.
+    /// A clock's answers with PARENT_DATA_SET, in the order of the lines.
     #[tactic(auto, unfolding(crate::specs::Kept::kept))]
     pub fn parents(&self, source: Source) -> &[Heard<ParentDataSet>]
         ensures { result.now ≡ (kept self.now).parents source }
@@ -44,7 +44,7 @@ impl Site {
         }
     }
 
-    /// What was heard of a clock's TIME_PROPERTIES_DATA_SET, in the order of the lines.
+    /// A clock's answers with TIME_PROPERTIES_DATA_SET, in the order of the lines.
     #[tactic(auto, unfolding(crate::specs::Kept::kept))]
     pub fn times(&self, source: Source) -> &[Heard<TimePropertiesDataSet>]
         ensures { result.now ≡ (kept self.now).times source }
@@ -55,7 +55,7 @@ impl Site {
         }
     }
 
-    /// What was heard of a clock's USER_DESCRIPTION, in the order of the lines.
+    /// A clock's answers with USER_DESCRIPTION, in the order of the lines.
     #[tactic(auto, unfolding(crate::specs::Kept::kept))]
     pub fn descriptions(&self, source: Source) -> &[Heard<Description>]
         ensures { result.now ≡ (kept self.now).descriptions source }

@@ -1,4 +1,5 @@
-//! What is wrong, finding by finding, in their order: by domain, by clock, by the table of findings, by port.
+//! What is wrong with the clocks of a site. Findings are in order of the domain, the clock, the table of
+//! findings, and the port.
 
 ghost use Rattle.std.specs.Prelude.{◌≡◌, ◌++◌, OnOk, IfOk, is_some, length};
 ghost use Rattle.std.specs.List.{flat_map};
@@ -20,7 +21,7 @@ use crate::site::Site;
 use crate::source::Source;
 use std::alloc::{AllocError, Global};
 
-/// All findings. Each loop is told at its least clock, which is marked.
+/// All findings. Each loop is reported at its least clock, which is marked in `least`.
 #[tactic(auto, unfolding(crate::specs::Findings::told))]
 pub fn findings_of<'a>(
     alloc: Global,
@@ -51,14 +52,14 @@ struct Given<'a> {
     alloc: Global,
     /// The clocks that lead.
     leading: &'a [Source],
-    /// Of each clock whether it is the least of a loop.
+    /// For each clock whether it is the least of a loop.
     least: &'a [bool],
     /// How many clocks there are.
     count: usize,
     limits: Limits,
 }
 
-/// What is wrong with all clocks, one after another.
+/// What is wrong with each clock, one after another.
 fn judge_all<'a>(
     site: &'a Site,
     sources: &[Source],
@@ -84,7 +85,7 @@ fn judge_all<'a>(
     Ok(())
 }
 
-/// What is wrong with a clock, which is the least of a loop or is not.
+/// What is wrong with one clock. `is_least` says whether it is the least of a loop.
 fn judge<'a>(
     site: &'a Site,
     source: Source,
@@ -106,7 +107,8 @@ fn judge<'a>(
     Ok(())
 }
 
-/// What is wrong with a clock's grandmaster, and with the clock that it follows. Given are all clocks that lead.
+/// What is wrong with a clock's grandmaster, and with the clock that it follows. `leading` has all clocks that
+/// lead.
 #[tactic(auto, unfolding(crate::specs::Findings::found_above))]
 fn judge_above(
     site: &Site,
@@ -121,7 +123,7 @@ fn judge_above(
     judge_parent(site, source, findings)
 }
 
-/// What is wrong with a clock that has these ports otherwise.
+/// What else is wrong with a clock whose ports are these.
 #[tactic(auto, unfolding(crate::specs::Findings::found_here))]
 fn judge_here(
     site: &Site,

@@ -17,7 +17,7 @@ use crate::site::Site;
 use crate::source::Source;
 use std::alloc::AllocError;
 
-/// `offset` and `delay`, of a clock that has these ports.
+/// `offset` and `delay`, for a clock with these ports.
 #[tactic(auto, unfolding(crate::specs::Findings::amounts_found))]
 pub fn judge_amounts(
     site: &Site,

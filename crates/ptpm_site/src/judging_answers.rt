@@ -1,4 +1,4 @@
-//! What a clock did not answer, and what its answers say otherwise.
+//! What a clock did not answer, and what differs between its answers.
 
 ghost use Rattle.std.specs.Prelude.{◌≡◌, ◌++◌, [], ◌∷◌, IfOk, OnOk};
 ghost use Rattle.std.specs.List.{flat_map};
@@ -17,7 +17,7 @@ use crate::site::Site;
 use crate::source::Source;
 use std::alloc::{AllocError, Global};
 
-/// `incomplete`, `changed` and `identity_twice`, of a clock of which these ports answered.
+/// `incomplete`, `changed` and `identity_twice`. `ports` are the clock's ports that answered.
 #[tactic(auto, unfolding(crate::specs::Findings::answers_told))]
 pub fn judge_answers<'a>(
     alloc: Global,
@@ -59,7 +59,8 @@ fn judge_missing(
     }
 }
 
-/// `changed` or `identity_twice`, of all data sets of a clock of which these ports answered.
+/// `changed` or `identity_twice`, for all data sets of a clock. `ports` are the clock's ports that
+/// answered.
 #[tactic(auto, unfolding(crate::specs::Findings::contradictions_told))]
 fn judge_contradictions<'a>(
     alloc: Global,
@@ -84,7 +85,7 @@ fn judge_contradictions<'a>(
     )
 }
 
-/// The same of the data sets of the clock, but for its description.
+/// The same for the data sets of the clock, except its description.
 #[tactic(auto, unfolding(crate::specs::Findings::clock_sets_told))]
 fn judge_clock_sets<'a>(
     alloc: Global,
@@ -101,7 +102,7 @@ fn judge_clock_sets<'a>(
     judge_set(alloc, source, None, site.times(source), how, findings)
 }
 
-/// The same of the data sets of these ports.
+/// The same for the data sets of these ports.
 fn judge_port_sets<'a>(
     alloc: Global,
     site: &'a Site,
@@ -139,7 +140,7 @@ fn judge_port_set<'a>(
     )
 }
 
-/// The members of a data set that two of these answers say otherwise.
+/// The members of a data set in which two of these answers differ.
 #[tactic(auto, unfolding(crate::specs::Findings::set_told))]
 fn judge_set<'a, T: DataSet>(
     alloc: Global,
@@ -158,7 +159,8 @@ fn judge_set<'a, T: DataSet>(
     Ok(())
 }
 
-/// A member that two of these answers say otherwise, unless it moves with nothing changed.
+/// A member in which two of these answers differ. A member whose value moves though nothing was
+/// changed is passed over.
 #[tactic(auto, unfolding(crate::specs::Findings::member_told))]
 fn judge_member<'a, T: DataSet>(
     alloc: Global,
@@ -180,7 +182,7 @@ fn judge_member<'a, T: DataSet>(
     }
 }
 
-/// The first two answers that say a member otherwise.
+/// The first two answers that differ in a member.
 fn change_of<'a, T: DataSet>(
     alloc: Global,
     heard: &'a [Heard<T>],

@@ -16,7 +16,7 @@ use crate::site::Site;
 use crate::source::Source;
 use std::alloc::AllocError;
 
-/// `two_grandmasters`, `no_master`, `grandmaster_not_seen`. Given are all clocks that lead.
+/// `two_grandmasters`, `no_master`, `grandmaster_not_seen`. `leading` has all clocks that lead.
 #[tactic(auto, unfolding(crate::specs::Findings::grandmaster_found))]
 pub fn judge_grandmaster(
     site: &Site,

@@ -1,4 +1,4 @@
-//! Loops, each told at its least clock.
+//! Loops, each reported at its least clock.
 
 ghost use Rattle.std.specs.Prelude.{◌≡◌, ◌++◌, IfOk, OnOk, is_some, length};
 ghost use Rattle.std.specs.Option.{option_map};
@@ -14,7 +14,7 @@ use ptpm_codec::ClockIdentity;
 use std::alloc::{AllocError, Global};
 use std::cmp::Ordering;
 
-/// `loop`, where a clock is the least of one, as it is told. The site has so many clocks.
+/// Reports `loop`, if a clock is the least of one. `count` is the number of clocks of the site.
 #[tactic(auto, unfolding(crate::specs::Findings::loop_told))]
 pub fn judge_loop(
     alloc: Global,
@@ -37,8 +37,9 @@ pub fn judge_loop(
     }
 }
 
-/// The clocks from one on, each followed by the one that it follows, up to the one that follows the first; none where a lesser
-/// clock than the first comes, or so many clocks do not lead back to it.
+/// The clocks of a loop, from the first one on. Each is followed in the list by the clock that it follows, and the last one
+/// follows the first. `None` if a clock on this way is less than the first, follows none that is seen, or if `count` clocks do
+/// not lead back.
 fn loop_from(
     alloc: Global,
     site: &Site,

@@ -16,7 +16,7 @@ use crate::site::Site;
 use crate::source::Source;
 use std::alloc::AllocError;
 
-/// `port_state`, of these ports.
+/// `port_state`, for these ports.
 pub fn judge_ports(
     site: &Site,
     source: Source,
@@ -46,7 +46,7 @@ fn judge_state(
     }
 }
 
-/// `delay`, of the links of these ports of a clock.
+/// `delay`, by the links of these ports of a clock.
 pub fn judge_link_delays(
     site: &Site,
     source: Source,
@@ -81,7 +81,7 @@ fn judge_link_delay(
     }
 }
 
-/// `intervals`, of these ports.
+/// `intervals`, for these ports.
 pub fn judge_intervals(
     site: &Site,
     source: Source,

@@ -8,18 +8,18 @@ ghost use Rattle.ptpm_site.specs.Kept.{kept};
 ghost use Rattle.ptpm_site.specs.Swapping.{AreApart};
 ghost use Rattle.ptpm_site.specs.Telling.{IsToldAlike, told_by};
 
-/// What counts of a site that was made of answers, one after another, is what the answers tell.
+/// A site that took answers one after another keeps exactly what these answers say.
 pub fn kept_law()
     ensures step { (old new : Site) (answers : List Answer) (a : Answer) → Takes old new a → Keeps old answers → Keeps new (answers ++ a ∷ []) }
     ensures told { (site : Site) (answers : List Answer) → Keeps site answers → kept site ≡ told_by answers }
 {}
 
-/// Answers of which each clock, id and port has the same ones in the same order tell the same.
+/// Two lists of answers say the same if each clock, id and port has the same answers in the same order in both.
 pub fn order_law()
     ensures { (xs ys : List Answer) → IsToldAlike xs ys → told_by xs ≡ told_by ys }
 {}
 
-/// The order of two answers that stand side by side does not matter where they are of two clocks, or tell of two things.
+/// Two answers that follow each other can change places if they are of two clocks, or are about two things.
 pub fn swap_law()
     ensures { (xs ys : List Answer) (a b : Answer) → AreApart a b → told_by (xs ++ a ∷ b ∷ ys) ≡ told_by (xs ++ b ∷ a ∷ ys) }
 {}

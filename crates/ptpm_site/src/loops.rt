@@ -1,4 +1,4 @@
-//! Loops of clocks that follow each other, each known by its least place.
+//! Loops of clocks that follow each other. Each is known by its least place.
 
 ghost use Rattle.std.specs.Prelude.{◌≡◌, ℕ, ◌<◌, ◌++◌, false, None, OnOk, IfOk, length, slice_index_or, vec_len};
 ghost use Rattle.ptpm_site.specs.Loops.{AreWithin, is_least};
@@ -6,7 +6,8 @@ ghost use Rattle.ptpm_site.specs.Loops.{AreWithin, is_least};
 use crate::walks::Walks;
 use std::alloc::{AllocError, Global};
 
-/// Whether each place is the least of a loop. Given is the place that each follows.
+/// For each place whether it is the least of a loop. `followed` has the place that each one
+/// follows.
 pub fn least_of_loops(alloc: Global, followed: &[Option<usize>]) -> Result<Vec<bool>, AllocError>
     requires { AreWithin followed.now }
     ensures { IfOk result (λ marks. (p : ℕ) → p < length followed.now

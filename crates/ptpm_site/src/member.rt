@@ -101,7 +101,7 @@ impl Member {
         }
     }
 
-    /// Whether its value moves from one answer to the next with nothing changed.
+    /// Whether its value moves from one answer to the next though nothing was changed.
     pub fn is_moving(self) -> bool
         ensures { result ≡ is_moving self }
     {
@@ -124,9 +124,9 @@ pub enum Value<'a> {
     Quality(ClockQuality),
     Clock(ClockIdentity),
     Port(PortIdentity),
-    /// None where the number is reserved.
+    /// `None` if the number is reserved.
     State(Option<PortState>),
-    /// None where the number is reserved.
+    /// `None` if the number is reserved.
     Mechanism(Option<DelayMechanism>),
     Text(&'a str),
 }
@@ -140,14 +140,14 @@ pub trait DataSet {
     /// Its members, in the standard's order.
     ghost listed: { List Member };
 
-    /// The value of a member; none where the data set lacks it.
+    /// The value of a member. `None` if the data set lacks it.
     ghost says: { Self → Member → Option MemberValue };
 
     /// Its members, in the standard's order.
     fn members() -> &'static [Member]
         ensures { result.now ≡ listed };
 
-    /// The value of a member; none where the data set lacks it.
+    /// The value of a member. `None` if the data set lacks it.
     fn value(&self, member: Member) -> Option<Value<'_>>
         ensures { option_map value_of result ≡ says self.now member };
 }
@@ -338,7 +338,7 @@ impl DataSet for Description {
     }
 }
 
-/// The standard's name of a port's state; `reserved` where its number is.
+/// The standard's name of a port's state, or `reserved` for a reserved number.
 pub fn state_name(state: Option<PortState>) -> &'static str {
     match state {
         Some(state) => ptpm_members::state_name(state),
@@ -346,7 +346,7 @@ pub fn state_name(state: Option<PortState>) -> &'static str {
     }
 }
 
-/// The standard's name of a delay mechanism; `reserved` where its number is.
+/// The standard's name of a delay mechanism, or `reserved` for a reserved number.
 pub fn mechanism_name(mechanism: Option<DelayMechanism>) -> &'static str {
     match mechanism {
         Some(DelayMechanism::EndToEnd) => "E2E",

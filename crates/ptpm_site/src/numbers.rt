@@ -1,4 +1,4 @@
-//! Signed numbers and flags at their places in a dataField, whose octets stand in network order (clause 5.2).
+//! Signed numbers and flags at their places in a dataField, whose octets are in network order (clause 5.2).
 
 ghost use Rattle.std.specs.Prelude.{◌≡◌, ◌+◌, ◌<◌, ◌≤◌, length};
 ghost use Rattle.ptpm_data.specs.ImageReading.{i16_at, i32_at, i64_at, i8_at};
@@ -42,7 +42,7 @@ pub fn i8_at(octets: &[u8], place: usize) -> i8
     octets[place].cast_signed()
 }
 
-/// Whether a bit of an octet is set; bit 0 is the least.
+/// Whether a bit of an octet is set. Bit 0 is the least significant one.
 #[tactic(auto, using(std::proofs::lemmas::Nat::Bits::shr_and_one))]
 pub fn flag_at(octets: &[u8], place: usize, bit: u8) -> bool
     requires place { place < length octets.now }

@@ -1,4 +1,4 @@
-//! Whether the clock that a clock follows fits it.
+//! Whether a clock fits the clock that it follows.
 
 ghost use Rattle.std.specs.Prelude.{◌≡◌};
 ghost use Rattle.ptpm_site.specs.Kept.{kept};
@@ -9,7 +9,7 @@ use crate::source::Source;
 use ptpm_codec::PortIdentity;
 use ptpm_data::PortState;
 
-/// The port that a clock follows, where its clock is not seen.
+/// The port that a clock follows, if the clock of that port is not seen.
 pub fn unseen_parent(site: &Site, source: Source) -> Option<PortIdentity>
     ensures { result ≡ unseen_parent (kept site.now) source }
 {
@@ -30,7 +30,7 @@ pub enum NoMaster {
     InState(Option<PortState>),
 }
 
-/// The port that a clock follows, where that is no master though its clock is seen.
+/// The port that a clock follows, and why it is no master, if its clock is seen.
 pub fn no_master_port(site: &Site, source: Source) -> Option<(PortIdentity, NoMaster)>
     ensures { result ≡ no_master_port (kept site.now) source }
 {
@@ -43,7 +43,7 @@ pub fn no_master_port(site: &Site, source: Source) -> Option<(PortIdentity, NoMa
     Some((parent, why))
 }
 
-/// Why a port of a clock that is seen gives no time.
+/// Why a port of a clock that is seen gives no time, or `None`.
 fn why_no_master(site: &Site, clock: Source, port: u16) -> Option<NoMaster>
     ensures { result ≡ why_no_master (kept site.now) clock port }
 {
@@ -58,7 +58,7 @@ fn why_no_master(site: &Site, clock: Source, port: u16) -> Option<NoMaster>
     }
 }
 
-/// Whether a clock has no port of this number, as far as it told.
+/// Whether a clock has no port of this number, as far as its answers say.
 fn lacks_port(site: &Site, clock: Source, port: u16) -> bool
     ensures { result ≡ lacks_port (kept site.now) clock port }
 {
@@ -75,11 +75,12 @@ fn lacks_port(site: &Site, clock: Source, port: u16) -> bool
 #[derive(Clone, Copy)]
 pub struct Steps {
     pub steps: u16,
-    /// Of the clock that it follows; none where it is its own grandmaster.
+    /// That of the clock that it follows. `None` if it is its own grandmaster.
     pub parent: Option<u16>,
 }
 
-/// The stepsRemoved of a clock where it is not 0 at a grandmaster, or not one more than that of the clock that it follows.
+/// The stepsRemoved of a clock, if it is wrong. It should be 0 at a grandmaster, and otherwise one more than that of the
+/// clock that it follows.
 pub fn wrong_steps(site: &Site, source: Source) -> Option<Steps>
     ensures { result ≡ wrong_steps (kept site.now) source }
 {

@@ -1,4 +1,4 @@
-//! Each clock gets its row in the tree once.
+//! The tree while it grows. Each clock gets its row in it once.
 
 ghost use Rattle.std.specs.Prelude.{◌≡◌, true, false, ℕ, ◌<◌, slice_index_or, slice_set, vec_len, OnOk, IfOk};
 ghost use Rattle.ptpm_site.specs.Tree.{IsGrown, StandsOnce, StaysMarked, rows_at};
@@ -13,9 +13,9 @@ use std::alloc::{AllocError, Global};
 #[derive(Drop)]
 pub struct Planting {
     rows: Vec<Row>,
-    /// Whether a clock has its row, by its place; a clock behind the last has none.
+    /// Whether a clock has its row, by its place. A clock past the last mark has none.
     marks: Vec<bool>,
-    /// Places and depths of clocks that follow one that has its row, the next one last.
+    /// Places and depths of clocks that follow one that has its row. The next one is the last.
     waiting: Vec<(usize, u32)>,
     ghost grown: { IsGrown marks.items rows.items },
 }
@@ -30,7 +30,8 @@ impl Planting {
         }
     }
 
-    /// Gives a clock its row at this depth, and all that follow it theirs below it; each that has one keeps it.
+    /// Gives a clock its row at this depth, and all that follow it their rows below. A clock that has a row keeps
+    /// it.
     pub fn plant(&mut self, forest: &Forest, place: usize, depth: u32) -> Result<(), AllocError>
         ensures marked { OnOk result (slice_index_or self.new.marks.items place false ≡ true) }
         ensures stays { OnOk result (StaysMarked self.old.marks.items self.new.marks.items) }
@@ -45,7 +46,8 @@ impl Planting {
         Ok(())
     }
 
-    /// Gives a clock its row at this depth, where it has none; those that follow it are next then, the first last.
+    /// Gives a clock its row at this depth, unless it has one. Then those that follow it are next, the first of
+    /// them last.
     fn put(&mut self, forest: &Forest, place: usize, depth: u32) -> Result<(), AllocError>
         ensures marked { OnOk result (slice_index_or self.new.marks.items place false ≡ true) }
         ensures stays { OnOk result (StaysMarked self.old.marks.items self.new.marks.items) }
@@ -74,7 +76,7 @@ impl Planting {
     }
 }
 
-/// Those that follow a clock are next, the first last.
+/// Puts those that follow a clock next, the first of them last.
 fn wait_below(
     waiting: &mut Vec<(usize, u32)>,
     forest: &Forest,
@@ -87,7 +89,7 @@ fn wait_below(
     Ok(())
 }
 
-/// A row for a clock that has none, and its mark.
+/// Adds a row for a clock that has none, and marks it.
 fn add_clock(
     rows: &mut Vec<Row>,
     marks: &mut Vec<bool>,
@@ -106,7 +108,7 @@ fn add_clock(
     Ok(())
 }
 
-/// The mark of a place for which there is room.
+/// Marks a place for which there is room.
 fn mark(marks: &mut Vec<bool>, place: usize)
     requires { place < vec_len marks.old }
     ensures { marks.new.items ≡ slice_set marks.old.items place true }
@@ -122,7 +124,7 @@ fn add_port(rows: &mut Vec<Row>, domain: u8, parent: PortIdentity) -> Result<(),
     Ok(())
 }
 
-/// Makes room for the mark of a place; what is marked stays so.
+/// Makes room for the mark of a place. Marks that are set stay set.
 fn cover(marks: &mut Vec<bool>, place: usize) -> Result<(), AllocError>
     ensures room { OnOk result (place < vec_len marks.new) }
     ensures same { (p : ℕ) → slice_index_or marks.new.items p false ≡ slice_index_or marks.old.items p false }

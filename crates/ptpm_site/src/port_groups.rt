@@ -10,7 +10,7 @@ use ptpm_data::PortState;
 pub enum PortGroup {
     /// MASTER.
     Master,
-    /// MASTER, PRE_MASTER and PASSIVE: the port gives time, is about to, or stands by.
+    /// MASTER, PRE_MASTER and PASSIVE: the port gives time, is about to, or is on standby.
     Giving,
     /// SLAVE and UNCALIBRATED: the port takes time, or is about to.
     Taking,
@@ -21,7 +21,7 @@ pub enum PortGroup {
 }
 
 impl PortGroup {
-    /// Whether a state is of the group; a reserved one is of none.
+    /// Whether a state belongs to the group. A reserved state belongs to none.
     pub fn has(self, state: Option<PortState>) -> bool
         ensures { result ≡ is_of self state }
     {

@@ -1,4 +1,4 @@
-//! Ports that are faulty, or stay on their way to another state.
+//! Ports that are faulty, or that stay on their way to another state.
 
 ghost use Rattle.std.specs.Prelude.{◌≡◌, find, reverse};
 ghost use Rattle.std.specs.Option.{option_copied};
@@ -19,7 +19,7 @@ fn is_on_the_way(state: PortState) -> bool
     )
 }
 
-/// Whether two requests are of one requester, and two.
+/// Whether two requests are different ones of one requester.
 fn is_another(a: &Request, b: &Request) -> bool
     ensures { result ≡ is_another a.now b.now }
 {
@@ -39,7 +39,7 @@ fn latest_of_another<'a>(
         .find(|heard| is_another(&heard.request, request))
 }
 
-/// Whether the latest of these answers that came to another request of the same requester was on the way.
+/// Whether the latest of these answers to another request of the same requester was on the way.
 fn was_on_the_way(earlier: &[Heard<PortDataSet>], request: &Request) -> bool
     ensures { result ≡ was_on_the_way request.now earlier.now }
 {
@@ -52,8 +52,8 @@ fn was_on_the_way(earlier: &[Heard<PortDataSet>], request: &Request) -> bool
     }
 }
 
-/// The state of a port that is FAULTY in the answer that counts, or on its way in it and in the latest earlier answer to
-/// another request of the same requester.
+/// The state of a port if it is FAULTY in the answer that counts. Also its state if it is on the way there and in the
+/// latest earlier answer to another request of the same requester.
 pub fn bad_state(heard: &[Heard<PortDataSet>]) -> Option<PortState>
     ensures { result ≡ bad_state heard.now }
 {
@@ -66,8 +66,8 @@ pub fn bad_state(heard: &[Heard<PortDataSet>]) -> Option<PortState>
     }
 }
 
-/// Whether a state is FAULTY, or on the way in this answer and in the latest of the earlier ones to another request of the
-/// same requester.
+/// Whether a state is FAULTY, or on the way in two answers. The two are this one, and the latest earlier one to another
+/// request of the same requester.
 fn is_bad(last: &Heard<PortDataSet>, earlier: &[Heard<PortDataSet>], state: PortState) -> bool
     ensures { result ≡ is_bad last.now earlier.now state }
 {

@@ -9,8 +9,8 @@ use crate::site::{CLOCKS, LeftOut, PORTS, Site};
 use crate::source::Source;
 
 impl Site {
-    /// Keeps the first clocks, by domain and identity, and the first of their ports; the others are as if they had not
-    /// answered. Where all can be shown nothing changes.
+    /// Keeps the first clocks, by domain and identity, and the first of their ports. The others are as if they had not
+    /// answered. If there is room for all, nothing changes.
     #[tactic(auto, unfolding(crate::specs::Kept::kept))]
     pub fn keep_first(&mut self) -> LeftOut
         ensures unchanged { is_shown_whole (kept self.old) ≡ true → self.new ≡ self.old }
@@ -29,7 +29,7 @@ impl Site {
         LeftOut { clocks, ports }
     }
 
-    /// Drops the last clocks that are too many; how many.
+    /// Drops the last clocks if there are too many. Answers how many it dropped.
     fn drop_clocks(&mut self) -> usize
         ensures clocks { keys self.new.clocks ≡ take CLOCKS (keys self.old.clocks) }
         ensures count { result ≡ length (keys self.old.clocks) - CLOCKS }
@@ -41,7 +41,7 @@ impl Site {
         over
     }
 
-    /// Drops the last ports that are too many; how many.
+    /// Drops the last ports if there are too many. Answers how many it dropped.
     fn drop_ports(&mut self) -> usize
         ensures { keys self.new.clocks ≡ keys self.old.clocks }
     {
@@ -54,7 +54,7 @@ impl Site {
         ports
     }
 
-    /// Whether there are no more clocks, and no more of their ports, than are shown.
+    /// Whether the site has no more clocks and ports than are shown.
     #[tactic(auto, unfolding(crate::specs::Kept::kept))]
     fn is_shown_whole(&self) -> bool
         ensures { result ≡ is_shown_whole (kept self.now) }

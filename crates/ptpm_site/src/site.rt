@@ -18,19 +18,19 @@ use crate::told::Told;
 use std::alloc::{AllocError, Global};
 use std::collections::BTreeMap;
 
-/// The clocks that are seen: each gave one answer, or one error, to one of the six in its domain.
+/// The clocks that are seen. Each gave an answer or an error to one of the six ids in its domain.
 #[derive(Drop)]
 pub struct Site {
     pub clocks: BTreeMap<Source, Clock>,
 }
 
-/// At most so many clocks are shown (this project's profile).
+/// At most this many clocks are shown (this project's profile).
 pub const CLOCKS: usize = 4_096;
 
-/// At most so many ports are shown (this project's profile).
+/// At most this many ports are shown (this project's profile).
 pub const PORTS: usize = 16_384;
 
-/// What of a site is not shown.
+/// How much of a site is not shown.
 #[derive(Clone, Copy)]
 pub struct LeftOut {
     pub clocks: usize,
@@ -38,7 +38,7 @@ pub struct LeftOut {
 }
 
 impl Site {
-    /// A site of which nothing is known.
+    /// A site without answers.
     pub fn new(alloc: Global) -> Site
         ensures { Keeps result [] }
     {
@@ -47,7 +47,7 @@ impl Site {
         }
     }
 
-    /// Takes an answer, behind all earlier ones.
+    /// Takes an answer, after all earlier ones.
     pub fn take(&mut self, alloc: Global, answer: Answer) -> Result<(), AllocError>
         ensures { OnOk result (Takes self.old self.new answer) }
     {
@@ -61,7 +61,7 @@ impl Site {
         Ok(())
     }
 
-    /// A clock of which nothing was heard gets its place.
+    /// Adds a clock that has no answers yet, unless it is there.
     fn place(&mut self, alloc: Global, source: Source) -> Result<(), AllocError>
         ensures { OnOk result (Places self.old self.new source) }
     {
@@ -72,7 +72,7 @@ impl Site {
         Ok(())
     }
 
-    /// Takes what an answer of a clock that has its place tells.
+    /// Takes what an answer says of a clock that is there.
     fn tell(
         &mut self,
         alloc: Global,
@@ -136,7 +136,7 @@ impl Site {
         true
     }
 
-    /// What was heard of a port of a clock, in the order of the lines.
+    /// All that was answered for a port of a clock, in the order of the lines.
     #[tactic(auto, unfolding(crate::specs::Kept::kept))]
     pub fn heard(&self, source: Source, port: u16) -> &[Heard<PortDataSet>]
         ensures { result.now ≡ (kept self.now).heard source port }
@@ -155,7 +155,7 @@ impl Site {
         self.clocks.contains_key(&source)
     }
 
-    /// DEFAULT_DATA_SET of a clock, where it was answered.
+    /// The last DEFAULT_DATA_SET that a clock answered, if there is one.
     #[tactic(auto, unfolding(crate::specs::Kept::kept))]
     pub fn default(&self, source: Source) -> Option<DefaultDataSet>
         ensures { result ≡ (kept self.now).default source }
@@ -163,7 +163,7 @@ impl Site {
         self.clocks.get(&source)?.default()
     }
 
-    /// CURRENT_DATA_SET of a clock, where it was answered.
+    /// The last CURRENT_DATA_SET that a clock answered, if there is one.
     #[tactic(auto, unfolding(crate::specs::Kept::kept))]
     pub fn current(&self, source: Source) -> Option<CurrentDataSet>
         ensures { result ≡ (kept self.now).current source }
@@ -171,7 +171,7 @@ impl Site {
         self.clocks.get(&source)?.current()
     }
 
-    /// PARENT_DATA_SET of a clock, where it was answered.
+    /// The last PARENT_DATA_SET that a clock answered, if there is one.
     #[tactic(auto, unfolding(crate::specs::Kept::kept))]
     pub fn parent(&self, source: Source) -> Option<ParentDataSet>
         ensures { result ≡ (kept self.now).parent source }
@@ -179,7 +179,7 @@ impl Site {
         self.clocks.get(&source)?.parent()
     }
 
-    /// TIME_PROPERTIES_DATA_SET of a clock, where it was answered.
+    /// The last TIME_PROPERTIES_DATA_SET that a clock answered, if there is one.
     #[tactic(auto, unfolding(crate::specs::Kept::kept))]
     pub fn time(&self, source: Source) -> Option<TimePropertiesDataSet>
         ensures { result ≡ (kept self.now).time source }
@@ -187,7 +187,7 @@ impl Site {
         self.clocks.get(&source)?.time()
     }
 
-    /// PORT_DATA_SET of a port of a clock, where it was answered.
+    /// The last PORT_DATA_SET that was answered for a port of a clock, if there is one.
     #[tactic(auto, unfolding(crate::specs::Kept::kept))]
     pub fn port(&self, source: Source, number: u16) -> Option<PortDataSet>
         ensures { result ≡ (kept self.now).port source number }

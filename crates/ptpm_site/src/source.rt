@@ -5,7 +5,7 @@ ghost use Rattle.std.specs.Prelude.{◌≡◌};
 use ptpm_codec::ClockIdentity;
 
 /// A clock of a domain: the header's domainNumber, and the clockIdentity of sourcePortIdentity. The same clock in two domains
-/// is two of them. They stand in order of their domain, and then of their identity.
+/// counts as two clocks. They are ordered by domain, and then by identity.
 #[derive(Clone, Copy, PartialEq, Eq, PartialOrd, Ord)]
 pub struct Source {
     pub domain: u8,

@@ -9,7 +9,8 @@ use ptpm_codec::view;
 use std::alloc::{AllocError, Global};
 
 impl Site {
-    /// Takes the answer that a datagram is. One that is no answer to one of the six ids is passed over.
+    /// Takes the answer that a datagram has. A datagram that is no answer to one of the six ids is
+    /// passed over.
     pub fn take_datagram(&mut self, alloc: Global, datagram: &[u8]) -> Result<(), AllocError>
         ensures { OnOk result (TakesAny self.old self.new (answer_in datagram.now)) }
     {

@@ -1,4 +1,4 @@
-//! What an answer tells.
+//! What an answer says.
 
 use crate::asked::Asked;
 use crate::data_sets::{
@@ -6,14 +6,14 @@ use crate::data_sets::{
 };
 use crate::description::Description;
 
-/// What an answer tells: a data set, or that the clock refuses to.
+/// What an answer says: a data set, or that the clock refuses to answer.
 #[derive(Drop)]
 pub enum Told {
     Default(DefaultDataSet),
     Current(CurrentDataSet),
     Parent(ParentDataSet),
     Time(TimePropertiesDataSet),
-    /// Of the port of this number.
+    /// The data set of the port of this number.
     Port(u16, PortDataSet),
     Description(Description),
     /// A MANAGEMENT_ERROR_STATUS for this id.

@@ -13,15 +13,15 @@ use std::alloc::{AllocError, Global};
 /// A line of the tree.
 #[derive(Clone, Copy)]
 pub enum Row {
-    /// The clock at this place of the site, and how many rows stand above it up to its root.
+    /// The clock at this place of the site, and how many rows are above it on the way to its root.
     Clock { place: usize, depth: u32 },
     /// A port that the clocks below this row follow, and whose clock is not seen.
     NotSeen { domain: u8, parent: PortIdentity },
 }
 
-/// The rows of the tree, where the least clock of each loop is marked. By domain: the grandmasters, the clocks whose parent is not seen, those of loops from their least
-/// on, and those that did not say whom they follow; below each clock those that follow it, by its port, and then by
-/// identity.
+/// The rows of the tree. `least` marks the least clock of each loop. In each domain come first the grandmasters, then the clocks
+/// whose parent is not seen. Then come those of loops, from their least one on, and those that did not say whom they follow.
+/// Below each clock come those that follow it, by its port, and then by identity.
 pub fn rows(
     alloc: Global,
     site: &Site,

@@ -1,4 +1,4 @@
-//! Walks along the clocks that each follow the next, by their places: each place is passed once.
+//! Walks along the clocks, from each to the one that it follows, by their places. Each place is passed once.
 
 ghost use Rattle.std.specs.Prelude.{◌≡◌, ℕ, ◌<◌, ◌≤◌, ◌++◌, [], ◌∷◌, None, OnOk, IfOk, length, slice_index, slice_index_or, slice_set, vec_len};
 ghost use Rattle.ptpm_site.specs.Loops.{AreWithin};
@@ -11,13 +11,13 @@ use std::alloc::{AllocError, Global};
 pub struct Walks {
     /// In the order in which they were passed.
     passed: Vec<usize>,
-    /// Of each place its index among these.
+    /// For each place its index among these.
     indices: Vec<Option<usize>>,
     ghost numbered: { AreNumbered indices.items passed.items },
 }
 
 impl Walks {
-    /// No walk yet, over so many places.
+    /// No walk yet, over this many places.
     pub fn new(alloc: Global, count: usize) -> Result<Walks, AllocError>
         ensures none { IfOk result (λ walks. walks.passed.items ≡ []) }
         ensures count { IfOk result (λ walks. vec_len walks.indices ≡ count) }
@@ -29,8 +29,8 @@ impl Walks {
         })
     }
 
-    /// Walks from a place to the one that it follows, and on, up to one that was passed. Where this walk passed that itself, its
-    /// index: all from there on are a loop.
+    /// Walks from a place to the one that it follows, and on, until it comes to one that was passed before. If this walk itself
+    /// passed that one, answers its index: all places from there on are a loop.
     pub fn walk(
         &mut self,
         followed: &[Option<usize>],

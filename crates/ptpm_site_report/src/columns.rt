@@ -7,16 +7,16 @@ use std::alloc::{AllocError, Global};
 use std::io::Write;
 use std::{fmt, io};
 
-/// A description has at most so many characters in its column; a longer one moves what follows it.
+/// How many characters a description may have in its column. A longer one moves what follows it.
 const DESCRIPTION: usize = 24;
 
-/// What stands behind a clock's identity: its description, stepsRemoved, offset and mean delay.
+/// What comes after a clock's identity: its description, stepsRemoved, offset and mean delay.
 #[derive(Drop)]
 pub(crate) struct Columns {
-    /// In quotes, with what is no printable character escaped; `-` where none was told.
+    /// In quotes, with each character that is not printable escaped. `-` if none was answered.
     pub(crate) description: String,
     steps: String,
-    /// `-` where no port is in SLAVE: it is of an earlier time then.
+    /// `-` if no port is in SLAVE, since the value is then of an earlier time.
     offset: String,
     delay: String,
 }
@@ -44,7 +44,8 @@ impl Widths {
         }
     }
 
-    /// Widens them so that these columns fit, of an identity that begins so many characters from the left.
+    /// Widens them so that these columns fit after an identity that begins `indent` characters from the
+    /// left.
     pub(crate) fn widen(&mut self, indent: usize, columns: &Columns) {
         self.indent = self.indent.max(indent);
         let description = columns.description.as_str().chars().count();
@@ -81,7 +82,7 @@ impl Columns {
         })
     }
 
-    /// Prints the columns behind an identity that begins so many characters from the left.
+    /// Prints the columns after an identity that begins this many characters from the left.
     pub(crate) fn print<O: Write>(
         &self,
         indent: usize,
@@ -96,7 +97,7 @@ impl Columns {
     }
 }
 
-/// All but the description, in words.
+/// All except the description, in words.
 impl fmt::Display for Columns {
     fn fmt<W: fmt::Write>(&self, f: &mut fmt::Formatter<W>) -> fmt::Result {
         write!(f, "steps {}, offset {}", self.steps, self.offset)?;

@@ -56,7 +56,7 @@ fn width_of(text: &str) -> usize {
 /// How large a picture is.
 #[derive(Clone, Copy)]
 struct Sizes {
-    /// Where the facts begin.
+    /// The place at which the facts begin.
     facts: usize,
     width: usize,
     height: usize,
@@ -144,7 +144,8 @@ fn write_head<O: Write>(sizes: Sizes, lines: &[Line], out: &mut O) -> io::Result
     )
 }
 
-/// Writes a row: what is read aloud, the line to the row that it is below, its box with the name, its facts, and its findings.
+/// Writes a row: what is read aloud, the line to the row that it is below, its box, its facts, and its findings. The box has
+/// the name.
 fn write_line<O: Write>(
     line: &Line,
     top: usize,

@@ -2,7 +2,7 @@
 
 use std::fmt;
 
-/// Text between tags. What is no printable character is escaped before.
+/// Text between tags. Characters that are not printable are escaped before.
 #[derive(Clone, Copy)]
 pub(crate) struct Escaped<'a>(pub(crate) &'a str);
 

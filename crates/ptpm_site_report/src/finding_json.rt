@@ -142,7 +142,7 @@ fn put_differs(
     put(map, alloc, "expected", member_value(alloc, differs.other)?)
 }
 
-/// The ids, and the ports in runs of the first and the last.
+/// The ids, and the ports as runs: the first and the last of each.
 fn put_missing(
     alloc: Global,
     map: &mut Map<String, Value>,

@@ -6,7 +6,7 @@ use std::fmt;
 #[derive(Clone, Copy)]
 pub(crate) struct Whole(pub(crate) i64);
 
-/// A TimeInterval in nanoseconds, rounded to five decimal places; those that are 0 at its end are left out.
+/// A TimeInterval in nanoseconds, rounded to five decimal places. Zeros at its end are left out.
 #[derive(Clone, Copy)]
 pub(crate) struct Exact(pub(crate) i64);
 

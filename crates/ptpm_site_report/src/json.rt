@@ -48,7 +48,7 @@ impl Object<'_> {
     }
 }
 
-/// Prints a value, where there was memory for it.
+/// Prints a value, if there was memory for it.
 fn print_value<O: Write>(
     alloc: Global,
     value: Result<Value, AllocError>,
@@ -65,7 +65,7 @@ fn print_value<O: Write>(
     Ok(())
 }
 
-/// A clock: its identity, and what it told, of each id by the id's name.
+/// A clock: its identity, and what it answered, under the name of each id.
 fn clock_value(alloc: Global, source: Source, clock: &Clock) -> Result<Value, AllocError> {
     let mut map = Map::new(alloc);
     put(
@@ -120,7 +120,7 @@ fn clock_value(alloc: Global, source: Source, clock: &Clock) -> Result<Value, Al
     Ok(Value::Object(map))
 }
 
-/// Puts the data set of the answer that counts, where one came.
+/// Puts the data set of the answer that counts, if there is one.
 fn put_last<T: DataSet>(
     alloc: Global,
     map: &mut Map<String, Value>,

@@ -1,5 +1,5 @@
-//! What `site` of `ptpm` does: a site's tree and what is wrong with it, as text, as JSON or as a picture, by the answers among lines
-//! of datagrams.
+//! What `ptpm site` does. It reads answers among lines of datagrams, and prints the site's tree and what is wrong with it. Its
+//! forms are text, JSON and a picture.
 #![tactic(auto)]
 
 mod columns;

@@ -27,7 +27,7 @@ pub(crate) enum Frame {
 #[derive(Drop)]
 pub(crate) struct Line {
     pub(crate) frame: Frame,
-    /// How many rows are above it up to its root.
+    /// How many rows are above it on the way to its root.
     pub(crate) depth: usize,
     pub(crate) name: String,
     /// Whom its clock follows, in words.

@@ -70,7 +70,7 @@ pub fn report<R: Read + Drop, O: Write>(
     report_of(alloc, options, &site, left_out, out)
 }
 
-/// Prints a site of which this much is left out.
+/// Prints a site. `left_out` says how much of it is not shown.
 fn report_of<O: Write>(
     alloc: Global,
     options: Options,

@@ -13,7 +13,7 @@ use std::alloc::{AllocError, Global};
 use std::io;
 use std::io::Write;
 
-/// The first column has so many characters to its left, and two more for each clock above.
+/// How many characters are to the left of the first column. There are two more for each clock above.
 const MARGIN: usize = 2;
 
 /// A picture as text.
@@ -49,7 +49,8 @@ impl Sheet<'_> {
         Ok(())
     }
 
-    /// The findings, one a line. A grandmaster that is not seen is one, with how many clocks name it.
+    /// The findings, one a line. Each grandmaster that is not seen has one line, which says how many
+    /// clocks name it.
     fn print_findings<O: Write>(&self, alloc: Global, out: &mut O) -> Result<(), Fault> {
         let unseen = self.unseen(alloc).map_err(|_| Fault::OutOfMemory)?;
         let lines = lines_of(self.0.findings.as_slice(), unseen.as_slice());
@@ -135,7 +136,7 @@ fn widths_of(alloc: Global, all: Rows<'_>, rows: &[Row]) -> Result<Widths, Alloc
     Ok(widths)
 }
 
-/// Where the identity of a clock at this depth begins.
+/// The place at which the identity of a clock at this depth begins.
 fn indent(depth: u32) -> usize {
     MARGIN + 2 * depth as usize
 }
@@ -158,7 +159,8 @@ fn lines_of(findings: &[Finding<'_>], unseen: &[Source]) -> usize {
     lines
 }
 
-/// Prints those grandmasters that are not seen and stand before a clock, or all; what is left of them.
+/// Prints those grandmasters that are not seen and come before a clock, or all of them. Answers those
+/// that are left.
 fn print_unseen<'a, O: Write>(
     unseen: &'a [Source],
     before: Option<Source>,

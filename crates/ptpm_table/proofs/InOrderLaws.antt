@@ -117,7 +117,7 @@ rank_within who (e ∷ es) = elim (is_lt (identity_cmp who e.0)) as (λ b. cond 
 some_none : (y : Entry) → Some y ≡ None → ⊥
 some_none y h = cc
 
--- where no key ties, an entry is put behind those that come before it
+-- if no key ties, an entry is put after those that come before it
 pub put_ranked : (who : PortIdentity) (x : Entry) (es : List Pair)
     → find identity_cmp who es ≡ None
     → put identity_cmp who x es ≡ insert es (rank who es) (who, x)
@@ -175,7 +175,7 @@ distinct_drop ss zero h = h
 distinct_drop [] (suc i) h = h
 distinct_drop (s ∷ ss) (suc i) h = distinct_drop ss i (or_parts _ _ h).1
 
--- the entries of the slots behind this one, whose manager is none of theirs
+-- the entries of the slots after this one; its manager is none of theirs
 none_behind : (s : Slot) (ss : List Slot)
     → has_twice (identities (configured (s ∷ ss))) ≡ false
     → find identity_cmp s.kept.manager (entries (from_entries {R = identity_cmp} (used ss))) ≡ None

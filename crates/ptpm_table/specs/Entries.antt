@@ -35,8 +35,8 @@ pub record HasEntry (entries : Entries) (who : PortIdentity) (n : ℕ) : Type 0 
 abbrev pub HasRoom : Entries → PortIdentity → ℕ → Type 0
 HasRoom entries who held = (e : Entry) → get entries who ≡ Some e → held + length e.reply.answers ≤ 15
 
--- The manager has an entry of this number, and its reply can be sent again: after the seven copies of a message that a clock
--- of eight ports passes on, and so after fewer, a place that holds fifteen messages has room for it.
+-- The manager has an entry of this number, and its reply can be sent again. A place for fifteen messages has room for it
+-- after the seven copies of a message that a clock of eight ports passes on. So it has room after fewer.
 pub record CanResend (entries : Entries) (who : PortIdentity) (n : ℕ) : Type 0 where
   pub kept : HasEntry entries who n
   pub room : HasRoom entries who 7

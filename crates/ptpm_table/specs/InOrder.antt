@@ -25,7 +25,7 @@ IsLendable (Some s) = IsKeepable s.kept.entry
 abbrev pub AreLendable : List Slot → List ℕ → Type 0
 AreLendable slots places = All (λ p. IsLendable (slice_get slots p)) places
 
--- behind how many of these entries a manager's stands
+-- the place at which a manager's entry belongs among these: before the first of a manager that comes after it
 abbrev pub rank : PortIdentity → List (PortIdentity × Entry) → ℕ
 rank who [] = 0
 rank who (e ∷ es) = if is_lt (identity_cmp who e.0) then 0 else suc (rank who es)

@@ -1,5 +1,6 @@
--- How a `SlotTable` represents a kept reply, which is no promise: in octets, its messages one after the other, as they answered
--- the copy of the request that came in first; `keep` makes them as for one in domain 0 that has lost no hop and came in at port 0.
+-- How a `SlotTable` represents a kept reply, which is no promise. It is octets: the reply's messages one after the other, as they
+-- answered the copy of the request that came in first. `keep` makes them as for one in domain 0 that has lost no hop and came in
+-- at port 0.
 use Rattle.std.specs.Prelude.{◌≡◌, ◌≤◌, ◌-◌, ℕ, ◌/◌, ◌%◌, ◌==◌, Bool, true, false, List, [], ◌∷◌, length, take, drop, Option, Some, None, if◌then◌else◌, is_some, slice_set}
 use Rattle.ptpm_codec.specs.declared.error.ErrorId.{ErrorId}
 use Rattle.ptpm_codec.specs.declared.error.ErrorId.TheVariants as errors

@@ -14,7 +14,7 @@ pub enum TableError {
     OutOfMemory,
 }
 
-/// The name, as `Twice`.
+/// The name, for example `Twice`.
 impl fmt::Display for TableError {
     ghost use Rattle.std.specs.Prelude.{Some};
     ghost use Rattle.ptpm_table.specs.ErrorText.{table_error_text};

@@ -24,7 +24,7 @@ type Places = ArrayVec<u8, MANAGERS>;
 #[derive(Drop)]
 pub struct LentEntries<'a> {
     slots: &'a [Slot],
-    /// Where the entries are, in their order.
+    /// The places of the entries, in order of their managers.
     places: Places,
 }
 
@@ -62,8 +62,8 @@ impl<'a> LentEntries<'a> {
     }
 }
 
-/// The entries of slots, one for each manager. Each is put in its order among those behind it, so that none is moved of slots that
-/// are in order.
+/// The entries of slots, one for each manager. Slots are taken from the last to the first. So an entry of slots that are in order
+/// goes to the front after one comparison.
 pub(crate) fn in_order(slots: &[Slot]) -> LentEntries<'_>
     requires distinct { has_twice (identities (configured slots.now)) ≡ false }
     requires few { length slots.now ≤ 16 }
@@ -93,7 +93,7 @@ fn insert_place(places: &mut Places, slots: &[Slot], place: usize)
     places.insert(at, place as u8);
 }
 
-/// Behind how many of the entries at these places a manager's stands.
+/// The place at which a manager's entry belongs among these: before the first of a manager that comes after it.
 fn rank(who: &PortIdentity, slots: &[Slot], places: &[u8]) -> usize
     requires { AreLendable slots.now places.now }
     ensures rank { result ≡ rank who.now (entries_at slots.now places.now) }

@@ -1,5 +1,5 @@
-//! A kept reply as octets: encoded, or copied as it was sent, and sent again with the fields that depend on the copy of the
-//! request written over.
+//! A kept reply as octets: encoded, or copied as it was sent. It is sent again with those fields written over that depend
+//! on the copy of the request.
 
 ghost use Rattle.std.specs.Prelude.{All, ◌≡◌, ◌+◌, ◌∷◌, ◌++◌, ◌≤◌, ◌<◌, [], length, map};
 ghost use Rattle.arrayvec.specs.ArrayVec.{array_vec_len};
@@ -39,8 +39,8 @@ pub(crate) struct Exchange {
 }
 
 impl Exchange {
-    /// The message of one answer as it is kept: for a copy of the request in domain 0 that has lost no hop and came in at
-    /// port 0.
+    /// The message of one answer as it is kept. It is for a copy of the request in domain 0 that has lost no hop and came
+    /// in at port 0.
     #[inline(always)]
     fn draft<'a>(&self, answer: &'a PortAnswer) -> Draft<'a>
         requires { IsEvenOutcome (outcome_of answer.now.what) }

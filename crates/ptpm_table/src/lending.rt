@@ -13,22 +13,22 @@ use ptpm_codec::{Action, ErrorId, HEAD_OCTETS, PortIdentity, View, u16_at, view}
 use ptpm_data::Request;
 use std::marker::Model;
 
-/// Where a message has the portNumber of its sourcePortIdentity (13.3).
+/// The place of the portNumber of its sourcePortIdentity in a message (13.3).
 const SOURCE_PORT: usize = 28;
 
-/// Where it has its actionField, in the lower half of an octet (15.4.1).
+/// The place of its actionField, in the lower half of an octet (15.4.1).
 const ACTION: usize = 46;
 
 /// RESPONSE as an actionField (15.4.1.6).
 const RESPONSE: u8 = 2;
 
-/// Where it has its tlvType (14.1).
+/// The place of its tlvType (14.1).
 const TLV_TYPE: usize = 48;
 
 /// MANAGEMENT_ERROR_STATUS as a tlvType (14.1.1).
 const ERROR_STATUS: u16 = 2;
 
-/// Where an error status has its managementErrorId (15.5.4).
+/// The place of the managementErrorId in a message with an error status (15.5.4).
 const ERROR_ID: usize = 52;
 
 /// A table that lends what it keeps, as for an image of it. No octet is copied, and no memory is taken.
@@ -43,9 +43,9 @@ pub trait LendingTable: ReplyTable {
         ensures count { result ≡ fin.len (Self.entries self.now) }
         ensures few { result ≤ 16 };
 
-    /// The entry of the first manager after this one that has an entry, by the order of identities; without one to come
-    /// after, of the first of all. `None` where no further manager has one. So a loop from `None` on, and from each manager
-    /// to the next, goes over the whole table.
+    /// The entry of the first manager after this one that has an entry, by the order of identities. After `None` it is the
+    /// first entry of all. `None` if no further manager has one. So a loop from `None` on, and from each manager to the
+    /// next, goes over the whole table.
     fn next_entry(&self, after: Option<PortIdentity>) -> Option<LentEntry<'_>>
         ensures next { MatchOption result (HasNoneAfter (Self.entries self.now) after)
             (λ e. IsNext (Self.entries self.now) after e) }
@@ -76,7 +76,7 @@ impl<'a> Model for LentEntry<'a> {
 /// An answer of the clock or of one of its ports, as it is kept.
 #[derive(Drop)]
 pub struct LentAnswer<'a> {
-    /// The port that it is of; no port where it is of the clock.
+    /// The port that it is of; no port if it is of the clock.
     pub port: Option<u16>,
     pub what: LentWhat<'a>,
 }
@@ -144,7 +144,7 @@ pub struct LentAnswers<'a> {
     pub(crate) of_port: bool,
     /// How many octets each of their messages has.
     pub(crate) sizes: &'a [u8],
-    /// Their messages, one behind the other.
+    /// Their messages, one after the other.
     pub(crate) messages: &'a [u8],
 }
 
@@ -161,7 +161,7 @@ impl<'a> Model for LentAnswers<'a> {
 }
 
 impl<'a> LentAnswers<'a> {
-    /// The next one. `None` where all were lent.
+    /// The next one. `None` if all were lent.
     #[inline(always)]
     pub fn next(&mut self) -> Option<LentAnswer<'a>>
         ensures { MatchOption result (self.old ≡ [])

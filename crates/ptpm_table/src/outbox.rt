@@ -11,8 +11,8 @@ use ptpm_codec::{Buffer, Draft, Envelope, encode, less_hop, overwrite_message};
 use std::marker::Model;
 
 /// At most fifteen messages, each with the port that it is sent at: seven forwarded copies and eight replies. All fifteen
-/// buffers lie in the value, which has 22,328 octets, and are written over and over: each message is written in
-/// place, and emptying the outbox touches none of them. Takes no memory. Contracts see it as the list of pairs.
+/// buffers are in the value, which has 22,328 octets, and are written over and over. Each message is written in place,
+/// and emptying the outbox touches none of them. Takes no memory. Contracts see it as the list of pairs.
 #[derive(Drop)]
 pub struct Outbox {
     places: [(u16, Buffer); 15],

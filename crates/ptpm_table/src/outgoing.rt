@@ -1,4 +1,4 @@
-//! Where the messages of one call go.
+//! What the messages of one call are appended to.
 
 use crate::renewal::Renewal;
 use ptpm_codec::Envelope;
@@ -68,8 +68,8 @@ pub trait Outgoing {
             ) ∷ [] }
         ensures grown { grown self.old self.new };
 
-    /// Appends a copy of a kept message, of 54 to 1,472 octets, for a port, with what depends on the copy of the request that
-    /// is answered written over.
+    /// Appends a copy of a kept message, of 54 to 1,472 octets, for a port. What depends on the copy of the request that is
+    /// answered is written over.
     fn push_renewed(&mut self, port: u16, message: &[u8], renewal: &Renewal)
         requires room { length (sent self.old) < 15 }
         requires long { 54 ≤ length message.now }

@@ -12,9 +12,9 @@ use crate::outgoing::Outgoing;
 use ptpm_codec::{Action, ClockIdentity, Draft, DraftBody, Envelope, ErrorId, PortIdentity};
 use ptpm_data::{Answers, PortAnswer, Reply, Request, What};
 
-/// Appends the messages that a reply is sent as, in the order of its answers, for the copy of the request that was heard
-/// at the ingress port; each goes out there (15.4.1). Each message is encoded in its place in the outbox. Takes no
-/// memory.
+/// Appends the messages that a reply is sent as, in the order of its answers. They are for the copy of the request that
+/// was heard at the ingress port, and each goes out there (15.4.1). Each message is encoded in its place in the outbox.
+/// Takes no memory.
 #[inline(always)]
 pub fn render(me: &ClockIdentity, heard: &Heard, reply: &Reply, ingress: u16, out: &mut Outbox)
     requires action { IsReplyAction reply.now.action }

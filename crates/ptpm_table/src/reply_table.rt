@@ -75,11 +75,11 @@ pub trait ReplyTable {
         (self.look(who, number, request), self.rights(who))
     }
 
-    /// Puts number, request and reply in place of what is kept of the manager; of no other manager anything changes.
-    /// If memory is refused, nothing changes. The manager is known; the request is a GET, SET or COMMAND with an even number
-    /// of octets, 1,418 at most; and the reply fits it: it has the answering action and the id, one answer without a port for
-    /// an id of the clock or of no row, one to eight with ports otherwise. An answer is a refusal; of a COMMAND it may be
-    /// `Done`, and of another request a value of even size, 130 octets at most, 26 from a port.
+    /// Puts number, request and reply in place of what is kept of the manager. What is kept of other managers stays. If memory is
+    /// refused, nothing changes. The manager is known. The request is a GET, SET or COMMAND with an even number of octets, 1,418
+    /// at most. The reply fits it, with the answering action and the id. It has one answer without a port for an id of the clock
+    /// or of no row, and otherwise one to eight with ports. An answer may be a refusal. For a COMMAND it may be `Done`. For
+    /// another request it may be a value of even size, 130 octets at most, or 26 from a port.
     fn keep(
         &mut self,
         who: &PortIdentity,
@@ -119,8 +119,8 @@ pub trait SureTable: ReplyTable {
             (record { number = number; request = request.now; reply = reply.now }) }
         ensures owner { Self.owner self.new ≡ Self.owner self.old };
 
-    /// Keeps number and request with the reply that was sent for the copy that was heard: its messages are those that went out, and
-    /// no others did. `of_port` says whether its answers are of ports; else its one answer is of the clock.
+    /// Keeps number and request with the reply that was sent for the copy that was heard. The messages of the reply are those
+    /// that went out, and no others did. `of_port` says whether its answers are of ports. If not, its one answer is of the clock.
     fn keep_sent<O: Outgoing>(
         &mut self,
         heard: &Heard,

@@ -11,8 +11,8 @@ pub enum Serial {
     Older,
 }
 
-/// Compares a number with the latest by their difference modulo 65,536 (RFC 1982): 1 to 32,767 ahead is newer, all else
-/// but the same number is older, 32,768 ahead too (this project's profile).
+/// Compares a number with the latest one by their difference modulo 65,536 (RFC 1982). The same number is equal, and 1
+/// to 32,767 ahead is newer. All else is older, also 32,768 ahead (this project's profile).
 #[tactic(auto, unfolding(crate::specs::Serial::serial_of))]
 #[inline(always)]
 pub fn compare(latest: u16, number: u16) -> Serial

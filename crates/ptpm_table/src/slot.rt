@@ -24,8 +24,8 @@ use ptpm_codec::{Action, ClockIdentity, DATA_FIELD_OCTETS, PortIdentity, overwri
 use ptpm_data::{Reply, Request, Rights};
 use std::marker::Model;
 
-/// A manager's rights, and its latest accepted request, if one is kept. In it and in `Kept` the large members come
-/// first, so that no octet between two members belongs to neither: an empty table is then cleared in one piece.
+/// A manager's rights, and its latest accepted request, if one is kept. In it and in `Kept` the large members come first, so
+/// that no octet between two members belongs to neither. An empty table is then cleared in one piece.
 #[derive(Drop)]
 pub(crate) struct Slot {
     pub(crate) kept: Kept,
@@ -236,8 +236,8 @@ impl Kept {
         encode_each(&exchange, self.of_port, answers, sizes, messages);
     }
 
-    /// Keeps another request, with its number, in place of this one, and the messages of the reply to it as they were sent
-    /// for the copy that was heard.
+    /// Keeps another request, with its number, in place of this one. Keeps the messages of the reply to it as they were sent for
+    /// the copy that was heard.
     #[inline(always)]
     pub(crate) fn keep_sent<O: Outgoing>(
         &mut self,

@@ -500,8 +500,8 @@ fn keep_succeeds_with_ample_memory(rt: HostRuntime) -> Result<(), TableError> {
     Ok(())
 }
 
-/// To be run with each allocation refused in turn: a table that is refused memory stays as it was, and the same call then
-/// answers as it would have.
+/// This test is to be run with each allocation refused in turn. A table that is refused memory stays as it was, and the
+/// same call then answers as it would have.
 #[test]
 #[tactic(auto, unfolding(ptpm_data::specs::ManagementId::row_of))]
 fn refused_memory_changes_nothing(rt: HostRuntime) -> Result<(), TableError> {

@@ -1,4 +1,4 @@
--- What an event did, or why it was refused, and where it led, as its line says it.
+-- What an event did, or why it was refused, and the state to which it led, as its line says it.
 use Rattle.ptpm_world.proofs.Common.{arith, ne_eqb, true≢false, ◌≡◌, ℕ, false, Result, refl, sym, OnErr, Network, StepError, Took, World, IsStep, running, ◌==◌, after, answer, error_text, is_out_of_memory}
 use Rattle.ptpm_network.specs.Events.{Event}
 use Rattle.ptpm_world.proofs.Ending.{stays_or_goes}

@@ -176,7 +176,8 @@ stored_posted counts sessions e links l xs s before all origin found =
 
 -- ---- one message is sent
 
--- a message of these octets is sent at an end of a link: the store grows by its octets, and a frame is stored for each other end
+-- A message of these octets is sent at an end of a link. The store grows by its octets, and a frame is stored for each other
+-- end.
 pub record Posting (links : List NetworkLink) (l : NetworkLink) (s : Stored) (store octets next : List ℕ) (xs ys : List Stored) : Type 0 where
   pub found : link_of s.end links ≡ Some l
   pub behind : IsBehind store octets s

@@ -1,4 +1,4 @@
--- Where a name has a place, and a number a frame.
+-- The place of a name, and the number of a frame.
 use Rattle.ptpm_world.proofs.Common.{suc, zero, arith, ◌≡◌, ℕ, ◌+◌, ◌<◌, ◌≤◌, true, false, not, if◌then◌else◌, List, [], ◌∷◌, Option, Some, None, refl, ap, length, map, ⊎_elim, Contains, IsSome, bytes_eq, is_some, option_map, slice_get, slice_index_or, ◌↔◌, cases_Bool, cond-true, cond-false, eqb-false, eqb-true, false≢true, length-map, frame_at, Held, RunningNetwork, place_in, is_late_held}
 use Rattle.std.proofs.lemmas.Slice.Eq.{bytes_eq-Decides}
 

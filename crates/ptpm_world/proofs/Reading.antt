@@ -10,7 +10,7 @@ use Rattle.ptpm_world.proofs.ScriptLemmas.{FileRead, file-network, whole-kept}
 
 -- ---- lines of events
 
--- from each network on, all lines from the k-th on come to these events, and then to what is left of them from the n-th on
+-- from each network on, all lines from the k-th on come to these events, and to what is left of them from the n-th on
 pub record Reads (events : List EventLine) (k n place : ℕ) (xs ys : List ℕ) : Type 0 where
   pub goes : (N : Network) (names : Names) (start : RunningNetwork)
       → (now : RunningNetwork)

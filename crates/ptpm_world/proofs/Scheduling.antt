@@ -9,7 +9,7 @@ on_and : (x : Result Happened Refusal) (P Q : Happened → Type 0)
 on_and (Ok h) P Q on p = on h p
 on_and (Err why) P Q on p = absurd p
 
--- where the events so far lead, and one more, said by a name that stayed the same
+-- the state to which the events so far lead, and one more, said by a name that stayed the same
 pub leads-more : (N : Network) (r now new : RunningNetwork) (es : List Event) (e f : Event)
     → Leads N r es now
     → f ≡ e

@@ -52,7 +52,7 @@ told N s r now new a (d ∷ es) e leads went time =
     let behind = told-behind N s r now a d e es (network_event N r d) leads time
     (λ next more timely. told N s next now new (account_with N s r d a) es e more went timely) in grind (arith)
 
--- where the events so far lead, and one more, said by a name that stayed the same
+-- the state to which the events so far lead, and one more, said by a name that stayed the same
 pub served-more : (N : Network) (s : ℕ) (r now new : RunningNetwork) (a : Account)
     (es : List Event) (e f : Event)
     → f ≡ e

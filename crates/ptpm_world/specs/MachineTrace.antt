@@ -1,4 +1,4 @@
--- What a script shows of the network of its file, if no delivery of the script is late: at the end a network in which the
+-- What a script shows of the network of its file, if no delivery of the script is late. At the end it is a network in which the
 -- headline holds, and before it, line by line, what the machine does.
 use Rattle.std.specs.Prelude.{◌≡◌, ◌<◌, ◌↔◌, ℕ, List, [], ◌∷◌, ◌++◌, false, length, option_map, Ok, Result}
 use Rattle.std.specs.Result.{result_err}
@@ -32,8 +32,8 @@ abbrev pub IsReported : Network → NetworkState → machine.Event → Type 0
 IsReported N w e = (s : ℕ) × ((s < N.sessions)
     × ((report : Report) × (((step N w e).session s).reports ≡ (w.session s).reports ++ report ∷ [])))
 
--- The line says what the machine makes of the event in this state: the reason to refuse it, if there is one; `Answered` exactly
--- if a report is appended; and the numbers of the frames that are made. It does not say late.
+-- The line says what the machine makes of the event in this state: the reason to refuse it, if there is one. It says `Answered`
+-- exactly if a report is appended, and it has the numbers of the frames that are made. It does not say late.
 pub record TellsEvent (N : Network) (names : Names) (w : NetworkState) (e : EventLine) (line : List ℕ) : Type 0 where
   pub answer : Result Took StepError
   pub refused : result_err answer ≡ option_map error_of (refusal N w (placed names e.event))
@@ -57,7 +57,7 @@ pub record IsMachineTrace (N : Network) (names : Names) (events : List EventLine
   pub told : Tells N names (initial_state N) events lines
 
 -- What a script prints at the end are the reports and data sets of a network. If none of the script's events delivers a frame
--- late, the headline holds of that network after these events, and their lines say what the machine does.
+-- late, the headline holds for that network after these events. Their lines then say what the machine does.
 pub record ShowsNetwork (input : List ℕ) : Type 0 where
   pub network : NetworkValue
   pub file : network_of (network_text (whole_lines input)) ≡ Ok network

@@ -1,4 +1,4 @@
--- The events of a script by places: a name means the place of the session or clock that has it, and no place if there is
+-- The events of a script by places. A name means the place of the session or clock that has it, and no place if there is
 -- none.
 use Rattle.std.specs.Prelude.{ℕ, List, map, bytes_eq}
 use Rattle.std.specs.List.{position_or_len}

@@ -36,7 +36,7 @@ abbrev pub network_text : List (List ℕ × List ℕ) → List ℕ
 network_text [] = []
 network_text (line ∷ lines) = if is_divider line.0 then [] else line.0 ++ line_feed ++ network_text lines
 
--- What is kept of a text: all of it, or, if it is too long for a network file, as much of it as is still too long.
+-- What is kept of a text: all of it, or, if it is too long for a network file, another text that is too long.
 abbrev pub StandsFor : List ℕ → List ℕ → Type 0
 StandsFor kept whole = (kept ≡ whole) ⊎ ((262144 < length kept) × (262144 < length whole))
 
@@ -62,8 +62,8 @@ event_of place line = if is_skipped line then Ok None else read_as place (readin
 
 -- ---- what lines come to
 
--- their events, whether these are refused or not, and the lines of these, one after another; and after them where they lead, or
--- the first fault, in the order in which lines are read
+-- Their events, whether these are refused or not, and the lines of these, one after another. After them where they lead, or the
+-- first fault, in the order in which lines are read.
 pub record Played (A : Type 0) : Type 0 where
   pub events : List EventLine
   pub text : List ℕ
@@ -155,8 +155,8 @@ scripted_from number octets =
 abbrev pub scripted : List ℕ → Played (List ℕ)
 scripted input = scripted_from 1 input
 
--- A script prints this text: the lines before the divider are a network file, each line after it is an event or is skipped, and
--- the text is the trace of these events in that network, from its start on.
+-- A script prints this text. The lines before the divider are a network file, and each line after it is an event or is skipped.
+-- The text is the trace of these events in that network, from its start on.
 abbrev pub Prints : List ℕ → List ℕ → Type 0
 Prints input text = (last : List ℕ) × (((scripted input).end ≡ Ok last) × (text ≡ (scripted input).text ++ last))
 
@@ -167,8 +167,8 @@ abbrev pub TakesFirst : List ℕ → Option (List ℕ) → Option (List ℕ) →
 TakesFirst whole before after =
     (text : List ℕ) × ((rest : List ℕ) × ((text ++ rest ≡ whole) × Appends before after text))
 
--- It ends early. Unless reading, writing or memory failed, it ends with the lines' first fault, and the lines of all events before
--- that were written. Where it is one of reading or of memory that failed, a beginning of them was.
+-- It ends early. If neither reading, writing nor memory failed, it ends with the lines' first fault, and the lines of all events
+-- before that were written. If reading or memory failed, a beginning of them was written.
 abbrev pub HasStopped : {A : Type 0} → Played A → Option (List ℕ) → Option (List ℕ) → ScriptError → Type 0
 HasStopped p before after e =
     (is_outside e ≡ false → (p.end ≡ Err e) × Appends before after p.text) × (e ≢ WriteFault → TakesFirst p.text before after)

@@ -61,8 +61,8 @@ pub record IsRun {A : Type 0} (N : Network) (old new : World) (events : List Eve
       → answer N (running new) (placed (names_in old) event) ≡ Err e.1)
   pub network : IsOf N new
 
--- After events without a late delivery, and if none of these is one: the headline holds; they are the events that the
--- machine takes, up to the first that it refuses, for this reason, want of memory aside.
+-- Let no event before be a late delivery, and none of these. Then the headline holds. These events are those that the machine
+-- takes, up to the first that it refuses, and it refuses that one for this reason. `OutOfMemory` is excepted.
 pub record IsMachineRun {A : Type 0} (N : Network) (past : List machine.Event) (old new : World)
     (events : List Event) (result : Result A (ℕ × StepError)) : Type 0 where
   pub stands : StandsAfter N (past ++ carried_out old result events) (running new)

@@ -1,4 +1,4 @@
--- Frames in a store: each has its end, what it belongs to, and where its octets are.
+-- Frames in a store: each has its end, what it belongs to, and the place of its octets.
 use Rattle.std.specs.Prelude.{ℕ, ◌+◌, ◌≤◌, Bool, not, List, length}
 use Rattle.std.specs.List.{filter}
 use Rattle.ptpm_network.specs.Network.{same_end}

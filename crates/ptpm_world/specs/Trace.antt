@@ -1,5 +1,5 @@
 -- What a script prints (this project's profile): a line for each event, and at the end each session's reports and each clock's
--- data sets, by names, in the file's order.
+-- data sets. These have names, and are in the file's order.
 use Rattle.std.specs.Prelude.{ℕ, ◌+◌, nat_lt, Bool, true, false, List, [], ◌∷◌, ◌++◌, codes, decimal, flat_map, length, Result, Ok, Err, if◌then◌else◌, ◌==◌}
 use Rattle.std.specs.List.{enumerate_from, range_with_len}
 use Rattle.std.specs.Int.{to_be_bytes, w16}

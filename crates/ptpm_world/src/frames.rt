@@ -9,8 +9,8 @@ use ptpm_codec::{MESSAGE_OCTETS, OutOfMemory};
 use ptpm_script::{End, NetworkLink};
 use std::alloc::Global;
 
-/// While more frames than this are held, nothing is sent or delivered: one event makes 225 frames at most, so that
-/// 400,000 is never passed (this project's profile).
+/// While more frames than this are held, nothing is sent or delivered. One event makes at most 225 frames, so that there are
+/// never over 400,000 (this project's profile).
 pub(crate) const FRAMES_LIMIT: usize = 399_775;
 
 /// A clock sends at most 15 messages in a turn, each to at most 15 other ends of a link.
@@ -34,7 +34,7 @@ pub(crate) enum Origin {
 struct Stored {
     end: End,
     origin: Origin,
-    /// Where its octets are.
+    /// The place at which its octets begin.
     start: usize,
     size: usize,
 }
@@ -125,8 +125,8 @@ impl Frames {
         })
     }
 
-    /// Asks for the memory of all frames that one event makes, unless nothing more is sent. Where it is refused, the frames stay
-    /// as they were.
+    /// Asks for the memory of all frames that one event makes, unless nothing more is sent. If it is refused, the frames stay as
+    /// they were.
     pub(crate) fn make_room(&mut self) -> Result<(), OutOfMemory>
         ensures frames { held_in self.new ≡ held_in self.old }
         ensures stored { self.new.stored.items ≡ self.old.stored.items }
@@ -184,7 +184,7 @@ fn link_at(links: &[NetworkLink], end: End) -> Option<&NetworkLink>
     links.iter().find(|link| link.ends.contains(&end))
 }
 
-/// Stores a frame once for each of these ends but its own, in their order. There is room for them.
+/// Stores a frame once for each of these ends except its own, in their order. There is room for them.
 fn push_others(stored: &mut Vec<Stored>, ends: &[End], frame: Stored)
     requires { length stored.old.items + length (others frame.end ends.now)
         ≤ vec_capacity stored.old }

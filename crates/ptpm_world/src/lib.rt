@@ -1,5 +1,5 @@
-//! A network of boundary clocks and the sessions that manage them, run event by event: whatever the events lose, repeat,
-//! reorder or duplicate, each clock carries out each request once (IEEE 1588-2019, clause 15).
+//! A network of boundary clocks and the sessions that manage them, run event by event. Events may lose, repeat, reorder
+//! or duplicate messages, and each clock carries out each request once (IEEE 1588-2019, clause 15).
 #![tactic(auto)]
 
 mod frames;

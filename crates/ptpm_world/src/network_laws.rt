@@ -31,8 +31,8 @@ pub fn described_network(network: &Network)
     let _ = network;
 }
 
-/// Every event, with places for its names, is one that the laws of networks speak of: its managementId has 16 bits, and each
-/// of its octets eight.
+/// Every event, with places for its names, is one that the laws of networks are about. Its managementId has 16 bits, and
+/// each of its octets eight.
 pub fn placed_event(event: &Event)
     ensures { (names : Names) → IsInRange (placed names event.now) }
 {

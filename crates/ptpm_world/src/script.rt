@@ -38,17 +38,17 @@ pub fn one_trace()
         → first ≡ second }
 {}
 
-/// Reads a network file, the line `%%` and events from a reader, lets the events happen one after another, and writes the
-/// trace: a line for each event, and at the end each session's reports and each clock's data sets. An event that is refused
-/// is a line of the trace too. Without the divider there are no events.
+/// Reads a network file, the line `%%` and events from a reader. Lets the events happen one after another, and writes the
+/// trace. That is a line for each event, and at the end each session's reports and each clock's data sets. An event that is
+/// refused is a line of the trace too. Without the divider there are no events.
 ///
-/// If no delivery of the script is late, the headline holds of the network whose reports and data sets are written at the
-/// end, after the script's events: however these lose, repeat, reorder or duplicate messages. And each event's line says what
-/// the network machine does, with `Answered` exactly if a report is appended (`ShowsNetwork`).
+/// The reports and data sets at the end are those of the network after the script's events. If no delivery of the script is
+/// late, the headline holds for it, however the events lose, repeat, reorder or duplicate messages. And each event's line
+/// says what the network machine does, with `Answered` exactly if a report is appended (`ShowsNetwork`).
 ///
-/// All lines before the divider are read before the network is judged; each event's line is written before the next is
-/// read, and flushed if that may have to be waited for. Ends for every reader, since lines and their octets are bounded. The
-/// world that runs lies in a frame of its own, so that no other subcommand pays for it.
+/// All lines before the divider are read before the network is judged. Each event's line is written before the next is read,
+/// and flushed if that may have to be waited for. Ends for every reader, since lines and their octets are bounded. The world
+/// that runs is in a frame of its own, so that no other subcommand pays for it.
 #[inline(never)]
 pub fn run_script<R: Read + Drop, W: Write>(
     alloc: Global,
@@ -108,8 +108,8 @@ pub(crate) fn network_of_text(alloc: Global, text: &str) -> Result<Network, Scri
     }
 }
 
-/// The lines up to the divider, each followed by a line feed. Of a text over the limit only so much is kept that it is
-/// still over it.
+/// The lines up to the divider, each followed by a line feed. A text over the limit is not kept whole. What is kept of it is
+/// over the limit too.
 pub fn read_text<R: Read + Drop>(
     alloc: Global,
     script: &mut Lines<R>,

@@ -25,7 +25,7 @@ use ptpm_table::Outbox;
 use std::alloc::Global;
 
 impl World {
-    /// The network of a file before anything has happened: each session is a configured manager of its target, with the
+    /// The network of a file before anything has happened. Each session is a configured manager of its target, with the
     /// rights that the file gives it, in the file's order. Nothing is made if memory is refused.
     pub fn new(alloc: Global, network: &Network) -> Result<World, OutOfMemory>
         ensures network { IfOk result (λ w. IsOf (described (network_value network.now)) w) }
@@ -65,8 +65,8 @@ fn start_clocks(alloc: Global, network: &Network) -> Result<Vec<RunningClock>, O
     Ok(running)
 }
 
-/// Puts the clock at a place after the others. It has some 36,000 octets: it is moved once, without managers, to its place in
-/// the vector, which has room for it by then, and is given them there.
+/// Puts the clock at a place after the others. It has some 36,000 octets. So it is moved once, without managers, to its place
+/// in the vector, which has room for it by then. It is given its managers there.
 #[inline(never)]
 fn start_clock(
     alloc: Global,

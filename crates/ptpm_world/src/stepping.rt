@@ -37,13 +37,13 @@ use ptpm_script::{End, Event, NetworkLink};
 use ptpm_table::{Outbox, ReplyTable};
 
 impl World {
-    /// Lets an event happen. The first reason that holds is why it is refused, and then the network stays as it was; only
-    /// want of memory may come in place of another answer.
+    /// Lets an event happen. An event is refused for the first reason that holds, and then the network stays as it was.
+    /// `OutOfMemory` alone may come in place of any other answer.
     ///
-    /// If no frame was delivered late before, and none is now, it is where the event leads the network machine, and
-    /// refuses what that refuses, for the same reason. Late or not, each clock has what it had before, after the request of its
-    /// turn at the event if the verdict is `AnsweredNew`: nothing else changes its data sets or what it keeps. And a session that
-    /// was served so far is served after it, unless it is a late delivery for this very session (`IsServedSoFar`).
+    /// If no frame was delivered late before, and none is now, it is where the event leads the network machine. It refuses what
+    /// that refuses, for the same reason. Late or not, each clock has what it had before, after the request of its turn at the
+    /// event if the verdict is `AnsweredNew`. Nothing else changes its data sets or what it keeps. And a session that was served
+    /// so far is served after it, unless it is a late delivery for this very session (`IsServedSoFar`).
     pub fn step(&mut self, event: &Event) -> Result<Took, StepError>
         ensures step { (N : Network)
             → IsOf N self.old
@@ -71,22 +71,22 @@ impl World {
         self.dispatch(event)
     }
 
-    /// Lets events happen in their order. Stops at the first that is refused, and names its place, counted from 0; those
-    /// before it happened.
+    /// Lets events happen in their order. Stops at the first that is refused, and names its place, counted from 0; those before
+    /// it happened.
     ///
-    /// However these events lose, repeat, reorder or duplicate messages, if none that happened delivered a frame late, and
-    /// none before did, each clock's data sets are those after its managers' delivered requests, each applied once in order of
-    /// first acceptance. Then repeats of the latest get the one reply kept, older ones none; each manager reports those replies;
-    /// strangers and refused SETs change no data set (`Headline`).
+    /// The events may lose, repeat, reorder or duplicate messages in any way. Let none that happens deliver a frame late, and let
+    /// none have done so before. Then each clock's data sets are those after its managers' delivered requests, each applied once
+    /// in order of first acceptance. Repeats of the latest request get the one reply that is kept, and repeats of older ones get
+    /// none. Each manager reports those replies. Strangers and refused SETs change no data set (`Headline`).
     ///
-    /// Late or not, each clock has what it had before, after the requests of its turns that were `AnsweredNew`, each in its turn,
-    /// in their order: nothing else changes its data sets or what it keeps.
+    /// Late or not, each clock has what it had before, after the requests of its turns that were `AnsweredNew`. Each is carried
+    /// out as the clock was in its turn, in their order. Nothing else changes its data sets or what it keeps.
     ///
-    /// One late manager disturbs its own requests at most. However late the messages of others come, a session none of whose
-    /// requests was delivered late at its target, and to which no reply was, stays served (`IsServedSoFar`): its target carried
-    /// out its requests 1 to their number, each once, in this order, which are those begun or all but the last; its reports are
-    /// what the replies given then say, in order, as many as were begun or one less; a copy of the last of them gets that reply
-    /// again, and a copy of an older one none.
+    /// One late manager disturbs at most its own requests. Let no request of a session be delivered late at its target, and no
+    /// reply late to it. Then it stays served (`IsServedSoFar`), however late the messages of others come. Its target carried out
+    /// its requests from 1 on, each once, in this order: all that were begun, or all except the last. Its reports are what the
+    /// replies given then say, in order: as many as were begun, or one less. A copy of the last request that was carried out gets
+    /// that reply again, and a copy of an older one gets none.
     pub fn run(&mut self, events: &[Event]) -> Result<(), (usize, StepError)>
         ensures run { (N : Network)
             → IsOf N self.old
@@ -360,8 +360,8 @@ impl RunningSession {
     }
 }
 
-/// Sends what a clock left in the outbox in its turn at a datagram: copies that it passes on belong to what the datagram
-/// belongs to, a reply to a numbered request to that request, and any other reply to nothing.
+/// Sends what a clock left in the outbox in its turn at a datagram. Copies that it passes on belong to what the datagram belongs
+/// to. A reply to a numbered request belongs to that request, and any other reply to nothing.
 fn post_turn(
     frames: &mut Frames,
     links: &[NetworkLink],

@@ -28,8 +28,8 @@ use std::{fmt, io};
 /// Room for what is displayed in one piece: a line of any event, and of a report whose value is short.
 const SHORT: usize = 128;
 
-/// Lets an event happen and writes its line: its number, its verb, what it did or why it was refused, whether it was the
-/// delivery of a late frame, and which frames were made.
+/// Lets an event happen and writes its line. The line has its number and its verb, and what it did or why it was
+/// refused. It says whether the event delivered a late frame, and which frames were made.
 pub(crate) fn write_event<W: Write>(
     world: &mut World,
     number: u32,

@@ -61,8 +61,8 @@ impl World {
     ghost use Rattle.ptpm_world.specs.Trace.{is_late_event};
 
     /// A clock's data sets as they are, if there is a clock of this name. If no frame was delivered late, they are those that
-    /// it started with after the requests accepted among the copies that came in at it, each applied once, in order of first
-    /// acceptance.
+    /// it started with, after the requests accepted among the copies that came in at it. Each of these is applied once, in
+    /// order of first acceptance.
     pub fn sets(&self, clock: &str) -> Option<&DataSets>
         ensures sets { option_map (λ d. d.now) result ≡ sets_named self.now clock.now }
         ensures known { IsSome result ↔ Contains (names_in self.now).clocks clock.now }
@@ -81,9 +81,9 @@ impl World {
         }
     }
 
-    /// The reports of a session's answers, in order, if there is a session of this name. If no frame was delivered late,
-    /// they are of its requests 1, 2, 3, .., and each is worth this: its request was carried out exactly once at the session's
-    /// target, and the report gives the one answer that the clock made then (`IsWorth`).
+    /// The reports of a session's answers, in order, if there is a session of this name. If no frame was delivered late, they
+    /// are of its requests 1, 2, 3, .., and each is worth this (`IsWorth`). Its request was carried out exactly once at the
+    /// session's target, and the report gives the one answer that the clock made then.
     pub fn reports(&self, session: &str) -> Option<&[Report]>
         ensures reports { option_map (λ r. r.now) result ≡ reports_named self.now session.now }
         ensures known { IsSome result ↔ Contains (names_in self.now).sessions session.now }
@@ -112,7 +112,7 @@ impl World {
         self.frames.count() as u32
     }
 
-    /// The frame of a number, counted from 1. Where no frame was delivered late, it is the network machine's.
+    /// The frame of a number, counted from 1. If no frame was delivered late, it is the network machine's.
     pub fn frame(&self, number: u32) -> Option<Frame<'_>>
         ensures frame { option_map frame_value result ≡ frame_at (running self.now).frames number }
         ensures frame_after { (N : Network) (past : List machine.Event)
@@ -125,8 +125,8 @@ impl World {
         self.frames.get(number)
     }
 
-    /// Whether delivering a frame is late: it is a copy of a request, or of a reply to one, and its session has begun over
-    /// 32,768 requests since. No frame that is not there is late.
+    /// Whether delivering a frame is late. The frame is then a copy of a request, or of a reply to one, and its session has
+    /// begun over 32,768 requests since. No frame that is not there is late.
     pub fn is_late(&self, number: u32) -> bool
         ensures late { result
             ≡ is_late_held (running self.now) (frame_at (running self.now).frames number) }

@@ -1,5 +1,5 @@
-//! The tests of `ptpm_world`, by its public functions: in a crate above it, so that its functions are not proved once more
-//! for them, and its must-fail edits do not wait for them.
+//! The tests of `ptpm_world`, by its public functions. They are in a crate above it. So its functions are not proved once
+//! more for them, and its must-fail edits do not wait for them.
 #![tactic(auto)]
 
 #[cfg(test)]

@@ -1,8 +1,9 @@
 //! Exchanges as text: what comes in at a clock, the verdict, and what goes out.
 //!
-//! A text is words. Octets are hexadecimal digits, or a name: `Z` fourteen zeros, `K` the clock, `M` and `M2` the clocks of
-//! its managers, `S` a stranger's, `A`, `B` and `C` three clocks of a ring, `E` every clock; `127*41` is 127 times 41. Then
-//! `in:PORT:VERDICT` hands the octets so far to the clock, and `out:PORT` says that they are the next message that it sends.
+//! A text is words. Octets are hexadecimal digits, or a name. `Z` is fourteen zeros, `K` the clock, `M` and `M2` the clocks
+//! of its managers, and `S` a stranger's. `A`, `B` and `C` are three clocks of a ring, and `E` is every clock. `127*41` is
+//! 127 times 41. Then `in:PORT:VERDICT` hands the octets so far to the clock, and `out:PORT` says that they are the next
+//! message that it sends.
 
 use super::clocks::{Hears, K, M, M2, Start, Sure, Tried, agent, start_of};
 use super::refusing::Refusing;
@@ -32,8 +33,8 @@ pub fn at_k(rt: &impl Abort, alloc: Global, text: &str) -> Result<(), Fail> {
     at_clocks(rt, alloc, &start_of(&[PortStart::new(); 2]), text)
 }
 
-/// The exchange at four fresh clocks: by `try_handle` over a plain table, over a bound table, and over a table that is
-/// refused memory at first; and by `handle` over a bound table.
+/// The exchange at four fresh clocks. Three run `try_handle`: over a plain table, over a bound table, and over a table that
+/// is refused memory at first. One runs `handle`, over a bound table.
 pub fn at_clocks(
     rt: &impl Abort,
     alloc: Global,

@@ -23,8 +23,8 @@ fn not_for_this_clock(rt: HostRuntime) -> Result<(), Fail> {
     at_k(&rt, rt.alloc(), NOT_FOR_THIS_CLOCK)
 }
 
-/// A message of this very clock in another domain is OtherDomain; a RESPONSE and an ACKNOWLEDGE of another clock to every
-/// clock are no request, and are passed on, while they have a hop left.
+/// A message of this very clock in another domain is OtherDomain. A RESPONSE and an ACKNOWLEDGE of another clock to every
+/// clock are no request. They are passed on while they have a hop left.
 pub const TO_EVERY_CLOCK: &str = "
     0d1200360500 Z K 0001 0008 047f K ffff 0101 0000 000100022005 in:1:OtherDomain
     0d1200380000 Z B 0001 0007 047f E ffff 0101 0200 0001000420058000 in:1:NotARequest

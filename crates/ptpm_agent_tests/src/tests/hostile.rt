@@ -127,7 +127,7 @@ fn count(counts: &mut [u32; 16], place: usize, verdict: Verdict, sent: Sent) {
     }
 }
 
-/// A SET or COMMAND of some id with two octets of data, of a stranger: of a clock that is no manager's, or of another port
+/// A SET or COMMAND of some id with two octets of data, of a stranger. That is a clock that is no manager's, or another port
 /// of a manager's clock.
 fn of_a_stranger(count: u32) -> [u8; 56] {
     let mut datagram = [0; 56];
@@ -183,7 +183,7 @@ fn looks(table: &impl ReplyTable, who: &PortIdentity) -> [Look; 3] {
     ]
 }
 
-/// Asserts that the table has the GET of each manager and nothing newer, and nothing of strangers, whether they are of a
+/// Asserts that the table has the GET of each manager and nothing newer. It has nothing of strangers, whether they are of a
 /// manager's clock or not.
 fn read_table(rt: &impl Abort, table: &impl ReplyTable) {
     for manager in [M, M2] {
@@ -214,9 +214,10 @@ fn is_refused(out: &Outbox, port: u16) -> bool {
     true
 }
 
-/// The laws `only_managers`, that nothing is kept of strangers, `one_delivery`, that what is no copy of a manager's request
-/// changes neither data sets nor entries, and `refused_changes_no_data`, seen at work: 100,000 SETs and COMMANDs of strangers
-/// are refused, and the members, what the table says of M, M2 and a stranger, and the replies to repeats are as before.
+/// Shows three laws at work. By `only_managers` nothing is kept of strangers. By `one_delivery` what is no copy of a
+/// manager's request changes neither data sets nor entries. The third is `refused_changes_no_data`. Here 100,000 SETs and
+/// COMMANDs of strangers are refused. The members, what the table says of M, M2 and a stranger, and the replies to repeats
+/// are as before.
 #[test]
 fn strangers_change_nothing(rt: HostRuntime) -> Result<(), Fail> {
     let mut clock = sure_clock(&rt)?;

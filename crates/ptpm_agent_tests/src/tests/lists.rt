@@ -7,7 +7,7 @@ use ptpm_table::Outbox;
 use std::process::Abort;
 use std::test::Fail;
 
-/// A request comes in at port 1 and once more at port 2: the outbox has what is sent for the second alone, from port 2.
+/// A request comes in at port 1 and once more at port 2. The outbox has only what is sent for the second, from port 2.
 #[test]
 fn handle_each_leaves_what_the_last_is_sent(rt: HostRuntime) -> Result<(), Fail> {
     let alloc = rt.alloc();

@@ -34,7 +34,7 @@ fn try_handle_succeeds_with_ample_memory(rt: HostRuntime) -> Result<(), Fail> {
     Ok(())
 }
 
-/// `tools/refuse_memory` refuses each request for memory in turn: after a refused call data sets and outbox are as before,
+/// `tools/refuse_memory` refuses each request for memory in turn. After a refused call data sets and outbox are as before,
 /// and the same call then answers as it would have.
 #[test]
 fn try_handle_after_refused_memory(rt: HostRuntime) -> Result<(), Fail> {

@@ -98,8 +98,8 @@ fn same_number_other_request(rt: HostRuntime) -> Result<(), Fail> {
     at_k(&rt, rt.alloc(), SAME_NUMBER_OTHER_REQUEST)
 }
 
-/// The dataField of a GET is ignored, and yet part of the request, as is the port that a GET of the clock's names: another
-/// under the latest number is dropped, and what is kept stays.
+/// The dataField of a GET is ignored, and is yet part of the request. So is the port that a GET of an id of the clock names.
+/// Another request under the latest number is dropped, and what is kept stays.
 pub const SAME_NUMBER_OTHER_DATA: &str = "
     0d1200380000 Z M 0001 0007 047f K ffff 0101 0000 0001000420050001 in:1:AnsweredNew
     0d1200380000 Z K 0001 0007 047f M 0001 0000 0200 0001000420058000 out:1
@@ -126,7 +126,7 @@ fn numbers_wrap(rt: HostRuntime) -> Result<(), Fail> {
     at_k(&rt, rt.alloc(), NUMBERS_WRAP)
 }
 
-/// The clock moves to domain 5. Its manager, who has not heard of it, is answered in the domain of each copy; a request that
+/// The clock moves to domain 5. Its manager does not know of it, and is answered in the domain of each copy. A request that
 /// is no repeat is answered in domain 5 alone.
 pub const SET_DOMAIN: &str = "
     0d1200380000 Z M 0001 0007 047f K ffff 0101 0100 0001000420070500 in:1:AnsweredNew

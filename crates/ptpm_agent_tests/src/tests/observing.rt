@@ -10,8 +10,8 @@ const BEFORE: &str = "
     0d1200360000 Z M 0001 0007 047f K ffff 0101 0000 000100022001 in:1:AnsweredNew
     0d1200480000 Z K 0001 0007 047f M 0001 0000 0200 000100142001 18*00 out:1";
 
-/// Its copy is answered what was true when it was carried out; the next GET two steps, 1,250 ns and no delay, and a GET of
-/// PORT_DATA_SET of port 1 the state SLAVE.
+/// Its copy is answered what was true when it was carried out. The next GET is answered two steps, 1,250 ns and no delay,
+/// and a GET of PORT_DATA_SET of port 1 the state SLAVE.
 const AFTER: &str = "
     0d1200360000 Z M 0001 0007 047f K ffff 0101 0000 000100022001 in:1:AnsweredRepeat
     0d1200480000 Z K 0001 0007 047f M 0001 0000 0200 000100142001 18*00 out:1

@@ -1,5 +1,5 @@
-//! What becomes of a datagram that comes in at port 1 of the clock K, judged by the octets at each of its places
-//! (IEEE 1588-2019, 13.3, 15.3 and 15.4; the order of the verdicts, and numbers, are this project's profile).
+//! What becomes of a datagram that comes in at port 1 of the clock K (IEEE 1588-2019, 13.3, 15.3 and 15.4). It is judged
+//! by the octets at each of its places. The order of the verdicts, and numbers, are this project's profile.
 
 use super::clocks::{K, M, M2};
 use ptpm_agent::Verdict;
@@ -125,8 +125,8 @@ pub fn verdict(accepted: &[u8], octets: &[u8]) -> Verdict {
     }
 }
 
-/// Whether what goes out is what is due: a copy at port 2 of what is not for K alone and has a hop left, and then at port 1
-/// the replies to what is answered.
+/// Whether what goes out is what is due. At port 2 that is a copy of what is not for K alone and has a hop left. Then at
+/// port 1 it is the replies to what is answered.
 pub fn is_due(octets: &[u8], verdict: Verdict, out: &Outbox) -> bool {
     let is_message = refusal(octets).is_none() && octet_at(octets, 0) < 16;
     let has_domain = octet_at(octets, 4) == 0 && octet_at(octets, 5) == 0;
@@ -162,8 +162,8 @@ fn is_copy(octets: &[u8], copy: &[u8]) -> bool {
         && part(copy, 46, length) == part(octets, 46, length)
 }
 
-/// Whether these octets are a reply of K to the request: to its source, in its domain, with its number and id, and with as
-/// many hops as it has lost.
+/// Whether these octets are a reply of K to the request. It goes to its source, in its domain, with its number and id, and
+/// with as many hops as it has lost.
 fn is_reply_to(octets: &[u8], reply: &[u8]) -> bool {
     let hops = octet_at(octets, 44).saturating_sub(octet_at(octets, 45));
     let action = if action_of(octets) == 3 { 4 } else { 2 };

@@ -5,7 +5,7 @@ use super::exchange::{at_clocks, at_k};
 use ptpm_data::PortStart;
 use std::test::Fail;
 
-/// Shows that any other request is answered from the data sets as they are, and that a stranger changes none: its SET is
+/// Shows that any other request is answered from the data sets as they are, and that a stranger changes none. Its SET is
 /// NOT_SUPPORTED, and priority1 stays.
 pub const STRANGERS: &str = "
     0d1200360000 Z S 0001 0001 047f K ffff 0101 0000 000100022005 in:1:AnsweredUnnumbered
@@ -15,8 +15,8 @@ pub const STRANGERS: &str = "
     0d1200360000 Z S 0001 0001 047f K ffff 0101 0000 000100022005 in:1:AnsweredUnnumbered
     0d1200380000 Z K 0001 0001 047f S 0001 0000 0200 0001000420058000 out:1";
 
-/// A manager's SET to every clock is no numbered request: it is passed on, answered NOT_SUPPORTED, and not kept, so that its
-/// number is new after it; priority1 stays.
+/// A manager's SET to every clock is no numbered request. It is passed on, answered NOT_SUPPORTED, and not kept. So its
+/// number is new after it, and priority1 stays.
 pub const SET_TO_EVERY_CLOCK: &str = "
     0d1200380000 Z M 0001 0007 047f E ffff 0101 0100 0001000420056400 in:1:AnsweredUnnumbered
     0d1200380000 Z M 0001 0007 047f E ffff 0100 0100 0001000420056400 out:2
@@ -24,7 +24,7 @@ pub const SET_TO_EVERY_CLOCK: &str = "
     0d1200360000 Z M 0001 0007 047f K ffff 0101 0000 000100022005 in:1:AnsweredNew
     0d1200380000 Z K 0001 0007 047f M 0001 0000 0200 0001000420058000 out:1";
 
-/// Shows that an outbox has at most 15 messages, and room for as many: a stranger's GET of PORT_DATA_SET to every clock and
+/// Shows that an outbox has at most 15 messages, and room for as many. A stranger's GET of PORT_DATA_SET to every clock and
 /// port goes out at seven ports, and each of eight ports answers.
 pub const TO_EVERY_PORT: &str = "
     0d1200360000 Z S 0001 0001 047f E ffff 0101 0000 000100022004 in:1:AnsweredUnnumbered

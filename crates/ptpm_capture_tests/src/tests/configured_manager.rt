@@ -1,4 +1,4 @@
-//! `pmc` as a configured manager. Over UDP its identity is the MAC of its interface, with `fffe` in the middle, and port 1; its
+//! `pmc` as a configured manager. Over UDP its identity is the MAC of its interface, with `fffe` in the middle, and port 1. Its
 //! sequenceIds start again at 0 with each run.
 
 use ptpm_agent::Verdict;
@@ -6,8 +6,8 @@ use ptpm_host::{ClockSettings, HostedClock, MOST_SENT, ManagerSettings, PortSett
 use std::alloc::Global;
 use std::test::Fail;
 
-/// A row for each datagram that `pmc` of linuxptp 3.1.1 sent from 02:00:00:00:00:10, one run after another, its target
-/// aabbcc.fffe.ddee01-65535: the run and its words, the datagram, the verdict and what the clock sends.
+/// A row for each datagram that `pmc` of linuxptp 3.1.1 sent from 02:00:00:00:00:10 to aabbcc.fffe.ddee01-65535, one run after
+/// another. It has the run and its words, the datagram, the verdict and what the clock sends.
 ///
 /// The second and the third run start at 0 too. A GET is another request than the SET that was kept under 0, and so is the SET with
 /// another reserved octet. What comes under 1 and 2 is new; after it a request of a fourth run, under 0, is old.
@@ -35,7 +35,7 @@ fn clock(alloc: Global) -> Result<HostedClock, Fail> {
     Ok(HostedClock::start(alloc, &settings, &ports, &[manager]).map_err(|_| "it starts")?)
 }
 
-/// Each SET is carried out where its number is new, and a tool that starts again at 0 changes nothing twice.
+/// Each SET is carried out if its number is new, and a tool that starts again at 0 changes nothing twice.
 #[test]
 fn runs_of_a_configured_manager(rt: HostRuntime) -> Result<(), Fail> {
     let alloc = rt.alloc();

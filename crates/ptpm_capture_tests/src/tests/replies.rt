@@ -79,7 +79,7 @@ get_clock_accuracy_port3 => 0d02003800000000000000000000000000000000aabbccfffedd
 get_current_data_set => 0d02004800000000000000000000000000000000aabbccfffeddee0100010080047f0011223344556677000100000200000100142001000000000000000000000000000000000000 => sdo 000 ; domain 0 ; source aabbccfffeddee01/1 ; target 0011223344556677/1 ; number 128 ; hops 0 of 0 ; action RESPONSE ; id 2001 CURRENT_DATA_SET ; value 000000000000000000000000000000000000
 get_current_data_set_full_data => 0d02004800000000000000000000000000000000aabbccfffeddee0100000081047f0011223344556677000100000200000100142001000000000000000000000000000000000000 => sdo 000 ; domain 0 ; source aabbccfffeddee01/0 ; target 0011223344556677/1 ; number 129 ; hops 0 of 0 ; action RESPONSE ; id 2001 CURRENT_DATA_SET ; value 000000000000000000000000000000000000"#;
 
-/// Each is read, and shown with its fields as they stand in its octets.
+/// Each is read, and shown with its fields as they are in its octets.
 #[test]
 fn replies_of_ptp4l(rt: HostRuntime) -> Result<(), Fail> {
     let alloc = rt.alloc();

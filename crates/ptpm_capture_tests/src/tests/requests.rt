@@ -1,13 +1,13 @@
-//! What `pmc` of linuxptp 3.1.1 (Debian's package) sends, over its Unix socket, UDP (IPv4 and IPv6) and Ethernet, and what the
+//! What `pmc` of linuxptp 3.1.1 (Debian's package) sends over its Unix socket, UDP (IPv4 and IPv6) and Ethernet. Also what the
 //! clock of `ptpm answer` sends for it.
 
 use super::same_lines;
 use ptpm_commands::answer::answer;
 use std::test::Fail;
 
-/// A row for each datagram: the words of `pmc`, the datagram, and the lines that `answer` prints. `-u` is the Unix socket, `-4` and
-/// `-6` are UDP, and `-2` is Ethernet; to be seen there are the two octets behind the message over IPv6 and, in a SET of
-/// PRIORITY1, a reserved octet that the tool has not cleared.
+/// A row for each datagram: the words of `pmc`, the datagram, and the lines that `answer` prints. `-u` is the Unix socket, `-4`
+/// and `-6` are UDP, and `-2` is Ethernet. Over IPv6 two octets come after the message. In a SET of PRIORITY1 there is a reserved
+/// octet that the tool has not cleared.
 const REQUESTS: &str =
     r#"pmc -u "GET ANNOUNCE_RECEIPT_TIMEOUT" => 0d02003800000000000000000000000000000000000000000000000031c00000047fffffffffffffffffffff0101000000010004200a0000 => 2 0d02003800000000000000000000000000000000000000000000000031c00000047fffffffffffffffffffff0100000000010004200a0000 ; 1 0d12003800000000000000000000000000000000aabbccfffeddee0100010000047f000000000000000031c00000020000010004200a0300 ; 1 0d12003800000000000000000000000000000000aabbccfffeddee0100020000047f000000000000000031c00000020000010004200a0300
 pmc -u -z "GET ANNOUNCE_RECEIPT_TIMEOUT" => 0d02003600000000000000000000000000000000000000000000000031dd0000047fffffffffffffffffffff0101000000010002200a => 2 0d02003600000000000000000000000000000000000000000000000031dd0000047fffffffffffffffffffff0100000000010002200a ; 1 0d12003800000000000000000000000000000000aabbccfffeddee0100010000047f000000000000000031dd0000020000010004200a0300 ; 1 0d12003800000000000000000000000000000000aabbccfffeddee0100020000047f000000000000000031dd0000020000010004200a0300

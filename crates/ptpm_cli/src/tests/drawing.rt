@@ -13,7 +13,7 @@ use crate::command::command;
 ///   11 * 8 + 32 + 40 + 16 = 176.
 /// - The longest text after a stub has 25 characters. So the next lifeline is 25 * 8 + 64 = 264 further, at 440.
 /// - What became of events begins at 440 + 40 + 16 = 496. It has 25 characters at most, so the width is 496 + 25 * 8 + 16 = 712.
-/// - Five rows of 44, two members of 16 and a stub of 22 are below a head of 72 and above a margin of 16: the height is 362.
+/// - Below a head of 72 and above a margin of 16 are five rows of 44, two members of 16 and a stub of 22. So the height is 362.
 const TWO_COPIES_PICTURE: &str = r##"<?xml version="1.0" encoding="UTF-8"?>
 <svg xmlns="http://www.w3.org/2000/svg" version="1.1" width="712" height="362" viewBox="0 0 712 362"
 font-family="DejaVu Sans Mono, Menlo, Consolas, monospace" font-size="13" fill="#24292f">

@@ -1,4 +1,4 @@
-//! `ptpm run` over a reader that fails, or a writer, wherever it does: what was written by then is the trace so far.
+//! `ptpm run` over a reader or a writer that fails, at any place. What was written by then is the trace so far.
 
 use super::running::{FIRST_DID, FIRST_EVENTS, ONE_CLOCK};
 use crate::command::command;
@@ -67,7 +67,7 @@ fn line_feeds(octets: &[u8]) -> usize {
 const LINES_BEFORE: usize = 16;
 
 /// After each event's line feed its line of the trace is there, and nothing else. The reports and data sets are never printed,
-/// also if reading fails in place of the end.
+/// even if reading fails instead of coming to the end.
 #[test]
 fn failing_reader(rt: HostRuntime) -> Result<(), Fail> {
     let alloc = rt.alloc();
@@ -128,7 +128,8 @@ fn buffered_output_at_a_fault(rt: HostRuntime) -> Result<(), Fail> {
     Ok(())
 }
 
-/// Where the buffer cannot be written out, an earlier write failed than the script's fault.
+/// The script has a fault, and then the buffer cannot be written out. The fault of writing is reported, since the line that is
+/// lost came before the script's fault.
 #[test]
 fn full_output_at_a_fault(rt: HostRuntime) -> Result<(), Fail> {
     let alloc = rt.alloc();

@@ -65,7 +65,7 @@ const READ: &str = "1 0d12003800000000000000000000000000000000\
     aabbccfffeddee0100010009047f0011223344556677000100000200000100042005\
     6400\n";
 
-/// All lines go to one clock: what a SET changed is read after it, and a repeat of the request has the reply that was kept.
+/// All lines go to one clock. What a SET changed is read after it, and a repeat of the request has the reply that was kept.
 #[test]
 fn one_clock_for_all_lines(rt: HostRuntime) -> Result<(), Fail> {
     let alloc = rt.alloc();

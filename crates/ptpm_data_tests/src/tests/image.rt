@@ -18,10 +18,10 @@ const SET: &str =
 const DISABLED: &str =
     "aabbccfffeddee01000180f8feffff80000000000000000000000000000000000000aabbccfffeddee01000000ffff7fffffff80f8feffff80aabbccfffeddee010025000000000000a00002030000000000000000000103000100060000000000000000000103000100";
 
-/// Where an image has its flags, in octets of the clock.
+/// The places of the flags of an image, in octets of the clock.
 const FLAGS: [usize; 8] = [9, 44, 67, 68, 69, 70, 71, 72];
 
-/// These octets are what the data sets are written as, and nothing else is; and they give the same back, whatever follows them.
+/// The data sets are written as exactly these octets. Read with anything after them, these give the same data sets.
 fn is_image(rt: &impl Abort, sets: &DataSets, text: &str) {
     let image = octets(rt, text);
     let size = image.len();

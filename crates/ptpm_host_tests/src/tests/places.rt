@@ -1,5 +1,5 @@
-//! The content of a host's places: a message that is passed on, the longest too, a reply that is sent again, and a reply to
-//! a change.
+//! What a host's places have: a message that is passed on, a reply that is sent again, and a reply to a change. The longest
+//! message is passed on too.
 
 use super::{MANAGER, REPLY, REQUEST, SET_PRIORITY1};
 use ptpm_agent::Verdict;

@@ -64,8 +64,8 @@ fn begins_at(session: &mut HostedSession, action: u8, id: u16, port: u16, octets
     }
 }
 
-/// A port of the clock is named, and any may answer for an id of the clock. Then each refusal, as the first of all that hold
-/// behind it, too.
+/// A port of the clock is named, and any may answer for an id of the clock. Then each refusal, while those that are judged
+/// after it hold too.
 #[test]
 fn a_request_at_a_port(rt: HostRuntime) {
     let mut octets = [0xee; 2];

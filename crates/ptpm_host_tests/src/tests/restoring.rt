@@ -75,7 +75,7 @@ fn a_clock_goes_on_from_its_image(rt: HostRuntime) {
     }
 }
 
-/// Each as the first of all that hold behind it, too.
+/// Each refusal, while those that are judged after it hold too.
 #[test]
 fn restore_refusals(rt: HostRuntime) {
     let alloc = rt.alloc();

@@ -30,7 +30,7 @@ fn restored(alloc: Global, image: &[u8]) -> Result<Session, RestoreError> {
     Session::restored(alloc, image, MANAGER, CLOCK, 2, 7)
 }
 
-/// These octets are what the session is written as, and nothing else is.
+/// The session is written as exactly these octets.
 fn has_image(rt: &impl Abort, session: &Session, image: &[u8]) {
     let size = image.len();
     assert!(rt; 0 < size && size < 64);
@@ -120,7 +120,7 @@ const REFUSED: [(&[(usize, u8)], RestoreError); 24] = [
     (&[(43, 0)], RestoreError::Damaged),
     (&[(42, 0x80), (43, 0)], RestoreError::Damaged),
     (&[(51, 1)], RestoreError::Damaged),
-    // no request, and one after another number than 1; a RESPONSE; an id of a port at every port; port 3 of a clock of two
+    // no request, and one after another number than 1; a RESPONSE; an id of a port at every port; port 3 of two ports
     (&[(52, 0)], RestoreError::Damaged),
     (&[(52, 2)], RestoreError::Damaged),
     (&[(53, 2)], RestoreError::Damaged),
@@ -157,7 +157,7 @@ fn counts_of_an_image(rt: HostRuntime) {
     assert!(rt; is_refused(rt.alloc(), more.as_slice(), RestoreError::Damaged));
 }
 
-/// Requests that were given up stand between those begun and the latest that was reported.
+/// Requests that were given up come after the latest that was reported, and before the next that is begun.
 #[test]
 fn images_of_given_up_requests(rt: HostRuntime) {
     let mut session = session_from(rt.alloc(), 7, 2);

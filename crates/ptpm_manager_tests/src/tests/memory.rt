@@ -153,8 +153,8 @@ fn holds_ports(rt: &impl Abort, survey: &Survey, ports: u8) {
     }
 }
 
-/// Whether the survey, which holds the answers of this many ports, makes this of a datagram; asked again if memory is
-/// refused once, after which it has to be as it was.
+/// Whether the survey, which holds the answers of this many ports, makes this of a datagram. If memory is refused
+/// once, it has to be as it was, and is asked again.
 fn is_surveyed_again(
     rt: &impl Abort,
     survey: &mut Survey,

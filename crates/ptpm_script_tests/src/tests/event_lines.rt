@@ -107,7 +107,7 @@ fn refused_events(rt: HostRuntime) -> Result<(), Fail> {
     Ok(())
 }
 
-/// Lines that are read, at the limits of their numbers, and with spaces wherever they may stand.
+/// Lines that are read, at the limits of their numbers, and with spaces wherever they may be.
 #[test]
 fn lines_within_limits(rt: HostRuntime) {
     let alloc = rt.alloc();
@@ -168,7 +168,7 @@ begin m get 20050 - - => BadId
 begin m get PRIORITY1 - 0 => BadHex
 stranger K 1 0g => BadHex";
 
-/// Two faults in one line, of which the first in order is answered, wherever it stands.
+/// Two faults in one line. The first in order is answered, wherever it is.
 const TWO_FAULTS: &str = "put => UnknownWord
 put 256 zz => UnknownWord
 begin m put => UnknownWord
@@ -215,7 +215,7 @@ fn read_event_succeeds_with_ample_memory(rt: HostRuntime) {
     assert!(rt; is_deliver(read(alloc, "deliver 7"), 7));
 }
 
-/// What a line is read as; read again where memory is refused once.
+/// What a line is read as. It is read again if memory is refused once.
 fn read_again(alloc: Global, line: &str) -> Result<Event, EventError> {
     match read_event(alloc, line) {
         Err(EventError::OutOfMemory) => read_event(alloc, line),

@@ -40,8 +40,8 @@ pub(super) fn fault_with(alloc: Global, old: &str, new: &str) -> Result<Option<N
     Ok(fault(alloc, text.as_str()))
 }
 
-/// A text with the edit of a row `OLD => NEW => FAULT`, OLD replaced by NEW, and the row's fault; `read` stands for no fault,
-/// and a semicolon for a line's end.
+/// A text with the edit of a row `OLD => NEW => FAULT`, with NEW in place of OLD, and the row's fault. `read` means no fault,
+/// and a semicolon a line's end.
 pub(super) fn with_row<'a>(
     alloc: Global,
     text: &str,

@@ -19,7 +19,7 @@ fn add_clocks(alloc: Global, text: &mut String, count: u32) -> Result<(), Fail> 
     Ok(())
 }
 
-/// Adds sessions, named `s0` and so on, so many for each of the clocks from `c0` on.
+/// Adds sessions, named `s0` and so on, `each` for each of the clocks from `c0` on.
 fn add_sessions(alloc: Global, text: &mut String, count: u32, each: u32) -> Result<(), Fail> {
     for place in 0..count {
         let target = place / each.max(1);
@@ -47,7 +47,7 @@ fn add_links(alloc: Global, text: &mut String, count: u32) -> Result<(), Fail> {
     Ok(())
 }
 
-/// A network of so many clocks, sessions and links, with so many sessions for each clock.
+/// A network of this many clocks, sessions and links, with `each` sessions for each clock.
 fn large(alloc: Global, clocks: u32, sessions: u32, each: u32, links: u32) -> Result<String, Fail> {
     let mut text = String::from_str(alloc, "version = 1\n")?;
     add_clocks(alloc, &mut text, clocks)?;
@@ -90,7 +90,7 @@ fn too_many(rt: HostRuntime) -> Result<(), Fail> {
     Ok(())
 }
 
-/// A network of three clocks with one link of so many ends.
+/// A network of three clocks with one link of this many ends.
 fn with_ends(alloc: Global, count: u32) -> Result<String, Fail> {
     let mut text = large(alloc, 3, 0, 1, 0)?;
     text.push_str("[[link]]\nends = [")?;

@@ -78,7 +78,7 @@ fn ends(rt: HostRuntime) -> Result<(), Fail> {
     rows_are_judged(&rt, rt.alloc(), ENDS)
 }
 
-/// What stands twice.
+/// What is given twice.
 const TWICE: &str = r#""K" => "m" => Twice
 0011223344556677/1 => aabbccfffeddee01/1 => Twice
 "K.1" => "K.1", "K.01" => Twice

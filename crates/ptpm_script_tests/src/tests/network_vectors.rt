@@ -56,7 +56,7 @@ fn from_toml_succeeds_with_ample_memory(rt: HostRuntime) -> Result<(), Fail> {
     Ok(())
 }
 
-/// What a text is read as; read again where memory is refused once.
+/// What a text is read as. It is read again if memory is refused once.
 fn read_again(alloc: Global, text: &str) -> Result<Network, NetError> {
     match Network::from_toml(alloc, text) {
         Err(NetError::OutOfMemory) => Network::from_toml(alloc, text),

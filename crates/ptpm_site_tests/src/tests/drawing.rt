@@ -1,4 +1,4 @@
-//! A site as a picture: what is read aloud of each row, and where it is drawn.
+//! A site as a picture: what is read aloud of each row, and the place at which it is drawn.
 
 use super::describing::lines_of;
 use super::failing::printed_at_last;
@@ -13,8 +13,8 @@ const SITE: &str =
     02 only=2004 portNumber=0002 portState=06; 03 parentPortIdentity=#020002 stepsRemoved=0003; \
     05 parentPortIdentity=#090001";
 
-/// Lines of the picture. A row is 32 units high, and 18 more for each finding; a row below another begins 32 units further to the
-/// right; a character is 8 wide.
+/// Lines of the picture. A row is 32 units high, and 18 more for each finding. A row below another begins 32 units further to the
+/// right. A character is 8 wide.
 const LINES: &str =
     r##"<svg xmlns="http://www.w3.org/2000/svg" version="1.1" width="768" height="262" viewBox="0 0 768 262"
 <desc>From top to bottom: the clocks of each domain, each below the clock that it follows. Findings: 3.</desc>

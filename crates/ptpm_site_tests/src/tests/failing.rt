@@ -101,7 +101,7 @@ impl Write for FailingWriter {
     }
 }
 
-/// Whether a writer with this much room gets the beginning of what is printed, and its fault is told.
+/// Whether a writer with this much room gets the beginning of what is printed, and its fault is reported.
 fn fails_after(alloc: Global, lines: &[u8], whole: &[u8], room: usize) -> bool {
     let mut out = FailingWriter {
         taken: Vec::new(alloc),
@@ -123,8 +123,8 @@ fn failing_writer(rt: HostRuntime) -> Result<(), Fail> {
     Ok(())
 }
 
-/// The output where memory may be refused once: then it is all there at the next attempt. It is written into a vector, whose own
-/// want of memory is a fault of writing.
+/// The output, if memory may be refused once. Then all of it is there at the next attempt. It is written into a vector. If that
+/// is refused memory, this is a fault of writing.
 pub(super) fn printed_at_last(alloc: Global, form: Form, lines: &[u8]) -> Result<Output, Fault> {
     match printed(alloc, form, None, lines) {
         Err(Fault::OutOfMemory | Fault::WriteFault) => printed(alloc, form, None, lines),

@@ -55,9 +55,9 @@ fn a_hundred_orders(rt: HostRuntime) -> Result<(), Fail> {
     Ok(())
 }
 
-/// Lines that are no answer to one of the six: an empty one, none, a Sync message, a GET, a reply to PRIORITY1, an acknowledgement
-/// of PARENT_DATA_SET, a DEFAULT_DATA_SET without its last octet, a PORT_DATA_SET of another clock, and a CURRENT_DATA_SET that
-/// was cut.
+/// Lines that are no answer to one of the six. They are an empty one, none, a Sync message, a GET, a reply to PRIORITY1, and an
+/// acknowledgement of PARENT_DATA_SET. Then a DEFAULT_DATA_SET without its last octet, a PORT_DATA_SET of another clock, and a
+/// CURRENT_DATA_SET that was cut.
 const OTHERS: &str = "\
 
 nothing

@@ -15,7 +15,7 @@ pub(super) struct Output {
     pub(super) status: u8,
 }
 
-/// What is printed of lines, where an offset and a delay of more than these nanoseconds are findings.
+/// What is printed for lines, if an offset and a delay of more than these nanoseconds are findings.
 pub(super) fn printed(
     alloc: Global,
     form: Form,
@@ -34,7 +34,7 @@ pub(super) fn printed(
     })
 }
 
-/// What stands at the end of the output with these findings, a line each.
+/// The end of the output with these findings, a line each.
 fn end_of(alloc: Global, form: Form, findings: &str) -> Result<String, Fail> {
     let text = match form {
         Form::Text => match findings.lines().count() {

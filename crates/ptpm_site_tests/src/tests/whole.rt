@@ -6,8 +6,8 @@ use ptpm_site_report::Form;
 use std::alloc::Global;
 use std::test::Fail;
 
-/// Two domains. In the first 02 and 04 follow 01, and 03 follows 02; 05 follows a clock that is not seen, and 07 and 08 each other;
-/// 06 did not say whom it follows.
+/// Two domains. In the first 02 and 04 follow 01, and 03 follows 02. 05 follows a clock that is not seen, and 07 and 08 each
+/// other. 06 did not say whom it follows.
 const SITE: &str =
     "01 leads numberPorts=0003; 01 only=2004 portNumber=0002 portState=06; 01 only=2004 portNumber=0003 portState=07; \
     02 numberPorts=0002 offsetFromMaster=fffffffffffe8000 meanDelay=0000000003e88000; 02 only=2004 portNumber=0002 portState=06; \

@@ -88,10 +88,10 @@ fn reported_exactly_once(rt: HostRuntime) -> Result<(), Fail> {
     begins(&rt, alloc, network.as_str(), SET_BY_TWO, SET_BY_TWO_TRACE)
 }
 
-/// The link between A and B, without which the way from the manager to B is over A and C, and boundaryHops just suffice.
+/// The link between A and B. Without it the way from the manager to B is over A and C, and boundaryHops just suffices.
 const LINK_TO_B: &str = "[[link]]\nends = [\"A.2\", \"B.1\"]\n";
 
-/// The first copy is lost behind A. Of the second, one copy each way is handed in at every clock of the way.
+/// The first copy is lost after A. Of the second, one copy each way is handed in at every clock of the way.
 const OVER_TWO_CLOCKS: &str = "\
 begin m get PRIORITY1 - -
 send m

@@ -1,4 +1,4 @@
-//! A script over a reader that fails, or a writer, wherever it does: what was written by then is the trace so far.
+//! A script over a reader or a writer that fails, at any place. What was written by then is the trace so far.
 
 use super::long_scripts::trace_of;
 use super::networks::{FIRST_EVENTS, ONE_CLOCK, is_trace_so_far};
@@ -31,8 +31,8 @@ fn first_script(alloc: Global) -> Result<String, AllocError> {
     format!(in alloc; "{ONE_CLOCK}{FIRST_EVENTS}")
 }
 
-/// Of each event whose line feed was read there is the line of the trace, and nothing else. The reports and data sets are
-/// never told, also where reading fails in place of the end.
+/// For each event whose line feed was read the line of the trace is there, and nothing else. The reports and data sets
+/// are never printed, even if reading fails instead of coming to the end.
 #[test]
 fn failing_reader(rt: HostRuntime) -> Result<(), Fail> {
     let script = first_script(rt.alloc())?;
@@ -52,7 +52,7 @@ fn failing_reader(rt: HostRuntime) -> Result<(), Fail> {
     Ok(())
 }
 
-/// Where the space ends the writer takes nothing more, and what it has taken is the trace's beginning.
+/// When the space ends, the writer takes nothing more, and what it has taken is the beginning of the trace.
 #[test]
 fn failing_writer(rt: HostRuntime) -> Result<(), Fail> {
     let script = first_script(rt.alloc())?;

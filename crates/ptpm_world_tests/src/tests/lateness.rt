@@ -1,4 +1,5 @@
-//! Over 32,768 requests of one session: which deliveries are late, and what then comes of them. The headline does not cover it.
+//! Over 32,768 requests of one session: which deliveries are late, and what then comes of them. The headline does not cover
+//! these.
 
 use super::networks::{
     ONE_CLOCK, numbered_from_one, step, tell, tell_reports, tell_sets, world_of,
@@ -17,7 +18,7 @@ fn happen(world: &mut World, event: &Event) -> Result<Took, StepError> {
     world.step(event)
 }
 
-/// What a frame does where it is delivered.
+/// What a frame does when it is delivered.
 fn deliver(world: &mut World, frame: u32) -> Result<Took, StepError> {
     happen(world, &Event::Deliver(frame))
 }
@@ -33,7 +34,7 @@ fn exchange(world: &mut World, begin: &Event, send: &Event) -> Result<(), StepEr
     Ok(())
 }
 
-/// The session asks by this line so many times, one after another.
+/// The session asks by this line `count` times, one after another.
 fn asks(world: &mut World, alloc: Global, line: &str, count: u32) -> Result<(), Fail> {
     let begin = read_event(alloc, line)?;
     let send = read_event(alloc, "send m")?;
@@ -60,7 +61,7 @@ fn world_from_one(alloc: Global) -> Result<World, Fail> {
 }
 
 /// After 32,768 later requests a copy of the first is not late, and is dropped. After one more it is late: sequenceIds no
-/// longer tell it from a new request.
+/// longer distinguish it from a new request.
 #[test]
 fn half_the_number_space(rt: HostRuntime) -> Result<(), Fail> {
     let alloc = rt.alloc();
@@ -79,10 +80,10 @@ const STRANGE_SET: &str = "stranger K 2 0d12003800000000000000000000000000000000
     0a0b0c0d0e0f000000010000047faabbccfffeddee01ffff010101000001000420\
     05c800";
 
-/// What the clock's lines begin with where its priority1 is 50.
+/// What the clock's lines begin with if its priority1 is 50.
 const FIFTY: &[u8] = b"data K 0002 0000\ndata K 2000 0100000232f8";
 
-/// And where it is 100.
+/// And if it is 100.
 const HUNDRED: &[u8] = b"data K 0002 0000\ndata K 2000 0100000264f8";
 
 /// Whether the lines of the clock's data sets begin so.
@@ -94,7 +95,7 @@ fn shows(alloc: Global, world: &World, first: &[u8]) -> Result<bool, Fail> {
     Ok(lines.starts_with(first))
 }
 
-/// A stranger's SET, a SET that is refused, and the first SET once more, late by then: what the clock has is what it had after
+/// A stranger's SET, a SET that is refused, and the first SET once more, which is late by then. The clock has what it had after
 /// the requests that were `AnsweredNew`, and nothing else changes it.
 #[test]
 fn only_what_is_answered_new_changes_a_clock(rt: HostRuntime) -> Result<(), Fail> {
@@ -116,8 +117,8 @@ fn only_what_is_answered_new_changes_a_clock(rt: HostRuntime) -> Result<(), Fail
     Ok(())
 }
 
-/// The session asks 65,600 times: to set priority1 to 100, to set it to 50, and for its value, by turns. Where copies come
-/// again, that of each request does so 100 requests later, and is dropped. Tells all reports and data sets.
+/// The session asks 65,600 times: to set priority1 to 100, to set it to 50, and for its value, by turns. If copies come again,
+/// that of each request does so 100 requests later, and is dropped. Writes all reports and data sets.
 fn past_the_wrap(rt: &impl Abort, alloc: Global, come_again: bool) -> Result<Vec<u8>, Fail> {
     let mut world = world_of(alloc, ONE_CLOCK)?;
     let asks = [
@@ -151,7 +152,7 @@ data K 0002 0000
 data K 2000 0100000232f8feffff80aabbccfffeddee010000
 ";
 
-/// All sequenceIds come round and some come a second time, and reports and data sets are as they are without the copies.
+/// All sequenceIds come round and some come a second time. Reports and data sets are as they are without the copies.
 #[test]
 fn copies_past_the_wrap(rt: HostRuntime) -> Result<(), Fail> {
     let alone = past_the_wrap(&rt, rt.alloc(), false)?;
@@ -174,8 +175,8 @@ attempts = 2
 ends = ["K.2", "n"]
 "#;
 
-/// The copy of a manager's request comes late at the clock, which carries it out again. The manager begins a further request,
-/// with the same sequenceId, and takes the late reply to that first one for the answer, before it has sent anything.
+/// The copy of a manager's request comes late at the clock, which carries it out again. The manager then begins a further
+/// request, with the same sequenceId. It takes the late reply to the first one for the answer, before it has sent anything.
 fn come_late(rt: &impl Abort, world: &mut World, copy: u32, begin: &Event) {
     assert!(rt; world.is_late(copy));
     assert!(rt; deliver(world, copy) == Ok(Took::AtClock(Verdict::AnsweredNew)));
@@ -198,7 +199,7 @@ fn tell_octets(octets: &[u8], lines: &mut Vec<u8>) -> io::Result<()> {
 }
 
 /// The session m asks as above, with copies, and n beside it: to set priority2 to 100, and from its 32,769th request on to 50.
-/// Where n is late, all comes late of its last 64 requests. Tells the reports of m and the reply that is kept for it.
+/// If n is late, its last 64 requests all come late. Writes the reports of m and the reply that is kept for it.
 fn beside_another(rt: &impl Abort, alloc: Global, late: bool) -> Result<Vec<u8>, Fail> {
     let network = format!(in alloc; "{ONE_CLOCK}{ANOTHER}")?;
     let mut world = world_of(alloc, network.as_str())?;
@@ -237,11 +238,11 @@ fn beside_another(rt: &impl Abort, alloc: Global, late: bool) -> Result<Vec<u8>,
 /// What the clock's lines begin with: priority1 is 50, as m has set it last, and priority2 too.
 const AS_SET_LAST: &[u8] = b"data K 0002 0000\ndata K 2000 0100000232f8feffff32";
 
-/// And where a late copy of n has set priority2 to 100 again.
+/// And if a late copy of n has set priority2 to 100 again.
 const SET_AGAIN: &[u8] = b"data K 0002 0000\ndata K 2000 0100000232f8feffff64";
 
-/// The last reports of m, and the reply to its last request: a RESPONSE from port 1, with the sequenceId 7 + 65,599 - 65,536,
-/// which is 70, and the value 50 of PRIORITY1.
+/// The last reports of m, and the reply to its last request. The reply is a RESPONSE from port 1 with the value 50 of
+/// PRIORITY1. Its sequenceId is 7 + 65,599 - 65,536, which is 70.
 const IN_TIME: &str = "
 report m 65598 value 3200
 report m 65599 value 6400

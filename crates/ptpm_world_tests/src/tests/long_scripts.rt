@@ -1,5 +1,5 @@
-//! Long scripts: as many frames and lines as are allowed, and over 32,768 requests of one session, of which the trace tells
-//! that a delivery is late.
+//! Long scripts: as many frames and lines as are allowed, and over 32,768 requests of one session. The trace then says that a
+//! delivery is late.
 
 use super::networks::numbered_from_one;
 use ptpm_world::{ScriptError, run_script};
@@ -16,7 +16,7 @@ pub fn trace_of(alloc: Global, script: &str) -> Result<Vec<u8>, Fail> {
     Ok(trace)
 }
 
-/// Whether each of these parts stands in the trace of a script.
+/// Whether each of these parts is in the trace of a script.
 fn tells(alloc: Global, script: &str, parts: &[&str]) -> Result<bool, Fail> {
     let trace = trace_of(alloc, script)?;
     let text = std::str::from_utf8(trace.as_slice())?;
@@ -75,9 +75,9 @@ data K 0002 0000
 data K 2000 0100000264f8feffff80aabbccfffeddee010000
 ";
 
-/// A copy that is 32,768 requests late is dropped. One that is 32,769 late is taken for new: sequenceIds no longer tell it
-/// from a new request. So where a copy comes late at the target, a request of its manager can be carried out twice, and a later
-/// one not at all.
+/// A copy that is 32,768 requests late is dropped. One that is 32,769 late is taken for new: sequenceIds no longer distinguish it
+/// from a new request. So if a copy comes late at the target, a request of its manager can be carried out twice, and a later one
+/// never.
 #[test]
 fn late_copy(rt: HostRuntime) -> Result<(), Fail> {
     let script = script_of_late_copies(rt.alloc())?;
@@ -120,9 +120,9 @@ data K 0002 0000
 data K 2000 0100000264f8feffff80aabbccfffeddee010000
 ";
 
-/// A reply that is 65,536 requests late is taken for the answer to the request that has its sequenceId again. So where a reply
-/// comes late at its manager, though each copy came in time, what is reported may be no reply to the request, which here was
-/// never sent.
+/// A reply that is 65,536 requests late is taken for the answer to the request that has its sequenceId again. So if a reply comes
+/// late at its manager, what is reported may be no reply to the request. That is so even if each copy came in time. Here the
+/// request was never sent.
 #[test]
 fn late_reply(rt: HostRuntime) -> Result<(), Fail> {
     let script = script_of_a_late_reply(rt.alloc())?;
@@ -130,7 +130,8 @@ fn late_reply(rt: HostRuntime) -> Result<(), Fail> {
     Ok(())
 }
 
-/// Two clocks whose ports are all but one on a link of sixteen ends, with a manager on it, and one on the last port's link.
+/// Two clocks. Their ports, except one, are on a link of sixteen ends with a manager on it. Another manager is on the last port's
+/// link.
 const WIDE: &str = r#"version = 1
 [[clock]]
 name = "A"
@@ -162,7 +163,7 @@ ends = ["m", "A.1", "A.2", "A.3", "A.4", "A.5", "A.6", "A.7", "A.8", "B.1", "B.2
 ends = ["n", "B.8"]
 "#;
 
-/// A session begins a request and sends it so often.
+/// A session begins a request and sends it this many times.
 fn push_sends(alloc: Global, script: &mut String, session: &str, times: u32) -> Result<(), Fail> {
     let begin = format!(in alloc; "begin {session} get PRIORITY1 - -\n")?;
     script.push_str(begin.as_str())?;
@@ -216,7 +217,7 @@ fn frames_at_maximum(rt: HostRuntime) -> Result<(), Fail> {
     Ok(())
 }
 
-/// An empty network, and so many empty lines behind the divider.
+/// An empty network, and this many empty lines after the divider.
 fn run_empty_lines(alloc: Global, lines: u64) -> Result<(), ScriptError> {
     let head = b"version = 1\n%%\n".as_slice();
     let reader = head.chain(io::repeat(b'\n').take(lines));

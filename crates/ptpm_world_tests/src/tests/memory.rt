@@ -1,5 +1,5 @@
-//! The calls that ask for memory: where it is refused nothing changes, and the same call then answers as it would have.
-//! `tools/refuse_memory` runs these tests with each request refused in turn; whatever they need besides is asked for again.
+//! The calls that ask for memory. If it is refused, nothing changes, and the same call then answers as it would have.
+//! `tools/refuse_memory` runs these tests with each request refused in turn. Whatever else they need is asked for again.
 
 use super::networks::{
     FIRST_EVENTS, ONE_CLOCK, RING, fresh_world, is_trace_so_far, network_of, tell,
@@ -50,7 +50,7 @@ fn told(alloc: Global, world: &World) -> Result<Vec<u8>, Fail> {
     Ok(lines)
 }
 
-/// What a step answers; asked again where memory is refused once, before which nothing may have changed.
+/// What a step answers. If memory is refused once, nothing may have changed, and the step is asked for again.
 fn step(
     rt: &impl Abort,
     alloc: Global,
@@ -82,7 +82,7 @@ fn happen(
     Ok(())
 }
 
-/// Had a refused delivery reached the clock or the session, the same one would be a repeat, or be ignored.
+/// If a refused delivery had reached the clock or the session, the same one would now be a repeat, or be ignored.
 #[test]
 fn step_after_refused_memory(rt: HostRuntime) -> Result<(), Fail> {
     let alloc = rt.alloc();
@@ -103,7 +103,7 @@ fn step_after_refused_memory(rt: HostRuntime) -> Result<(), Fail> {
 /// The frames before each of four events.
 const FRAMES: [u32; 4] = [0, 0, 1, 2];
 
-/// The events before the one that is refused stand, and the others can follow.
+/// The events before the one that is refused stay done, and the others can follow.
 #[test]
 fn run_after_refused_memory(rt: HostRuntime) -> Result<(), Fail> {
     let alloc = rt.alloc();
@@ -133,7 +133,7 @@ fn run_first(alloc: Global, space: &mut [u8]) -> Result<(), ScriptError> {
     run_script(alloc, script, &mut room)
 }
 
-/// What stands in the space before its first 0.
+/// What the space has before its first 0.
 fn written(space: &[u8]) -> &[u8] {
     space.split(|octet| *octet == 0).next().unwrap_or(&[])
 }

@@ -34,7 +34,7 @@ pub fn numbered_from_one(alloc: Global) -> Result<String, Fail> {
     Ok(ONE_CLOCK.replace(alloc, "first = 7", "first = 1")?)
 }
 
-/// Behind it a request and its reply, a repeat of the request, and the reply to that.
+/// After it a request and its reply, a repeat of the request, and the reply to that.
 pub const FIRST_EVENTS: &str =
     "%%\nbegin m get PRIORITY1 - -\nsend m\ndeliver 1\ndeliver 2\ndeliver 1\ndeliver 3\n";
 
@@ -152,7 +152,7 @@ fn tell_report(report: &Report, lines: &mut Vec<u8>) -> io::Result<()> {
     }
 }
 
-/// USER_DESCRIPTION and DEFAULT_DATA_SET as they are sent, and behind them all members.
+/// USER_DESCRIPTION and DEFAULT_DATA_SET as they are sent, and after them all members.
 #[tactic(auto, unfolding(ptpm_data::specs::ManagementId::row_of))]
 pub fn tell_sets(sets: &DataSets, lines: &mut Vec<u8>) -> io::Result<()> {
     let mut value = Value::new();

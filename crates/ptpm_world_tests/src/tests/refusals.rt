@@ -7,8 +7,8 @@ use ptpm_script::{Event, read_event};
 use ptpm_world::StepError;
 use std::test::Fail;
 
-/// Among these a GET of PRIORITY1 in the name of the manager of `ONE_CLOCK`; thirty octets that have a clock's identity where
-/// a message has its source's, and are no message; and the same, one octet shorter.
+/// One of these is a GET of PRIORITY1 in the name of the manager of `ONE_CLOCK`. Another is thirty octets that are no
+/// message, with a clock's identity at the place of the source's. A third is the same, one octet shorter.
 const NOTHING_WAS_SENT: &str = "\
 send x => refused NoSuchName
 send K => refused NoSuchName

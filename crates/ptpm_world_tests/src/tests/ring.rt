@@ -51,8 +51,8 @@ fn c(port: u16) -> End {
     End::Clock(2, port)
 }
 
-/// A request to B with two hops is passed on by A both ways. It is carried out once and answered twice, and the session is
-/// told once.
+/// A request to B with two hops is passed on by A both ways. It is carried out once and answered twice, and the session
+/// gets one report.
 #[test]
 fn ring_of_three_clocks(rt: HostRuntime) -> Result<(), Fail> {
     let alloc = rt.alloc();

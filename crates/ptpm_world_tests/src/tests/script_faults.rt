@@ -16,8 +16,8 @@ fn end_of(alloc: Global, script: &[u8]) -> Result<(), ScriptError> {
     run_script(alloc, script, &mut io::sink())
 }
 
-/// Lines are counted in all that is read, events' lines after the divider, and all before it is read before the network is
-/// judged.
+/// Lines are counted from the first that is read, and those of events from the divider on. All lines before the
+/// divider are read before the network is judged.
 #[test]
 fn first_fault_and_its_line(rt: HostRuntime) {
     let alloc = rt.alloc();
@@ -35,7 +35,7 @@ fn first_fault_and_its_line(rt: HostRuntime) {
     assert!(rt; end_of(alloc, b"version = 1\n%%\n%%\n") == divider);
 }
 
-/// An empty network, and a comment of so many octets with this end.
+/// An empty network, and a comment of this many octets with this end.
 fn run_comment(alloc: Global, octets: u64, end: &[u8]) -> Result<(), ScriptError> {
     let comment = io::repeat(b'#').take(octets).chain(end);
     run_script(alloc, HEAD.chain(comment), &mut io::sink())
@@ -63,7 +63,7 @@ impl Read for InterruptedReader {
     }
 }
 
-/// A read is not tried again.
+/// A read that is interrupted is not tried again.
 #[test]
 fn interrupted_read(rt: HostRuntime) {
     let reader = HEAD.chain(InterruptedReader);
@@ -71,7 +71,7 @@ fn interrupted_read(rt: HostRuntime) {
     assert!(rt; end == Err(ScriptError::ReadFault));
 }
 
-/// Is interrupted before each write, of which it takes one octet.
+/// Is interrupted before each write, and takes one octet of it.
 #[derive(Drop)]
 struct InterruptedWriter {
     taken: Vec<u8>,
@@ -96,7 +96,7 @@ impl Write for InterruptedWriter {
     }
 }
 
-/// A write is.
+/// A write that is interrupted is tried again.
 #[test]
 fn interrupted_write(rt: HostRuntime) -> Result<(), Fail> {
     let alloc = rt.alloc();

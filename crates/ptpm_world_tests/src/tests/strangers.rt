@@ -28,9 +28,9 @@ fn happen(world: &mut World, event: &Event) -> Result<Took, StepError> {
     world.step(event)
 }
 
-/// Shows of a network that runs what the law `strangers_change_nothing` of `ptpm_network` says of the machine: after 10,000
-/// SETs and COMMANDs of as many strangers no member, report or frame is another, and the manager's request, which the clock
-/// kept before, is a repeat.
+/// Shows for a network that runs what the law `strangers_change_nothing` of `ptpm_network` says of the machine. After
+/// 10,000 SETs and COMMANDs of as many strangers no member, report or frame has changed. The manager's request, which the
+/// clock kept before, is a repeat.
 #[test]
 fn strangers_change_nothing(rt: HostRuntime) -> Result<(), Fail> {
     let alloc = rt.alloc();

@@ -48,7 +48,8 @@ impl Write for FlushedWriter<'_> {
     }
 }
 
-/// Pieces that end at a line's end, within a line and behind a comment, and the lines that are shown as each is asked for.
+/// Pieces that end at a line's end, within a line and after a comment, and the lines that are shown when each is asked
+/// for.
 const PIECES: [(&str, usize); 7] = [
     ("%%\n", 0),
     ("begin m get PRIORITY1 - -\nse", 0),
@@ -59,7 +60,7 @@ const PIECES: [(&str, usize); 7] = [
     ("deliver 1", 5),
 ];
 
-/// The last line lacks its end, so that reading meets the end of the script twice, before its event and behind it.
+/// The last line lacks its end, so that reading meets the end of the script twice: before its event and after it.
 #[test]
 fn lines_shown_before_waiting(rt: HostRuntime) -> Result<(), Fail> {
     let alloc = rt.alloc();

@@ -4,7 +4,8 @@ use Rattle.ptpm_findings.proofs.Checking.{ChecksOn}
 use Rattle.ptpm_world.specs.Lines.{line_count}
 use Rattle.ptpm_findings.proofs.check.check_events.Given as goal
 
--- no more lines were counted here than in all that was read, what was found is counted, and what is left has the fault that all had
+-- No more lines were counted here than in all that was read. What was found is counted, and what is left has the fault that all
+-- had.
 abbrev pub invariant-loop-number : goal.invariant-loop-number
 invariant-loop-number g l =
     record {

@@ -1,4 +1,4 @@
--- No answer so far contradicts an earlier one, and what each request was told is kept.
+-- No answer so far contradicts an earlier one, and the first value for each request is kept.
 use Rattle.std.proofs.Common.{◌≡◌, take}
 use Rattle.ptpm_site.specs.declared.changes.Contradiction.TheVariants as sort
 use Rattle.ptpm_site.specs.Changes.{contradiction, statements}

@@ -1,4 +1,4 @@
--- Where all say it as the first does, none says it otherwise.
+-- If all say it as the first does, no two differ in it.
 use Rattle.std.proofs.Common.{◌≡◌, ◌∷◌, [], Bool, true, false, not, List, length, refl, ap, sym, ◌∙◌, arith}
 use Rattle.std.specs.List.{list_all}
 use Rattle.std.specs.Option.{option_eq}

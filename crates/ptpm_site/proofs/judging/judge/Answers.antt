@@ -1,4 +1,4 @@
--- What is told of a clock, part by part.
+-- What is reported of a clock, part by part.
 use Rattle.ptpm_site.specs.Kept.{kept}
 use Rattle.ptpm_site.proofs.Reports.{one_clock}
 use Rattle.ptpm_site.proofs.judging.judge.Goals as goal

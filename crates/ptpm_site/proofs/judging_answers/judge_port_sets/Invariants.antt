@@ -1,4 +1,4 @@
--- What the ports so far say otherwise is told.
+-- What differs for the ports so far is reported.
 use Rattle.std.proofs.Common.{◌≡◌, ◌++◌, take}
 use Rattle.std.specs.List.{flat_map}
 use Rattle.ptpm_site.specs.Findings.{port_set_told, told}

@@ -1,4 +1,4 @@
--- What is said otherwise of the members so far is told.
+-- What differs in the members so far is reported.
 use Rattle.std.proofs.Common.{◌≡◌, ◌++◌, take}
 use Rattle.std.specs.List.{flat_map}
 use Rattle.ptpm_site.specs.Findings.{member_told, told}

@@ -1,4 +1,4 @@
--- Two answers that are apart are told alike in either order.
+-- Two answers that are apart say the same in either order.
 use Rattle.std.proofs.Common.{◌∷◌, ◌++◌}
 use Rattle.ptpm_site.proofs.Alike.{told_alike}
 use Rattle.ptpm_site.proofs.Swapping.{told_alike_swapped}

@@ -1,4 +1,4 @@
--- A settled value is kept of a request that was told none.
+-- A settled value is kept for a request that has none.
 use Rattle.std.proofs.Common.{◌≡◌, true, false}
 use Rattle.std.specs.BTreeMap.{get}
 use Rattle.std.specs.Option.{is_some}

@@ -1,4 +1,4 @@
--- Those that stood, or one more, stand for all.
+-- Those that were kept, or one more, replace all others.
 use Rattle.std.proofs.Common.{◌≡◌, true, false}
 use Rattle.ptpm_site.specs.Changes.{is_settled}
 use Rattle.ptpm_site.specs.Members.{value_of}

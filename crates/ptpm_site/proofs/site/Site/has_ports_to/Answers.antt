@@ -1,4 +1,4 @@
--- Where a port did not answer, not all did.
+-- If a port did not answer, not all did.
 use Rattle.std.proofs.Common.{◌≡◌, ◌+◌, ◌<◌, false, sym, arith}
 use Rattle.std.proofs.lemmas.Grind.{common_steps}
 use Rattle.std.specs.Option.{is_some}

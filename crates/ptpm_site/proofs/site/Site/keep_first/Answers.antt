@@ -1,4 +1,4 @@
--- Where all can be shown, none is dropped.
+-- If all can be shown, none is dropped.
 use Rattle.std.proofs.Common.{◌≡◌, true}
 use Rattle.ptpm_site.specs.Kept.{kept}
 use Rattle.ptpm_site.specs.Showing.{is_shown_whole}

@@ -1,4 +1,4 @@
--- First the clock gets its place, and then it tells.
+-- First the clock gets its place, and then its answer is added.
 use Rattle.std.proofs.Common.{◌∙◌, ◌++◌, cond, ap}
 use Rattle.ptpm_site.specs.Answers.{current_told, default_told, description_told, parent_told, place_number, port_number, port_told, refusal_told, same_source, time_told}
 use Rattle.ptpm_site.specs.Keeping.{added}

@@ -1,4 +1,4 @@
--- What is told stands behind what was.
+-- The answer is added after all earlier ones.
 use Rattle.std.proofs.Common.{sym}
 use Rattle.ptpm_site.proofs.Clocks.{told}
 use Rattle.ptpm_site.proofs.site.Site.tell.Goals as goal
