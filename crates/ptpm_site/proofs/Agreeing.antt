@@ -4,12 +4,12 @@ use Rattle.std.proofs.lemmas.Bool.{true≢false}
 use Rattle.std.specs.List.{cons_option, find, list_all}
 use Rattle.std.specs.Option.{option_eq, option_map, option_or}
 use Rattle.ptpm_site.specs.declared.changes.Contradiction.{Contradiction}
-use Rattle.ptpm_site.specs.declared.clock.Heard.{Heard}
+use Rattle.ptpm_site.specs.declared.clock.Received.{Received}
 use Rattle.ptpm_site.specs.declared.member.Member.{Member}
-use Rattle.ptpm_site.specs.Changes.{Statement, are_held, contradiction, contradicts, first_told, is_settled, pairs_behind, pairs_of, statements}
+use Rattle.ptpm_site.specs.Changes.{Statement, are_held, contradiction, contradicts, first_contradicting, is_settled, pairs_behind, pairs_of, statements}
 use Rattle.ptpm_site.specs.Members.{MemberValue, same_value}
-use Rattle.ptpm_site.proofs.Pairs.{first_told-next, told_with}
-use Rattle.ptpm_site.proofs.StandingLemmas.{left_of, not_if_alike, right_of}
+use Rattle.ptpm_site.proofs.KeptStatements.{left_of, not_if_alike, right_of}
+use Rattle.ptpm_site.proofs.Pairs.{change_with, first_contradicting-next}
 use Rattle.ptpm_site.proofs.Values.{same_value-equiv}
 
 -- ---- tests
@@ -36,19 +36,19 @@ none_earlier how v later (e ∷ es) k h =
     ap (λ b. cond b (Some e) (find (λ x. contradicts how x later) es)) (not_if_alike (is_settled e.value) (are_held how e.request later.request) (same_value e.value later.value) one)
     ∙ none_earlier how v later es k (right_of (say v e) (list_all (say v) es) h)
 
-none_told : (how : Contradiction) (m : Member) (v : MemberValue) (earlier xs : List Statement)
-    → list_all (say v) earlier ≡ true → list_all (say v) xs ≡ true → first_told how m (pairs_behind earlier xs) ≡ None
-none_told how m v earlier [] h k = refl
-none_told how m v earlier (x ∷ xs) h k =
+none_contradicting : (how : Contradiction) (m : Member) (v : MemberValue) (earlier xs : List Statement)
+    → list_all (say v) earlier ≡ true → list_all (say v) xs ≡ true → first_contradicting how m (pairs_behind earlier xs) ≡ None
+none_contradicting how m v earlier [] h k = refl
+none_contradicting how m v earlier (x ∷ xs) h k =
     let here : say v x ≡ true = left_of (say v x) (list_all (say v) xs) k in
-    first_told-next how m earlier x xs
-    ∙ ap (λ o. option_or (option_map (told_with m x) (option_map (λ e. e.value) o)) (first_told how m (pairs_behind (earlier ++ x ∷ []) xs))) (none_earlier how v x earlier here h)
-    ∙ none_told how m v (earlier ++ x ∷ []) xs (all_and v earlier x h here) (right_of (say v x) (list_all (say v) xs) k)
+    first_contradicting-next how m earlier x xs
+    ∙ ap (λ o. option_or (option_map (change_with m x) (option_map (λ e. e.value) o)) (first_contradicting how m (pairs_behind (earlier ++ x ∷ []) xs))) (none_earlier how v x earlier here h)
+    ∙ none_contradicting how m v (earlier ++ x ∷ []) xs (all_and v earlier x h here) (right_of (say v x) (list_all (say v) xs) k)
 
 -- ---- answers that say one value, or none
 
 module _ {A : Type 0} (says : A → Member → Option MemberValue) (m : Member) where
-  say_value : (v : MemberValue) (h : Heard A) (o : Option MemberValue) (hs : List (Heard A))
+  say_value : (v : MemberValue) (h : Received A) (o : Option MemberValue) (hs : List (Received A))
       → says h.set m ≡ o
       → option_eq same_value (Some v) o && list_all (λ x. option_eq same_value (Some v) (says x.set m)) hs ≡ true
       → (list_all (λ x. option_eq same_value (Some v) (says x.set m)) hs ≡ true → list_all (say v) (statements says m hs) ≡ true)
@@ -60,11 +60,11 @@ module _ {A : Type 0} (says : A → Member → Option MemberValue) (m : Member) 
       (left_of (same_value v w) (list_all (λ x. option_eq same_value (Some v) (says x.set m)) hs) k)
       (rest (right_of (same_value v w) (list_all (λ x. option_eq same_value (Some v) (says x.set m)) hs) k))
 
-  all_say : (v : MemberValue) (hs : List (Heard A)) → list_all (λ x. option_eq same_value (Some v) (says x.set m)) hs ≡ true → list_all (say v) (statements says m hs) ≡ true
+  all_say : (v : MemberValue) (hs : List (Received A)) → list_all (λ x. option_eq same_value (Some v) (says x.set m)) hs ≡ true → list_all (say v) (statements says m hs) ≡ true
   all_say v [] h = refl
   all_say v (x ∷ xs) h = say_value v x (says x.set m) xs refl h (all_say v xs)
 
-  say_none : (h : Heard A) (o : Option MemberValue) (hs : List (Heard A))
+  say_none : (h : Received A) (o : Option MemberValue) (hs : List (Received A))
       → says h.set m ≡ o
       → option_eq same_value None o && list_all (λ x. option_eq same_value None (says x.set m)) hs ≡ true
       → (list_all (λ x. option_eq same_value None (says x.set m)) hs ≡ true → statements says m hs ≡ [])
@@ -73,23 +73,23 @@ module _ {A : Type 0} (says : A → Member → Option MemberValue) (m : Member) 
       ap (λ o. cons_option (option_map (λ u. record { request = h.request; value = u }) o) (statements says m hs)) is ∙ rest k
   say_none h (Some w) hs is k rest = absurd (true≢false (sym k))
 
-  none_say : (hs : List (Heard A)) → list_all (λ x. option_eq same_value None (says x.set m)) hs ≡ true → statements says m hs ≡ []
+  none_say : (hs : List (Received A)) → list_all (λ x. option_eq same_value None (says x.set m)) hs ≡ true → statements says m hs ≡ []
   none_say [] h = refl
   none_say (x ∷ xs) h = say_none x (says x.set m) xs refl h (none_say xs)
 
   -- with the first
-  agree : (how : Contradiction) (first : Heard A) (o : Option MemberValue) (others : List (Heard A))
+  agree : (how : Contradiction) (first : Received A) (o : Option MemberValue) (others : List (Received A))
       → says first.set m ≡ o
       → list_all (λ h. option_eq same_value o (says h.set m)) others ≡ true
-      → first_told how m (pairs_of (statements says m (first ∷ others))) ≡ None
+      → first_contradicting how m (pairs_of (statements says m (first ∷ others))) ≡ None
   agree how first None others is all =
-      ap (λ l. first_told how m (pairs_of l)) (ap (λ o. cons_option (option_map (λ u. record { request = first.request; value = u }) o) (statements says m others)) is ∙ none_say others all)
+      ap (λ l. first_contradicting how m (pairs_of l)) (ap (λ o. cons_option (option_map (λ u. record { request = first.request; value = u }) o) (statements says m others)) is ∙ none_say others all)
   agree how first (Some v) others is all =
-      ap (λ o. first_told how m (pairs_of (cons_option (option_map (λ u. record { request = first.request; value = u }) o) (statements says m others)))) is
-      ∙ none_told how m v [] (record { request = first.request; value = v } ∷ statements says m others) refl
+      ap (λ o. first_contradicting how m (pairs_of (cons_option (option_map (λ u. record { request = first.request; value = u }) o) (statements says m others)))) is
+      ∙ none_contradicting how m v [] (record { request = first.request; value = v } ∷ statements says m others) refl
       (both_parts (same_value v v) (list_all (say v) (statements says m others)) (same_value-equiv.refl v) (all_say v others all))
 
-  pub agreed : (how : Contradiction) (first : Heard A) (others : List (Heard A))
+  pub agreed : (how : Contradiction) (first : Received A) (others : List (Received A))
       → list_all (λ h. option_eq same_value (says first.set m) (says h.set m)) others ≡ true
       → contradiction how says m (first ∷ others) ≡ None
   unfolding contradiction

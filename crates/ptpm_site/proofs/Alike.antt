@@ -1,11 +1,11 @@
--- What counts is the last of what was heard.
+-- What counts is the last of what was received.
 use Rattle.std.proofs.Common.{◌≡◌, List}
 use Rattle.ptpm_site.specs.declared.answer.Answer.{Answer}
 use Rattle.ptpm_site.specs.Answers.{counting}
-use Rattle.ptpm_site.specs.Telling.{IsToldAlike, told_by}
+use Rattle.ptpm_site.specs.SiteAnswers.{AreAlikeByClock, answers_by_clock}
 
-pub told_alike : (xs ys : List Answer) → IsToldAlike xs ys → told_by xs ≡ told_by ys
-told_alike xs ys k = λ i. record {
+pub by_clock_alike : (xs ys : List Answer) → AreAlikeByClock xs ys → answers_by_clock xs ≡ answers_by_clock ys
+by_clock_alike xs ys k = λ i. record {
   clocks = k.clocks i;
   seen = λ s. k.seen s i;
   default = λ s. counting (k.defaults s i);
@@ -19,6 +19,6 @@ told_alike xs ys k = λ i. record {
   descriptions = λ s. k.descriptions s i;
   refused = λ s id. k.refused s id i;
   ports = λ s. k.numbers s i;
-  heard = λ s n. k.ports s n i;
+  port_answers = λ s n. k.ports s n i;
   port = λ s n. counting (k.ports s n i);
 }

@@ -9,7 +9,7 @@ use Rattle.ptpm_site.specs.declared.source.Source.{Source}
 use Rattle.ptpm_site.specs.Answers.{source_cmp}
 use Rattle.ptpm_site.specs.Following.{parent_clock}
 use Rattle.ptpm_site.specs.Loops.{circle}
-use Rattle.ptpm_site.specs.Telling.{Telling}
+use Rattle.ptpm_site.specs.SiteAnswers.{SiteAnswers}
 
 -- the clocks so far, and those that follow
 abbrev pub behind : List ClockIdentity → Option (List ClockIdentity) → Option (List ClockIdentity)
@@ -25,7 +25,7 @@ behind_one clocks c None = refl
 behind_one clocks c (Some more) = ap Some (sym (append_assoc clocks (c ∷ []) more))
 
 -- what a walk finds at a clock whose parent compares so to the first
-at_parent : (t : Telling) (first here parent : Source) (n : ℕ) (o : Ordering)
+at_parent : (t : SiteAnswers) (first here parent : Source) (n : ℕ) (o : Ordering)
     → parent_clock t here ≡ Some parent
     → source_cmp parent first ≡ o
     → circle t first (suc n) here ≡ match_ordering o None (Some (here.clock ∷ [])) (option_map (λ more. here.clock ∷ more) (circle t first n parent))
@@ -33,12 +33,12 @@ at_parent t first here parent n o p h =
     ap (λ q. option_and_then (λ (s : Source). match_ordering (source_cmp s first) None (Some (here.clock ∷ [])) (option_map (λ more. here.clock ∷ more) (circle t first n s))) q) p
     ∙ ap (λ r. match_ordering r None (Some (here.clock ∷ [])) (option_map (λ more. here.clock ∷ more) (circle t first n parent))) h
 
-at_all : (t : Telling) (first here : Source) (count walked : ℕ) → walked < count → circle t first (count - walked) here ≡ circle t first (suc (count - (walked + 1))) here
+at_all : (t : SiteAnswers) (first here : Source) (count walked : ℕ) → walked < count → circle t first (count - walked) here ≡ circle t first (suc (count - (walked + 1))) here
 at_all t first here count walked within =
     let one_more : count - walked ≡ suc (count - (walked + 1)) = omega arith in
     ap (λ n. circle t first n here) one_more
 
-pub circle_goes : (t : Telling) (first here parent : Source) (clocks : List ClockIdentity) (count walked : ℕ)
+pub circle_goes : (t : SiteAnswers) (first here parent : Source) (clocks : List ClockIdentity) (count walked : ℕ)
     → walked < count
     → parent_clock t here ≡ Some parent
     → source_cmp parent first ≡ Greater
@@ -47,7 +47,7 @@ circle_goes t first here parent clocks count walked within p h =
     ap (behind clocks) (at_all t first here count walked within ∙ at_parent t first here parent (count - (walked + 1)) Greater p h)
     ∙ behind_one clocks here.clock (circle t first (count - (walked + 1)) parent)
 
-pub circle_closes : (t : Telling) (first here parent : Source) (clocks : List ClockIdentity) (count walked : ℕ)
+pub circle_closes : (t : SiteAnswers) (first here parent : Source) (clocks : List ClockIdentity) (count walked : ℕ)
     → walked < count
     → parent_clock t here ≡ Some parent
     → source_cmp parent first ≡ Equal
@@ -55,7 +55,7 @@ pub circle_closes : (t : Telling) (first here parent : Source) (clocks : List Cl
 circle_closes t first here parent clocks count walked within p h =
     ap (behind clocks) (at_all t first here count walked within ∙ at_parent t first here parent (count - (walked + 1)) Equal p h)
 
-pub circle_falls : (t : Telling) (first here parent : Source) (clocks : List ClockIdentity) (count walked : ℕ)
+pub circle_falls : (t : SiteAnswers) (first here parent : Source) (clocks : List ClockIdentity) (count walked : ℕ)
     → walked < count
     → parent_clock t here ≡ Some parent
     → source_cmp parent first ≡ Less
@@ -63,7 +63,7 @@ pub circle_falls : (t : Telling) (first here parent : Source) (clocks : List Clo
 circle_falls t first here parent clocks count walked within p h =
     ap (behind clocks) (at_all t first here count walked within ∙ at_parent t first here parent (count - (walked + 1)) Less p h)
 
-pub circle_ends : (t : Telling) (first here : Source) (clocks : List ClockIdentity) (count walked : ℕ)
+pub circle_ends : (t : SiteAnswers) (first here : Source) (clocks : List ClockIdentity) (count walked : ℕ)
     → walked < count
     → parent_clock t here ≡ None
     → behind clocks (circle t first (count - walked) here) ≡ None
@@ -71,7 +71,7 @@ circle_ends t first here clocks count walked within p =
     ap (behind clocks) (at_all t first here count walked within
     ∙ ap (λ q. option_and_then (λ (s : Source). match_ordering (source_cmp s first) None (Some (here.clock ∷ [])) (option_map (λ more. here.clock ∷ more) (circle t first (count - (walked + 1)) s))) q) p)
 
-pub circle_spent : (t : Telling) (first here : Source) (clocks : List ClockIdentity) (count walked : ℕ)
+pub circle_spent : (t : SiteAnswers) (first here : Source) (clocks : List ClockIdentity) (count walked : ℕ)
     → walked ≡ count
     → behind clocks (circle t first (count - walked) here) ≡ None
 circle_spent t first here clocks count walked e =

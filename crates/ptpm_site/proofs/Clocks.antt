@@ -7,10 +7,10 @@ use Rattle.std.specs.Option.{IsSome, is_some, option_map_or}
 use Rattle.ptpm_site.specs.declared.answer.Request.{Request}
 use Rattle.ptpm_site.specs.declared.clock.Clock.{Clock}
 use Rattle.ptpm_site.specs.declared.source.Source.{Source}
-use Rattle.ptpm_site.specs.declared.told.Told.{Told}
+use Rattle.ptpm_site.specs.declared.answer_content.AnswerContent.{AnswerContent}
 use Rattle.ptpm_site.specs.Answers.{place_number, port_number, same_source, source_cmp}
-use Rattle.ptpm_site.specs.Keeping.{Grows, IsSilent, Places, Tells}
-use Rattle.ptpm_site.specs.Kept.{port_heard}
+use Rattle.ptpm_site.specs.KeptAnswers.{AddsContent, Grows, HasNoAnswers, Places}
+use Rattle.ptpm_site.specs.Site.{answers_of_port}
 use Rattle.ptpm_site.proofs.Places.{place-known, place-new}
 use Rattle.ptpm_site.proofs.Sources.{exact_sources, tied_sources}
 
@@ -33,30 +33,30 @@ placed_seen fresh (Some c) new true e = ap is_some e
 placed_seen fresh (Some c) new false e = ap is_some e
 
 -- at the clock of the answer it is added after what was kept
-pub told_field : {B : Type 0} → (f : Clock → List B) (before after : Clock) (more : List B) (old new : Option Clock) (b : Bool)
+pub added_field : {B : Type 0} → (f : Clock → List B) (before after : Clock) (more : List B) (old new : Option Clock) (b : Bool)
     → new ≡ cond b (Some after) old
     → (b ≡ true → old ≡ Some before)
     → f after ≡ f before ++ more
     → option_map_or f new [] ≡ option_map_or f old [] ++ cond b more []
-told_field f before after more old new true e there grown =
+added_field f before after more old new true e there grown =
     ap (λ o. option_map_or f o []) e ∙ grown ∙ sym (ap (λ o. option_map_or f o [] ++ more) (there refl))
-told_field f before after more old new false e there grown = ap (λ o. option_map_or f o []) e ∙ sym (append-nil (option_map_or f old []))
+added_field f before after more old new false e there grown = ap (λ o. option_map_or f o []) e ∙ sym (append-nil (option_map_or f old []))
 
-pub told_seen : (before after : Clock) (old new : Option Clock) (b : Bool)
+pub added_seen : (before after : Clock) (old new : Option Clock) (b : Bool)
     → new ≡ cond b (Some after) old
     → (b ≡ true → old ≡ Some before)
     → is_some new ≡ is_some old
-told_seen before after old new true e there = ap is_some e ∙ sym (ap is_some (there refl))
-told_seen before after old new false e there = ap is_some e
+added_seen before after old new true e there = ap is_some e ∙ sym (ap is_some (there refl))
+added_seen before after old new false e there = ap is_some e
 
-pub told_numbers : (f : Clock → List ℕ) (g : List ℕ → List ℕ) (before after : Clock) (old new : Option Clock) (b : Bool)
+pub added_numbers : (f : Clock → List ℕ) (g : List ℕ → List ℕ) (before after : Clock) (old new : Option Clock) (b : Bool)
     → new ≡ cond b (Some after) old
     → (b ≡ true → old ≡ Some before)
     → f after ≡ g (f before)
     → option_map_or f new [] ≡ cond b (g (option_map_or f old [])) (option_map_or f old [])
-told_numbers f g before after old new true e there grown =
+added_numbers f g before after old new true e there grown =
     ap (λ o. option_map_or f o []) e ∙ grown ∙ sym (ap (λ o. g (option_map_or f o [])) (there refl))
-told_numbers f g before after old new false e there grown = ap (λ o. option_map_or f o []) e
+added_numbers f g before after old new false e there grown = ap (λ o. option_map_or f o []) e
 
 -- ---- of a whole site
 
@@ -79,7 +79,7 @@ tie_cond source s x y = ap (λ t. cond t x y) (tied_sources source s)
 
 -- a clock without answers got its place
 pub placed : (old new : BTreeMap Source Clock) (source : Source) (fresh : Clock)
-    → IsSilent fresh
+    → HasNoAnswers fresh
     → is_some (get source_cmp old source) ≡ false
     → ((q : Source) → get source_cmp new q ≡ cond (is_at (source_cmp source) q) (Some fresh) (get source_cmp old q))
     → IsSome (get source_cmp new source)
@@ -100,7 +100,7 @@ placed old new source fresh silent absent updates there entries =
       descriptions = λ s. placed_field (λ c. c.descriptions.items) fresh (get source_cmp old s) (get source_cmp new s) (at s) (updates s) (gone s) silent.descriptions;
       refused = λ s. placed_field (λ c. c.refused.items) fresh (get source_cmp old s) (get source_cmp new s) (at s) (updates s) (gone s) silent.refused;
       numbers = λ s. placed_field (λ c. keys c.ports) fresh (get source_cmp old s) (get source_cmp new s) (at s) (updates s) (gone s) silent.numbers;
-      ports = λ s n. placed_field (λ c. port_heard c n) fresh (get source_cmp old s) (get source_cmp new s) (at s) (updates s) (gone s) (silent.ports n);
+      ports = λ s n. placed_field (λ c. answers_of_port c n) fresh (get source_cmp old s) (get source_cmp new s) (at s) (updates s) (gone s) (silent.ports n);
     }
 
 known_or : {X : Type 0} → (o : Option X) (b : Bool) → (b ≡ true → is_some o ≡ true) → is_some o ≡ (is_some o || b)
@@ -127,33 +127,33 @@ known old source there is_there = record {
 }
 
 -- an answer of a clock that has its place was added
-pub told : (old new : BTreeMap Source Clock) (source : Source) (request : Request) (t : Told) (before after : Clock)
+pub content_added : (old new : BTreeMap Source Clock) (source : Source) (request : Request) (t : AnswerContent) (before after : Clock)
     → get source_cmp old source ≡ Some before
     → ((q : Source) → get source_cmp new q ≡ cond (is_at (source_cmp source) q) (Some after) (get source_cmp old q))
     → keys new ≡ keys old
     → Grows before after request t
-    → Tells (record { clocks = old }) (record { clocks = new }) source request t
-told old new source request t before after was updates same grows =
+    → AddsContent (record { clocks = old }) (record { clocks = new }) source request t
+content_added old new source request t before after was updates same grows =
     let at : Source → Bool = λ s. is_at (source_cmp source) s in
     let there : (s : Source) → at s ≡ true → get source_cmp old s ≡ Some before =
     λ s h. moved (λ q. get source_cmp old q) source s (Some before) was h in
     record {
       clocks = same;
-      seen = λ s. told_seen before after (get source_cmp old s) (get source_cmp new s) (at s) (updates s) (there s);
-      defaults = λ s. told_field (λ c. c.defaults.items) before after _ (get source_cmp old s) (get source_cmp new s) (at s) (updates s) (there s) grows.defaults
+      seen = λ s. added_seen before after (get source_cmp old s) (get source_cmp new s) (at s) (updates s) (there s);
+      defaults = λ s. added_field (λ c. c.defaults.items) before after _ (get source_cmp old s) (get source_cmp new s) (at s) (updates s) (there s) grows.defaults
           ∙ ap (λ l. option_map_or (λ c. c.defaults.items) (get source_cmp old s) [] ++ l) (tie_cond source s _ []);
-      currents = λ s. told_field (λ c. c.currents.items) before after _ (get source_cmp old s) (get source_cmp new s) (at s) (updates s) (there s) grows.currents
+      currents = λ s. added_field (λ c. c.currents.items) before after _ (get source_cmp old s) (get source_cmp new s) (at s) (updates s) (there s) grows.currents
           ∙ ap (λ l. option_map_or (λ c. c.currents.items) (get source_cmp old s) [] ++ l) (tie_cond source s _ []);
-      parents = λ s. told_field (λ c. c.parents.items) before after _ (get source_cmp old s) (get source_cmp new s) (at s) (updates s) (there s) grows.parents
+      parents = λ s. added_field (λ c. c.parents.items) before after _ (get source_cmp old s) (get source_cmp new s) (at s) (updates s) (there s) grows.parents
           ∙ ap (λ l. option_map_or (λ c. c.parents.items) (get source_cmp old s) [] ++ l) (tie_cond source s _ []);
-      times = λ s. told_field (λ c. c.times.items) before after _ (get source_cmp old s) (get source_cmp new s) (at s) (updates s) (there s) grows.times
+      times = λ s. added_field (λ c. c.times.items) before after _ (get source_cmp old s) (get source_cmp new s) (at s) (updates s) (there s) grows.times
           ∙ ap (λ l. option_map_or (λ c. c.times.items) (get source_cmp old s) [] ++ l) (tie_cond source s _ []);
-      descriptions = λ s. told_field (λ c. c.descriptions.items) before after _ (get source_cmp old s) (get source_cmp new s) (at s) (updates s) (there s) grows.descriptions
+      descriptions = λ s. added_field (λ c. c.descriptions.items) before after _ (get source_cmp old s) (get source_cmp new s) (at s) (updates s) (there s) grows.descriptions
           ∙ ap (λ l. option_map_or (λ c. c.descriptions.items) (get source_cmp old s) [] ++ l) (tie_cond source s _ []);
-      refused = λ s. told_field (λ c. c.refused.items) before after _ (get source_cmp old s) (get source_cmp new s) (at s) (updates s) (there s) grows.refused
+      refused = λ s. added_field (λ c. c.refused.items) before after _ (get source_cmp old s) (get source_cmp new s) (at s) (updates s) (there s) grows.refused
           ∙ ap (λ l. option_map_or (λ c. c.refused.items) (get source_cmp old s) [] ++ l) (tie_cond source s _ []);
-      numbers = λ s. told_numbers (λ c. keys c.ports) (λ ns. place_number ns (port_number t)) before after (get source_cmp old s) (get source_cmp new s) (at s) (updates s) (there s) grows.numbers
+      numbers = λ s. added_numbers (λ c. keys c.ports) (λ ns. place_number ns (port_number t)) before after (get source_cmp old s) (get source_cmp new s) (at s) (updates s) (there s) grows.numbers
           ∙ tie_cond source s _ _;
-      ports = λ s n. told_field (λ c. port_heard c n) before after _ (get source_cmp old s) (get source_cmp new s) (at s) (updates s) (there s) (grows.ports n)
-          ∙ ap (λ l. option_map_or (λ c. port_heard c n) (get source_cmp old s) [] ++ l) (tie_cond source s _ []);
+      ports = λ s n. added_field (λ c. answers_of_port c n) before after _ (get source_cmp old s) (get source_cmp new s) (at s) (updates s) (there s) (grows.ports n)
+          ∙ ap (λ l. option_map_or (λ c. answers_of_port c n) (get source_cmp old s) [] ++ l) (tie_cond source s _ []);
     }

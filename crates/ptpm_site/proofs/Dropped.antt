@@ -7,9 +7,9 @@ use Rattle.std.proofs.lemmas.Map.Entries.{length-keys_of}
 use Rattle.std.proofs.Math.Seq.{take-length}
 use Rattle.std.specs.Map.{keys_of}
 use Rattle.std.specs.Option.{IfSome, IsSome}
-use Rattle.ptpm_site.specs.declared.site.TheConstants.{CLOCKS}
-use Rattle.ptpm_site.specs.Showing.{is_shown_whole}
-use Rattle.ptpm_site.specs.Telling.{Telling}
+use Rattle.ptpm_site.specs.declared.left_out.TheConstants.{CLOCKS}
+use Rattle.ptpm_site.specs.LeftOut.{is_shown_whole}
+use Rattle.ptpm_site.specs.SiteAnswers.{SiteAnswers}
 
 keys_of-last : {K X : Type 0} (es : List (K × X)) (e : K × X) → keys_of (es ++ e ∷ []) ≡ keys_of es ++ e.0 ∷ []
 keys_of-last [] e = refl
@@ -50,11 +50,11 @@ dropped-all all limit over i is end =
     ap (λ n. take n all) whole ∙ take-length all ∙ sym (take_all limit all fits))
     (λ above. let rest : length all - i ≡ limit = omega arith in ap (λ n. take n all) rest) (cases_lt (length all) limit)
 
-within_limit : (t : Telling) → is_shown_whole t ≡ true → length t.clocks ≤ CLOCKS
+within_limit : (t : SiteAnswers) → is_shown_whole t ≡ true → length t.clocks ≤ CLOCKS
 within_limit t h = grind (arith, nat_tests)
 
-pub shown-clocks : (t : Telling) → is_shown_whole t ≡ true → t.clocks ≡ take CLOCKS t.clocks
+pub shown-clocks : (t : SiteAnswers) → is_shown_whole t ≡ true → t.clocks ≡ take CLOCKS t.clocks
 shown-clocks t h = sym (take_all CLOCKS t.clocks (within_limit t h))
 
-pub shown-none : (t : Telling) → is_shown_whole t ≡ true → 0 ≡ length t.clocks - CLOCKS
+pub shown-none : (t : SiteAnswers) → is_shown_whole t ≡ true → 0 ≡ length t.clocks - CLOCKS
 shown-none t h = let within : length t.clocks ≤ CLOCKS = within_limit t h in omega arith

@@ -1,10 +1,12 @@
 pub mod Agreeing
 pub mod Alike
+pub mod AnswerOrder
 pub mod Circles
 pub mod Clocks
-pub mod Datagrams
+pub mod DatagramLemmas
 pub mod Dropped
-pub mod Keeping
+pub mod KeptAnswers
+pub mod KeptStatements
 pub mod Links
 pub mod Marking
 pub mod Pairs
@@ -16,8 +18,6 @@ pub mod Reports
 pub mod Rows
 pub mod Settling
 pub mod Sources
-pub mod StandingLemmas
 pub mod Statements
 pub mod Strays
-pub mod Swapping
 pub mod Values

@@ -14,7 +14,7 @@ use Rattle.ptpm_site.specs.declared.source.Source.{Source}
 use Rattle.ptpm_site.specs.Answers.{source_cmp}
 use Rattle.ptpm_site.specs.Following.{ArePlaced}
 use Rattle.ptpm_site.specs.Loops.{AreLeast, circle, comes_back, is_least, loop_of}
-use Rattle.ptpm_site.specs.Telling.{Telling}
+use Rattle.ptpm_site.specs.SiteAnswers.{SiteAnswers}
 use Rattle.ptpm_site.proofs.Sources.{sources_total}
 
 -- what a walk finds after a next clock, by how that compares to the first
@@ -37,7 +37,7 @@ behind_greater : (c : ClockIdentity) (o : Ordering) (more : Option (List ClockId
     → o ≡ Greater → first < q → is_some more ≡ b → is_some (behind c o more) ≡ cond (ltb q first) false (cond (eqb q first) true b)
 behind_greater c o more q first b e lt h = ap (λ r. is_some (behind c r more)) e ∙ is_some-map c more ∙ h ∙ grind (arith, nat_tests)
 
-module _ (t : Telling) (f : List (Option ℕ)) (d : Source) (placed : ArePlaced t f) (ordered : IsStrictlySortedBy source_cmp t.clocks) where
+module _ (t : SiteAnswers) (f : List (Option ℕ)) (d : Source) (placed : ArePlaced t f) (ordered : IsStrictlySortedBy source_cmp t.clocks) where
   abbrev clock_at : ℕ → Source
   clock_at p = get_or t.clocks p d
 
@@ -81,7 +81,7 @@ module _ (t : Telling) (f : List (Option ℕ)) (d : Source) (placed : ArePlaced 
   same_loop p within = same_walk p (length t.clocks) p within within ∙ ap (λ n. comes_back f p n p) (sym placed.count)
 
 -- marks of the places that lead loops are marks of the clocks
-pub AreLeast-placed : (t : Telling) (f : List (Option ℕ)) (marks : List Bool) → ArePlaced t f → IsStrictlySortedBy source_cmp t.clocks
+pub AreLeast-placed : (t : SiteAnswers) (f : List (Option ℕ)) (marks : List Bool) → ArePlaced t f → IsStrictlySortedBy source_cmp t.clocks
     → ((p : ℕ) → p < length f → get_or marks p false ≡ is_least f p) → AreLeast t marks
 AreLeast-placed t f marks placed ordered h p d within =
     let inside : p < length f = omega (arith, placed.count) in

@@ -14,12 +14,12 @@ use Rattle.ptpm_site.proofs.Passing.{IsAmong, IsPassed-among, same_index}
 use Rattle.ptpm_site.proofs.Strays.{IsClosed, follows, ring_least, ring_strays, strays_none, strays_tail}
 
 -- of the places that were passed those are marked that are the least of a loop, and no other is
-pub record AreTold (f : List (Option ℕ)) (P : List ℕ) (marks : List Bool) : Type 0 where
+pub record AreMarked (f : List (Option ℕ)) (P : List ℕ) (marks : List Bool) : Type 0 where
   pub sound : (p : ℕ) → get_or marks p false ≡ true → is_least f p ≡ true
   pub whole : (k : ℕ) → k < length P → get_or marks (get_or P k 0) false ≡ false → is_least f (get_or P k 0) ≡ false
 
-pub AreTold-none : (f : List (Option ℕ)) (P : List ℕ) (marks : List Bool) → length P ≡ 0 → ((p : ℕ) → get_or marks p false ≡ false) → AreTold f P marks
-AreTold-none f P marks none unmarked = record {
+pub AreMarked-none : (f : List (Option ℕ)) (P : List ℕ) (marks : List Bool) → length P ≡ 0 → ((p : ℕ) → get_or marks p false ≡ false) → AreMarked f P marks
+AreMarked-none f P marks none unmarked = record {
   sound = λ p e. absurd (false≢true (sym (unmarked p) ∙ e));
   whole = λ k lt e. absurd (omega arith);
 }
@@ -82,9 +82,9 @@ length-passed indices P h =
 
 -- ---- one walk more
 
-pub AreTold-straight : (f indices : List (Option ℕ)) (old P : List ℕ) (marks : List Bool)
-    → AreNumbered indices P → IsClosed f old → Walked f old P None → AreTold f old marks → AreTold f P marks
-AreTold-straight f indices old P marks numbered closed w h = record {
+pub AreMarked-straight : (f indices : List (Option ℕ)) (old P : List ℕ) (marks : List Bool)
+    → AreNumbered indices P → IsClosed f old → Walked f old P None → AreMarked f old marks → AreMarked f P marks
+AreMarked-straight f indices old P marks numbered closed w h = record {
   sound = h.sound;
   whole = λ k lt e. ⊎_elim
       (λ (below : k < length old). ap (is_least f) (w.before k below) ∙ h.whole k below (ap (λ p. get_or marks p false) (sym (w.before k below)) ∙ e))
@@ -92,12 +92,12 @@ AreTold-straight f indices old P marks numbered closed w h = record {
       (cases_lt k (length old));
 }
 
-pub AreTold-round : (f indices : List (Option ℕ)) (old P : List ℕ) (marks : List Bool) (back j : ℕ)
-    → AreNumbered indices P → IsClosed f old → Walked f old P (Some back) → AreTold f old marks
+pub AreMarked-round : (f indices : List (Option ℕ)) (old P : List ℕ) (marks : List Bool) (back j : ℕ)
+    → AreNumbered indices P → IsClosed f old → Walked f old P (Some back) → AreMarked f old marks
     → length indices ≡ length f → length marks ≡ length f
     → back ≤ j → j < length P → ((k : ℕ) → back ≤ k → k < length P → get_or P j 0 ≤ get_or P k 0)
-    → AreTold f P (set marks (get_or P j 0) true)
-AreTold-round f indices old P marks back j numbered closed w h all room from within least =
+    → AreMarked f P (set marks (get_or P j 0) true)
+AreMarked-round f indices old P marks back j numbered closed w h all room from within least =
     let head : ℕ = get_or P j 0 in
     let inside : head < length marks = omega (arith, within_indices indices P numbered j within) in
     let short : length P ≤ length f = omega (arith, length-passed indices P numbered) in
@@ -122,13 +122,13 @@ AreTold-round f indices old P marks back j numbered closed w h all room from wit
     }
 
 -- all are passed
-told_at : (f : List (Option ℕ)) (marks : List Bool) (p : ℕ) (b : Bool)
+marked_at : (f : List (Option ℕ)) (marks : List Bool) (p : ℕ) (b : Bool)
     → (get_or marks p false ≡ true → is_least f p ≡ true) → (get_or marks p false ≡ false → is_least f p ≡ false) → get_or marks p false ≡ b → get_or marks p false ≡ is_least f p
-told_at f marks p true marked unmarked e = e ∙ sym (marked e)
-told_at f marks p false marked unmarked e = e ∙ sym (unmarked e)
+marked_at f marks p true marked unmarked e = e ∙ sym (marked e)
+marked_at f marks p false marked unmarked e = e ∙ sym (unmarked e)
 
-pub AreTold-all : (f indices : List (Option ℕ)) (P : List ℕ) (marks : List Bool) (p : ℕ)
-    → AreNumbered indices P → AreTold f P marks → IsPassed indices p → get_or marks p false ≡ is_least f p
-AreTold-all f indices P marks p numbered h passed =
+pub AreMarked-all : (f indices : List (Option ℕ)) (P : List ℕ) (marks : List Bool) (p : ℕ)
+    → AreNumbered indices P → AreMarked f P marks → IsPassed indices p → get_or marks p false ≡ is_least f p
+AreMarked-all f indices P marks p numbered h passed =
     let a = IsAmong-passed indices P p numbered passed in
-    told_at f marks p (get_or marks p false) (h.sound p) (λ unmarked. ap (is_least f) (sym a.2) ∙ h.whole a.0 a.1 (ap (λ q. get_or marks q false) a.2 ∙ unmarked)) refl
+    marked_at f marks p (get_or marks p false) (h.sound p) (λ unmarked. ap (is_least f) (sym a.2) ∙ h.whole a.0 a.1 (ap (λ q. get_or marks q false) a.2 ∙ unmarked)) refl

@@ -16,9 +16,9 @@ use Rattle.ptpm_site.specs.declared.site.Site.{Site}
 use Rattle.ptpm_site.specs.declared.source.Source.{Source}
 use Rattle.ptpm_site.specs.Answers.{source_cmp}
 use Rattle.ptpm_site.specs.Following.{ArePlaced, IsParentPlace, beside, followed, parent_clock}
-use Rattle.ptpm_site.specs.Kept.{kept}
 use Rattle.ptpm_site.specs.Loops.{AreWithin}
-use Rattle.ptpm_site.specs.Telling.{Telling}
+use Rattle.ptpm_site.specs.Site.{site_answers}
+use Rattle.ptpm_site.specs.SiteAnswers.{SiteAnswers}
 use Rattle.ptpm_site.proofs.Places.{is_some-lookup}
 use Rattle.ptpm_site.proofs.Sources.{exact_sources, sources_total}
 
@@ -39,53 +39,53 @@ searched xs s (Err i) ordered within h =
     (cases_lt k i))
 
 -- a clock that is seen is among all clocks
-seen_among : (site : Site) (s : Source) → (kept site).seen s ≡ list_any (eq_by_cmp source_cmp s) (kept site).clocks
-unfolding kept
+seen_among : (site : Site) (s : Source) → (site_answers site).seen s ≡ list_any (eq_by_cmp source_cmp s) (site_answers site).clocks
+unfolding site_answers
 seen_among site s = is_some-lookup (eq_by_cmp source_cmp s) site.clocks.entries
 
 -- a parent is seen
 seen_where : (b : Bool) (s parent : Source) → cond b (Some s) None ≡ Some parent → (s ≡ parent) × (b ≡ true)
 seen_where b s parent h = let both = cond_some b s parent h in (both.1, both.0)
 
-seen_at : (t : Telling) (s parent : Source) (o : Option PortIdentity)
+seen_at : (t : SiteAnswers) (s parent : Source) (o : Option PortIdentity)
     → option_and_then (λ p. cond (t.seen (beside s p.clock)) (Some (beside s p.clock)) None) o ≡ Some parent → t.seen parent ≡ true
 seen_at t s parent None h = absurd (none-some parent h)
 seen_at t s parent (Some p) h =
     let both = seen_where (t.seen (beside s p.clock)) (beside s p.clock) parent h in
     ap t.seen (sym both.0) ∙ both.1
 
-seen_parent : (t : Telling) (s parent : Source) → parent_clock t s ≡ Some parent → t.seen parent ≡ true
+seen_parent : (t : SiteAnswers) (s parent : Source) → parent_clock t s ≡ Some parent → t.seen parent ≡ true
 seen_parent t s parent h = seen_at t s parent (followed t s) h
 
 -- a clock without a parent has no place for it
-pub IsParentPlace-none : (t : Telling) (s : Source) → parent_clock t s ≡ None → IsParentPlace t s None
+pub IsParentPlace-none : (t : SiteAnswers) (s : Source) → parent_clock t s ≡ None → IsParentPlace t s None
 IsParentPlace-none t s h = record { within = λ q e. absurd (none-some q e); parent = λ d. h }
 
 placed_at : (site : Site) (s parent : Source) (place : Option ℕ)
-    → parent_clock (kept site) s ≡ Some parent
-    → MatchOption place (list_any (eq_by_cmp source_cmp parent) (kept site).clocks ≡ false) (λ p. (p < length (kept site).clocks) × ((d : Source) → get_or (kept site).clocks p d ≡ parent))
-    → IsParentPlace (kept site) s place
-placed_at site s parent None h none = absurd (false≢true (sym none ∙ sym (seen_among site parent) ∙ seen_parent (kept site) s parent h))
+    → parent_clock (site_answers site) s ≡ Some parent
+    → MatchOption place (list_any (eq_by_cmp source_cmp parent) (site_answers site).clocks ≡ false) (λ p. (p < length (site_answers site).clocks) × ((d : Source) → get_or (site_answers site).clocks p d ≡ parent))
+    → IsParentPlace (site_answers site) s place
+placed_at site s parent None h none = absurd (false≢true (sym none ∙ sym (seen_among site parent) ∙ seen_parent (site_answers site) s parent h))
 placed_at site s parent (Some p) h there = record {
-  within = λ q e. subst (λ r. r < length (kept site).clocks) (same_Some p q e) there.0;
+  within = λ q e. subst (λ r. r < length (site_answers site).clocks) (same_Some p q e) there.0;
   parent = λ d. h ∙ ap Some (sym (there.1 d));
 }
 
 pub IsParentPlace-some : (site : Site) (s parent : Source) (xs : List Source) (place : Option ℕ)
-    → xs ≡ (kept site).clocks
-    → parent_clock (kept site) s ≡ Some parent
+    → xs ≡ (site_answers site).clocks
+    → parent_clock (site_answers site) s ≡ Some parent
     → MatchOption place (list_any (eq_by_cmp source_cmp parent) xs ≡ false) (λ p. (p < length xs) × ((d : Source) → get_or xs p d ≡ parent))
-    → IsParentPlace (kept site) s place
+    → IsParentPlace (site_answers site) s place
 IsParentPlace-some site s parent xs place all h there =
     placed_at site s parent place h
     (subst (λ ys. MatchOption place (list_any (eq_by_cmp source_cmp parent) ys ≡ false) (λ p. (p < length ys) × ((d : Source) → get_or ys p d ≡ parent))) all there)
 
 -- of the clocks so far
-pub record ArePlacedTo (t : Telling) (n : ℕ) (places : List (Option ℕ)) : Type 0 where
+pub record ArePlacedTo (t : SiteAnswers) (n : ℕ) (places : List (Option ℕ)) : Type 0 where
   pub count : length places ≡ n
   pub each : (p : ℕ) (d : Source) → p < n → IsParentPlace t (get_or t.clocks p d) (get_or places p None)
 
-pub ArePlacedTo-more : (t : Telling) (n : ℕ) (places : List (Option ℕ)) (s : Source) (place : Option ℕ)
+pub ArePlacedTo-more : (t : SiteAnswers) (n : ℕ) (places : List (Option ℕ)) (s : Source) (place : Option ℕ)
     → ((d : Source) → get_or t.clocks n d ≡ s)
     → ArePlacedTo t n places
     → IsParentPlace t s place
@@ -108,7 +108,7 @@ ArePlacedTo-more t n places s place here h one = record {
 some_source : Source
 some_source = record { domain = 0; clock = record { 0 = [] } }
 
-pub AreWithin-placed : (t : Telling) (places : List (Option ℕ)) → ArePlaced t places → AreWithin places
+pub AreWithin-placed : (t : SiteAnswers) (places : List (Option ℕ)) → ArePlaced t places → AreWithin places
 AreWithin-placed t places h p q e = ⊎_elim
     (λ (inside : p < length t.clocks). let within : q < length t.clocks = (h.each p some_source inside).within q e in omega (arith, h.count))
     (λ (past : length t.clocks ≤ p). absurd (none-some q (sym (get_or_past places p None (omega (arith, h.count))) ∙ e)))

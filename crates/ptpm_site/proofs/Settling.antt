@@ -12,9 +12,9 @@ use Rattle.ptpm_site.specs.declared.changes.Contradiction.TheVariants as sort
 use Rattle.ptpm_site.specs.declared.changes.Settled.{Settled}
 use Rattle.ptpm_site.specs.declared.member.Value.{Value}
 use Rattle.ptpm_site.specs.Changes.{Statement, contradicts, is_settled, same_request}
+use Rattle.ptpm_site.specs.KeptStatements.{KeepsFirstValues, if_other, request_cmp, settled_of, settled_otherwise}
 use Rattle.ptpm_site.specs.Members.{MemberValue, same_value, value_of}
-use Rattle.ptpm_site.specs.Standing.{TellsTwice, if_other, request_cmp, settled_of, settled_otherwise}
-use Rattle.ptpm_site.proofs.StandingLemmas.{not_if_alike, nothing_more, or_none}
+use Rattle.ptpm_site.proofs.KeptStatements.{not_if_alike, nothing_more, or_none}
 use Rattle.ptpm_site.proofs.Values.{same_request-Decides, same_value-equiv}
 
 -- ---- the order of requests distinguishes what the test of equality distinguishes
@@ -27,32 +27,32 @@ tied_requests a b = grind (arith, is_eq-slice_cmp)
 abbrev twice : Statement → Statement → Bool
 twice e later = contradicts sort.IdentityTwice e later
 
-told_or : (o p : Option Statement) → option_map (λ e. e.value) (option_or o p) ≡ option_or (option_map (λ e. e.value) o) (option_map (λ e. e.value) p)
-told_or None p = refl
-told_or (Some x) p = refl
+values_or : (o p : Option Statement) → option_map (λ e. e.value) (option_or o p) ≡ option_or (option_map (λ e. e.value) o) (option_map (λ e. e.value) p)
+values_or None p = refl
+values_or (Some x) p = refl
 
-told_if : (b : Bool) (y : Statement) → option_map (λ e. e.value) (cond b (Some y) None) ≡ cond b (Some y.value) None
-told_if true y = refl
-told_if false y = refl
+values_if : (b : Bool) (y : Statement) → option_map (λ e. e.value) (cond b (Some y) None) ≡ cond b (Some y.value) None
+values_if true y = refl
+values_if false y = refl
 
-one_more : (s : Settled) (seen : List Statement) (y z : Statement) → TellsTwice s seen
+one_more : (s : Settled) (seen : List Statement) (y z : Statement) → KeepsFirstValues s seen
     → option_map (λ e. e.value) (find (λ e. twice e z) (seen ++ y ∷ [])) ≡ option_or (settled_otherwise s z) (cond (twice y z) (Some y.value) None)
 one_more s seen y z h =
     ap (option_map (λ e. e.value)) (find-append (λ e. twice e z) seen (y ∷ []))
-    ∙ told_or (find (λ e. twice e z) seen) (cond (twice y z) (Some y) None)
+    ∙ values_or (find (λ e. twice e z) seen) (cond (twice y z) (Some y) None)
     ∙ ap (λ o. option_or o (option_map (λ e. e.value) (cond (twice y z) (Some y) None))) (h.alike z)
-    ∙ ap (option_or (settled_otherwise s z)) (told_if (twice y z) y)
+    ∙ ap (option_or (settled_otherwise s z)) (values_if (twice y z) y)
 
 -- what is kept still shows every contradiction, if it shows each one of the new statement
-stays : (s : Settled) (seen : List Statement) (y : Statement) → TellsTwice s seen
+stays : (s : Settled) (seen : List Statement) (y : Statement) → KeepsFirstValues s seen
     → ((z : Statement) → settled_otherwise s z ≡ None → twice y z ≡ false)
-    → TellsTwice s (seen ++ y ∷ [])
+    → KeepsFirstValues s (seen ++ y ∷ [])
 stays s seen y h more = record {
   alike = λ z. one_more s seen y z h ∙ nothing_more (settled_otherwise s z) (twice y z) y.value (more z);
 }
 
-pub tells-unsettled : (s : Settled) (seen : List Statement) (y : Statement) → is_settled y.value ≡ false → TellsTwice s seen → TellsTwice s (seen ++ y ∷ [])
-tells-unsettled s seen y h tells = stays s seen y tells (λ z k. ap (λ b. b && same_request y.request z.request && not (same_value y.value z.value)) h)
+pub keeps-unsettled : (s : Settled) (seen : List Statement) (y : Statement) → is_settled y.value ≡ false → KeepsFirstValues s seen → KeepsFirstValues s (seen ++ y ∷ [])
+keeps-unsettled s seen y h keeps = stays s seen y keeps (λ z k. ap (λ b. b && same_request y.request z.request && not (same_value y.value z.value)) h)
 
 -- of another request
 apart : (s t v : Bool) → t ≡ false → s && t && v ≡ false
@@ -78,22 +78,22 @@ cases true f g = f refl
 cases false f g = g refl
 
 -- a request that has a kept value shows each contradiction of a statement that says the same
-pub tells-known : (s : Settled) (seen : List Statement) (y : Statement) (before : MemberValue)
+pub keeps-known : (s : Settled) (seen : List Statement) (y : Statement) (before : MemberValue)
     → settled_of s y.request ≡ Some before
     → find (λ e. twice e y) seen ≡ None
-    → TellsTwice s seen → TellsTwice s (seen ++ y ∷ [])
-tells-known s seen y before kept none tells = stays s seen y tells (λ z k.
+    → KeepsFirstValues s seen → KeepsFirstValues s (seen ++ y ∷ [])
+keeps-known s seen y before kept none keeps = stays s seen y keeps (λ z k.
     cases (same_request y.request z.request)
     (λ same. not_if_alike (is_settled y.value) (same_request y.request z.request) (same_value y.value z.value) (by_value z k same))
     (λ other. apart (is_settled y.value) (same_request y.request z.request) (not (same_value y.value z.value)) other)) where
-      told : same_value before y.value ≡ true
-      told = none_other y.value before (ap (option_and_then (if_other y.value)) (sym kept) ∙ sym (tells.alike y) ∙ ap (option_map (λ e. e.value)) none)
+      same : same_value before y.value ≡ true
+      same = none_other y.value before (ap (option_and_then (if_other y.value)) (sym kept) ∙ sym (keeps.alike y) ∙ ap (option_map (λ e. e.value)) none)
 
       by_value : (z : Statement) → settled_otherwise s z ≡ None → same_request y.request z.request ≡ true → same_value y.value z.value ≡ true
       by_value z k same =
           let one : y.request ≡ z.request = (same_request-Decides y.request z.request).0 same in
           let here : settled_of s z.request ≡ Some before = ap (settled_of s) (sym one) ∙ kept in
-          sym (same_value-equiv.congr before y.value z.value told)
+          sym (same_value-equiv.congr before y.value z.value same)
           ∙ none_other z.value before (ap (option_and_then (if_other z.value)) (sym here) ∙ k)
 
 -- a request that has none gets its first value
@@ -103,13 +103,13 @@ first_here true true false x h k = refl
 first_here true false v x h k = absurd (true≢false (sym k))
 first_here false t v x h k = absurd (true≢false (sym h))
 
-pub tells-new : (s next : Settled) (seen : List Statement) (y : Statement)
+pub keeps-new : (s next : Settled) (seen : List Statement) (y : Statement)
     → settled_of s y.request ≡ None
     → is_settled y.value ≡ true
     → ((r : Request) → settled_of next r ≡ cond (same_request y.request r) (Some y.value) (settled_of s r))
-    → TellsTwice s seen → TellsTwice next (seen ++ y ∷ [])
-tells-new s next seen y absent settled updates tells = record {
-  alike = λ z. one_more s seen y z tells ∙ by_request z ∙ sym (ap (option_and_then (if_other z.value)) (updates z.request));
+    → KeepsFirstValues s seen → KeepsFirstValues next (seen ++ y ∷ [])
+keeps-new s next seen y absent settled updates keeps = record {
+  alike = λ z. one_more s seen y z keeps ∙ by_request z ∙ sym (ap (option_and_then (if_other z.value)) (updates z.request));
 } where
   by_request : (z : Statement) → option_or (settled_otherwise s z) (cond (twice y z) (Some y.value) None)
       ≡ option_and_then (if_other z.value) (cond (same_request y.request z.request) (Some y.value) (settled_of s z.request))

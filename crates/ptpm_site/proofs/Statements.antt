@@ -7,77 +7,77 @@ use Rattle.std.proofs.lemmas.List.{take_more, append-nil}
 use Rattle.std.proofs.lemmas.List.Elements.{filter_map-append}
 use Rattle.std.specs.List.{find}
 use Rattle.ptpm_site.specs.declared.changes.Contradiction.{Contradiction}
-use Rattle.ptpm_site.specs.declared.clock.Heard.{Heard}
+use Rattle.ptpm_site.specs.declared.clock.Received.{Received}
 use Rattle.ptpm_site.specs.declared.member.Member.{Member}
-use Rattle.ptpm_site.specs.Changes.{Statement, ToldChange, contradiction, contradicts, first_told, pairs_behind, statement_of, statements}
+use Rattle.ptpm_site.specs.Changes.{MemberChange, Statement, contradiction, contradicts, first_contradicting, pairs_behind, statement_of, statements}
 use Rattle.ptpm_site.specs.Members.{MemberValue}
-use Rattle.ptpm_site.proofs.Pairs.{first_told-next, told_with}
+use Rattle.ptpm_site.proofs.Pairs.{change_with, first_contradicting-next}
 
 -- the first two, if the later one is one of the answers from a place on
-abbrev pub ahead : {A : Type 0} → Contradiction → (A → Member → Option MemberValue) → Member → List (Heard A) → ℕ → Option ToldChange
-ahead c says m heard i = first_told c m (pairs_behind (statements says m (take i heard)) (statements says m (drop i heard)))
+abbrev pub ahead : {A : Type 0} → Contradiction → (A → Member → Option MemberValue) → Member → List (Received A) → ℕ → Option MemberChange
+ahead c says m received i = first_contradicting c m (pairs_behind (statements says m (take i received)) (statements says m (drop i received)))
 
-module _ {A : Type 0} (says : A → Member → Option MemberValue) (m : Member) (heard : List (Heard A)) (i : ℕ) (x : Heard A)
-    (within : i < length heard) (is : x ≡ get_or heard i x) where
+module _ {A : Type 0} (says : A → Member → Option MemberValue) (m : Member) (received : List (Received A)) (i : ℕ) (x : Received A)
+    (within : i < length received) (is : x ≡ get_or received i x) where
   one_or_none : (o : Option Statement) → cons_option o [] ≡ option_to_list o
   one_or_none None = refl
   one_or_none (Some y) = refl
 
   -- one more answer is taken
-  pub statements-take : statements says m (take (i + 1) heard) ≡ statements says m (take i heard) ++ option_to_list (statement_of says m x)
+  pub statements-take : statements says m (take (i + 1) received) ≡ statements says m (take i received) ++ option_to_list (statement_of says m x)
   statements-take =
-      ap (statements says m) (take_more heard i x within ∙ ap (λ y. take i heard ++ y ∷ []) (sym is))
-      ∙ filter_map-append (statement_of says m) (take i heard) (x ∷ [])
-      ∙ ap (λ l. statements says m (take i heard) ++ l) (one_or_none (statement_of says m x))
+      ap (statements says m) (take_more received i x within ∙ ap (λ y. take i received ++ y ∷ []) (sym is))
+      ∙ filter_map-append (statement_of says m) (take i received) (x ∷ [])
+      ∙ ap (λ l. statements says m (take i received) ++ l) (one_or_none (statement_of says m x))
 
-  statements-drop : statements says m (drop i heard) ≡ cons_option (statement_of says m x) (statements says m (drop (i + 1) heard))
+  statements-drop : statements says m (drop i received) ≡ cons_option (statement_of says m x) (statements says m (drop (i + 1) received))
   statements-drop =
-      ap (statements says m) (drop-cons heard i x within ∙ ap (λ y. y ∷ drop (suc i) heard) (sym is))
-      ∙ ap (λ n. cons_option (statement_of says m x) (statements says m (drop n heard))) (sym (add-one i))
+      ap (statements says m) (drop-cons received i x within ∙ ap (λ y. y ∷ drop (suc i) received) (sym is))
+      ∙ ap (λ n. cons_option (statement_of says m x) (statements says m (drop n received))) (sym (add-one i))
 
   -- an answer that does not say it changes nothing
-  pub taken-none : statement_of says m x ≡ None → statements says m (take (i + 1) heard) ≡ statements says m (take i heard)
-  taken-none h = statements-take ∙ ap (λ o. statements says m (take i heard) ++ option_to_list o) h ∙ append-nil (statements says m (take i heard))
+  pub taken-none : statement_of says m x ≡ None → statements says m (take (i + 1) received) ≡ statements says m (take i received)
+  taken-none h = statements-take ∙ ap (λ o. statements says m (take i received) ++ option_to_list o) h ∙ append-nil (statements says m (take i received))
 
-  pub taken-some : (y : Statement) → statement_of says m x ≡ Some y → statements says m (take (i + 1) heard) ≡ statements says m (take i heard) ++ y ∷ []
-  taken-some y h = statements-take ∙ ap (λ o. statements says m (take i heard) ++ option_to_list o) h
+  pub taken-some : (y : Statement) → statement_of says m x ≡ Some y → statements says m (take (i + 1) received) ≡ statements says m (take i received) ++ y ∷ []
+  taken-some y h = statements-take ∙ ap (λ o. statements says m (take i received) ++ option_to_list o) h
 
-  pub ahead-none : (c : Contradiction) → statement_of says m x ≡ None → ahead c says m heard i ≡ ahead c says m heard (i + 1)
+  pub ahead-none : (c : Contradiction) → statement_of says m x ≡ None → ahead c says m received i ≡ ahead c says m received (i + 1)
   ahead-none c h =
-      ap (λ l. first_told c m (pairs_behind l (statements says m (drop i heard)))) (sym (taken-none h))
-      ∙ ap (λ l. first_told c m (pairs_behind (statements says m (take (i + 1) heard)) l))
-      (statements-drop ∙ ap (λ o. cons_option o (statements says m (drop (i + 1) heard))) h)
+      ap (λ l. first_contradicting c m (pairs_behind l (statements says m (drop i received)))) (sym (taken-none h))
+      ∙ ap (λ l. first_contradicting c m (pairs_behind (statements says m (take (i + 1) received)) l))
+      (statements-drop ∙ ap (λ o. cons_option o (statements says m (drop (i + 1) received))) h)
 
   ahead-some : (c : Contradiction) (y : Statement) → statement_of says m x ≡ Some y
-      → ahead c says m heard i ≡ option_or (option_map (told_with m y) (option_map (λ e. e.value) (find (λ e. contradicts c e y) (statements says m (take i heard)))))
-      (ahead c says m heard (i + 1))
+      → ahead c says m received i ≡ option_or (option_map (change_with m y) (option_map (λ e. e.value) (find (λ e. contradicts c e y) (statements says m (take i received)))))
+      (ahead c says m received (i + 1))
   ahead-some c y h =
-      ap (λ l. first_told c m (pairs_behind (statements says m (take i heard)) l))
-      (statements-drop ∙ ap (λ o. cons_option o (statements says m (drop (i + 1) heard))) h)
-      ∙ first_told-next c m (statements says m (take i heard)) y (statements says m (drop (i + 1) heard))
-      ∙ ap (λ l. option_or (option_map (told_with m y) (option_map (λ e. e.value) (find (λ e. contradicts c e y) (statements says m (take i heard)))))
-      (first_told c m (pairs_behind l (statements says m (drop (i + 1) heard))))) (sym (taken-some y h))
+      ap (λ l. first_contradicting c m (pairs_behind (statements says m (take i received)) l))
+      (statements-drop ∙ ap (λ o. cons_option o (statements says m (drop (i + 1) received))) h)
+      ∙ first_contradicting-next c m (statements says m (take i received)) y (statements says m (drop (i + 1) received))
+      ∙ ap (λ l. option_or (option_map (change_with m y) (option_map (λ e. e.value) (find (λ e. contradicts c e y) (statements says m (take i received)))))
+      (first_contradicting c m (pairs_behind l (statements says m (drop (i + 1) received))))) (sym (taken-some y h))
 
   -- an answer that says otherwise than an earlier one, and one that does not
   pub ahead-found : (c : Contradiction) (y : Statement) (before : MemberValue) → statement_of says m x ≡ Some y
-      → option_map (λ e. e.value) (find (λ e. contradicts c e y) (statements says m (take i heard))) ≡ Some before
-      → ahead c says m heard i ≡ Some (told_with m y before)
+      → option_map (λ e. e.value) (find (λ e. contradicts c e y) (statements says m (take i received))) ≡ Some before
+      → ahead c says m received i ≡ Some (change_with m y before)
   ahead-found c y before h found =
-      ahead-some c y h ∙ ap (λ o. option_or (option_map (told_with m y) o) (ahead c says m heard (i + 1))) found
+      ahead-some c y h ∙ ap (λ o. option_or (option_map (change_with m y) o) (ahead c says m received (i + 1))) found
 
   pub ahead-passed : (c : Contradiction) (y : Statement) → statement_of says m x ≡ Some y
-      → find (λ e. contradicts c e y) (statements says m (take i heard)) ≡ None
-      → ahead c says m heard i ≡ ahead c says m heard (i + 1)
+      → find (λ e. contradicts c e y) (statements says m (take i received)) ≡ None
+      → ahead c says m received i ≡ ahead c says m received (i + 1)
   ahead-passed c y h none =
-      ahead-some c y h ∙ ap (λ o. option_or (option_map (told_with m y) (option_map (λ e. e.value) o)) (ahead c says m heard (i + 1))) none
+      ahead-some c y h ∙ ap (λ o. option_or (option_map (change_with m y) (option_map (λ e. e.value) o)) (ahead c says m received (i + 1))) none
 
 -- none is taken yet, and none is left
-pub ahead-first : {A : Type 0} (c : Contradiction) (says : A → Member → Option MemberValue) (m : Member) (heard : List (Heard A)) → contradiction c says m heard ≡ ahead c says m heard 0
+pub ahead-first : {A : Type 0} (c : Contradiction) (says : A → Member → Option MemberValue) (m : Member) (received : List (Received A)) → contradiction c says m received ≡ ahead c says m received 0
 unfolding contradiction
-ahead-first c says m heard = refl
+ahead-first c says m received = refl
 
-pub ahead-all : {A : Type 0} (c : Contradiction) (says : A → Member → Option MemberValue) (m : Member) (heard : List (Heard A)) → ahead c says m heard (length heard) ≡ None
-ahead-all c says m heard = ap (λ l. first_told c m (pairs_behind (statements says m (take (length heard) heard)) (statements says m l))) (drop-length heard)
+pub ahead-all : {A : Type 0} (c : Contradiction) (says : A → Member → Option MemberValue) (m : Member) (received : List (Received A)) → ahead c says m received (length received) ≡ None
+ahead-all c says m received = ap (λ l. first_contradicting c m (pairs_behind (statements says m (take (length received) received)) (statements says m l))) (drop-length received)
 
 pub no_value : {A B : Type 0} (f : A → B) (o : Option A) → option_map f o ≡ None → o ≡ None
 no_value f None h = refl

@@ -4,7 +4,7 @@ use Rattle.ptpm_site.specs.declared.data_sets.PortDataSet.{PortDataSet}
 use Rattle.ptpm_site.specs.declared.source.Source.{Source}
 use Rattle.ptpm_site.specs.Following.{followed}
 use Rattle.ptpm_site.specs.PortStates.{is_following, measures_link}
-use Rattle.ptpm_site.specs.Telling.{Telling}
+use Rattle.ptpm_site.specs.SiteAnswers.{SiteAnswers}
 
 -- the amount of a TimeInterval is above this many nanoseconds; an amount equal to the limit is allowed
 abbrev pub is_above : ℤ → ℕ → Bool
@@ -15,11 +15,11 @@ abbrev pub beyond : ℤ → Option ℕ → Option ℤ
 beyond interval limit = option_and_then (λ n. if is_above interval n then Some interval else None) limit
 
 -- offsetFromMaster and meanDelay of a clock that is not its own grandmaster
-abbrev pub large_offset : Telling → Source → Option ℕ → Option ℤ
-large_offset t s limit = option_and_then (λ _. option_and_then (λ c. beyond c.offset_from_master limit) (t.current s)) (followed t s)
+abbrev pub large_offset : SiteAnswers → Source → Option ℕ → Option ℤ
+large_offset site s limit = option_and_then (λ _. option_and_then (λ c. beyond c.offset_from_master limit) (site.current s)) (followed site s)
 
-abbrev pub large_delay : Telling → Source → Option ℕ → Option ℤ
-large_delay t s limit = option_and_then (λ _. option_and_then (λ c. beyond c.mean_delay limit) (t.current s)) (followed t s)
+abbrev pub large_delay : SiteAnswers → Source → Option ℕ → Option ℤ
+large_delay site s limit = option_and_then (λ _. option_and_then (λ c. beyond c.mean_delay limit) (site.current s)) (followed site s)
 
 -- meanLinkDelay of a port in SLAVE or UNCALIBRATED with P2P or COMMON_P2P
 abbrev pub large_link_delay : PortDataSet → Option ℕ → Option ℤ

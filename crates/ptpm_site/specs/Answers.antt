@@ -10,7 +10,7 @@ use Rattle.ptpm_codec.specs.Identity.{same_clock}
 use Rattle.ptpm_site.specs.declared.asked.Asked.{Asked}
 use Rattle.ptpm_site.specs.declared.answer.Answer.{Answer}
 use Rattle.ptpm_site.specs.declared.answer.Request.{Request}
-use Rattle.ptpm_site.specs.declared.clock.Heard.{Heard}
+use Rattle.ptpm_site.specs.declared.clock.Received.{Received}
 use Rattle.ptpm_site.specs.declared.data_sets.CurrentDataSet.{CurrentDataSet}
 use Rattle.ptpm_site.specs.declared.data_sets.DefaultDataSet.{DefaultDataSet}
 use Rattle.ptpm_site.specs.declared.data_sets.ParentDataSet.{ParentDataSet}
@@ -18,8 +18,8 @@ use Rattle.ptpm_site.specs.declared.data_sets.PortDataSet.{PortDataSet}
 use Rattle.ptpm_site.specs.declared.data_sets.TimePropertiesDataSet.{TimePropertiesDataSet}
 use Rattle.ptpm_site.specs.declared.description.Description.{Description}
 use Rattle.ptpm_site.specs.declared.source.Source.{Source}
-use Rattle.ptpm_site.specs.declared.told.Told.{Told}
-use Rattle.ptpm_site.specs.declared.told.Told.TheVariants as told
+use Rattle.ptpm_site.specs.declared.answer_content.AnswerContent.{AnswerContent}
+use Rattle.ptpm_site.specs.declared.answer_content.AnswerContent.TheVariants as contents
 use Rattle.ptpm_site.specs.Ids.{same_id}
 
 -- a key goes to its place in the order, unless it is there already
@@ -53,60 +53,60 @@ clocks_of answers = fold place_clock [] answers
 
 -- ---- what an answer says, and which request it came to
 
-abbrev pub default_told : Told → Option DefaultDataSet
-default_told (told.Default set) = Some set
-default_told _ = None
+abbrev pub default_in : AnswerContent → Option DefaultDataSet
+default_in (contents.Default set) = Some set
+default_in _ = None
 
-abbrev pub current_told : Told → Option CurrentDataSet
-current_told (told.Current set) = Some set
-current_told _ = None
+abbrev pub current_in : AnswerContent → Option CurrentDataSet
+current_in (contents.Current set) = Some set
+current_in _ = None
 
-abbrev pub parent_told : Told → Option ParentDataSet
-parent_told (told.Parent set) = Some set
-parent_told _ = None
+abbrev pub parent_in : AnswerContent → Option ParentDataSet
+parent_in (contents.Parent set) = Some set
+parent_in _ = None
 
-abbrev pub time_told : Told → Option TimePropertiesDataSet
-time_told (told.Time set) = Some set
-time_told _ = None
+abbrev pub time_in : AnswerContent → Option TimePropertiesDataSet
+time_in (contents.Time set) = Some set
+time_in _ = None
 
-abbrev pub description_told : Told → Option Description
-description_told (told.Description set) = Some set
-description_told _ = None
+abbrev pub description_in : AnswerContent → Option Description
+description_in (contents.Description set) = Some set
+description_in _ = None
 
 -- the id that a clock refuses to answer
-abbrev pub refusal_told : Told → Option Asked
-refusal_told (told.Refused asked) = Some asked
-refusal_told _ = None
+abbrev pub refusal_in : AnswerContent → Option Asked
+refusal_in (contents.Refused asked) = Some asked
+refusal_in _ = None
 
 -- it refuses to answer this id
-abbrev pub refuses : Asked → Told → Bool
-refuses id (told.Refused asked) = same_id asked id
+abbrev pub refuses : Asked → AnswerContent → Bool
+refuses id (contents.Refused asked) = same_id asked id
 refuses id _ = false
 
 -- the data set of the port of this number
-abbrev pub port_told : ℕ → Told → Option PortDataSet
-port_told n (told.Port m set) = if m == n then Some set else None
-port_told n _ = None
+abbrev pub port_in : ℕ → AnswerContent → Option PortDataSet
+port_in n (contents.Port m set) = if m == n then Some set else None
+port_in n _ = None
 
 -- the number of the port that the answer is of
-abbrev pub port_number : Told → Option ℕ
-port_number (told.Port m set) = Some m
+abbrev pub port_number : AnswerContent → Option ℕ
+port_number (contents.Port m set) = Some m
 port_number _ = None
 
-abbrev pub heard : {A : Type 0} → (Told → Option A) → Answer → Option (Heard A)
-heard says a = option_map (λ set. record { request = a.request; set = set }) (says a.told)
+abbrev pub received_in : {A : Type 0} → (AnswerContent → Option A) → Answer → Option (Received A)
+received_in says a = option_map (λ set. record { request = a.request; set = set }) (says a.content)
 
 -- the same of a request and what came to it
-abbrev pub heard_now : {A : Type 0} → (Told → Option A) → Request → Told → List (Heard A)
-heard_now says request t = option_to_list (option_map (λ set. record { request = request; set = set }) (says t))
+abbrev pub newly_received : {A : Type 0} → (AnswerContent → Option A) → Request → AnswerContent → List (Received A)
+newly_received says request t = option_to_list (option_map (λ set. record { request = request; set = set }) (says t))
 
 -- of all answers of a clock, those that say this, in the order of their lines
-abbrev pub all_heard : {A : Type 0} → (Told → Option A) → Source → List Answer → List (Heard A)
-all_heard says s answers = filter_map (heard says) (answers_of s answers)
+abbrev pub all_received : {A : Type 0} → (AnswerContent → Option A) → Source → List Answer → List (Received A)
+all_received says s answers = filter_map (received_in says) (answers_of s answers)
 
 -- a clock refused an id
 abbrev pub is_refused : Source → Asked → List Answer → Bool
-is_refused s id answers = list_any (λ a. refuses id a.told) (answers_of s answers)
+is_refused s id answers = list_any (λ a. refuses id a.content) (answers_of s answers)
 
 -- the numbers of the ports of a clock that answered, each once, ascending
 abbrev pub place_number : List ℕ → Option ℕ → List ℕ
@@ -114,24 +114,24 @@ place_number ns None = ns
 place_number ns (Some n) = place nat_cmp ns n
 
 abbrev pub ports_of : Source → List Answer → List ℕ
-ports_of s answers = fold (λ ns a. place_number ns (port_number a.told)) [] (answers_of s answers)
+ports_of s answers = fold (λ ns a. place_number ns (port_number a.content)) [] (answers_of s answers)
 
 -- ---- of all answers of a clock to one id, and of those of one port, the last line counts
 
-abbrev pub counting : {A : Type 0} → List (Heard A) → Option A
-counting heard = option_map (λ h. h.set) (slice_get heard (length heard - 1))
+abbrev pub counting : {A : Type 0} → List (Received A) → Option A
+counting received = option_map (λ h. h.set) (slice_get received (length received - 1))
 
 abbrev pub default_of : Source → List Answer → Option DefaultDataSet
-default_of s answers = counting (all_heard default_told s answers)
+default_of s answers = counting (all_received default_in s answers)
 
 abbrev pub current_of : Source → List Answer → Option CurrentDataSet
-current_of s answers = counting (all_heard current_told s answers)
+current_of s answers = counting (all_received current_in s answers)
 
 abbrev pub parent_of : Source → List Answer → Option ParentDataSet
-parent_of s answers = counting (all_heard parent_told s answers)
+parent_of s answers = counting (all_received parent_in s answers)
 
 abbrev pub time_of : Source → List Answer → Option TimePropertiesDataSet
-time_of s answers = counting (all_heard time_told s answers)
+time_of s answers = counting (all_received time_in s answers)
 
 abbrev pub port_of : Source → ℕ → List Answer → Option PortDataSet
-port_of s n answers = counting (all_heard (port_told n) s answers)
+port_of s n answers = counting (all_received (port_in n) s answers)

@@ -10,7 +10,7 @@ use Rattle.ptpm_site.specs.declared.answer.Request.{Request}
 use Rattle.ptpm_site.specs.declared.changes.Change.{Change}
 use Rattle.ptpm_site.specs.declared.changes.Contradiction.{Contradiction}
 use Rattle.ptpm_site.specs.declared.changes.Contradiction.TheVariants as sort
-use Rattle.ptpm_site.specs.declared.clock.Heard.{Heard}
+use Rattle.ptpm_site.specs.declared.clock.Received.{Received}
 use Rattle.ptpm_site.specs.declared.member.Member.{Member}
 use Rattle.ptpm_site.specs.Members.{MemberValue, State, same_value, value_of}
 
@@ -59,24 +59,24 @@ abbrev pub pairs_of : {A : Type 0} → List A → List (A × A)
 pairs_of xs = pairs_behind [] xs
 
 -- what the answers say of a member, in the order of their lines
-abbrev pub statement_of : {A : Type 0} → (A → Member → Option MemberValue) → Member → Heard A → Option Statement
+abbrev pub statement_of : {A : Type 0} → (A → Member → Option MemberValue) → Member → Received A → Option Statement
 statement_of says m h = option_map (λ v. record { request = h.request; value = v }) (says h.set m)
 
-abbrev pub statements : {A : Type 0} → (A → Member → Option MemberValue) → Member → List (Heard A) → List Statement
-statements says m heard = filter_map (statement_of says m) heard
+abbrev pub statements : {A : Type 0} → (A → Member → Option MemberValue) → Member → List (Received A) → List Statement
+statements says m received = filter_map (statement_of says m) received
 
 -- a member in which two answers differ: its value in the earlier one and in the later one
-pub record ToldChange : Type 0 where
+pub record MemberChange : Type 0 where
   pub member : Member
   pub before : MemberValue
   pub after : MemberValue
 
-abbrev pub told_change : Change → ToldChange
-told_change c = record { member = c.member; before = value_of c.before; after = value_of c.after }
+abbrev pub member_change : Change → MemberChange
+member_change c = record { member = c.member; before = value_of c.before; after = value_of c.after }
 
 -- the first two answers that contradict each other in a member, by the line of the later, and then of the earlier
-abbrev pub first_told : Contradiction → Member → List (Statement × Statement) → Option ToldChange
-first_told c m pairs = option_map (λ p. record { member = m; before = p.0.value; after = p.1.value }) (find (λ p. contradicts c p.0 p.1) pairs)
+abbrev pub first_contradicting : Contradiction → Member → List (Statement × Statement) → Option MemberChange
+first_contradicting c m pairs = option_map (λ p. record { member = m; before = p.0.value; after = p.1.value }) (find (λ p. contradicts c p.0 p.1) pairs)
 
-unfoldable pub contradiction : {A : Type 0} → Contradiction → (A → Member → Option MemberValue) → Member → List (Heard A) → Option ToldChange
-contradiction c says m heard = first_told c m (pairs_of (statements says m heard))
+unfoldable pub contradiction : {A : Type 0} → Contradiction → (A → Member → Option MemberValue) → Member → List (Received A) → Option MemberChange
+contradiction c says m received = first_contradicting c m (pairs_of (statements says m received))

@@ -5,30 +5,30 @@ use Rattle.ptpm_codec.specs.Identity.{same_clock}
 use Rattle.ptpm_codec.specs.declared.identity.ClockIdentity.{ClockIdentity}
 use Rattle.ptpm_codec.specs.declared.identity.PortIdentity.{PortIdentity}
 use Rattle.ptpm_site.specs.declared.source.Source.{Source}
-use Rattle.ptpm_site.specs.Telling.{Telling}
+use Rattle.ptpm_site.specs.SiteAnswers.{SiteAnswers}
 
 -- another clock of the same domain
 abbrev pub beside : Source → ClockIdentity → Source
 beside s clock = record { domain = s.domain; clock = clock }
 
 -- a clock is its own grandmaster if grandmasterIdentity is its own
-abbrev pub is_own_grandmaster : Telling → Source → Bool
-is_own_grandmaster t s = option_map_or (λ p. same_clock p.grandmaster s.clock) (t.parent s) false
+abbrev pub is_own_grandmaster : SiteAnswers → Source → Bool
+is_own_grandmaster site s = option_map_or (λ p. same_clock p.grandmaster s.clock) (site.parent s) false
 
 -- the port that a clock follows, its parentPortIdentity; a clock that is its own grandmaster follows none
-abbrev pub followed : Telling → Source → Option PortIdentity
-followed t s = option_and_then (λ p. if same_clock p.grandmaster s.clock then None else Some p.parent) (t.parent s)
+abbrev pub followed : SiteAnswers → Source → Option PortIdentity
+followed site s = option_and_then (λ p. if same_clock p.grandmaster s.clock then None else Some p.parent) (site.parent s)
 
 -- a clock's parent: the clock that it follows, if that one is seen
-abbrev pub parent_clock : Telling → Source → Option Source
-parent_clock t s = option_and_then (λ p. if t.seen (beside s p.clock) then Some (beside s p.clock) else None) (followed t s)
+abbrev pub parent_clock : SiteAnswers → Source → Option Source
+parent_clock site s = option_and_then (λ p. if site.seen (beside s p.clock) then Some (beside s p.clock) else None) (followed site s)
 
 -- the place of a clock's parent among all clocks, if it has one
-pub record IsParentPlace (t : Telling) (s : Source) (place : Option ℕ) : Type 0 where
-  pub within : (q : ℕ) → place ≡ Some q → q < length t.clocks
-  pub parent : (d : Source) → parent_clock t s ≡ option_map (λ q. slice_index_or t.clocks q d) place
+pub record IsParentPlace (site : SiteAnswers) (s : Source) (place : Option ℕ) : Type 0 where
+  pub within : (q : ℕ) → place ≡ Some q → q < length site.clocks
+  pub parent : (d : Source) → parent_clock site s ≡ option_map (λ q. slice_index_or site.clocks q d) place
 
 -- for each clock, in their order, the place of its parent
-pub record ArePlaced (t : Telling) (followed : List (Option ℕ)) : Type 0 where
-  pub count : length followed ≡ length t.clocks
-  pub each : (p : ℕ) (d : Source) → p < length t.clocks → IsParentPlace t (slice_index_or t.clocks p d) (slice_index_or followed p None)
+pub record ArePlaced (site : SiteAnswers) (followed : List (Option ℕ)) : Type 0 where
+  pub count : length followed ≡ length site.clocks
+  pub each : (p : ℕ) (d : Source) → p < length site.clocks → IsParentPlace site (slice_index_or site.clocks p d) (slice_index_or followed p None)

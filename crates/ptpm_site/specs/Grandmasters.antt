@@ -9,44 +9,44 @@ use Rattle.ptpm_site.specs.declared.grandmasters.Masterless.TheVariants as why
 use Rattle.ptpm_site.specs.declared.port_groups.PortGroup.TheVariants as groups
 use Rattle.ptpm_site.specs.declared.source.Source.{Source}
 use Rattle.ptpm_site.specs.Following.{beside, is_own_grandmaster}
-use Rattle.ptpm_site.specs.Telling.{Telling, has_port_of, has_ports_to}
+use Rattle.ptpm_site.specs.SiteAnswers.{SiteAnswers, has_port_of, has_ports_to}
 
 -- a clock leads if it is its own grandmaster and has a port in MASTER
-abbrev pub leads : Telling → Source → Bool
-leads t s = is_own_grandmaster t s && has_port_of t s groups.Master
+abbrev pub leads : SiteAnswers → Source → Bool
+leads site s = is_own_grandmaster site s && has_port_of site s groups.Master
 
-abbrev pub leading_clocks : Telling → List Source
-leading_clocks t = filter (leads t) t.clocks
+abbrev pub leading_clocks : SiteAnswers → List Source
+leading_clocks site = filter (leads site) site.clocks
 
 abbrev pub in_domain : ℕ → Source → Bool
 in_domain domain s = s.domain == domain
 
 -- a clock that leads is one of two or more of its domain
-abbrev pub is_one_of_two : Telling → Source → Bool
-is_one_of_two t s = leads t s && nat_le 2 (count_by (in_domain s.domain) (leading_clocks t))
+abbrev pub is_one_of_two : SiteAnswers → Source → Bool
+is_one_of_two site s = leads site s && nat_le 2 (count_by (in_domain s.domain) (leading_clocks site))
 
 -- A clock that is its own grandmaster has no master if it is slaveOnly. Nor has it one if no port gives time, is about to,
 -- or is on standby.
-abbrev pub masterless_grandmaster : Telling → Source → DefaultDataSet → Option Masterless
-masterless_grandmaster t s d =
+abbrev pub masterless_grandmaster : SiteAnswers → Source → DefaultDataSet → Option Masterless
+masterless_grandmaster site s d =
     if d.slave_only then Some why.SlaveOnly
-    else if has_port_of t s groups.Giving then None else Some why.Silent
+    else if has_port_of site s groups.Giving then None else Some why.Silent
 
 -- A clock that names another has no master if no port takes time or is about to. A clock of a class below 128 is excepted
 -- while a port is on standby.
-abbrev pub masterless_follower : Telling → Source → DefaultDataSet → ClockIdentity → Option Masterless
-masterless_follower t s d grandmaster =
-    if has_port_of t s groups.Taking then None
-    else if nat_lt d.quality.class 128 && has_port_of t s groups.Passive then None
+abbrev pub masterless_follower : SiteAnswers → Source → DefaultDataSet → ClockIdentity → Option Masterless
+masterless_follower site s d grandmaster =
+    if has_port_of site s groups.Taking then None
+    else if nat_lt d.quality.class 128 && has_port_of site s groups.Passive then None
     else Some (why.Lost grandmaster)
 
 -- for a clock all of whose ports answered
-abbrev pub masterless_reason : Telling → Source → Option Masterless
-masterless_reason t s = option_and_then (λ p. option_and_then (λ d.
-    if not (has_ports_to t s d.number_of_ports) then None
-    else if same_clock p.grandmaster s.clock then masterless_grandmaster t s d
-    else masterless_follower t s d p.grandmaster) (t.default s)) (t.parent s)
+abbrev pub masterless_reason : SiteAnswers → Source → Option Masterless
+masterless_reason site s = option_and_then (λ p. option_and_then (λ d.
+    if not (has_ports_to site s d.number_of_ports) then None
+    else if same_clock p.grandmaster s.clock then masterless_grandmaster site s d
+    else masterless_follower site s d p.grandmaster) (site.default s)) (site.parent s)
 
 -- the grandmaster that it names, if that one is not seen
-abbrev pub unseen_grandmaster : Telling → Source → Option ClockIdentity
-unseen_grandmaster t s = option_and_then (λ p. if t.seen (beside s p.grandmaster) then None else Some p.grandmaster) (t.parent s)
+abbrev pub unseen_grandmaster : SiteAnswers → Source → Option ClockIdentity
+unseen_grandmaster site s = option_and_then (λ p. if site.seen (beside s p.grandmaster) then None else Some p.grandmaster) (site.parent s)

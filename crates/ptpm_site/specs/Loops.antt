@@ -6,23 +6,23 @@ use Rattle.ptpm_codec.specs.declared.identity.ClockIdentity.{ClockIdentity}
 use Rattle.ptpm_site.specs.declared.source.Source.{Source}
 use Rattle.ptpm_site.specs.Answers.{source_cmp}
 use Rattle.ptpm_site.specs.Following.{parent_clock}
-use Rattle.ptpm_site.specs.Telling.{Telling}
+use Rattle.ptpm_site.specs.SiteAnswers.{SiteAnswers}
 
 -- The clocks of a loop, from one on: each is followed by its parent, and the parent of the last is the first. None if a parent is
 -- less than the first, if a clock has no parent, or if n clocks do not lead back.
-abbrev pub circle : Telling → Source → ℕ → Source → Option (List ClockIdentity)
-circle t first zero here = None
-circle t first (suc n) here = option_and_then (λ parent.
+abbrev pub circle : SiteAnswers → Source → ℕ → Source → Option (List ClockIdentity)
+circle site first zero here = None
+circle site first (suc n) here = option_and_then (λ parent.
     match_ordering (source_cmp parent first) None (Some (here.clock ∷ []))
-    (option_map (λ clocks. here.clock ∷ clocks) (circle t first n parent))) (parent_clock t here)
+    (option_map (λ clocks. here.clock ∷ clocks) (circle site first n parent))) (parent_clock site here)
 
 -- the loop whose least clock is this one
-abbrev pub loop_of : Telling → Source → Option (List ClockIdentity)
-loop_of t s = circle t s (length t.clocks) s
+abbrev pub loop_of : SiteAnswers → Source → Option (List ClockIdentity)
+loop_of site s = circle site s (length site.clocks) s
 
 -- for each clock, in their order, whether it is the least of a loop
-abbrev pub AreLeast : Telling → List Bool → Type 0
-AreLeast t marks = (p : ℕ) (d : Source) → p < length t.clocks → slice_index_or marks p false ≡ is_some (loop_of t (slice_index_or t.clocks p d))
+abbrev pub AreLeast : SiteAnswers → List Bool → Type 0
+AreLeast site marks = (p : ℕ) (d : Source) → p < length site.clocks → slice_index_or marks p false ≡ is_some (loop_of site (slice_index_or site.clocks p d))
 
 -- ---- the same of places, by the place that each follows
 

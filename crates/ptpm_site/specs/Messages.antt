@@ -21,8 +21,8 @@ use Rattle.ptpm_site.specs.declared.data_sets.ParentDataSet.{ParentDataSet}
 use Rattle.ptpm_site.specs.declared.data_sets.PortDataSet.{PortDataSet}
 use Rattle.ptpm_site.specs.declared.data_sets.TimePropertiesDataSet.{TimePropertiesDataSet}
 use Rattle.ptpm_site.specs.declared.source.Source.{Source}
-use Rattle.ptpm_site.specs.declared.told.Told.{Told}
-use Rattle.ptpm_site.specs.declared.told.Told.TheVariants as told
+use Rattle.ptpm_site.specs.declared.answer_content.AnswerContent.{AnswerContent}
+use Rattle.ptpm_site.specs.declared.answer_content.AnswerContent.TheVariants as contents
 use Rattle.ptpm_site.specs.Ids.{number_of, six}
 use Rattle.ptpm_site.specs.Octets.{current_read, default_read, parent_read, port_read, time_read}
 
@@ -45,31 +45,31 @@ pub data Content : Type 0 where
   Description : (text : List ℕ) → Content
   Refused : (asked : Asked) → Content
 
-abbrev pub content : Told → Content
-content (told.Default set) = Default set
-content (told.Current set) = Current set
-content (told.Parent set) = Parent set
-content (told.Time set) = Time set
-content (told.Port n set) = Port n set
-content (told.Description description) = Description (string_bytes description.text)
-content (told.Refused asked) = Refused asked
+abbrev pub content : AnswerContent → Content
+content (contents.Default set) = Default set
+content (contents.Current set) = Current set
+content (contents.Parent set) = Parent set
+content (contents.Time set) = Time set
+content (contents.Port n set) = Port n set
+content (contents.Description description) = Description (string_bytes description.text)
+content (contents.Refused asked) = Refused asked
 
 -- PORT_DATA_SET counts only for a port of the clock that sent it
-unfoldable pub port_told_by : Message → Option (PortIdentity × PortDataSet) → Option Content
-port_told_by m o = option_and_then (λ p. if same_clock p.0.clock m.source.clock then Some (Port p.0.port p.1) else None) o
+unfoldable pub port_content : Message → Option (PortIdentity × PortDataSet) → Option Content
+port_content m o = option_and_then (λ p. if same_clock p.0.clock m.source.clock then Some (Port p.0.port p.1) else None) o
 
 -- what the dataField of a message says of an id
-abbrev pub data_told : Asked → Message → Option Content
-data_told id.UserDescription m = option_map Description (description_read (octets_of m.body))
-data_told id.DefaultDataSet m = option_map Default (default_read (octets_of m.body))
-data_told id.CurrentDataSet m = option_map Current (current_read (octets_of m.body))
-data_told id.ParentDataSet m = option_map Parent (parent_read (octets_of m.body))
-data_told id.TimePropertiesDataSet m = option_map Time (time_read (octets_of m.body))
-data_told id.PortDataSet m = port_told_by m (port_read (octets_of m.body))
+abbrev pub data_content : Asked → Message → Option Content
+data_content id.UserDescription m = option_map Description (description_read (octets_of m.body))
+data_content id.DefaultDataSet m = option_map Default (default_read (octets_of m.body))
+data_content id.CurrentDataSet m = option_map Current (current_read (octets_of m.body))
+data_content id.ParentDataSet m = option_map Parent (parent_read (octets_of m.body))
+data_content id.TimePropertiesDataSet m = option_map Time (time_read (octets_of m.body))
+data_content id.PortDataSet m = port_content m (port_read (octets_of m.body))
 
 -- a MANAGEMENT_ERROR_STATUS refuses the id (15.5.4)
-unfoldable pub content_told : Asked → Message → Option Content
-content_told a m = if is_some (error_of m.body) then Some (Refused a) else data_told a m
+unfoldable pub content_of : Asked → Message → Option Content
+content_of a m = if is_some (error_of m.body) then Some (Refused a) else data_content a m
 
 -- ---- which clock an answer is of, and which request it came to
 
@@ -85,7 +85,7 @@ pub record Answered : Type 0 where
   pub content : Content
 
 abbrev pub answered : Answer → Answered
-answered a = record { source = a.source; request = a.request; content = content a.told }
+answered a = record { source = a.source; request = a.request; content = content a.content }
 
 abbrev pub is_response : Action → Bool
 is_response action.Response = true
@@ -95,5 +95,5 @@ is_response _ = false
 unfoldable pub answer_of : Message → Option Answered
 answer_of m =
     if is_response (action_of m.body)
-    then option_and_then (λ a. option_map (λ c. record { source = source_of m; request = request_of m; content = c }) (content_told a m)) (asked_of (id_of m.body))
+    then option_and_then (λ a. option_map (λ c. record { source = source_of m; request = request_of m; content = c }) (content_of a m)) (asked_of (id_of m.body))
     else None

@@ -30,7 +30,7 @@ mechanism_of n =
 
 -- what a dataField says if it has this length
 abbrev pub of_length : {A : Type 0} → ℕ → List ℕ → A → Option A
-of_length n octets told = if length octets == n then Some told else None
+of_length n octets set = if length octets == n then Some set else None
 
 unfoldable pub default_read : List ℕ → Option DefaultDataSet
 default_read octets = of_length 20 octets (record {

@@ -8,26 +8,26 @@ use Rattle.ptpm_site.specs.declared.parents.Steps.{Steps}
 use Rattle.ptpm_site.specs.declared.source.Source.{Source}
 use Rattle.ptpm_site.specs.Following.{beside, followed, is_own_grandmaster}
 use Rattle.ptpm_site.specs.PortStates.{is_leading}
-use Rattle.ptpm_site.specs.Telling.{Telling}
+use Rattle.ptpm_site.specs.SiteAnswers.{SiteAnswers}
 
 -- the port that it follows, if that port's clock is not seen
-abbrev pub unseen_parent : Telling → Source → Option PortIdentity
-unseen_parent t s = option_and_then (λ p. if t.seen (beside s p.clock) then None else Some p) (followed t s)
+abbrev pub unseen_parent : SiteAnswers → Source → Option PortIdentity
+unseen_parent site s = option_and_then (λ p. if site.seen (beside s p.clock) then None else Some p) (followed site s)
 
 -- a clock has no port 0, and none above its numberPorts if DEFAULT_DATA_SET was answered
-abbrev pub lacks_port : Telling → Source → ℕ → Bool
-lacks_port t s n = n == 0 || option_map_or (λ d. nat_lt d.number_of_ports n) (t.default s) false
+abbrev pub lacks_port : SiteAnswers → Source → ℕ → Bool
+lacks_port site s n = n == 0 || option_map_or (λ d. nat_lt d.number_of_ports n) (site.default s) false
 
 -- why a port gives no time: its clock lacks it, or it answered and is neither in MASTER nor in PRE_MASTER
-abbrev pub why_no_master : Telling → Source → ℕ → Option NoMaster
-why_no_master t s n =
-    if lacks_port t s n then Some why.NoPort
-    else option_and_then (λ set. if is_leading set.state then None else Some (why.InState set.state)) (t.port s n)
+abbrev pub why_no_master : SiteAnswers → Source → ℕ → Option NoMaster
+why_no_master site s n =
+    if lacks_port site s n then Some why.NoPort
+    else option_and_then (λ set. if is_leading set.state then None else Some (why.InState set.state)) (site.port s n)
 
 -- the port that it follows, if that port's clock is seen and the port gives no time
-abbrev pub no_master_port : Telling → Source → Option (PortIdentity × NoMaster)
-no_master_port t s = option_and_then (λ p. if t.seen (beside s p.clock)
-    then option_map (λ w. (p, w)) (why_no_master t (beside s p.clock) p.port) else None) (followed t s)
+abbrev pub no_master_port : SiteAnswers → Source → Option (PortIdentity × NoMaster)
+no_master_port site s = option_and_then (λ p. if site.seen (beside s p.clock)
+    then option_map (λ w. (p, w)) (why_no_master site (beside s p.clock) p.port) else None) (followed site s)
 
 -- stepsRemoved is 0 at a grandmaster, and otherwise one more than at the clock that it follows
 abbrev pub steps_at_grandmaster : ℕ → Option Steps
@@ -36,7 +36,7 @@ steps_at_grandmaster n = if n == 0 then None else Some (record { steps = n; pare
 abbrev pub steps_below : ℕ → ℕ → Option Steps
 steps_below n above = if n == above + 1 then None else Some (record { steps = n; parent = Some above })
 
-abbrev pub wrong_steps : Telling → Source → Option Steps
-wrong_steps t s = option_and_then (λ c. if is_own_grandmaster t s then steps_at_grandmaster c.steps_removed
-    else option_and_then (λ p. option_and_then (λ d. steps_below c.steps_removed d.steps_removed) (t.current (beside s p.clock)))
-    (followed t s)) (t.current s)
+abbrev pub wrong_steps : SiteAnswers → Source → Option Steps
+wrong_steps site s = option_and_then (λ c. if is_own_grandmaster site s then steps_at_grandmaster c.steps_removed
+    else option_and_then (λ p. option_and_then (λ d. steps_below c.steps_removed d.steps_removed) (site.current (beside s p.clock)))
+    (followed site s)) (site.current s)

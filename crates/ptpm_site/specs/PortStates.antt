@@ -5,7 +5,7 @@ use Rattle.ptpm_codec.specs.Identity.{same_identity}
 use Rattle.ptpm_data.specs.declared.port_state.PortState.{PortState}
 use Rattle.ptpm_data.specs.declared.port_state.PortState.TheVariants as states
 use Rattle.ptpm_site.specs.declared.answer.Request.{Request}
-use Rattle.ptpm_site.specs.declared.clock.Heard.{Heard}
+use Rattle.ptpm_site.specs.declared.clock.Received.{Received}
 use Rattle.ptpm_site.specs.declared.data_sets.DelayMechanism.{DelayMechanism}
 use Rattle.ptpm_site.specs.declared.data_sets.DelayMechanism.TheVariants as mechanisms
 use Rattle.ptpm_site.specs.declared.data_sets.PortDataSet.{PortDataSet}
@@ -82,17 +82,17 @@ abbrev pub is_another : Request → Request → Bool
 is_another a b = same_identity a.target b.target && not (a.number == b.number)
 
 -- whether the state is on the way in the latest answer that came to another request of the same requester
-abbrev pub was_on_the_way : Request → List (Heard PortDataSet) → Bool
+abbrev pub was_on_the_way : Request → List (Received PortDataSet) → Bool
 was_on_the_way request earlier =
     option_map_or (λ h. option_map_or is_on_the_way h.set.state false) (find (λ h. is_another h.request request) (reverse earlier)) false
 
 -- A port is FAULTY in the answer that counts, or on its way in two answers. The two are that one, and the latest earlier one to
 -- another request of the same requester.
-abbrev pub is_bad : Heard PortDataSet → List (Heard PortDataSet) → PortState → Bool
+abbrev pub is_bad : Received PortDataSet → List (Received PortDataSet) → PortState → Bool
 is_bad last earlier states.Faulty = true
 is_bad last earlier state = is_on_the_way state && was_on_the_way last.request earlier
 
-abbrev pub bad_state : List (Heard PortDataSet) → Option PortState
-bad_state heard = option_and_then (λ last. option_and_then
-    (λ state. if is_bad last (take (length heard - 1) heard) state then Some state else None) last.set.state)
-    (slice_get heard (length heard - 1))
+abbrev pub bad_state : List (Received PortDataSet) → Option PortState
+bad_state received = option_and_then (λ last. option_and_then
+    (λ state. if is_bad last (take (length received - 1) received) state then Some state else None) last.set.state)
+    (slice_get received (length received - 1))

@@ -2,7 +2,7 @@
 
 ghost use Rattle.std.specs.Prelude.{◌≡◌};
 ghost use Rattle.ptpm_site.specs.Amounts.{beyond, is_above, large_delay, large_link_delay, large_offset};
-ghost use Rattle.ptpm_site.specs.Kept.{kept};
+ghost use Rattle.ptpm_site.specs.Site.{site_answers};
 
 use crate::data_sets::PortDataSet;
 use crate::site::Site;
@@ -28,7 +28,7 @@ fn beyond(interval: i64, limit: Option<u64>) -> Option<i64>
 
 /// offsetFromMaster of a clock that is not its own grandmaster, if it is beyond the limit.
 pub fn large_offset(site: &Site, source: Source, limit: Option<u64>) -> Option<i64>
-    ensures { result ≡ large_offset (kept site.now) source limit }
+    ensures { result ≡ large_offset (site_answers site.now) source limit }
 {
     let _ = site.followed(source)?;
     let current = site.current(source)?;
@@ -37,7 +37,7 @@ pub fn large_offset(site: &Site, source: Source, limit: Option<u64>) -> Option<i
 
 /// meanDelay of a clock that is not its own grandmaster, if it is beyond the limit.
 pub fn large_delay(site: &Site, source: Source, limit: Option<u64>) -> Option<i64>
-    ensures { result ≡ large_delay (kept site.now) source limit }
+    ensures { result ≡ large_delay (site_answers site.now) source limit }
 {
     let _ = site.followed(source)?;
     let current = site.current(source)?;

@@ -2,16 +2,16 @@
 
 ghost use Rattle.std.specs.Prelude.{◌≡◌, IfOk};
 ghost use Rattle.std.specs.Option.{option_map};
-ghost use Rattle.ptpm_site.specs.Messages.{content, content_told, data_told, port_told_by, request_of, source_of};
+ghost use Rattle.ptpm_site.specs.Messages.{content, content_of, data_content, port_content, request_of, source_of};
 ghost use Rattle.ptpm_site.specs.Octets.{port_read};
 
+use crate::answer_content::AnswerContent;
 use crate::asked::Asked;
 use crate::data_sets::{
     CurrentDataSet, DefaultDataSet, ParentDataSet, PortDataSet, TimePropertiesDataSet,
 };
 use crate::description::Description;
 use crate::source::Source;
-use crate::told::Told;
 use ptpm_codec::{Action, PortIdentity, View};
 use std::alloc::{AllocError, Global};
 
@@ -29,7 +29,7 @@ pub struct Request {
 pub struct Answer {
     pub source: Source,
     pub request: Request,
-    pub told: Told,
+    pub content: AnswerContent,
 }
 
 impl Answer {
@@ -49,13 +49,13 @@ impl Answer {
         let Some(asked) = Asked::of_id(message.id()) else {
             return Ok(None);
         };
-        let Some(told) = told(alloc, asked, message)? else {
+        let Some(content) = content_of(alloc, asked, message)? else {
             return Ok(None);
         };
         Ok(Some(Answer {
             source: source_of(message),
             request: request_of(message),
-            told,
+            content,
         }))
     }
 }
@@ -81,40 +81,52 @@ fn request_of(message: &View<'_>) -> Request
 }
 
 /// What a message says of the id that was asked for.
-#[tactic(auto, unfolding(crate::specs::Messages::content_told))]
-fn told(alloc: Global, asked: Asked, message: &View<'_>) -> Result<Option<Told>, AllocError>
-    ensures { IfOk result (λ found. option_map content found ≡ content_told asked message.now) }
+#[tactic(auto, unfolding(crate::specs::Messages::content_of))]
+fn content_of(
+    alloc: Global,
+    asked: Asked,
+    message: &View<'_>,
+) -> Result<Option<AnswerContent>, AllocError>
+    ensures { IfOk result (λ found. option_map content found ≡ content_of asked message.now) }
 {
     if message.error().is_some() {
-        Ok(Some(Told::Refused(asked)))
+        Ok(Some(AnswerContent::Refused(asked)))
     } else {
-        data_told(alloc, asked, message)
+        data_content(alloc, asked, message)
     }
 }
 
 /// What the dataField of a message says of the id that was asked for.
-fn data_told(alloc: Global, asked: Asked, message: &View<'_>) -> Result<Option<Told>, AllocError>
-    ensures { IfOk result (λ found. option_map content found ≡ data_told asked message.now) }
+fn data_content(
+    alloc: Global,
+    asked: Asked,
+    message: &View<'_>,
+) -> Result<Option<AnswerContent>, AllocError>
+    ensures { IfOk result (λ found. option_map content found ≡ data_content asked message.now) }
 {
     let octets = message.octets();
     match asked {
-        Asked::UserDescription => Ok(Description::read(alloc, octets)?.map(Told::Description)),
-        Asked::DefaultDataSet => Ok(DefaultDataSet::read(octets).map(Told::Default)),
-        Asked::CurrentDataSet => Ok(CurrentDataSet::read(octets).map(Told::Current)),
-        Asked::ParentDataSet => Ok(ParentDataSet::read(octets).map(Told::Parent)),
-        Asked::TimePropertiesDataSet => Ok(TimePropertiesDataSet::read(octets).map(Told::Time)),
-        Asked::PortDataSet => Ok(port_told(octets, message)),
+        Asked::UserDescription => Ok(Description::read(alloc, octets)?.map(
+            AnswerContent::Description,
+        )),
+        Asked::DefaultDataSet => Ok(DefaultDataSet::read(octets).map(AnswerContent::Default)),
+        Asked::CurrentDataSet => Ok(CurrentDataSet::read(octets).map(AnswerContent::Current)),
+        Asked::ParentDataSet => Ok(ParentDataSet::read(octets).map(AnswerContent::Parent)),
+        Asked::TimePropertiesDataSet => Ok(TimePropertiesDataSet::read(octets).map(
+            AnswerContent::Time,
+        )),
+        Asked::PortDataSet => Ok(port_content(octets, message)),
     }
 }
 
 /// What PORT_DATA_SET says. `None` if it names another clock than the one that sent it.
-#[tactic(auto, unfolding(crate::specs::Messages::port_told_by))]
-fn port_told(octets: &[u8], message: &View<'_>) -> Option<Told>
-    ensures { option_map content result ≡ port_told_by message.now (port_read octets.now) }
+#[tactic(auto, unfolding(crate::specs::Messages::port_content))]
+fn port_content(octets: &[u8], message: &View<'_>) -> Option<AnswerContent>
+    ensures { option_map content result ≡ port_content message.now (port_read octets.now) }
 {
     let (port, set) = PortDataSet::read(octets)?;
     if port.clock == message.source().clock {
-        Some(Told::Port(port.port, set))
+        Some(AnswerContent::Port(port.port, set))
     } else {
         None
     }

@@ -3,12 +3,12 @@
 ghost use Rattle.std.specs.Prelude.{◌≡◌, ◌++◌, [], ◌∷◌, false, List, None, IfOk, OnOk, find};
 ghost use Rattle.std.specs.List.{list_all};
 ghost use Rattle.std.specs.Option.{option_eq, option_map};
-ghost use Rattle.ptpm_site.specs.Changes.{Statement, contradiction, contradicts, is_settled, statement_of, told_change};
+ghost use Rattle.ptpm_site.specs.Changes.{Statement, contradiction, contradicts, is_settled, member_change, statement_of};
+ghost use Rattle.ptpm_site.specs.KeptStatements.{KeepsFirstValues, StandsFor, kept_statements, same_statement, settled_otherwise, statement};
 ghost use Rattle.ptpm_site.specs.Members.{same_value, value_of};
-ghost use Rattle.ptpm_site.specs.Standing.{StandsFor, TellsTwice, same_statement, settled_otherwise, standing_of, statement};
 
 use crate::answer::Request;
-use crate::clock::Heard;
+use crate::clock::Received;
 use crate::member::{DataSet, Member, Value};
 use ptpm_data::PortState;
 use std::alloc::{AllocError, Global};
@@ -39,12 +39,12 @@ struct Stated<'a> {
 }
 
 impl<'a> Stated<'a> {
-    fn of<T: DataSet>(heard: &'a Heard<T>, member: Member) -> Option<Stated<'a>>
-        ensures { option_map statement result ≡ statement_of T.says member heard.now }
+    fn of<T: DataSet>(received: &'a Received<T>, member: Member) -> Option<Stated<'a>>
+        ensures { option_map statement result ≡ statement_of T.says member received.now }
     {
         Some(Stated {
-            request: heard.request,
-            value: heard.set.value(member)?,
+            request: received.request,
+            value: received.set.value(member)?,
         })
     }
 
@@ -86,27 +86,27 @@ impl<'a> Stated<'a> {
 /// statements came to one request or say one value. So two of them show whether a later one is a change: the first, and the
 /// first that differs from it in request or value.
 #[derive(Clone, Copy)]
-enum Standing<'a> {
+enum KeptStatements<'a> {
     Nothing,
     One(Stated<'a>),
     Two(Stated<'a>, Stated<'a>),
 }
 
-impl<'a> Standing<'a> {
+impl<'a> KeptStatements<'a> {
     /// The first of them that a later statement is a change of.
     fn changed_by(&self, later: &Stated<'a>) -> Option<Stated<'a>>
-        ensures { option_map statement result ≡ find (λ e. contradicts Contradiction.Changed e (statement later.now)) (standing_of self.now) }
+        ensures { option_map statement result ≡ find (λ e. contradicts Contradiction.Changed e (statement later.now)) (kept_statements self.now) }
     {
         match *self {
-            Standing::Nothing => None,
-            Standing::One(first) => {
+            KeptStatements::Nothing => None,
+            KeptStatements::One(first) => {
                 if first.is_changed_by(later) {
                     Some(first)
                 } else {
                     None
                 }
             }
-            Standing::Two(first, other) => {
+            KeptStatements::Two(first, other) => {
                 if first.is_changed_by(later) {
                     Some(first)
                 } else if other.is_changed_by(later) {
@@ -119,7 +119,7 @@ impl<'a> Standing<'a> {
     }
 
     /// What is kept after a statement that is a change of none.
-    fn with(&self, next: &Stated<'a>) -> Standing<'a>
+    fn with(&self, next: &Stated<'a>) -> KeptStatements<'a>
         ensures { (seen : List Statement) → StandsFor self.now seen
             → find (λ e. contradicts Contradiction.Changed e (statement next.now)) seen ≡ None
             → StandsFor result (seen ++ statement next.now ∷ []) }
@@ -128,15 +128,15 @@ impl<'a> Standing<'a> {
             return *self;
         }
         match *self {
-            Standing::Nothing => Standing::One(*next),
-            Standing::One(first) => {
+            KeptStatements::Nothing => KeptStatements::One(*next),
+            KeptStatements::One(first) => {
                 if first.is_same(next) {
                     *self
                 } else {
-                    Standing::Two(first, *next)
+                    KeptStatements::Two(first, *next)
                 }
             }
-            Standing::Two(..) => *self,
+            KeptStatements::Two(..) => *self,
         }
     }
 }
@@ -149,7 +149,7 @@ struct Settled<'a> {
 
 impl<'a> Settled<'a> {
     fn new(alloc: Global) -> Settled<'a>
-        ensures { TellsTwice result [] }
+        ensures { KeepsFirstValues result [] }
     {
         Settled {
             first: BTreeMap::new(alloc),
@@ -170,9 +170,9 @@ impl<'a> Settled<'a> {
 
     /// Keeps the value of a statement that contradicts no earlier one.
     fn add(&mut self, next: &Stated<'a>) -> Result<(), AllocError>
-        ensures { OnOk result ((seen : List Statement) → TellsTwice self.old seen
+        ensures { OnOk result ((seen : List Statement) → KeepsFirstValues self.old seen
             → find (λ e. contradicts Contradiction.IdentityTwice e (statement next.now)) seen ≡ None
-            → TellsTwice self.new (seen ++ statement next.now ∷ [])) }
+            → KeepsFirstValues self.new (seen ++ statement next.now ∷ [])) }
     {
         if !next.is_settled() {
             return Ok(());
@@ -186,22 +186,25 @@ impl<'a> Settled<'a> {
 }
 
 /// The first change of a member: the first two answers to different requests that differ in it.
-pub fn first_change<'a, T: DataSet>(heard: &'a [Heard<T>], member: Member) -> Option<Change<'a>>
-    ensures { option_map told_change result ≡ contradiction Contradiction.Changed T.says member heard.now }
+pub fn first_change<'a, T: DataSet>(
+    received: &'a [Received<T>],
+    member: Member,
+) -> Option<Change<'a>>
+    ensures { option_map member_change result ≡ contradiction Contradiction.Changed T.says member received.now }
 {
-    let mut standing = Standing::Nothing;
-    for answer in heard {
+    let mut kept = KeptStatements::Nothing;
+    for answer in received {
         let Some(later) = Stated::of(answer, member) else {
             continue;
         };
-        if let Some(earlier) = standing.changed_by(&later) {
+        if let Some(earlier) = kept.changed_by(&later) {
             return Some(Change {
                 member,
                 before: earlier.value,
                 after: later.value,
             });
         }
-        standing = standing.with(&later);
+        kept = kept.with(&later);
     }
     None
 }
@@ -209,13 +212,13 @@ pub fn first_change<'a, T: DataSet>(heard: &'a [Heard<T>], member: Member) -> Op
 /// The first contradiction in a member: the first two answers to one request that differ in it.
 pub fn first_contradiction<'a, T: DataSet>(
     alloc: Global,
-    heard: &'a [Heard<T>],
+    received: &'a [Received<T>],
     member: Member,
 ) -> Result<Option<Change<'a>>, AllocError>
-    ensures { IfOk result (λ change. option_map told_change change ≡ contradiction Contradiction.IdentityTwice T.says member heard.now) }
+    ensures { IfOk result (λ change. option_map member_change change ≡ contradiction Contradiction.IdentityTwice T.says member received.now) }
 {
     let mut settled = Settled::new(alloc);
-    for answer in heard {
+    for answer in received {
         let Some(later) = Stated::of(answer, member) else {
             continue;
         };
@@ -232,23 +235,23 @@ pub fn first_contradiction<'a, T: DataSet>(
 }
 
 /// Whether any two answers differ in a member.
-pub fn is_said_otherwise<T: DataSet>(heard: &[Heard<T>], member: Member) -> bool
-    ensures { (how : Contradiction) → result ≡ false → contradiction how T.says member heard.now ≡ None }
+pub fn is_said_otherwise<T: DataSet>(received: &[Received<T>], member: Member) -> bool
+    ensures { (how : Contradiction) → result ≡ false → contradiction how T.says member received.now ≡ None }
 {
-    match heard.split_first() {
+    match received.split_first() {
         Some((first, others)) => !all_say_as(first, others, member),
         None => false,
     }
 }
 
 /// Whether all these answers say of a member what the first one says.
-fn all_say_as<T: DataSet>(first: &Heard<T>, others: &[Heard<T>], member: Member) -> bool
+fn all_say_as<T: DataSet>(first: &Received<T>, others: &[Received<T>], member: Member) -> bool
     ensures { result ≡ list_all (λ h. option_eq same_value (T.says first.now.set member) (T.says h.set member)) others.now }
 {
     others.iter().all(|other| say_alike(first, other, member))
 }
 
-fn say_alike<T: DataSet>(one: &Heard<T>, other: &Heard<T>, member: Member) -> bool
+fn say_alike<T: DataSet>(one: &Received<T>, other: &Received<T>, member: Member) -> bool
     ensures { result ≡ option_eq same_value (T.says one.now.set member) (T.says other.now.set member) }
 {
     one.set.value(member) == other.set.value(member)

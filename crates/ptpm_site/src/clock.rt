@@ -4,25 +4,25 @@ ghost use Rattle.std.specs.Prelude.{◌≡◌, ℕ, ◌==◌, ◌-◌, ◌++◌,
 ghost use Rattle.std.specs.BTreeMap.{get, keys};
 ghost use Rattle.std.specs.List.{list_any};
 ghost use Rattle.std.specs.Ordering.{nat_cmp};
-ghost use Rattle.ptpm_site.specs.Answers.{counting, current_told, default_told, description_told, heard_now, parent_told, place, place_number, port_number, port_told, refusal_told, time_told};
-ghost use Rattle.ptpm_site.specs.Keeping.{IsSilent};
-ghost use Rattle.ptpm_site.specs.Kept.{heard_of, is_among, port_heard, port_kept};
+ghost use Rattle.ptpm_site.specs.Answers.{counting, current_in, default_in, description_in, newly_received, parent_in, place, place_number, port_in, port_number, refusal_in, time_in};
+ghost use Rattle.ptpm_site.specs.KeptAnswers.{HasNoAnswers};
 ghost use Rattle.ptpm_site.specs.PortStates.{is_port_of};
+ghost use Rattle.ptpm_site.specs.Site.{answers_for, answers_of_port, is_among, port_kept};
 
 use crate::answer::Request;
+use crate::answer_content::AnswerContent;
 use crate::asked::Asked;
 use crate::data_sets::{
     CurrentDataSet, DefaultDataSet, ParentDataSet, PortDataSet, TimePropertiesDataSet,
 };
 use crate::description::Description;
 use crate::port_groups::PortGroup;
-use crate::told::Told;
 use std::alloc::{AllocError, Global};
 use std::collections::BTreeMap;
 
 /// A data set that an answer had, and the request that the answer came to.
 #[derive(Drop)]
-pub struct Heard<T> {
+pub struct Received<T> {
     pub request: Request,
     pub set: T,
 }
@@ -31,21 +31,21 @@ pub struct Heard<T> {
 /// counts.
 #[derive(Drop)]
 pub struct Clock {
-    pub defaults: Vec<Heard<DefaultDataSet>>,
-    pub currents: Vec<Heard<CurrentDataSet>>,
-    pub parents: Vec<Heard<ParentDataSet>>,
-    pub times: Vec<Heard<TimePropertiesDataSet>>,
-    pub descriptions: Vec<Heard<Description>>,
+    pub defaults: Vec<Received<DefaultDataSet>>,
+    pub currents: Vec<Received<CurrentDataSet>>,
+    pub parents: Vec<Received<ParentDataSet>>,
+    pub times: Vec<Received<TimePropertiesDataSet>>,
+    pub descriptions: Vec<Received<Description>>,
     /// By portNumber.
-    pub ports: BTreeMap<u16, Vec<Heard<PortDataSet>>>,
+    pub ports: BTreeMap<u16, Vec<Received<PortDataSet>>>,
     /// The ids that an error came for.
-    pub refused: Vec<Heard<Asked>>,
+    pub refused: Vec<Received<Asked>>,
 }
 
 impl Clock {
     /// A clock that has said nothing yet.
     pub fn new(alloc: Global) -> Clock
-        ensures { IsSilent result }
+        ensures { HasNoAnswers result }
     {
         Clock {
             defaults: Vec::new(alloc),
@@ -59,33 +59,38 @@ impl Clock {
     }
 
     /// Takes what an answer of the clock says, after all earlier ones.
-    pub fn take(&mut self, alloc: Global, request: Request, told: Told) -> Result<(), AllocError>
+    pub fn take(
+        &mut self,
+        alloc: Global,
+        request: Request,
+        content: AnswerContent,
+    ) -> Result<(), AllocError>
         ensures defaults { OnOk result (self.new.defaults.items
-            ≡ self.old.defaults.items ++ heard_now default_told request told) }
+            ≡ self.old.defaults.items ++ newly_received default_in request content) }
         ensures currents { OnOk result (self.new.currents.items
-            ≡ self.old.currents.items ++ heard_now current_told request told) }
+            ≡ self.old.currents.items ++ newly_received current_in request content) }
         ensures parents { OnOk result (self.new.parents.items
-            ≡ self.old.parents.items ++ heard_now parent_told request told) }
+            ≡ self.old.parents.items ++ newly_received parent_in request content) }
         ensures times { OnOk result (self.new.times.items
-            ≡ self.old.times.items ++ heard_now time_told request told) }
+            ≡ self.old.times.items ++ newly_received time_in request content) }
         ensures descriptions { OnOk result (self.new.descriptions.items
-            ≡ self.old.descriptions.items ++ heard_now description_told request told) }
+            ≡ self.old.descriptions.items ++ newly_received description_in request content) }
         ensures refused { OnOk result (self.new.refused.items
-            ≡ self.old.refused.items ++ heard_now refusal_told request told) }
-        ensures numbers { OnOk result (keys self.new.ports ≡ place_number (keys self.old.ports) (port_number told)) }
-        ensures ports { OnOk result ((n : ℕ) → port_heard self.new n
-            ≡ port_heard self.old n ++ heard_now (port_told n) request told) }
+            ≡ self.old.refused.items ++ newly_received refusal_in request content) }
+        ensures numbers { OnOk result (keys self.new.ports ≡ place_number (keys self.old.ports) (port_number content)) }
+        ensures ports { OnOk result ((n : ℕ) → answers_of_port self.new n
+            ≡ answers_of_port self.old n ++ newly_received (port_in n) request content) }
     {
-        match told {
-            Told::Default(set) => self.defaults.push(Heard { request, set })?,
-            Told::Current(set) => self.currents.push(Heard { request, set })?,
-            Told::Parent(set) => self.parents.push(Heard { request, set })?,
-            Told::Time(set) => self.times.push(Heard { request, set })?,
-            Told::Description(set) => self.descriptions.push(Heard { request, set })?,
-            Told::Port(number, set) => {
-                put_port(alloc, &mut self.ports, number, Heard { request, set })?;
+        match content {
+            AnswerContent::Default(set) => self.defaults.push(Received { request, set })?,
+            AnswerContent::Current(set) => self.currents.push(Received { request, set })?,
+            AnswerContent::Parent(set) => self.parents.push(Received { request, set })?,
+            AnswerContent::Time(set) => self.times.push(Received { request, set })?,
+            AnswerContent::Description(set) => self.descriptions.push(Received { request, set })?,
+            AnswerContent::Port(number, set) => {
+                put_port(alloc, &mut self.ports, number, Received { request, set })?;
             }
-            Told::Refused(set) => self.refused.push(Heard { request, set })?,
+            AnswerContent::Refused(set) => self.refused.push(Received { request, set })?,
         }
         Ok(())
     }
@@ -120,8 +125,8 @@ impl Clock {
 
     /// The last userDescription that was answered, if there is one.
     pub fn description(&self) -> Option<&str> {
-        let heard = self.descriptions.last()?;
-        Some(heard.set.text.as_str())
+        let received = self.descriptions.last()?;
+        Some(received.set.text.as_str())
     }
 
     /// The last PORT_DATA_SET that was answered for a port, if there is one.
@@ -132,11 +137,11 @@ impl Clock {
     }
 
     /// All that was answered for a port, in the order of the lines.
-    pub fn heard(&self, number: u16) -> &[Heard<PortDataSet>]
-        ensures { result.now ≡ port_heard self.now number }
+    pub fn port_answers(&self, number: u16) -> &[Received<PortDataSet>]
+        ensures { result.now ≡ answers_of_port self.now number }
     {
         match self.ports.get(&number) {
-            Some(heard) => heard.as_slice(),
+            Some(received) => received.as_slice(),
             None => &[],
         }
     }
@@ -169,34 +174,34 @@ impl Clock {
     pub fn refuses(&self, asked: Asked) -> bool
         ensures { result ≡ is_among asked self.now.refused.items }
     {
-        self.refused.iter().any(|heard| heard.set.is(asked))
+        self.refused.iter().any(|received| received.set.is(asked))
     }
 }
 
 /// Adds an answer for a port, after all earlier ones.
 fn put_port(
     alloc: Global,
-    ports: &mut BTreeMap<u16, Vec<Heard<PortDataSet>>>,
+    ports: &mut BTreeMap<u16, Vec<Received<PortDataSet>>>,
     number: u16,
-    heard: Heard<PortDataSet>,
+    received: Received<PortDataSet>,
 ) -> Result<(), AllocError>
     ensures numbers { OnOk result (keys ports.new ≡ place nat_cmp (keys ports.old) number) }
-    ensures heard { OnOk result ((n : ℕ) → heard_of ports.new n
-        ≡ heard_of ports.old n ++ (if number == n then heard ∷ [] else [])) }
+    ensures answers { OnOk result ((n : ℕ) → answers_for ports.new n
+        ≡ answers_for ports.old n ++ (if number == n then received ∷ [] else [])) }
 {
     place_port(alloc, ports, number)?;
-    push_heard(ports, number, heard)?;
+    push_answer(ports, number, received)?;
     Ok(())
 }
 
 /// Adds a port that has no answer yet, unless it is there.
 fn place_port(
     alloc: Global,
-    ports: &mut BTreeMap<u16, Vec<Heard<PortDataSet>>>,
+    ports: &mut BTreeMap<u16, Vec<Received<PortDataSet>>>,
     number: u16,
 ) -> Result<(), AllocError>
     ensures numbers { OnOk result (keys ports.new ≡ place nat_cmp (keys ports.old) number) }
-    ensures heard { OnOk result ((n : ℕ) → heard_of ports.new n ≡ heard_of ports.old n) }
+    ensures answers { OnOk result ((n : ℕ) → answers_for ports.new n ≡ answers_for ports.old n) }
     ensures there { OnOk result (IsSome (get nat_cmp ports.new number)) }
 {
     if ports.contains_key(&number) {
@@ -207,27 +212,27 @@ fn place_port(
 }
 
 /// Adds an answer for a port that is there, after all earlier ones.
-fn push_heard(
-    ports: &mut BTreeMap<u16, Vec<Heard<PortDataSet>>>,
+fn push_answer(
+    ports: &mut BTreeMap<u16, Vec<Received<PortDataSet>>>,
     number: u16,
-    heard: Heard<PortDataSet>,
+    received: Received<PortDataSet>,
 ) -> Result<(), AllocError>
     requires { IsSome (get nat_cmp ports.old number) }
     ensures numbers { OnOk result (keys ports.new ≡ keys ports.old) }
-    ensures heard { OnOk result ((n : ℕ) → heard_of ports.new n
-        ≡ heard_of ports.old n ++ (if number == n then heard ∷ [] else [])) }
+    ensures answers { OnOk result ((n : ℕ) → answers_for ports.new n
+        ≡ answers_for ports.old n ++ (if number == n then received ∷ [] else [])) }
 {
     if let Some(all) = ports.get_mut(&number) {
-        all.push(heard)?;
+        all.push(received)?;
     }
     Ok(())
 }
 
 /// The data set that counts: that of the last answer.
-pub fn last_of<T: Copy>(heard: &[Heard<T>]) -> Option<T>
-    ensures { result ≡ counting heard.now }
+pub fn last_of<T: Copy>(received: &[Received<T>]) -> Option<T>
+    ensures { result ≡ counting received.now }
 {
-    match heard.last() {
+    match received.last() {
         Some(last) => Some(last.set),
         None => None,
     }

@@ -5,8 +5,7 @@ ghost use Rattle.ptpm_site.specs.Differences.{what_differs};
 ghost use Rattle.ptpm_site.specs.Findings.{found, found_each};
 
 use crate::differences::Differs;
-use crate::finding::{Finding, What};
-use crate::finds::find;
+use crate::finding::{Finding, What, add_finding};
 use crate::source::Source;
 use std::alloc::AllocError;
 
@@ -35,7 +34,7 @@ impl Compared {
 }
 
 /// Adds a finding for each member in which the two differ, after all earlier findings.
-pub fn find_each(
+pub fn add_differences(
     findings: &mut Vec<Finding<'_>>,
     source: Source,
     compared: Compared,
@@ -44,12 +43,12 @@ pub fn find_each(
     ensures { OnOk result (findings.new.items ≡ findings.old.items ++ found_each compared source members.now) }
 {
     for differs in members {
-        find_differs(findings, source, compared, *differs)?;
+        add_difference(findings, source, compared, *differs)?;
     }
     Ok(())
 }
 
-fn find_differs(
+fn add_difference(
     findings: &mut Vec<Finding<'_>>,
     source: Source,
     compared: Compared,
@@ -58,7 +57,7 @@ fn find_differs(
     ensures { OnOk result (findings.new.items ≡ findings.old.items ++ found (what_differs compared) source differs) }
 {
     match differs {
-        Some(differs) => find(findings, source, compared.what(differs)),
+        Some(differs) => add_finding(findings, source, compared.what(differs)),
         None => Ok(()),
     }
 }

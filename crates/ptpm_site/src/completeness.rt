@@ -3,7 +3,7 @@
 ghost use Rattle.std.specs.Prelude.{◌≡◌, ◌++◌, IfOk, OnOk, filter};
 ghost use Rattle.std.specs.Option.{option_map};
 ghost use Rattle.ptpm_site.specs.Completeness.{answers_to, gap, gaps, lacking, lacking_ids, lacking_ports, lacks, last_port};
-ghost use Rattle.ptpm_site.specs.Kept.{kept};
+ghost use Rattle.ptpm_site.specs.Site.{site_answers};
 
 use crate::asked::{Asked, six};
 use crate::site::Site;
@@ -13,7 +13,7 @@ use std::alloc::{AllocError, Global};
 impl Site {
     /// How many answers came to an id. For PORT_DATA_SET, how many ports answered.
     fn answers_to(&self, source: Source, asked: Asked) -> usize
-        ensures { result ≡ answers_to (kept self.now) source asked }
+        ensures { result ≡ answers_to (site_answers self.now) source asked }
     {
         match asked {
             Asked::UserDescription => self.descriptions(source).len(),
@@ -27,7 +27,7 @@ impl Site {
 
     /// Whether an id was neither answered nor refused.
     pub fn lacks(&self, source: Source, asked: Asked) -> bool
-        ensures { result ≡ lacks (kept self.now) source asked }
+        ensures { result ≡ lacks (site_answers self.now) source asked }
     {
         self.answers_to(source, asked) == 0 && !self.refuses(source, asked)
     }
@@ -35,7 +35,7 @@ impl Site {
     /// The highest port that has to answer: numberPorts, if some port of the clock answered and PORT_DATA_SET was not
     /// refused. Otherwise 0, for none has to.
     fn last_port(&self, source: Source) -> u16
-        ensures { result ≡ last_port (kept self.now) source }
+        ensures { result ≡ last_port (site_answers self.now) source }
     {
         if self.count_ports(source) == 0 || self.refuses(source, Asked::PortDataSet) {
             return 0;
@@ -63,8 +63,8 @@ pub fn missing_answers(
     source: Source,
     ports: &[u16],
 ) -> Result<Option<Missing>, AllocError>
-    requires { ports.now ≡ (kept site.now).ports source }
-    ensures { IfOk result (λ missing. option_map (λ m. (m.asked.items, m.ports.items)) missing ≡ lacking (kept site.now) source) }
+    requires { ports.now ≡ (site_answers site.now).ports source }
+    ensures { IfOk result (λ missing. option_map (λ m. (m.asked.items, m.ports.items)) missing ≡ lacking (site_answers site.now) source) }
 {
     let asked = missing_ids(alloc, site, source, &six())?;
     let ports = missing_ports(alloc, ports, site.last_port(source))?;
@@ -81,7 +81,7 @@ fn missing_ids(
     source: Source,
     ids: &[Asked],
 ) -> Result<Vec<Asked>, AllocError>
-    ensures { IfOk result (λ missing. missing.items ≡ filter (lacks (kept site.now) source) ids.now) }
+    ensures { IfOk result (λ missing. missing.items ≡ filter (lacks (site_answers site.now) source) ids.now) }
 {
     let mut missing = Vec::new(alloc);
     for id in ids {

@@ -1,5 +1,8 @@
 //! Findings.
 
+ghost use Rattle.std.specs.Prelude.{◌≡◌, ◌++◌, [], ◌∷◌, OnOk};
+ghost use Rattle.ptpm_site.specs.Findings.{finding, reported, said, says};
+
 use crate::changes::Change;
 use crate::completeness::Missing;
 use crate::differences::Differs;
@@ -8,6 +11,7 @@ use crate::parents::{NoMaster, Steps};
 use crate::source::Source;
 use ptpm_codec::{ClockIdentity, PortIdentity};
 use ptpm_data::PortState;
+use std::alloc::AllocError;
 
 /// Something that is wrong with a clock.
 #[derive(Drop)]
@@ -79,4 +83,28 @@ impl What<'_> {
             What::IdentityTwice(..) => "identity_twice",
         }
     }
+}
+
+/// Adds a finding after all earlier ones.
+pub fn add_finding<'a>(
+    findings: &mut Vec<Finding<'a>>,
+    source: Source,
+    what: What<'a>,
+) -> Result<(), AllocError>
+    ensures { OnOk result (findings.new.items ≡ findings.old.items ++ finding source what.entry ∷ []) }
+{
+    findings.push(Finding { source, what })?;
+    Ok(())
+}
+
+/// The same, with a contract by what the finding says.
+#[tactic(auto, using(crate::proofs::Reports::reported_more))]
+pub fn report<'a>(
+    findings: &mut Vec<Finding<'a>>,
+    source: Source,
+    what: What<'a>,
+) -> Result<(), AllocError>
+    ensures { OnOk result (reported findings.new.items ≡ reported findings.old.items ++ said source (says what.entry) ∷ []) }
+{
+    add_finding(findings, source, what)
 }

@@ -2,7 +2,7 @@
 
 ghost use Rattle.std.specs.Prelude.{◌≡◌};
 ghost use Rattle.ptpm_site.specs.Following.{followed, is_own_grandmaster, parent_clock};
-ghost use Rattle.ptpm_site.specs.Kept.{kept};
+ghost use Rattle.ptpm_site.specs.Site.{site_answers};
 
 use crate::site::Site;
 use crate::source::Source;
@@ -11,7 +11,7 @@ use ptpm_codec::PortIdentity;
 impl Site {
     /// Whether a clock names itself as its grandmaster.
     pub fn is_own_grandmaster(&self, source: Source) -> bool
-        ensures { result ≡ is_own_grandmaster (kept self.now) source }
+        ensures { result ≡ is_own_grandmaster (site_answers self.now) source }
     {
         match self.parent(source) {
             Some(set) => set.grandmaster == source.clock,
@@ -22,7 +22,7 @@ impl Site {
     /// The port that a clock follows. `None` if it is its own grandmaster, or did not answer
     /// PARENT_DATA_SET.
     pub fn followed(&self, source: Source) -> Option<PortIdentity>
-        ensures { result ≡ followed (kept self.now) source }
+        ensures { result ≡ followed (site_answers self.now) source }
     {
         let set = self.parent(source)?;
         if set.grandmaster == source.clock {
@@ -34,10 +34,10 @@ impl Site {
 
     /// The clock that a clock follows, if that one is seen.
     pub fn parent_clock(&self, source: Source) -> Option<Source>
-        ensures { result ≡ parent_clock (kept self.now) source }
+        ensures { result ≡ parent_clock (site_answers self.now) source }
     {
         let parent = source.beside(self.followed(source)?.clock);
-        if self.sees(parent) {
+        if self.is_seen(parent) {
             Some(parent)
         } else {
             None

@@ -6,7 +6,7 @@ ghost use Rattle.std.specs.List.Sorted.{IsStrictlySortedBy};
 ghost use Rattle.std.specs.Ordering.{eq_by_cmp};
 ghost use Rattle.ptpm_site.specs.Answers.{source_cmp};
 ghost use Rattle.ptpm_site.specs.Following.{ArePlaced, IsParentPlace};
-ghost use Rattle.ptpm_site.specs.Kept.{kept};
+ghost use Rattle.ptpm_site.specs.Site.{site_answers};
 
 use crate::site::Site;
 use crate::source::Source;
@@ -47,9 +47,9 @@ pub struct Forest {
 
 impl Forest {
     pub fn of(alloc: Global, site: &Site) -> Result<Forest, AllocError>
-        ensures clocks { IfOk result (λ forest. forest.sources.items ≡ (kept site.now).clocks) }
+        ensures clocks { IfOk result (λ forest. forest.sources.items ≡ (site_answers site.now).clocks) }
         ensures ordered { IfOk result (λ forest. IsStrictlySortedBy source_cmp forest.sources.items) }
-        ensures placed { IfOk result (λ forest. ArePlaced (kept site.now) forest.followed.items) }
+        ensures placed { IfOk result (λ forest. ArePlaced (site_answers site.now) forest.followed.items) }
     {
         let sources = site.sources(alloc)?;
         let followed = parent_places(alloc, site, sources.as_slice())?;
@@ -149,9 +149,9 @@ fn parent_places(
     site: &Site,
     sources: &[Source],
 ) -> Result<Vec<Option<usize>>, AllocError>
-    requires clocks { sources.now ≡ (kept site.now).clocks }
+    requires clocks { sources.now ≡ (site_answers site.now).clocks }
     requires ordered { IsStrictlySortedBy source_cmp sources.now }
-    ensures { IfOk result (λ places. ArePlaced (kept site.now) places.items) }
+    ensures { IfOk result (λ places. ArePlaced (site_answers site.now) places.items) }
 {
     let mut places = Vec::new(alloc);
     for source in sources {
@@ -162,9 +162,9 @@ fn parent_places(
 
 /// The place of a clock's parent among all clocks.
 fn parent_place(site: &Site, sources: &[Source], source: Source) -> Option<usize>
-    requires clocks { sources.now ≡ (kept site.now).clocks }
+    requires clocks { sources.now ≡ (site_answers site.now).clocks }
     requires ordered { IsStrictlySortedBy source_cmp sources.now }
-    ensures { IsParentPlace (kept site.now) source result }
+    ensures { IsParentPlace (site_answers site.now) source result }
 {
     place_among(sources, site.parent_clock(source)?)
 }

@@ -3,7 +3,7 @@
 ghost use Rattle.std.specs.Prelude.{◌≡◌, ◌==◌, IfOk, filter};
 ghost use Rattle.std.specs.List.{count_by};
 ghost use Rattle.ptpm_site.specs.Grandmasters.{in_domain, leads, masterless_follower, masterless_grandmaster, masterless_reason, unseen_grandmaster};
-ghost use Rattle.ptpm_site.specs.Kept.{kept};
+ghost use Rattle.ptpm_site.specs.Site.{site_answers};
 
 use crate::data_sets::DefaultDataSet;
 use crate::port_groups::PortGroup;
@@ -15,7 +15,7 @@ use std::alloc::{AllocError, Global};
 impl Site {
     /// Whether a clock is its own grandmaster and has a port in MASTER.
     pub fn leads(&self, source: Source) -> bool
-        ensures { result ≡ leads (kept self.now) source }
+        ensures { result ≡ leads (site_answers self.now) source }
     {
         self.is_own_grandmaster(source) && self.has_port_of(source, PortGroup::Master)
     }
@@ -23,7 +23,7 @@ impl Site {
 
 /// Those of all clocks that are their own grandmasters and have a port in MASTER.
 pub fn leading(alloc: Global, site: &Site, sources: &[Source]) -> Result<Vec<Source>, AllocError>
-    ensures { IfOk result (λ found. found.items ≡ filter (leads (kept site.now)) sources.now) }
+    ensures { IfOk result (λ found. found.items ≡ filter (leads (site_answers site.now)) sources.now) }
 {
     let mut found = Vec::new(alloc);
     for source in sources {
@@ -57,7 +57,7 @@ pub enum Masterless {
 
 /// Why a clock has no master, if it has none and all its ports answered.
 pub fn masterless_reason(site: &Site, source: Source) -> Option<Masterless>
-    ensures { result ≡ masterless_reason (kept site.now) source }
+    ensures { result ≡ masterless_reason (site_answers site.now) source }
 {
     let parent = site.parent(source)?;
     let default = site.default(source)?;
@@ -77,7 +77,7 @@ fn masterless_grandmaster(
     source: Source,
     default: &DefaultDataSet,
 ) -> Option<Masterless>
-    ensures { result ≡ masterless_grandmaster (kept site.now) source default.now }
+    ensures { result ≡ masterless_grandmaster (site_answers site.now) source default.now }
 {
     if default.slave_only {
         Some(Masterless::SlaveOnly)
@@ -96,7 +96,7 @@ fn masterless_follower(
     default: &DefaultDataSet,
     grandmaster: ClockIdentity,
 ) -> Option<Masterless>
-    ensures { result ≡ masterless_follower (kept site.now) source default.now grandmaster }
+    ensures { result ≡ masterless_follower (site_answers site.now) source default.now grandmaster }
 {
     if site.has_port_of(source, PortGroup::Taking) {
         return None;
@@ -109,10 +109,10 @@ fn masterless_follower(
 
 /// The grandmaster that a clock names, if that one is not seen.
 pub fn unseen_grandmaster(site: &Site, source: Source) -> Option<ClockIdentity>
-    ensures { result ≡ unseen_grandmaster (kept site.now) source }
+    ensures { result ≡ unseen_grandmaster (site_answers site.now) source }
 {
     let parent = site.parent(source)?;
-    if site.sees(source.beside(parent.grandmaster)) {
+    if site.is_seen(source.beside(parent.grandmaster)) {
         None
     } else {
         Some(parent.grandmaster)

@@ -3,10 +3,10 @@
 
 ghost use Rattle.std.specs.Prelude.{◌≡◌, ◌++◌, OnOk, IfOk, is_some, length};
 ghost use Rattle.std.specs.List.{flat_map};
-ghost use Rattle.ptpm_site.specs.Findings.{findings_of, found_above, found_here, found_of, told};
+ghost use Rattle.ptpm_site.specs.Findings.{findings_of, found_above, found_here, found_of, reported};
 ghost use Rattle.ptpm_site.specs.Grandmasters.{leading_clocks};
-ghost use Rattle.ptpm_site.specs.Kept.{kept};
 ghost use Rattle.ptpm_site.specs.Loops.{AreLeast, loop_of};
+ghost use Rattle.ptpm_site.specs.Site.{site_answers};
 
 use crate::finding::Finding;
 use crate::grandmasters::leading;
@@ -22,15 +22,15 @@ use crate::source::Source;
 use std::alloc::{AllocError, Global};
 
 /// All findings. Each loop is reported at its least clock, which is marked in `least`.
-#[tactic(auto, unfolding(crate::specs::Findings::told))]
+#[tactic(auto, unfolding(crate::specs::Findings::reported))]
 pub fn findings_of<'a>(
     alloc: Global,
     site: &'a Site,
     least: &[bool],
     limits: Limits,
 ) -> Result<Vec<Finding<'a>>, AllocError>
-    requires { AreLeast (kept site.now) least.now }
-    ensures { IfOk result (λ found. told found.items ≡ findings_of (kept site.now) limits) }
+    requires { AreLeast (site_answers site.now) least.now }
+    ensures { IfOk result (λ found. reported found.items ≡ findings_of (site_answers site.now) limits) }
 {
     let sources = site.sources(alloc)?;
     let leading = leading(alloc, site, sources.as_slice())?;
@@ -66,12 +66,12 @@ fn judge_all<'a>(
     given: &Given<'_>,
     findings: &mut Vec<Finding<'a>>,
 ) -> Result<(), AllocError>
-    requires leading { given.now.leading.now ≡ leading_clocks (kept site.now) }
-    requires sources { sources.now ≡ (kept site.now).clocks }
-    requires least { AreLeast (kept site.now) given.now.least.now }
-    requires count { given.now.count ≡ length (kept site.now).clocks }
-    ensures { OnOk result (told findings.new.items
-        ≡ told findings.old.items ++ flat_map (found_of (kept site.now) given.now.limits) sources.now) }
+    requires leading { given.now.leading.now ≡ leading_clocks (site_answers site.now) }
+    requires sources { sources.now ≡ (site_answers site.now).clocks }
+    requires least { AreLeast (site_answers site.now) given.now.least.now }
+    requires count { given.now.count ≡ length (site_answers site.now).clocks }
+    ensures { OnOk result (reported findings.new.items
+        ≡ reported findings.old.items ++ flat_map (found_of (site_answers site.now) given.now.limits) sources.now) }
 {
     for (place, source) in sources.iter().enumerate() {
         judge(
@@ -93,11 +93,11 @@ fn judge<'a>(
     given: &Given<'_>,
     findings: &mut Vec<Finding<'a>>,
 ) -> Result<(), AllocError>
-    requires leading { given.now.leading.now ≡ leading_clocks (kept site.now) }
-    requires least { is_least ≡ is_some (loop_of (kept site.now) source) }
-    requires count { given.now.count ≡ length (kept site.now).clocks }
-    ensures { OnOk result (told findings.new.items
-        ≡ told findings.old.items ++ found_of (kept site.now) given.now.limits source) }
+    requires leading { given.now.leading.now ≡ leading_clocks (site_answers site.now) }
+    requires least { is_least ≡ is_some (loop_of (site_answers site.now) source) }
+    requires count { given.now.count ≡ length (site_answers site.now).clocks }
+    ensures { OnOk result (reported findings.new.items
+        ≡ reported findings.old.items ++ found_of (site_answers site.now) given.now.limits source) }
 {
     let ports = site.ports(given.alloc, source)?;
     judge_above(site, source, given.leading, findings)?;
@@ -116,8 +116,8 @@ fn judge_above(
     leading: &[Source],
     findings: &mut Vec<Finding<'_>>,
 ) -> Result<(), AllocError>
-    requires { leading.now ≡ leading_clocks (kept site.now) }
-    ensures { OnOk result (findings.new.items ≡ findings.old.items ++ found_above (kept site.now) source) }
+    requires { leading.now ≡ leading_clocks (site_answers site.now) }
+    ensures { OnOk result (findings.new.items ≡ findings.old.items ++ found_above (site_answers site.now) source) }
 {
     judge_grandmaster(site, source, leading, findings)?;
     judge_parent(site, source, findings)
@@ -132,8 +132,8 @@ fn judge_here(
     limits: Limits,
     findings: &mut Vec<Finding<'_>>,
 ) -> Result<(), AllocError>
-    requires { ports.now ≡ (kept site.now).ports source }
-    ensures { OnOk result (findings.new.items ≡ findings.old.items ++ found_here (kept site.now) limits source) }
+    requires { ports.now ≡ (site_answers site.now).ports source }
+    ensures { OnOk result (findings.new.items ≡ findings.old.items ++ found_here (site_answers site.now) limits source) }
 {
     judge_ports(site, source, ports, findings)?;
     judge_amounts(site, source, ports, limits, findings)?;

@@ -4,13 +4,12 @@ ghost use Rattle.std.specs.Prelude.{◌≡◌, ◌++◌, OnOk};
 ghost use Rattle.std.specs.List.{flat_map};
 ghost use Rattle.ptpm_site.specs.Amounts.{large_delay, large_offset};
 ghost use Rattle.ptpm_site.specs.Findings.{amounts_found, found, found_each, link_delays_found, utc_said};
-ghost use Rattle.ptpm_site.specs.Kept.{kept};
+ghost use Rattle.ptpm_site.specs.Site.{site_answers};
 
 use crate::amounts::{large_delay, large_offset};
-use crate::comparing::{Compared, find_each};
+use crate::comparing::{Compared, add_differences};
 use crate::differences::utc_differs;
-use crate::finding::{Finding, What};
-use crate::finds::find;
+use crate::finding::{Finding, What, add_finding};
 use crate::judging_ports::judge_link_delays;
 use crate::limits::Limits;
 use crate::site::Site;
@@ -26,8 +25,8 @@ pub fn judge_amounts(
     limits: Limits,
     findings: &mut Vec<Finding<'_>>,
 ) -> Result<(), AllocError>
-    requires { ports.now ≡ (kept site.now).ports source }
-    ensures { OnOk result (findings.new.items ≡ findings.old.items ++ amounts_found (kept site.now) limits source) }
+    requires { ports.now ≡ (site_answers site.now).ports source }
+    ensures { OnOk result (findings.new.items ≡ findings.old.items ++ amounts_found (site_answers site.now) limits source) }
 {
     judge_offset(site, source, limits, findings)?;
     judge_delay(site, source, limits, findings)?;
@@ -41,10 +40,10 @@ fn judge_offset(
     limits: Limits,
     findings: &mut Vec<Finding<'_>>,
 ) -> Result<(), AllocError>
-    ensures { OnOk result (findings.new.items ≡ findings.old.items ++ found What.Offset source (large_offset (kept site.now) source limits.offset)) }
+    ensures { OnOk result (findings.new.items ≡ findings.old.items ++ found What.Offset source (large_offset (site_answers site.now) source limits.offset)) }
 {
     match large_offset(site, source, limits.offset) {
-        Some(offset) => find(findings, source, What::Offset(offset)),
+        Some(offset) => add_finding(findings, source, What::Offset(offset)),
         None => Ok(()),
     }
 }
@@ -56,10 +55,10 @@ fn judge_delay(
     limits: Limits,
     findings: &mut Vec<Finding<'_>>,
 ) -> Result<(), AllocError>
-    ensures { OnOk result (findings.new.items ≡ findings.old.items ++ found What.Delay source (large_delay (kept site.now) source limits.delay)) }
+    ensures { OnOk result (findings.new.items ≡ findings.old.items ++ found What.Delay source (large_delay (site_answers site.now) source limits.delay)) }
 {
     match large_delay(site, source, limits.delay) {
-        Some(delay) => find(findings, source, What::Delay(delay)),
+        Some(delay) => add_finding(findings, source, What::Delay(delay)),
         None => Ok(()),
     }
 }
@@ -73,8 +72,8 @@ fn judge_links(
     limits: Limits,
     findings: &mut Vec<Finding<'_>>,
 ) -> Result<(), AllocError>
-    requires { ports.now ≡ (kept site.now).ports source }
-    ensures { OnOk result (findings.new.items ≡ findings.old.items ++ link_delays_found (kept site.now) limits source) }
+    requires { ports.now ≡ (site_answers site.now).ports source }
+    ensures { OnOk result (findings.new.items ≡ findings.old.items ++ link_delays_found (site_answers site.now) limits source) }
 {
     match site.followed(source) {
         Some(_) => judge_link_delays(site, source, ports, limits, findings),
@@ -89,7 +88,7 @@ pub fn judge_utc(
     source: Source,
     findings: &mut Vec<Finding<'_>>,
 ) -> Result<(), AllocError>
-    ensures { OnOk result (findings.new.items ≡ findings.old.items ++ found_each Compared.Time source (utc_said (kept site.now) source)) }
+    ensures { OnOk result (findings.new.items ≡ findings.old.items ++ found_each Compared.Time source (utc_said (site_answers site.now) source)) }
 {
     let Some(parent) = site.parent(source) else {
         return Ok(());
@@ -101,7 +100,7 @@ pub fn judge_utc(
         return Ok(());
     };
     match site.time(source.beside(parent.grandmaster)) {
-        Some(grandmaster) => find_each(
+        Some(grandmaster) => add_differences(
             findings,
             source,
             Compared::Time,

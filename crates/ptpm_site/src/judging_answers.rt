@@ -3,22 +3,21 @@
 ghost use Rattle.std.specs.Prelude.{◌≡◌, ◌++◌, [], ◌∷◌, IfOk, OnOk};
 ghost use Rattle.std.specs.List.{flat_map};
 ghost use Rattle.std.specs.Option.{option_map};
-ghost use Rattle.ptpm_site.specs.Changes.{contradiction, told_change};
-ghost use Rattle.ptpm_site.specs.Findings.{Otherwise, answers_told, clock_sets_told, contradictions_told, incomplete_told, member_told, port_set_told, said, set_told, told};
-ghost use Rattle.ptpm_site.specs.Kept.{kept};
+ghost use Rattle.ptpm_site.specs.Changes.{contradiction, member_change};
+ghost use Rattle.ptpm_site.specs.Findings.{Otherwise, answers_reported, clock_sets_reported, contradictions_reported, incomplete_reported, member_reported, port_set_reported, reported, said, set_reported};
+ghost use Rattle.ptpm_site.specs.Site.{site_answers};
 
 use crate::changes::{Change, Contradiction, first_change, first_contradiction, is_said_otherwise};
-use crate::clock::Heard;
+use crate::clock::Received;
 use crate::completeness::missing_answers;
-use crate::finding::{Finding, What};
-use crate::finds::tell;
+use crate::finding::{Finding, What, report};
 use crate::member::{DataSet, Member};
 use crate::site::Site;
 use crate::source::Source;
 use std::alloc::{AllocError, Global};
 
 /// `incomplete`, `changed` and `identity_twice`. `ports` are the clock's ports that answered.
-#[tactic(auto, unfolding(crate::specs::Findings::answers_told))]
+#[tactic(auto, unfolding(crate::specs::Findings::answers_reported))]
 pub fn judge_answers<'a>(
     alloc: Global,
     site: &'a Site,
@@ -26,8 +25,8 @@ pub fn judge_answers<'a>(
     ports: &[u16],
     findings: &mut Vec<Finding<'a>>,
 ) -> Result<(), AllocError>
-    requires { ports.now ≡ (kept site.now).ports source }
-    ensures { OnOk result (told findings.new.items ≡ told findings.old.items ++ answers_told (kept site.now) source) }
+    requires { ports.now ≡ (site_answers site.now).ports source }
+    ensures { OnOk result (reported findings.new.items ≡ reported findings.old.items ++ answers_reported (site_answers site.now) source) }
 {
     judge_missing(alloc, site, source, ports, findings)?;
     judge_contradictions(alloc, site, source, ports, Contradiction::Changed, findings)?;
@@ -42,7 +41,7 @@ pub fn judge_answers<'a>(
 }
 
 /// `incomplete`.
-#[tactic(auto, unfolding(crate::specs::Findings::incomplete_told))]
+#[tactic(auto, unfolding(crate::specs::Findings::incomplete_reported))]
 fn judge_missing(
     alloc: Global,
     site: &Site,
@@ -50,18 +49,18 @@ fn judge_missing(
     ports: &[u16],
     findings: &mut Vec<Finding<'_>>,
 ) -> Result<(), AllocError>
-    requires { ports.now ≡ (kept site.now).ports source }
-    ensures { OnOk result (told findings.new.items ≡ told findings.old.items ++ incomplete_told (kept site.now) source) }
+    requires { ports.now ≡ (site_answers site.now).ports source }
+    ensures { OnOk result (reported findings.new.items ≡ reported findings.old.items ++ incomplete_reported (site_answers site.now) source) }
 {
     match missing_answers(alloc, site, source, ports)? {
-        Some(missing) => tell(findings, source, What::Incomplete(missing)),
+        Some(missing) => report(findings, source, What::Incomplete(missing)),
         None => Ok(()),
     }
 }
 
 /// `changed` or `identity_twice`, for all data sets of a clock. `ports` are the clock's ports that
 /// answered.
-#[tactic(auto, unfolding(crate::specs::Findings::contradictions_told))]
+#[tactic(auto, unfolding(crate::specs::Findings::contradictions_reported))]
 fn judge_contradictions<'a>(
     alloc: Global,
     site: &'a Site,
@@ -70,8 +69,8 @@ fn judge_contradictions<'a>(
     how: Contradiction,
     findings: &mut Vec<Finding<'a>>,
 ) -> Result<(), AllocError>
-    requires { ports.now ≡ (kept site.now).ports source }
-    ensures { OnOk result (told findings.new.items ≡ told findings.old.items ++ contradictions_told how (kept site.now) source) }
+    requires { ports.now ≡ (site_answers site.now).ports source }
+    ensures { OnOk result (reported findings.new.items ≡ reported findings.old.items ++ contradictions_reported how (site_answers site.now) source) }
 {
     judge_clock_sets(alloc, site, source, how, findings)?;
     judge_port_sets(alloc, site, source, ports, how, findings)?;
@@ -86,7 +85,7 @@ fn judge_contradictions<'a>(
 }
 
 /// The same for the data sets of the clock, except its description.
-#[tactic(auto, unfolding(crate::specs::Findings::clock_sets_told))]
+#[tactic(auto, unfolding(crate::specs::Findings::clock_sets_reported))]
 fn judge_clock_sets<'a>(
     alloc: Global,
     site: &'a Site,
@@ -94,7 +93,7 @@ fn judge_clock_sets<'a>(
     how: Contradiction,
     findings: &mut Vec<Finding<'a>>,
 ) -> Result<(), AllocError>
-    ensures { OnOk result (told findings.new.items ≡ told findings.old.items ++ clock_sets_told how (kept site.now) source) }
+    ensures { OnOk result (reported findings.new.items ≡ reported findings.old.items ++ clock_sets_reported how (site_answers site.now) source) }
 {
     judge_set(alloc, source, None, site.defaults(source), how, findings)?;
     judge_set(alloc, source, None, site.currents(source), how, findings)?;
@@ -111,7 +110,7 @@ fn judge_port_sets<'a>(
     how: Contradiction,
     findings: &mut Vec<Finding<'a>>,
 ) -> Result<(), AllocError>
-    ensures { OnOk result (told findings.new.items ≡ told findings.old.items ++ flat_map (port_set_told how (kept site.now) source) ports.now) }
+    ensures { OnOk result (reported findings.new.items ≡ reported findings.old.items ++ flat_map (port_set_reported how (site_answers site.now) source) ports.now) }
 {
     for port in ports {
         judge_port_set(alloc, site, source, *port, how, findings)?;
@@ -119,7 +118,7 @@ fn judge_port_sets<'a>(
     Ok(())
 }
 
-#[tactic(auto, unfolding(crate::specs::Findings::port_set_told))]
+#[tactic(auto, unfolding(crate::specs::Findings::port_set_reported))]
 fn judge_port_set<'a>(
     alloc: Global,
     site: &'a Site,
@@ -128,56 +127,56 @@ fn judge_port_set<'a>(
     how: Contradiction,
     findings: &mut Vec<Finding<'a>>,
 ) -> Result<(), AllocError>
-    ensures { OnOk result (told findings.new.items ≡ told findings.old.items ++ port_set_told how (kept site.now) source port) }
+    ensures { OnOk result (reported findings.new.items ≡ reported findings.old.items ++ port_set_reported how (site_answers site.now) source port) }
 {
     judge_set(
         alloc,
         source,
         Some(port),
-        site.heard(source, port),
+        site.port_answers(source, port),
         how,
         findings,
     )
 }
 
 /// The members of a data set in which two of these answers differ.
-#[tactic(auto, unfolding(crate::specs::Findings::set_told))]
+#[tactic(auto, unfolding(crate::specs::Findings::set_reported))]
 fn judge_set<'a, T: DataSet>(
     alloc: Global,
     source: Source,
     port: Option<u16>,
-    heard: &'a [Heard<T>],
+    received: &'a [Received<T>],
     how: Contradiction,
     findings: &mut Vec<Finding<'a>>,
 ) -> Result<(), AllocError>
-    ensures { OnOk result (told findings.new.items ≡ told findings.old.items ++ set_told how source port T.listed T.says heard.now) }
+    ensures { OnOk result (reported findings.new.items ≡ reported findings.old.items ++ set_reported how source port T.listed T.says received.now) }
 {
     let members = T::members();
     for member in members {
-        judge_member(alloc, source, port, heard, *member, how, findings)?;
+        judge_member(alloc, source, port, received, *member, how, findings)?;
     }
     Ok(())
 }
 
 /// A member in which two of these answers differ. A member whose value moves though nothing was
 /// changed is passed over.
-#[tactic(auto, unfolding(crate::specs::Findings::member_told))]
+#[tactic(auto, unfolding(crate::specs::Findings::member_reported))]
 fn judge_member<'a, T: DataSet>(
     alloc: Global,
     source: Source,
     port: Option<u16>,
-    heard: &'a [Heard<T>],
+    received: &'a [Received<T>],
     member: Member,
     how: Contradiction,
     findings: &mut Vec<Finding<'a>>,
 ) -> Result<(), AllocError>
-    ensures { OnOk result (told findings.new.items ≡ told findings.old.items ++ member_told how source port T.says heard.now member) }
+    ensures { OnOk result (reported findings.new.items ≡ reported findings.old.items ++ member_reported how source port T.says received.now member) }
 {
     if member.is_moving() {
         return Ok(());
     }
-    match change_of(alloc, heard, member, how)? {
-        Some(change) => find_change(findings, source, port, change, how),
+    match change_of(alloc, received, member, how)? {
+        Some(change) => report_change(findings, source, port, change, how),
         None => Ok(()),
     }
 }
@@ -185,32 +184,32 @@ fn judge_member<'a, T: DataSet>(
 /// The first two answers that differ in a member.
 fn change_of<'a, T: DataSet>(
     alloc: Global,
-    heard: &'a [Heard<T>],
+    received: &'a [Received<T>],
     member: Member,
     how: Contradiction,
 ) -> Result<Option<Change<'a>>, AllocError>
-    ensures { IfOk result (λ change. option_map told_change change ≡ contradiction how T.says member heard.now) }
+    ensures { IfOk result (λ change. option_map member_change change ≡ contradiction how T.says member received.now) }
 {
-    if !is_said_otherwise(heard, member) {
+    if !is_said_otherwise(received, member) {
         return Ok(None);
     }
     match how {
-        Contradiction::Changed => Ok(first_change(heard, member)),
-        Contradiction::IdentityTwice => first_contradiction(alloc, heard, member),
+        Contradiction::Changed => Ok(first_change(received, member)),
+        Contradiction::IdentityTwice => first_contradiction(alloc, received, member),
     }
 }
 
-fn find_change<'a>(
+fn report_change<'a>(
     findings: &mut Vec<Finding<'a>>,
     source: Source,
     port: Option<u16>,
     change: Change<'a>,
     how: Contradiction,
 ) -> Result<(), AllocError>
-    ensures { OnOk result (told findings.new.items ≡ told findings.old.items ++ said source (Otherwise how port (told_change change.entry)) ∷ []) }
+    ensures { OnOk result (reported findings.new.items ≡ reported findings.old.items ++ said source (Otherwise how port (member_change change.entry)) ∷ []) }
 {
     match how {
-        Contradiction::Changed => tell(findings, source, What::Changed(port, change)),
-        Contradiction::IdentityTwice => tell(findings, source, What::IdentityTwice(port, change)),
+        Contradiction::Changed => report(findings, source, What::Changed(port, change)),
+        Contradiction::IdentityTwice => report(findings, source, What::IdentityTwice(port, change)),
     }
 }

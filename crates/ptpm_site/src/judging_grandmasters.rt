@@ -3,13 +3,12 @@
 ghost use Rattle.std.specs.Prelude.{◌≡◌, ◌++◌, OnOk};
 ghost use Rattle.ptpm_site.specs.Findings.{found_each, grandmaster_found, grandmaster_said, parent_found, said_of_grandmaster, said_of_parent, two_found};
 ghost use Rattle.ptpm_site.specs.Grandmasters.{leading_clocks};
-ghost use Rattle.ptpm_site.specs.Kept.{kept};
+ghost use Rattle.ptpm_site.specs.Site.{site_answers};
 
-use crate::comparing::{Compared, find_each};
+use crate::comparing::{Compared, add_differences};
 use crate::data_sets::ParentDataSet;
 use crate::differences::{grandmaster_differs, other_grandmaster};
-use crate::finding::{Finding, What};
-use crate::finds::find;
+use crate::finding::{Finding, What, add_finding};
 use crate::grandmasters::{count_in, masterless_reason, unseen_grandmaster};
 use crate::parents::{no_master_port, unseen_parent, wrong_steps};
 use crate::site::Site;
@@ -24,15 +23,15 @@ pub fn judge_grandmaster(
     leading: &[Source],
     findings: &mut Vec<Finding<'_>>,
 ) -> Result<(), AllocError>
-    requires { leading.now ≡ leading_clocks (kept site.now) }
-    ensures { OnOk result (findings.new.items ≡ findings.old.items ++ grandmaster_found (kept site.now) source) }
+    requires { leading.now ≡ leading_clocks (site_answers site.now) }
+    ensures { OnOk result (findings.new.items ≡ findings.old.items ++ grandmaster_found (site_answers site.now) source) }
 {
     judge_two(site, source, leading, findings)?;
     if let Some(why) = masterless_reason(site, source) {
-        find(findings, source, What::NoMaster(why))?;
+        add_finding(findings, source, What::NoMaster(why))?;
     }
     if let Some(grandmaster) = unseen_grandmaster(site, source) {
-        find(findings, source, What::GrandmasterNotSeen(grandmaster))?;
+        add_finding(findings, source, What::GrandmasterNotSeen(grandmaster))?;
     }
     Ok(())
 }
@@ -45,11 +44,11 @@ fn judge_two(
     leading: &[Source],
     findings: &mut Vec<Finding<'_>>,
 ) -> Result<(), AllocError>
-    requires { leading.now ≡ leading_clocks (kept site.now) }
-    ensures { OnOk result (findings.new.items ≡ findings.old.items ++ two_found (kept site.now) source) }
+    requires { leading.now ≡ leading_clocks (site_answers site.now) }
+    ensures { OnOk result (findings.new.items ≡ findings.old.items ++ two_found (site_answers site.now) source) }
 {
     if site.leads(source) && 2 <= count_in(leading, source.domain) {
-        find(findings, source, What::TwoGrandmasters)
+        add_finding(findings, source, What::TwoGrandmasters)
     } else {
         Ok(())
     }
@@ -62,16 +61,16 @@ pub fn judge_parent(
     source: Source,
     findings: &mut Vec<Finding<'_>>,
 ) -> Result<(), AllocError>
-    ensures { OnOk result (findings.new.items ≡ findings.old.items ++ parent_found (kept site.now) source) }
+    ensures { OnOk result (findings.new.items ≡ findings.old.items ++ parent_found (site_answers site.now) source) }
 {
     if let Some(parent) = unseen_parent(site, source) {
-        find(findings, source, What::ParentNotSeen(parent))?;
+        add_finding(findings, source, What::ParentNotSeen(parent))?;
     }
     if let Some((parent, why)) = no_master_port(site, source) {
-        find(findings, source, What::ParentNotMaster(parent, why))?;
+        add_finding(findings, source, What::ParentNotMaster(parent, why))?;
     }
     if let Some(steps) = wrong_steps(site, source) {
-        find(findings, source, What::Steps(steps))?;
+        add_finding(findings, source, What::Steps(steps))?;
     }
     judge_said(site, source, findings)
 }
@@ -83,7 +82,7 @@ fn judge_said(
     source: Source,
     findings: &mut Vec<Finding<'_>>,
 ) -> Result<(), AllocError>
-    ensures { OnOk result (findings.new.items ≡ findings.old.items ++ found_each Compared.Grandmaster source (grandmaster_said (kept site.now) source)) }
+    ensures { OnOk result (findings.new.items ≡ findings.old.items ++ found_each Compared.Grandmaster source (grandmaster_said (site_answers site.now) source)) }
 {
     match site.parent(source) {
         Some(own) => {
@@ -102,10 +101,10 @@ fn judge_by_grandmaster(
     own: &ParentDataSet,
     findings: &mut Vec<Finding<'_>>,
 ) -> Result<(), AllocError>
-    ensures { OnOk result (findings.new.items ≡ findings.old.items ++ found_each Compared.Grandmaster source (said_of_grandmaster (kept site.now) source own.now)) }
+    ensures { OnOk result (findings.new.items ≡ findings.old.items ++ found_each Compared.Grandmaster source (said_of_grandmaster (site_answers site.now) source own.now)) }
 {
     match site.default(source.beside(own.grandmaster)) {
-        Some(grandmaster) => find_each(
+        Some(grandmaster) => add_differences(
             findings,
             source,
             Compared::Grandmaster,
@@ -123,10 +122,10 @@ fn judge_by_parent(
     own: &ParentDataSet,
     findings: &mut Vec<Finding<'_>>,
 ) -> Result<(), AllocError>
-    ensures { OnOk result (findings.new.items ≡ findings.old.items ++ found_each Compared.Grandmaster source (said_of_parent (kept site.now) source own.now)) }
+    ensures { OnOk result (findings.new.items ≡ findings.old.items ++ found_each Compared.Grandmaster source (said_of_parent (site_answers site.now) source own.now)) }
 {
     match site.parent(source.beside(own.parent.clock)) {
-        Some(parent) => find_each(
+        Some(parent) => add_differences(
             findings,
             source,
             Compared::Grandmaster,

@@ -2,12 +2,11 @@
 
 ghost use Rattle.std.specs.Prelude.{◌≡◌, ◌++◌, IfOk, OnOk, is_some, length};
 ghost use Rattle.std.specs.Option.{option_map};
-ghost use Rattle.ptpm_site.specs.Findings.{loop_told, told};
-ghost use Rattle.ptpm_site.specs.Kept.{kept};
+ghost use Rattle.ptpm_site.specs.Findings.{loop_reported, reported};
 ghost use Rattle.ptpm_site.specs.Loops.{circle, loop_of};
+ghost use Rattle.ptpm_site.specs.Site.{site_answers};
 
-use crate::finding::{Finding, What};
-use crate::finds::tell;
+use crate::finding::{Finding, What, report};
 use crate::site::Site;
 use crate::source::Source;
 use ptpm_codec::ClockIdentity;
@@ -15,7 +14,7 @@ use std::alloc::{AllocError, Global};
 use std::cmp::Ordering;
 
 /// Reports `loop`, if a clock is the least of one. `count` is the number of clocks of the site.
-#[tactic(auto, unfolding(crate::specs::Findings::loop_told))]
+#[tactic(auto, unfolding(crate::specs::Findings::loop_reported))]
 pub fn judge_loop(
     alloc: Global,
     site: &Site,
@@ -24,15 +23,15 @@ pub fn judge_loop(
     count: usize,
     findings: &mut Vec<Finding<'_>>,
 ) -> Result<(), AllocError>
-    requires least { is_least ≡ is_some (loop_of (kept site.now) source) }
-    requires count { count ≡ length (kept site.now).clocks }
-    ensures { OnOk result (told findings.new.items ≡ told findings.old.items ++ loop_told (kept site.now) source) }
+    requires least { is_least ≡ is_some (loop_of (site_answers site.now) source) }
+    requires count { count ≡ length (site_answers site.now).clocks }
+    ensures { OnOk result (reported findings.new.items ≡ reported findings.old.items ++ loop_reported (site_answers site.now) source) }
 {
     if !is_least {
         return Ok(());
     }
     match loop_from(alloc, site, source, count)? {
-        Some(clocks) => tell(findings, source, What::Loop(clocks)),
+        Some(clocks) => report(findings, source, What::Loop(clocks)),
         None => Ok(()),
     }
 }
@@ -46,7 +45,7 @@ fn loop_from(
     first: Source,
     count: usize,
 ) -> Result<Option<Vec<ClockIdentity>>, AllocError>
-    ensures { IfOk result (λ found. option_map (λ clocks. clocks.items) found ≡ circle (kept site.now) first count first) }
+    ensures { IfOk result (λ found. option_map (λ clocks. clocks.items) found ≡ circle (site_answers site.now) first count first) }
 {
     let mut clocks = Vec::new(alloc);
     let mut here = first;

@@ -3,13 +3,12 @@
 ghost use Rattle.std.specs.Prelude.{◌≡◌, ◌++◌, OnOk};
 ghost use Rattle.std.specs.List.{flat_map};
 ghost use Rattle.ptpm_site.specs.Findings.{interval_found, link_delay_found, state_found};
-ghost use Rattle.ptpm_site.specs.Kept.{kept};
+ghost use Rattle.ptpm_site.specs.Site.{site_answers};
 
 use crate::amounts::large_link_delay;
-use crate::comparing::{Compared, find_each};
+use crate::comparing::{Compared, add_differences};
 use crate::differences::intervals_differ;
-use crate::finding::{Finding, What};
-use crate::finds::find;
+use crate::finding::{Finding, What, add_finding};
 use crate::limits::Limits;
 use crate::port_states::bad_state;
 use crate::site::Site;
@@ -23,7 +22,7 @@ pub fn judge_ports(
     ports: &[u16],
     findings: &mut Vec<Finding<'_>>,
 ) -> Result<(), AllocError>
-    ensures { OnOk result (findings.new.items ≡ findings.old.items ++ flat_map (state_found (kept site.now) source) ports.now) }
+    ensures { OnOk result (findings.new.items ≡ findings.old.items ++ flat_map (state_found (site_answers site.now) source) ports.now) }
 {
     for port in ports {
         judge_state(site, source, *port, findings)?;
@@ -38,10 +37,10 @@ fn judge_state(
     port: u16,
     findings: &mut Vec<Finding<'_>>,
 ) -> Result<(), AllocError>
-    ensures { OnOk result (findings.new.items ≡ findings.old.items ++ state_found (kept site.now) source port) }
+    ensures { OnOk result (findings.new.items ≡ findings.old.items ++ state_found (site_answers site.now) source port) }
 {
-    match bad_state(site.heard(source, port)) {
-        Some(state) => find(findings, source, What::PortState(port, state)),
+    match bad_state(site.port_answers(source, port)) {
+        Some(state) => add_finding(findings, source, What::PortState(port, state)),
         None => Ok(()),
     }
 }
@@ -54,7 +53,7 @@ pub fn judge_link_delays(
     limits: Limits,
     findings: &mut Vec<Finding<'_>>,
 ) -> Result<(), AllocError>
-    ensures { OnOk result (findings.new.items ≡ findings.old.items ++ flat_map (link_delay_found (kept site.now) limits source) ports.now) }
+    ensures { OnOk result (findings.new.items ≡ findings.old.items ++ flat_map (link_delay_found (site_answers site.now) limits source) ports.now) }
 {
     for port in ports {
         judge_link_delay(site, source, *port, limits, findings)?;
@@ -70,13 +69,13 @@ fn judge_link_delay(
     limits: Limits,
     findings: &mut Vec<Finding<'_>>,
 ) -> Result<(), AllocError>
-    ensures { OnOk result (findings.new.items ≡ findings.old.items ++ link_delay_found (kept site.now) limits source port) }
+    ensures { OnOk result (findings.new.items ≡ findings.old.items ++ link_delay_found (site_answers site.now) limits source port) }
 {
     let Some(set) = site.port(source, port) else {
         return Ok(());
     };
     match large_link_delay(&set, limits.delay) {
-        Some(delay) => find(findings, source, What::LinkDelay(port, delay)),
+        Some(delay) => add_finding(findings, source, What::LinkDelay(port, delay)),
         None => Ok(()),
     }
 }
@@ -88,7 +87,7 @@ pub fn judge_intervals(
     ports: &[u16],
     findings: &mut Vec<Finding<'_>>,
 ) -> Result<(), AllocError>
-    ensures { OnOk result (findings.new.items ≡ findings.old.items ++ flat_map (interval_found (kept site.now) source) ports.now) }
+    ensures { OnOk result (findings.new.items ≡ findings.old.items ++ flat_map (interval_found (site_answers site.now) source) ports.now) }
 {
     for port in ports {
         judge_interval(site, source, *port, findings)?;
@@ -103,13 +102,13 @@ fn judge_interval(
     port: u16,
     findings: &mut Vec<Finding<'_>>,
 ) -> Result<(), AllocError>
-    ensures { OnOk result (findings.new.items ≡ findings.old.items ++ interval_found (kept site.now) source port) }
+    ensures { OnOk result (findings.new.items ≡ findings.old.items ++ interval_found (site_answers site.now) source port) }
 {
     let (Some(own), Some(set)) = (site.parent(source), site.port(source, port)) else {
         return Ok(());
     };
     match site.port(source.beside(own.parent.clock), own.parent.port) {
-        Some(parent) => find_each(
+        Some(parent) => add_differences(
             findings,
             source,
             Compared::Port(port),

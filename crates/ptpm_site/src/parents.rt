@@ -1,8 +1,8 @@
 //! Whether a clock fits the clock that it follows.
 
 ghost use Rattle.std.specs.Prelude.{◌≡◌};
-ghost use Rattle.ptpm_site.specs.Kept.{kept};
 ghost use Rattle.ptpm_site.specs.Parents.{lacks_port, no_master_port, steps_at_grandmaster, steps_below, unseen_parent, why_no_master, wrong_steps};
+ghost use Rattle.ptpm_site.specs.Site.{site_answers};
 
 use crate::site::Site;
 use crate::source::Source;
@@ -11,10 +11,10 @@ use ptpm_data::PortState;
 
 /// The port that a clock follows, if the clock of that port is not seen.
 pub fn unseen_parent(site: &Site, source: Source) -> Option<PortIdentity>
-    ensures { result ≡ unseen_parent (kept site.now) source }
+    ensures { result ≡ unseen_parent (site_answers site.now) source }
 {
     let parent = site.followed(source)?;
-    if site.sees(source.beside(parent.clock)) {
+    if site.is_seen(source.beside(parent.clock)) {
         None
     } else {
         Some(parent)
@@ -32,11 +32,11 @@ pub enum NoMaster {
 
 /// The port that a clock follows, and why it is no master, if its clock is seen.
 pub fn no_master_port(site: &Site, source: Source) -> Option<(PortIdentity, NoMaster)>
-    ensures { result ≡ no_master_port (kept site.now) source }
+    ensures { result ≡ no_master_port (site_answers site.now) source }
 {
     let parent = site.followed(source)?;
     let clock = source.beside(parent.clock);
-    if !site.sees(clock) {
+    if !site.is_seen(clock) {
         return None;
     }
     let why = why_no_master(site, clock, parent.port)?;
@@ -45,7 +45,7 @@ pub fn no_master_port(site: &Site, source: Source) -> Option<(PortIdentity, NoMa
 
 /// Why a port of a clock that is seen gives no time, or `None`.
 fn why_no_master(site: &Site, clock: Source, port: u16) -> Option<NoMaster>
-    ensures { result ≡ why_no_master (kept site.now) clock port }
+    ensures { result ≡ why_no_master (site_answers site.now) clock port }
 {
     if lacks_port(site, clock, port) {
         return Some(NoMaster::NoPort);
@@ -60,7 +60,7 @@ fn why_no_master(site: &Site, clock: Source, port: u16) -> Option<NoMaster>
 
 /// Whether a clock has no port of this number, as far as its answers say.
 fn lacks_port(site: &Site, clock: Source, port: u16) -> bool
-    ensures { result ≡ lacks_port (kept site.now) clock port }
+    ensures { result ≡ lacks_port (site_answers site.now) clock port }
 {
     if port == 0 {
         return true;
@@ -82,7 +82,7 @@ pub struct Steps {
 /// The stepsRemoved of a clock, if it is wrong. It should be 0 at a grandmaster, and otherwise one more than that of the
 /// clock that it follows.
 pub fn wrong_steps(site: &Site, source: Source) -> Option<Steps>
-    ensures { result ≡ wrong_steps (kept site.now) source }
+    ensures { result ≡ wrong_steps (site_answers site.now) source }
 {
     let current = site.current(source)?;
     if site.is_own_grandmaster(source) {

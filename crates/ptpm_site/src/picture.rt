@@ -1,16 +1,17 @@
 //! A site, judged.
 
 ghost use Rattle.std.specs.Prelude.{◌≡◌, IfOk, length};
-ghost use Rattle.ptpm_site.specs.Findings.{findings_of, told};
-ghost use Rattle.ptpm_site.specs.Kept.{kept};
+ghost use Rattle.ptpm_site.specs.Findings.{findings_of, reported};
+ghost use Rattle.ptpm_site.specs.Site.{site_answers};
 ghost use Rattle.ptpm_site.specs.Tree.{StandsOnce};
 
 use crate::finding::Finding;
 use crate::forest::Forest;
 use crate::judging::findings_of;
+use crate::left_out::LeftOut;
 use crate::limits::Limits;
 use crate::loops::least_of_loops;
-use crate::site::{LeftOut, Site};
+use crate::site::Site;
 use crate::tree::{Row, rows};
 use std::alloc::{AllocError, Global};
 
@@ -31,9 +32,9 @@ impl<'a> Picture<'a> {
         left_out: LeftOut,
         limits: Limits,
     ) -> Result<Picture<'a>, AllocError>
-        ensures clocks { IfOk result (λ picture. picture.forest.sources.items ≡ (kept site.now).clocks) }
-        ensures rows { IfOk result (λ picture. StandsOnce (length (kept site.now).clocks) picture.rows.items) }
-        ensures findings { IfOk result (λ picture. told picture.findings.items ≡ findings_of (kept site.now) limits) }
+        ensures clocks { IfOk result (λ picture. picture.forest.sources.items ≡ (site_answers site.now).clocks) }
+        ensures rows { IfOk result (λ picture. StandsOnce (length (site_answers site.now).clocks) picture.rows.items) }
+        ensures findings { IfOk result (λ picture. reported picture.findings.items ≡ findings_of (site_answers site.now) limits) }
     {
         let forest = Forest::of(alloc, site)?;
         let least = least_of_loops(alloc, forest.followed.as_slice())?;

@@ -3,18 +3,18 @@
 ghost use Rattle.std.specs.Prelude.{◌≡◌, [], OnOk, IfOk, IsSome};
 ghost use Rattle.std.specs.List.Sorted.{IsStrictlySortedBy};
 ghost use Rattle.ptpm_site.specs.Answers.{source_cmp};
-ghost use Rattle.ptpm_site.specs.Keeping.{Keeps, Places, Takes, Tells};
-ghost use Rattle.ptpm_site.specs.Kept.{clock_at, kept};
-ghost use Rattle.ptpm_site.specs.Telling.{has_port_of, has_ports_to};
+ghost use Rattle.ptpm_site.specs.KeptAnswers.{AddsContent, Keeps, Places, Takes};
+ghost use Rattle.ptpm_site.specs.Site.{clock_at, site_answers};
+ghost use Rattle.ptpm_site.specs.SiteAnswers.{has_port_of, has_ports_to};
 
 use crate::answer::{Answer, Request};
-use crate::clock::{Clock, Heard};
+use crate::answer_content::AnswerContent;
+use crate::clock::{Clock, Received};
 use crate::data_sets::{
     CurrentDataSet, DefaultDataSet, ParentDataSet, PortDataSet, TimePropertiesDataSet,
 };
 use crate::port_groups::PortGroup;
 use crate::source::Source;
-use crate::told::Told;
 use std::alloc::{AllocError, Global};
 use std::collections::BTreeMap;
 
@@ -22,19 +22,6 @@ use std::collections::BTreeMap;
 #[derive(Drop)]
 pub struct Site {
     pub clocks: BTreeMap<Source, Clock>,
-}
-
-/// At most this many clocks are shown (this project's profile).
-pub const CLOCKS: usize = 4_096;
-
-/// At most this many ports are shown (this project's profile).
-pub const PORTS: usize = 16_384;
-
-/// How much of a site is not shown.
-#[derive(Clone, Copy)]
-pub struct LeftOut {
-    pub clocks: usize,
-    pub ports: usize,
 }
 
 impl Site {
@@ -54,10 +41,10 @@ impl Site {
         let Answer {
             source,
             request,
-            told,
+            content,
         } = answer;
         self.place(alloc, source)?;
-        self.tell(alloc, source, request, told)?;
+        self.add_content(alloc, source, request, content)?;
         Ok(())
     }
 
@@ -73,18 +60,18 @@ impl Site {
     }
 
     /// Takes what an answer says of a clock that is there.
-    fn tell(
+    fn add_content(
         &mut self,
         alloc: Global,
         source: Source,
         request: Request,
-        told: Told,
+        content: AnswerContent,
     ) -> Result<(), AllocError>
         requires { IsSome (clock_at self.old source) }
-        ensures { OnOk result (Tells self.old self.new source request told) }
+        ensures { OnOk result (AddsContent self.old self.new source request content) }
     {
         if let Some(clock) = self.clocks.get_mut(&source) {
-            clock.take(alloc, request, told)?;
+            clock.take(alloc, request, content)?;
         }
         Ok(())
     }
@@ -94,18 +81,18 @@ impl Site {
     }
 
     /// The clocks that are seen, by domain and then by identity.
-    #[tactic(auto, unfolding(crate::specs::Kept::kept))]
+    #[tactic(auto, unfolding(crate::specs::Site::site_answers))]
     pub fn sources(&self, alloc: Global) -> Result<Vec<Source>, AllocError>
-        ensures clocks { IfOk result (λ sources. sources.items ≡ (kept self.now).clocks) }
+        ensures clocks { IfOk result (λ sources. sources.items ≡ (site_answers self.now).clocks) }
         ensures ordered { IfOk result (λ sources. IsStrictlySortedBy source_cmp sources.items) }
     {
         self.clocks.keys().copied().collect(alloc)
     }
 
     /// The numbers of a clock's ports that answered, ascending.
-    #[tactic(auto, unfolding(crate::specs::Kept::kept))]
+    #[tactic(auto, unfolding(crate::specs::Site::site_answers))]
     pub fn ports(&self, alloc: Global, source: Source) -> Result<Vec<u16>, AllocError>
-        ensures { IfOk result (λ ports. ports.items ≡ (kept self.now).ports source) }
+        ensures { IfOk result (λ ports. ports.items ≡ (site_answers self.now).ports source) }
     {
         match self.clocks.get(&source) {
             Some(clock) => clock.ports.keys().copied().collect(alloc),
@@ -114,9 +101,9 @@ impl Site {
     }
 
     /// Whether a port of a clock that answered is in a state of a group.
-    #[tactic(auto, unfolding(crate::specs::Kept::kept))]
+    #[tactic(auto, unfolding(crate::specs::Site::site_answers))]
     pub fn has_port_of(&self, source: Source, group: PortGroup) -> bool
-        ensures { result ≡ has_port_of (kept self.now) source group }
+        ensures { result ≡ has_port_of (site_answers self.now) source group }
     {
         match self.clocks.get(&source) {
             Some(clock) => clock.has_port_of(group),
@@ -126,7 +113,7 @@ impl Site {
 
     /// Whether each port of a clock from 1 to a number answered.
     pub fn has_ports_to(&self, source: Source, last: u16) -> bool
-        ensures { result ≡ has_ports_to (kept self.now) source last }
+        ensures { result ≡ has_ports_to (site_answers self.now) source last }
     {
         for before in 0..last {
             if self.port(source, before + 1).is_none() {
@@ -137,60 +124,60 @@ impl Site {
     }
 
     /// All that was answered for a port of a clock, in the order of the lines.
-    #[tactic(auto, unfolding(crate::specs::Kept::kept))]
-    pub fn heard(&self, source: Source, port: u16) -> &[Heard<PortDataSet>]
-        ensures { result.now ≡ (kept self.now).heard source port }
+    #[tactic(auto, unfolding(crate::specs::Site::site_answers))]
+    pub fn port_answers(&self, source: Source, port: u16) -> &[Received<PortDataSet>]
+        ensures { result.now ≡ (site_answers self.now).port_answers source port }
     {
         match self.clocks.get(&source) {
-            Some(clock) => clock.heard(port),
+            Some(clock) => clock.port_answers(port),
             None => &[],
         }
     }
 
     /// Whether a clock is seen.
-    #[tactic(auto, unfolding(crate::specs::Kept::kept))]
-    pub fn sees(&self, source: Source) -> bool
-        ensures { result ≡ (kept self.now).seen source }
+    #[tactic(auto, unfolding(crate::specs::Site::site_answers))]
+    pub fn is_seen(&self, source: Source) -> bool
+        ensures { result ≡ (site_answers self.now).seen source }
     {
         self.clocks.contains_key(&source)
     }
 
     /// The last DEFAULT_DATA_SET that a clock answered, if there is one.
-    #[tactic(auto, unfolding(crate::specs::Kept::kept))]
+    #[tactic(auto, unfolding(crate::specs::Site::site_answers))]
     pub fn default(&self, source: Source) -> Option<DefaultDataSet>
-        ensures { result ≡ (kept self.now).default source }
+        ensures { result ≡ (site_answers self.now).default source }
     {
         self.clocks.get(&source)?.default()
     }
 
     /// The last CURRENT_DATA_SET that a clock answered, if there is one.
-    #[tactic(auto, unfolding(crate::specs::Kept::kept))]
+    #[tactic(auto, unfolding(crate::specs::Site::site_answers))]
     pub fn current(&self, source: Source) -> Option<CurrentDataSet>
-        ensures { result ≡ (kept self.now).current source }
+        ensures { result ≡ (site_answers self.now).current source }
     {
         self.clocks.get(&source)?.current()
     }
 
     /// The last PARENT_DATA_SET that a clock answered, if there is one.
-    #[tactic(auto, unfolding(crate::specs::Kept::kept))]
+    #[tactic(auto, unfolding(crate::specs::Site::site_answers))]
     pub fn parent(&self, source: Source) -> Option<ParentDataSet>
-        ensures { result ≡ (kept self.now).parent source }
+        ensures { result ≡ (site_answers self.now).parent source }
     {
         self.clocks.get(&source)?.parent()
     }
 
     /// The last TIME_PROPERTIES_DATA_SET that a clock answered, if there is one.
-    #[tactic(auto, unfolding(crate::specs::Kept::kept))]
+    #[tactic(auto, unfolding(crate::specs::Site::site_answers))]
     pub fn time(&self, source: Source) -> Option<TimePropertiesDataSet>
-        ensures { result ≡ (kept self.now).time source }
+        ensures { result ≡ (site_answers self.now).time source }
     {
         self.clocks.get(&source)?.time()
     }
 
     /// The last PORT_DATA_SET that was answered for a port of a clock, if there is one.
-    #[tactic(auto, unfolding(crate::specs::Kept::kept))]
+    #[tactic(auto, unfolding(crate::specs::Site::site_answers))]
     pub fn port(&self, source: Source, number: u16) -> Option<PortDataSet>
-        ensures { result ≡ (kept self.now).port source number }
+        ensures { result ≡ (site_answers self.now).port source number }
     {
         self.clocks.get(&source)?.port(number)
     }

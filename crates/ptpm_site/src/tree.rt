@@ -5,8 +5,8 @@ ghost use Rattle.ptpm_site.specs.Tree.{StandsOnce};
 
 use crate::forest::Forest;
 use crate::marks::is_marked;
-use crate::planting::Planting;
 use crate::site::Site;
+use crate::tree_builder::TreeBuilder;
 use ptpm_codec::PortIdentity;
 use std::alloc::{AllocError, Global};
 
@@ -30,26 +30,26 @@ pub fn rows(
 ) -> Result<Vec<Row>, AllocError>
     ensures { IfOk result (λ rows. StandsOnce (vec_len forest.now.sources) rows.items) }
 {
-    let mut planting = Planting::new(alloc);
+    let mut builder = TreeBuilder::new(alloc);
     for domain in 0..=u8::MAX {
-        plant_grandmasters(site, forest, domain, &mut planting)?;
-        plant_lost(forest, domain, &mut planting)?;
-        plant_loops(forest, domain, least, &mut planting)?;
-        plant_silent(site, forest, domain, &mut planting)?;
+        add_grandmasters(site, forest, domain, &mut builder)?;
+        add_lost(forest, domain, &mut builder)?;
+        add_loops(forest, domain, least, &mut builder)?;
+        add_without_parent(site, forest, domain, &mut builder)?;
     }
-    planting.finish(forest)
+    builder.finish(forest)
 }
 
-fn plant_grandmasters(
+fn add_grandmasters(
     site: &Site,
     forest: &Forest,
     domain: u8,
-    planting: &mut Planting,
+    builder: &mut TreeBuilder,
 ) -> Result<(), AllocError> {
     for place in forest.places_of(domain) {
         if let Some(source) = forest.sources.get(place) {
             if site.is_own_grandmaster(*source) {
-                planting.plant(forest, place, 0)?;
+                builder.add_subtree(forest, place, 0)?;
             }
         }
     }
@@ -57,44 +57,44 @@ fn plant_grandmasters(
 }
 
 /// The clocks of a domain whose parent is not seen, below its port.
-fn plant_lost(forest: &Forest, domain: u8, planting: &mut Planting) -> Result<(), AllocError> {
+fn add_lost(forest: &Forest, domain: u8, builder: &mut TreeBuilder) -> Result<(), AllocError> {
     let mut above = None;
     for lost in forest.lost_of(domain) {
         if above != Some(lost.parent) {
             above = Some(lost.parent);
-            planting.name(domain, lost.parent)?;
+            builder.add_not_seen(domain, lost.parent)?;
         }
-        planting.plant(forest, lost.place, 1)?;
+        builder.add_subtree(forest, lost.place, 1)?;
     }
     Ok(())
 }
 
 /// The least clock of each loop of a domain.
-fn plant_loops(
+fn add_loops(
     forest: &Forest,
     domain: u8,
     least: &[bool],
-    planting: &mut Planting,
+    builder: &mut TreeBuilder,
 ) -> Result<(), AllocError> {
     for place in forest.places_of(domain) {
         if is_marked(least, place) {
-            planting.plant(forest, place, 0)?;
+            builder.add_subtree(forest, place, 0)?;
         }
     }
     Ok(())
 }
 
 /// The clocks of a domain that did not answer PARENT_DATA_SET.
-fn plant_silent(
+fn add_without_parent(
     site: &Site,
     forest: &Forest,
     domain: u8,
-    planting: &mut Planting,
+    builder: &mut TreeBuilder,
 ) -> Result<(), AllocError> {
     for place in forest.places_of(domain) {
         if let Some(source) = forest.sources.get(place) {
             if site.parent(*source).is_none() {
-                planting.plant(forest, place, 0)?;
+                builder.add_subtree(forest, place, 0)?;
             }
         }
     }

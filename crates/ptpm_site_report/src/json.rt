@@ -3,7 +3,7 @@
 use crate::finding_json::finding_value;
 use ptpm_codec::{ClockIdentity, PortIdentity};
 use ptpm_commands::Fault;
-use ptpm_site::clock::{Clock, Heard};
+use ptpm_site::clock::{Clock, Received};
 use ptpm_site::member::{DataSet, Member, Value as MemberValue, mechanism_name, state_name};
 use ptpm_site::picture::Picture;
 use ptpm_site::source::Source;
@@ -100,8 +100,8 @@ fn clock_value(alloc: Global, source: Source, clock: &Clock) -> Result<Value, Al
         clock.descriptions.as_slice(),
     )?;
     let mut ports = Vec::new(alloc);
-    for (number, heard) in clock.ports.iter() {
-        if let Some(last) = heard.last() {
+    for (number, received) in clock.ports.iter() {
+        if let Some(last) = received.last() {
             let mut port = set_map(alloc, &last.set)?;
             let identity = PortIdentity {
                 clock: source.clock,
@@ -125,9 +125,9 @@ fn put_last<T: DataSet>(
     alloc: Global,
     map: &mut Map<String, Value>,
     name: &str,
-    heard: &[Heard<T>],
+    received: &[Received<T>],
 ) -> Result<(), AllocError> {
-    if let Some(last) = heard.last() {
+    if let Some(last) = received.last() {
         put(map, alloc, name, Value::Object(set_map(alloc, &last.set)?))?;
     }
     Ok(())

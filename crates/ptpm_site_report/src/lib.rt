@@ -6,6 +6,7 @@ mod columns;
 mod drawing;
 mod escaped;
 mod finding_json;
+mod finding_text;
 mod intervals;
 mod json;
 mod lines;
@@ -13,7 +14,6 @@ mod ports_text;
 mod reading;
 mod reporting;
 mod rows;
-mod telling;
 mod text;
 
 pub use reporting::{Form, Options, Outcome, report};

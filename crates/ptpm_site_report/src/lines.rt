@@ -1,9 +1,9 @@
 //! What a drawing of a site has in its rows.
 
 use crate::columns::Columns;
+use crate::finding_text::Said;
 use crate::ports_text::PortsText;
 use crate::rows::{Rows, notes_of};
-use crate::telling::Said;
 use ptpm_site::clock::Clock;
 use ptpm_site::picture::Picture;
 use ptpm_site::source::Source;

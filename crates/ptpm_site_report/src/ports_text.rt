@@ -13,8 +13,8 @@ impl fmt::Display for PortsText<'_> {
     fn fmt<W: fmt::Write>(&self, f: &mut fmt::Formatter<W>) -> fmt::Result {
         let mut run: Option<Run> = None;
         let mut follows = false;
-        for (number, heard) in self.0.ports.iter() {
-            let Some(set) = last_of(heard.as_slice()) else {
+        for (number, received) in self.0.ports.iter() {
+            let Some(set) = last_of(received.as_slice()) else {
                 continue;
             };
             let next = Run {

@@ -1,8 +1,8 @@
 //! `ptpm site`: a site's tree and what is wrong with it, by the answers among lines of datagrams.
 
 ghost use Rattle.std.specs.Prelude.{◌≡◌, IfOk};
-ghost use Rattle.ptpm_site.specs.Findings.{findings_of, told};
-ghost use Rattle.ptpm_site.specs.Kept.{kept};
+ghost use Rattle.ptpm_site.specs.Findings.{findings_of, reported};
+ghost use Rattle.ptpm_site.specs.Site.{site_answers};
 ghost use Rattle.ptpm_site_report.specs.Reporting.{outcome, status};
 
 use crate::drawing::draw;
@@ -10,9 +10,10 @@ use crate::json::Object;
 use crate::reading::read_site;
 use crate::text::Sheet;
 use ptpm_commands::Fault;
+use ptpm_site::left_out::LeftOut;
 use ptpm_site::limits::Limits;
 use ptpm_site::picture::Picture;
-use ptpm_site::site::{LeftOut, Site};
+use ptpm_site::site::Site;
 use std::alloc::Global;
 use std::io::{Read, Write};
 
@@ -78,7 +79,7 @@ fn report_of<O: Write>(
     left_out: LeftOut,
     out: &mut O,
 ) -> Result<Outcome, Fault>
-    ensures { IfOk result (λ came. came ≡ outcome (kept site.now).clocks (findings_of (kept site.now) options.limits)) }
+    ensures { IfOk result (λ came. came ≡ outcome (site_answers site.now).clocks (findings_of (site_answers site.now) options.limits)) }
 {
     match Picture::of(alloc, site, left_out, options.limits) {
         Ok(picture) => {
@@ -103,9 +104,9 @@ fn print_picture<O: Write>(
 }
 
 /// What came of a site that is judged.
-#[tactic(auto, unfolding(ptpm_site::specs::Findings::told))]
+#[tactic(auto, unfolding(ptpm_site::specs::Findings::reported))]
 fn outcome_of(picture: &Picture<'_>) -> Outcome
-    ensures { result ≡ outcome picture.now.forest.sources.items (told picture.now.findings.items) }
+    ensures { result ≡ outcome picture.now.forest.sources.items (reported picture.now.findings.items) }
 {
     if picture.forest.sources.is_empty() {
         Outcome::NoClock

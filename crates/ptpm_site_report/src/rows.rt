@@ -3,8 +3,8 @@
 ghost use Rattle.std.specs.Prelude.{◌≤◌, length};
 
 use ptpm_site::clock::Clock;
+use ptpm_site::left_out::{CLOCKS, PORTS};
 use ptpm_site::picture::Picture;
-use ptpm_site::site::{CLOCKS, PORTS};
 use ptpm_site::source::Source;
 use ptpm_site::tree::Row;
 use std::alloc::{AllocError, Global};

@@ -1,9 +1,9 @@
 //! A site as text: for each domain its tree, a line a clock, and then the findings, one a line.
 
 use crate::columns::{Columns, Widths, print_spaces};
+use crate::finding_text::Words;
 use crate::ports_text::PortsText;
 use crate::rows::{Rows, notes_of};
-use crate::telling::Words;
 use ptpm_commands::Fault;
 use ptpm_site::finding::{Finding, What};
 use ptpm_site::picture::Picture;

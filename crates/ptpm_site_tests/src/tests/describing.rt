@@ -110,7 +110,7 @@ fn answers_to(alloc: Global, answers: &str, id: &str, alone: bool) -> Result<Str
 }
 
 /// The answers, after what a word says of them: `MEMBER=VALUE`, `lacks=ID`, `refuses=ID` or `only=ID`.
-fn told(alloc: Global, answers: &str, word: &str) -> Result<String, Fail> {
+fn with_word(alloc: Global, answers: &str, word: &str) -> Result<String, Fail> {
     let (name, value) = word.split_once('=').unwrap_or((word, ""));
     match name {
         "only" => answers_to(alloc, answers, value, true),
@@ -128,7 +128,7 @@ fn answers_of(alloc: Global, clock: &str) -> Result<String, Fail> {
     let (number, words) = clock.split_once(' ').unwrap_or((clock, ""));
     let mut answers = String::from_str(alloc, ANSWERS)?;
     for word in words.split_whitespace() {
-        answers = told(alloc, answers.as_str(), word)?;
+        answers = with_word(alloc, answers.as_str(), word)?;
     }
     Ok(answers.as_str().replace(alloc, "NN", number)?)
 }

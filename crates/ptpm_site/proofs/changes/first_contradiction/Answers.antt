@@ -3,15 +3,15 @@ use Rattle.std.proofs.Common.{◌≡◌, ◌<◌, List, Some, None, length, take
 use Rattle.std.specs.List.{find}
 use Rattle.ptpm_site.specs.declared.changes.Contradiction.TheVariants as sort
 use Rattle.ptpm_site.specs.Changes.{Statement, contradicts, statement_of, statements}
+use Rattle.ptpm_site.specs.KeptStatements.{KeepsFirstValues, statement}
 use Rattle.ptpm_site.specs.Members.{value_of}
-use Rattle.ptpm_site.specs.Standing.{TellsTwice, statement}
 use Rattle.ptpm_site.proofs.Statements.{ahead-first, ahead-found, ahead-none, ahead-passed, no_value, taken-none, taken-some}
 use Rattle.ptpm_site.proofs.changes.first_contradiction.Goals as goal
 
 pub loop-answer-init : goal.loop-answer-init
 loop-answer-init g c = record {
-  unchanged = ahead-first sort.IdentityTwice g.T.DataSet.says c.args.member c.args.heard.now;
-  tells = c.new-settled.ensures;
+  unchanged = ahead-first sort.IdentityTwice g.T.DataSet.says c.args.member c.args.received.now;
+  keeps = c.new-settled.ensures;
 }
 
 pub loop-answer-preserved-in_default : goal.loop-answer-preserved-in_default
@@ -19,12 +19,12 @@ loop-answer-preserved-in_default g c =
     let says = g.T.DataSet.says in
     let i = c.loop-answer.answer-index in
     let x = c.answer-item.result in
-    let within : c.loop-answer.answer-index < length c.args.heard.now = omega arith in
+    let within : c.loop-answer.answer-index < length c.args.received.now = omega arith in
     let none : statement_of g.T.DataSet.says c.args.member c.answer-item.result ≡ None = sym c.in_default.ensures in
-    let Tells : List Statement → Type 0 = λ l. TellsTwice c.loop-answer.settled l in
+    let KeepsFirst : List Statement → Type 0 = λ l. KeepsFirstValues c.loop-answer.settled l in
     record {
-      unchanged = c.loop-answer.invariant.unchanged ∙ ahead-none says c.args.member c.args.heard.now i x within c.answer-item.is sort.IdentityTwice none;
-      tells = subst Tells (sym (taken-none says c.args.member c.args.heard.now i x within c.answer-item.is none)) c.loop-answer.invariant.tells;
+      unchanged = c.loop-answer.invariant.unchanged ∙ ahead-none says c.args.member c.args.received.now i x within c.answer-item.is sort.IdentityTwice none;
+      keeps = subst KeepsFirst (sym (taken-none says c.args.member c.args.received.now i x within c.answer-item.is none)) c.loop-answer.invariant.keeps;
     }
 
 pub returns-in-Some-contradicted_by : goal.returns-in-Some-contradicted_by
@@ -33,11 +33,11 @@ returns-in-Some-contradicted_by g c =
     let i = c.loop-answer.answer-index in
     let x = c.answer-item.result in
     let y = statement c.in-Some.later in
-    let within : c.loop-answer.answer-index < length c.args.heard.now = omega arith in
+    let within : c.loop-answer.answer-index < length c.args.received.now = omega arith in
     let some : statement_of g.T.DataSet.says c.args.member c.answer-item.result ≡ Some (statement c.in-Some.later) = sym c.in-Some.ensures in
     sym (c.loop-answer.invariant.unchanged
-    ∙ ahead-found says c.args.member c.args.heard.now i x within c.answer-item.is sort.IdentityTwice y (value_of c.in-Some-contradicted_by.before) some
-    (c.loop-answer.invariant.tells.alike y ∙ sym c.in-Some-contradicted_by.ensures))
+    ∙ ahead-found says c.args.member c.args.received.now i x within c.answer-item.is sort.IdentityTwice y (value_of c.in-Some-contradicted_by.before) some
+    (c.loop-answer.invariant.keeps.alike y ∙ sym c.in-Some-contradicted_by.ensures))
 
 pub loop-answer-preserved : goal.loop-answer-preserved
 loop-answer-preserved g c =
@@ -45,14 +45,14 @@ loop-answer-preserved g c =
     let i = c.loop-answer.answer-index in
     let x = c.answer-item.result in
     let y = statement c.in-Some.later in
-    let within : c.loop-answer.answer-index < length c.args.heard.now = omega arith in
+    let within : c.loop-answer.answer-index < length c.args.received.now = omega arith in
     let some : statement_of g.T.DataSet.says c.args.member c.answer-item.result ≡ Some (statement c.in-Some.later) = sym c.in-Some.ensures in
-    let none : find (λ e. contradicts sort.IdentityTwice e (statement c.in-Some.later)) (statements g.T.DataSet.says c.args.member (take c.loop-answer.answer-index c.args.heard.now)) ≡ None =
-    no_value (λ e. e.value) _ (c.loop-answer.invariant.tells.alike y ∙ sym c.in_default-contradicted_by.ensures) in
-    let Tells : List Statement → Type 0 = λ l. TellsTwice c.add.new.self l in
+    let none : find (λ e. contradicts sort.IdentityTwice e (statement c.in-Some.later)) (statements g.T.DataSet.says c.args.member (take c.loop-answer.answer-index c.args.received.now)) ≡ None =
+    no_value (λ e. e.value) _ (c.loop-answer.invariant.keeps.alike y ∙ sym c.in_default-contradicted_by.ensures) in
+    let KeepsFirst : List Statement → Type 0 = λ l. KeepsFirstValues c.add.new.self l in
     record {
-      unchanged = c.loop-answer.invariant.unchanged ∙ ahead-passed says c.args.member c.args.heard.now i x within c.answer-item.is sort.IdentityTwice y some none;
-      tells =
-          subst Tells (sym (taken-some says c.args.member c.args.heard.now i x within c.answer-item.is y some))
-          (c.in_ok-add.ensures (statements says c.args.member (take i c.args.heard.now)) c.loop-answer.invariant.tells none);
+      unchanged = c.loop-answer.invariant.unchanged ∙ ahead-passed says c.args.member c.args.received.now i x within c.answer-item.is sort.IdentityTwice y some none;
+      keeps =
+          subst KeepsFirst (sym (taken-some says c.args.member c.args.received.now i x within c.answer-item.is y some))
+          (c.in_ok-add.ensures (statements says c.args.member (take i c.args.received.now)) c.loop-answer.invariant.keeps none);
     }

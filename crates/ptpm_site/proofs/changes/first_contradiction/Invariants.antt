@@ -2,12 +2,12 @@
 use Rattle.std.proofs.Common.{◌≡◌, take}
 use Rattle.ptpm_site.specs.declared.changes.Contradiction.TheVariants as sort
 use Rattle.ptpm_site.specs.Changes.{contradiction, statements}
-use Rattle.ptpm_site.specs.Standing.{TellsTwice}
+use Rattle.ptpm_site.specs.KeptStatements.{KeepsFirstValues}
 use Rattle.ptpm_site.proofs.Statements.{ahead}
 use Rattle.ptpm_site.proofs.changes.first_contradiction.Given as goal
 
 abbrev pub invariant-loop-answer : goal.invariant-loop-answer
 invariant-loop-answer g l = record {
-  unchanged : contradiction sort.IdentityTwice g.T.DataSet.says l.member l.heard ≡ ahead sort.IdentityTwice g.T.DataSet.says l.member l.heard l.answer-index;
-  tells : TellsTwice l.settled (statements g.T.DataSet.says l.member (take l.answer-index l.heard));
+  unchanged : contradiction sort.IdentityTwice g.T.DataSet.says l.member l.received ≡ ahead sort.IdentityTwice g.T.DataSet.says l.member l.received l.answer-index;
+  keeps : KeepsFirstValues l.settled (statements g.T.DataSet.says l.member (take l.answer-index l.received));
 }

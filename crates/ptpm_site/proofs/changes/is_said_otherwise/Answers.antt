@@ -24,5 +24,5 @@ returns-in-Some g c = λ how h.
 
 pub returns-in-None : goal.returns-in-None
 returns-in-None g c = λ how h.
-    ap (contradiction how g.T.DataSet.says c.args.member) (none_there c.args.heard.now c.in-None.ensures.cases)
+    ap (contradiction how g.T.DataSet.says c.args.member) (none_there c.args.received.now c.in-None.ensures.cases)
     ∙ no_answers g.T.DataSet.says c.args.member how

@@ -1,8 +1,8 @@
 -- What differs in the members so far is reported.
 use Rattle.std.proofs.Common.{◌≡◌, ◌++◌, take}
 use Rattle.std.specs.List.{flat_map}
-use Rattle.ptpm_site.specs.Findings.{member_told, told}
+use Rattle.ptpm_site.specs.Findings.{member_reported, reported}
 use Rattle.ptpm_site.proofs.judging_answers.judge_set.Given as goal
 
 abbrev pub invariant-loop-member : goal.invariant-loop-member
-invariant-loop-member g l = told l.findings.items ≡ told l.fn.findings.items ++ flat_map (member_told l.how l.source l.port g.T.DataSet.says l.heard) (take l.member-index l.members)
+invariant-loop-member g l = reported l.findings.items ≡ reported l.fn.findings.items ++ flat_map (member_reported l.how l.source l.port g.T.DataSet.says l.received) (take l.member-index l.members)

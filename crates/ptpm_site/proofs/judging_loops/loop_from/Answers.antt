@@ -3,22 +3,22 @@ use Rattle.std.proofs.Common.{◌≡◌, ◌+◌, ◌-◌, ◌<◌, ◌++◌, �
 use Rattle.std.specs.declared.cmp.Ordering.TheVariants.{Less, Equal, Greater}
 use Rattle.ptpm_site.specs.Answers.{source_cmp}
 use Rattle.ptpm_site.specs.Following.{parent_clock}
-use Rattle.ptpm_site.specs.Kept.{kept}
 use Rattle.ptpm_site.specs.Loops.{circle}
+use Rattle.ptpm_site.specs.Site.{site_answers}
 use Rattle.ptpm_site.proofs.Circles.{behind, circle_closes, circle_ends, circle_falls, circle_goes}
 use Rattle.ptpm_site.proofs.judging_loops.loop_from.Goals as goal
 
 pub returns-in_default : goal.returns-in_default
 returns-in_default c =
-    let t = kept c.args.site.now in
+    let t = site_answers c.args.site.now in
     let l = c.loop-walked in
     let within : l.walked < c.args.count = omega arith in
-    let ends : parent_clock (kept c.args.site.now) c.loop-walked.here ≡ None = cc in
+    let ends : parent_clock (site_answers c.args.site.now) c.loop-walked.here ≡ None = cc in
     sym (circle_ends t c.args.first l.here l.clocks.items c.args.count l.walked within ends) ∙ l.invariant
 
 pub returns-in-Less : goal.returns-in-Less
 returns-in-Less c =
-    let t = kept c.args.site.now in
+    let t = site_answers c.args.site.now in
     let l = c.loop-walked in
     let parent = c.in-Some.parent in
     let within : l.walked < c.args.count = omega arith in
@@ -28,7 +28,7 @@ returns-in-Less c =
 
 pub returns-in-Equal : goal.returns-in-Equal
 returns-in-Equal c =
-    let t = kept c.args.site.now in
+    let t = site_answers c.args.site.now in
     let l = c.loop-walked in
     let parent = c.in-Some.parent in
     let within : l.walked < c.args.count = omega arith in
@@ -39,7 +39,7 @@ returns-in-Equal c =
 
 pub loop-walked-preserved : goal.loop-walked-preserved
 loop-walked-preserved c =
-    let t = kept c.args.site.now in
+    let t = site_answers c.args.site.now in
     let l = c.loop-walked in
     let parent = c.in-Some.parent in
     let within : l.walked < c.args.count = omega arith in

@@ -1,7 +1,7 @@
 -- Each walk passes its first place, and marks the least place of a loop that it finds.
 use Rattle.std.proofs.Common.{◌≡◌, ◌<◌, true, Some, None, Vec, Bool, length, set, vec_len, sym, ap, subst, arith}
 use Rattle.ptpm_site.specs.Walks.{Walked}
-use Rattle.ptpm_site.proofs.Marking.{AreTold, AreTold-all, AreTold-round, AreTold-straight, IsClosed-more, IsPassed-next}
+use Rattle.ptpm_site.proofs.Marking.{AreMarked, AreMarked-all, AreMarked-round, AreMarked-straight, IsClosed-more, IsPassed-next}
 use Rattle.ptpm_site.proofs.loops.least_of_loops.Goals as goal
 use Rattle.ptpm_site.proofs.loops.least_of_loops.Goals.{in-Some, in_default}
 
@@ -25,14 +25,14 @@ loop-start-preserved c =
           let within : among.0 < length P = omega (arith, new.passed.ok.0, among.2) in
           let places : length new.indices.items ≡ length f = omega (arith, new.indices.ok.0, count) in
           let marks : length l.marks.items ≡ length f = omega (arith, l.marks.ok.0, l.invariant.marks) in
-          let told = AreTold-round f new.indices.items old P l.marks.items back among.0 new.numbered l.invariant.closed round l.invariant.told places marks among.1 within
+          let marked = AreMarked-round f new.indices.items old P l.marks.items back among.0 new.numbered l.invariant.closed round l.invariant.marked places marks among.1 within
           (λ k le lt. omega (arith, new.passed.ok.0, w.least_from-least.ensures.least k le, among.3)) in
-          let at_least : AreTold f P (set l.marks.items w.least_from-least.result true) = subst (λ p. AreTold f P (set l.marks.items p true)) among.3 told in
+          let at_least : AreMarked f P (set l.marks.items w.least_from-least.result true) = subst (λ p. AreMarked f P (set l.marks.items p true)) among.3 marked in
           record {
             marks = omega (arith, ap vec_len w.marks-is, l.invariant.marks);
             count = count;
             closed = closed;
-            told = subst (AreTold f P) (sym (ap (λ (v : Vec Bool _). v.items) w.marks-is)) at_least;
+            marked = subst (AreMarked f P) (sym (ap (λ (v : Vec Bool _). v.items) w.marks-is)) at_least;
             passed = passed;
           }
       | in_default w ↦
@@ -41,8 +41,8 @@ loop-start-preserved c =
             marks = omega (arith, ap vec_len w.marks-is, l.invariant.marks);
             count = count;
             closed = closed;
-            told = subst (AreTold f P) (sym (ap (λ (v : Vec Bool _). v.items) w.marks-is))
-                (AreTold-straight f new.indices.items old P l.marks.items new.numbered l.invariant.closed straight l.invariant.told);
+            marked = subst (AreMarked f P) (sym (ap (λ (v : Vec Bool _). v.items) w.marks-is))
+                (AreMarked-straight f new.indices.items old P l.marks.items new.numbered l.invariant.closed straight l.invariant.marked);
             passed = passed;
           }
     ]
@@ -50,4 +50,4 @@ loop-start-preserved c =
 pub returns : goal.returns
 returns c = λ p lt.
     let l = c.loop-start in
-    AreTold-all c.args.followed.now l.walks.indices.items l.walks.passed.items l.marks.items p l.walks.numbered l.invariant.told (l.invariant.passed p (omega arith))
+    AreMarked-all c.args.followed.now l.walks.indices.items l.walks.passed.items l.marks.items p l.walks.numbered l.invariant.marked (l.invariant.passed p (omega arith))

@@ -3,8 +3,8 @@ use Rattle.std.proofs.Common.{◌≡◌, length, ap, subst, sym, arith}
 use Rattle.std.specs.List.Sorted.{IsStrictlySortedBy}
 use Rattle.ptpm_site.specs.Answers.{source_cmp}
 use Rattle.ptpm_site.specs.Following.{ArePlaced}
-use Rattle.ptpm_site.specs.Kept.{kept}
 use Rattle.ptpm_site.specs.Loops.{AreLeast, AreWithin}
+use Rattle.ptpm_site.specs.Site.{site_answers}
 use Rattle.ptpm_site.proofs.Links.{AreLeast-placed}
 use Rattle.ptpm_site.proofs.Placing.{AreWithin-placed}
 use Rattle.ptpm_site.proofs.picture.Picture.of.Goals as goal
@@ -12,11 +12,11 @@ use Rattle.ptpm_site.proofs.picture.Picture.of.Goals as goal
 pub least_of_loops-requires : goal.least_of_loops-requires
 least_of_loops-requires c =
     let forest = c.in_ok-forest.forest in
-    subst AreWithin (sym c.as_slice.ensures.value) (AreWithin-placed (kept c.args.site.now) forest.followed.items c.in_ok-forest.ensures.placed)
+    subst AreWithin (sym c.as_slice.ensures.value) (AreWithin-placed (site_answers c.args.site.now) forest.followed.items c.in_ok-forest.ensures.placed)
 
 pub findings_of-requires : goal.findings_of-requires
 findings_of-requires c =
-    let t = kept c.args.site.now in
+    let t = site_answers c.args.site.now in
     let followed = c.as_slice.result.now in
     let placed : ArePlaced t followed = subst (ArePlaced t) (sym c.as_slice.ensures.value) c.in_ok-forest.ensures.placed in
     let ordered : IsStrictlySortedBy source_cmp t.clocks = subst (IsStrictlySortedBy source_cmp) c.in_ok-forest.ensures.clocks c.in_ok-forest.ensures.ordered in
@@ -25,5 +25,5 @@ findings_of-requires c =
 pub returns-clause-rows : goal.returns-clause-rows
 returns-clause-rows c = λ p h.
     let sources = c.in_ok-forest.forest.sources in
-    let same : length sources.items ≡ length (kept c.args.site.now).clocks = ap length c.in_ok-forest.ensures.clocks in
+    let same : length sources.items ≡ length (site_answers c.args.site.now).clocks = ap length c.in_ok-forest.ensures.clocks in
     c.in_ok-rows.ensures p (omega (arith, sources.ok.0, same))

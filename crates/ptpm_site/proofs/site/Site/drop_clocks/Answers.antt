@@ -3,7 +3,7 @@ use Rattle.std.proofs.Common.{◌≡◌, ◌-◌, ◌<◌, length, ◌∙◌, ar
 use Rattle.std.proofs.lemmas.Grind.{common_steps}
 use Rattle.std.proofs.lemmas.Map.Entries.{length-keys_of}
 use Rattle.std.specs.BTreeMap.{keys}
-use Rattle.ptpm_site.specs.declared.site.TheConstants.{CLOCKS}
+use Rattle.ptpm_site.specs.declared.left_out.TheConstants.{CLOCKS}
 use Rattle.ptpm_site.proofs.Dropped.{dropped-all, dropped-none, dropped-one}
 use Rattle.ptpm_site.proofs.site.Site.drop_clocks.Goals as goal
 

@@ -4,10 +4,10 @@ use Rattle.std.specs.Option.{option_map}
 use Rattle.ptpm_codec.specs.Reading.{reading}
 use Rattle.ptpm_site.specs.declared.answer.Answer.{Answer}
 use Rattle.ptpm_site.specs.declared.site.Site.{Site}
-use Rattle.ptpm_site.specs.Keeping.{Takes}
+use Rattle.ptpm_site.specs.Datagrams.{TakesAny, answer_in}
+use Rattle.ptpm_site.specs.KeptAnswers.{Takes}
 use Rattle.ptpm_site.specs.Messages.{Answered, answer_of, answered}
-use Rattle.ptpm_site.specs.Taking.{TakesAny, answer_in}
-use Rattle.ptpm_site.proofs.Datagrams.{no_message, one_message, takes-none, takes-some}
+use Rattle.ptpm_site.proofs.DatagramLemmas.{no_message, one_message, takes-none, takes-some}
 use Rattle.ptpm_site.proofs.site.Site.take_datagram.Goals as goal
 
 took : {A B : Type 0} (r : Result A B) (old new : Site) (a : Answer) (o : Option Answered)

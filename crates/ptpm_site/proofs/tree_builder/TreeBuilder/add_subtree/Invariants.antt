@@ -1,0 +1,10 @@
+-- The clock has its row, and each that had one has it still.
+use Rattle.std.proofs.Common.{◌≡◌, true, false, get_or}
+use Rattle.ptpm_site.specs.Tree.{StaysMarked}
+use Rattle.ptpm_site.proofs.tree_builder.TreeBuilder.add_subtree.Given as goal
+
+abbrev pub invariant-grow : goal.invariant-grow
+invariant-grow l = record {
+  marked : get_or l.self.marks.items l.place false ≡ true;
+  stays : StaysMarked l.fn.self.marks.items l.self.marks.items;
+}

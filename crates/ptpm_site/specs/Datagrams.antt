@@ -1,0 +1,22 @@
+-- What is kept of a datagram.
+use Rattle.std.specs.Prelude.{◌≡◌, ℕ, List, Option, Some, None, option_and_then}
+use Rattle.ptpm_codec.specs.Reading.{message_of}
+use Rattle.ptpm_site.specs.declared.answer.Answer.{Answer}
+use Rattle.ptpm_site.specs.declared.site.Site.{Site}
+use Rattle.ptpm_site.specs.KeptAnswers.{Takes}
+use Rattle.ptpm_site.specs.Messages.{Answered, answer_of, answered}
+
+-- the answer that a datagram is, if it is one
+unfoldable pub answer_in : List ℕ → Option Answered
+answer_in datagram = option_and_then answer_of (message_of datagram)
+
+-- the answer that is taken says this
+pub record TakesAnswer (old new : Site) (says : Answered) : Type 0 where
+  pub answer : Answer
+  pub said : answered answer ≡ says
+  pub taken : Takes old new answer
+
+-- if there is no answer, all stays as it was
+abbrev pub TakesAny : Site → Site → Option Answered → Type 0
+TakesAny old new None = new ≡ old
+TakesAny old new (Some says) = TakesAnswer old new says

@@ -1,0 +1,141 @@
+//! The tree while it grows. Each clock gets its row in it once.
+
+ghost use Rattle.std.specs.Prelude.{◌≡◌, true, false, ℕ, ◌<◌, slice_index_or, slice_set, vec_len, OnOk, IfOk};
+ghost use Rattle.ptpm_site.specs.Tree.{IsGrown, StandsOnce, StaysMarked, rows_at};
+
+use crate::forest::Forest;
+use crate::marks::is_marked;
+use crate::tree::Row;
+use ptpm_codec::PortIdentity;
+use std::alloc::{AllocError, Global};
+
+/// A tree that grows.
+#[derive(Drop)]
+pub struct TreeBuilder {
+    rows: Vec<Row>,
+    /// Whether a clock has its row, by its place. A clock past the last mark has none.
+    marks: Vec<bool>,
+    /// Places and depths of clocks that follow one that has its row. The next one is the last.
+    waiting: Vec<(usize, u32)>,
+    ghost grown: { IsGrown marks.items rows.items },
+}
+
+impl TreeBuilder {
+    /// A tree without rows.
+    pub fn new(alloc: Global) -> TreeBuilder {
+        TreeBuilder {
+            rows: Vec::new(alloc),
+            marks: Vec::new(alloc),
+            waiting: Vec::new(alloc),
+        }
+    }
+
+    /// Gives a clock its row at this depth, and all that follow it their rows below. A clock that has a row keeps
+    /// it.
+    pub fn add_subtree(
+        &mut self,
+        forest: &Forest,
+        place: usize,
+        depth: u32,
+    ) -> Result<(), AllocError>
+        ensures marked { OnOk result (slice_index_or self.new.marks.items place false ≡ true) }
+        ensures stays { OnOk result (StaysMarked self.old.marks.items self.new.marks.items) }
+    {
+        self.put(forest, place, depth)?;
+        'grow: for _ in 0..usize::MAX {
+            let Some((below, deeper)) = self.waiting.pop() else {
+                break 'grow;
+            };
+            self.put(forest, below, deeper)?;
+        }
+        Ok(())
+    }
+
+    /// Gives a clock its row at this depth, unless it has one. Then those that follow it are next, the first of
+    /// them last.
+    fn put(&mut self, forest: &Forest, place: usize, depth: u32) -> Result<(), AllocError>
+        ensures marked { OnOk result (slice_index_or self.new.marks.items place false ≡ true) }
+        ensures stays { OnOk result (StaysMarked self.old.marks.items self.new.marks.items) }
+    {
+        if is_marked(self.marks.as_slice(), place) {
+            return Ok(());
+        }
+        add_clock(&mut self.rows, &mut self.marks, place, depth)?;
+        wait_below(&mut self.waiting, forest, place, depth)
+    }
+
+    /// A row that names a port whose clock is not seen.
+    pub fn add_not_seen(&mut self, domain: u8, parent: PortIdentity) -> Result<(), AllocError> {
+        add_port(&mut self.rows, domain, parent)
+    }
+
+    /// The rows. A clock that has none yet gets one at depth 0.
+    pub fn finish(mut self, forest: &Forest) -> Result<Vec<Row>, AllocError>
+        ensures { IfOk result (λ rows. StandsOnce (vec_len forest.now.sources) rows.items) }
+    {
+        for place in 0..forest.sources.len() {
+            self.add_subtree(forest, place, 0)?;
+        }
+        let TreeBuilder { rows, .. } = self;
+        Ok(rows)
+    }
+}
+
+/// Puts those that follow a clock next, the first of them last.
+fn wait_below(
+    waiting: &mut Vec<(usize, u32)>,
+    forest: &Forest,
+    place: usize,
+    depth: u32,
+) -> Result<(), AllocError> {
+    for follower in forest.followers_of(place).iter().rev() {
+        waiting.push((follower.place, depth.saturating_add(1)))?;
+    }
+    Ok(())
+}
+
+/// Adds a row for a clock that has none, and marks it.
+fn add_clock(
+    rows: &mut Vec<Row>,
+    marks: &mut Vec<bool>,
+    place: usize,
+    depth: u32,
+) -> Result<(), AllocError>
+    requires grown { IsGrown marks.old.items rows.old.items }
+    requires none { slice_index_or marks.old.items place false ≡ false }
+    ensures grown { IsGrown marks.new.items rows.new.items }
+    ensures marked { OnOk result (slice_index_or marks.new.items place false ≡ true) }
+    ensures stays { StaysMarked marks.old.items marks.new.items }
+{
+    cover(marks, place)?;
+    rows.push(Row::Clock { place, depth })?;
+    mark(marks, place);
+    Ok(())
+}
+
+/// Marks a place for which there is room.
+fn mark(marks: &mut Vec<bool>, place: usize)
+    requires { place < vec_len marks.old }
+    ensures { marks.new.items ≡ slice_set marks.old.items place true }
+{
+    marks[place] = true;
+}
+
+/// A row that names a port.
+fn add_port(rows: &mut Vec<Row>, domain: u8, parent: PortIdentity) -> Result<(), AllocError>
+    ensures { (p : ℕ) → rows_at p rows.new.items ≡ rows_at p rows.old.items }
+{
+    rows.push(Row::NotSeen { domain, parent })?;
+    Ok(())
+}
+
+/// Makes room for the mark of a place. Marks that are set stay set.
+fn cover(marks: &mut Vec<bool>, place: usize) -> Result<(), AllocError>
+    ensures room { OnOk result (place < vec_len marks.new) }
+    ensures same { (p : ℕ) → slice_index_or marks.new.items p false ≡ slice_index_or marks.old.items p false }
+{
+    while marks.len() <= place {
+        marks.push(false)?;
+    }
+    Ok(())
+}
