@@ -86,14 +86,14 @@ keeps-known s seen y before kept none keeps = stays s seen y keeps (λ z k.
     cases (same_request y.request z.request)
     (λ same. not_if_alike (is_settled y.value) (same_request y.request z.request) (same_value y.value z.value) (by_value z k same))
     (λ other. apart (is_settled y.value) (same_request y.request z.request) (not (same_value y.value z.value)) other)) where
-      same : same_value before y.value ≡ true
-      same = none_other y.value before (ap (option_and_then (if_other y.value)) (sym kept) ∙ sym (keeps.alike y) ∙ ap (option_map (λ e. e.value)) none)
+      alike : same_value before y.value ≡ true
+      alike = none_other y.value before (ap (option_and_then (if_other y.value)) (sym kept) ∙ sym (keeps.alike y) ∙ ap (option_map (λ e. e.value)) none)
 
       by_value : (z : Statement) → settled_otherwise s z ≡ None → same_request y.request z.request ≡ true → same_value y.value z.value ≡ true
       by_value z k same =
           let one : y.request ≡ z.request = (same_request-Decides y.request z.request).0 same in
           let here : settled_of s z.request ≡ Some before = ap (settled_of s) (sym one) ∙ kept in
-          sym (same_value-equiv.congr before y.value z.value same)
+          sym (same_value-equiv.congr before y.value z.value alike)
           ∙ none_other z.value before (ap (option_and_then (if_other z.value)) (sym here) ∙ k)
 
 -- a request that has none gets its first value
