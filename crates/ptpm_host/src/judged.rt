@@ -57,8 +57,9 @@ impl JudgedStart {
     }
 }
 
-/// Leaves the data sets of an image there, or answers the first reason why no clock of this identity, so many ports and these
-/// managers goes on from it. Of the managers nothing is left on the stack while the image is judged. Takes no memory.
+/// Leaves the data sets of an image in `sets`. Or answers the first reason why no clock of this identity, with this many
+/// ports and these managers, goes on from it. Of the managers nothing is left on the stack while the image is judged. Takes
+/// no memory.
 pub(crate) fn judge_image(
     identity: &[u8; 8],
     ports: usize,

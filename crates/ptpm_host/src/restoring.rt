@@ -35,9 +35,9 @@ impl HostedClock {
         image_into(&self.agent, octets)
     }
 
-    /// The clock whose image this is, of this identity and so many ports, and how many of its entries were let go, since their
-    /// managers are not among these. Managers and rights are these; all else is as it was saved. The first reason that holds is
-    /// why it is refused. Memory is asked for last, for the block that the clock is made in.
+    /// The clock of an image, if it is of this identity and has this many ports. Also how many of its entries were let go, since
+    /// their managers are not among these. Managers and rights are these; all else is as it was saved. An image is refused for
+    /// the first reason that holds. Memory is asked for last, for the block that the clock is made in.
     pub fn restored_boxed(
         alloc: Global,
         identity: &[u8; 8],
@@ -110,7 +110,7 @@ impl HostedClock {
         }
     }
 
-    /// Gives a clock without managers these, of which none is refused. Never inlined.
+    /// Gives a clock without managers these. None of them is refused. Never inlined.
     #[inline(never)]
     fn admit_judged(&mut self, managers: &[ManagerSettings])
         requires none { (clock_in self.old).managers ≡ [] }
