@@ -129,10 +129,10 @@ impl HostedClock {
         self.agent.sets()
     }
 
-    /// What becomes of a datagram that comes in at a port: one turn of the clock. What it sends is written into the first
-    /// places of `room`; the places after them stay as they are, and so does what follows each message. If it is
-    /// refused, nothing changes. The data sets change with the verdict `AnsweredNew` alone: a host that acts on what changed
-    /// keeps a copy of them, and then asks `sets` what is another since. Takes no memory.
+    /// What becomes of a datagram that comes in at a port: one turn of the clock. What it sends is written into the first places
+    /// of `room`. The places after them stay as they are, and so does what follows each message. If it is refused, nothing
+    /// changes. The data sets change with the verdict `AnsweredNew` alone. A host that acts on what changed keeps a copy of them,
+    /// and then asks `sets` what has changed since. Takes no memory.
     #[tactic(auto, using(crate::specs::PlacesLaws::kept_by_none))]
     pub fn handle(
         &mut self,

@@ -84,8 +84,9 @@ pub(crate) fn judged_table(
     HeapTable::of_judged(alloc, clock, managers.as_slice())
 }
 
-/// Leaves the data sets of an image there, or answers the first reason why no clock of this identity, so many ports and these
-/// managers goes on from it. Of the managers nothing is left on the stack while the image is judged. Takes no memory.
+/// Leaves the data sets of an image in `sets`. Or answers the first reason why no clock of this identity, with this many
+/// ports and these managers, goes on from it. Of the managers nothing is left on the stack while the image is judged. Takes
+/// no memory.
 pub(crate) fn judge_image(
     identity: &[u8; 8],
     ports: usize,

@@ -33,9 +33,10 @@ impl HostedClock {
         image_into(&self.agent, octets)
     }
 
-    /// The clock whose image this is, of this identity and so many ports, and how many of its entries were let go, since their
-    /// managers are not among these. Managers and rights are these; all else is as it was saved. The first reason that holds is
-    /// why it is refused. Memory is asked for last, for the slots of its managers and for the block that the clock is made in.
+    /// The clock of an image, if it is of this identity and has this many ports. Also how many of its entries were let go, since
+    /// their managers are not among these. Managers and rights are these; all else is as it was saved. An image is refused for
+    /// the first reason that holds. Memory is asked for last, for the slots of its managers and for the block that the clock is
+    /// made in.
     pub fn restored_boxed(
         alloc: Global,
         identity: &[u8; 8],
