@@ -98,8 +98,9 @@ class Session(Requests):
         begin_request(probe, action, number, data, port)
         probe.close()
 
-    def _finish(self, way: Transport, timeout: float) -> None:
-        """Sends the request of an earlier run until it is answered."""
+    def finish(self, way: Transport, *, timeout: float = 0.2) -> Report:
+        """Sends the request of an earlier run until it is answered, and answers what came of it. `ask` does so too, but the file is
+        then kept without that request before `earlier` can be read."""
         self.resume(self.settings.attempts)
         try:
             self.earlier = carry_out(self, way, timeout)
@@ -107,6 +108,7 @@ class Session(Requests):
             why = f"{error} of an earlier request: the request itself was not sent"
             raise NoAnswer(why, was_sent=False) from None
         self.is_under_way = False
+        return self.earlier
 
     def _keep_number(self, number: int) -> None:
         """Has the file say that the next request has this number."""
@@ -149,7 +151,7 @@ class Session(Requests):
         data = data_field(number, value)
         self._judge(action, number, data, port)
         if self.is_under_way:
-            self._finish(way, timeout)
+            self.finish(way, timeout=timeout)
         if not self._is_fresh:
             self._find_number(way, number, port, timeout)
         self._begin(action, number, data, port)

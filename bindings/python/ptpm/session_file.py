@@ -163,7 +163,9 @@ class SessionFile:
 
     def write(self, octets: bytes) -> None:
         """Has the file have these octets, whatever becomes of the program or the machine: they are on the disk when the call
-        returns."""
+        returns. Only whoever holds it may write it."""
+        if not self.is_open:
+            raise SessionFileError(f"{self.path}: it is closed, and another program may hold it")
         os.replace(self._write_new(octets), self.path)
         folder = os.open(self._folder, os.O_RDONLY | os.O_DIRECTORY | os.O_CLOEXEC)
         try:

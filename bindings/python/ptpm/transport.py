@@ -3,6 +3,7 @@ socket of this machine, for example that of ptp4l."""
 
 from __future__ import annotations
 
+import ctypes
 import fcntl
 import ipaddress
 import itertools
@@ -21,8 +22,21 @@ MOST_DATAGRAM = 65536
 _GROUP_4 = "224.0.1.129"
 _GROUP_6 = "ff0e::181"
 _SO_BINDTODEVICE = 25
+_SO_ATTACH_FILTER = 26
 _SIOCGIFADDR = 0x8915
 _SIOCGIFHWADDR = 0x8927
+
+# Of datagrams, which begin with their UDP header here, those whose messageType is 0xD: management messages (linux/filter.h).
+_WANTED = b"".join(
+    struct.pack("=HBBI", *instruction)
+    for instruction in (
+        (0x30, 0, 0, 8),  # load the octet after the header
+        (0x54, 0, 0, 0x0F),  # its lower half
+        (0x15, 0, 1, 0x0D),  # if it is not 0xD, pass over the next
+        (0x06, 0, 0, MOST_DATAGRAM - 1),  # keep the datagram
+        (0x06, 0, 0, 0),  # drop it
+    )
+)
 
 Address = Union[str, Tuple[str, int], Tuple[str, int, int, int]]
 
@@ -125,10 +139,17 @@ class UdpTransport(Transport):
         super().__init__(_opened(self.interface, family), to)
 
 
+def _filter(opened: socket.socket) -> None:
+    """Has the kernel drop what is no management message, so that other messages leave the answers their room."""
+    octets = ctypes.create_string_buffer(_WANTED, len(_WANTED))
+    opened.setsockopt(socket.SOL_SOCKET, _SO_ATTACH_FILTER, struct.pack("HP", len(_WANTED) // 8, ctypes.addressof(octets)))
+
+
 def _opened(interface: str, family: socket.AddressFamily) -> socket.socket:
-    """A socket that hears and sends at this interface alone."""
+    """A socket that hears and sends management messages at this interface alone."""
     opened = socket.socket(family, socket.SOCK_DGRAM | socket.SOCK_CLOEXEC)
     try:
+        _filter(opened)  # before it is bound, since it hears nothing until then
         opened.setsockopt(socket.SOL_SOCKET, socket.SO_REUSEADDR, 1)
         opened.setsockopt(socket.SOL_SOCKET, _SO_BINDTODEVICE, interface.encode() + b"\0")
         index = socket.if_nametoindex(interface)

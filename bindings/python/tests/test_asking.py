@@ -204,6 +204,30 @@ class Asking(Folder):
         self.assertEqual(run("survey", "PRIORITY1", "-x"), (0, f"{CLOCK}/1 value 6400\n"))
         self.assertEqual(run("survey", "PRIORITY1", "--target", CLOCK), (2, ""))
 
+    def test_what_could_not_be_reported_stays_in_the_file(self) -> None:
+        def run(streams: str, *words: str) -> int:
+            command = ["sh", "-c", f'exec "$0" -m ptpm -u "$@" {streams}', sys.executable, self.path, "--target", CLOCK, *words]
+            return subprocess.run(command, stdout=subprocess.DEVNULL, stderr=subprocess.DEVNULL, check=False).returncode
+
+        settings = ptpm.SessionSettings(MANAGER, CLOCK)
+        for streams in (">&-", "> /dev/full"):
+            self.assertEqual(run(streams, "get", "PRIORITY1"), 4)
+            self.assertEqual(run(streams, "-m", MANAGER, "-w", "0", "set", "PRIORITY1", "100"), 4)
+            with ptpm.SessionFile(MANAGER, CLOCK) as file, ptpm.Session(settings, file) as session:
+                self.assertTrue(session.is_under_way)
+            for closed in ("2>&-", "2> /dev/full"):     # the answer of the earlier run is said on standard error
+                self.assertEqual(run(closed, "-m", MANAGER, "set", "PRIORITY2", "7"), 4)
+            self.assertEqual(ptpm.get(self.way, CLOCK, "PRIORITY2").members, {"priority2": 128})
+            self.assertEqual(run("", "-m", MANAGER, "set", "PRIORITY1", "101"), 0)
+        self.assertEqual(run("2>&-", "-t", "20", "-a", "2", "get", "PORT_DATA_SET"), 2)
+
+    def test_a_file_that_was_closed_is_not_written(self) -> None:
+        with ptpm.SessionFile(MANAGER, CLOCK) as file:
+            session = ptpm.Session(ptpm.SessionSettings(MANAGER, CLOCK), file, wait=0)
+        with self.assertRaises(ptpm.SessionFileError):
+            session.ask(self.way, ptpm.Action.SET, "PRIORITY1", 100)
+        self.assertEqual(ptpm.get(self.way, CLOCK, "PRIORITY1").members, {"priority1": 128})
+
 
 if __name__ == "__main__":
     unittest.main()

@@ -74,6 +74,19 @@ class Network(Folder):
         self.assertEqual(self.asked("-i", "near0", "--ipv6", "get", "PRIORITY1", "--target", CLOCK), "priority1 128\n")
         self.assertEqual(self.asked("--udp", "fd09::2", "get", "PRIORITY1", "--target", CLOCK), "priority1 128\n")
 
+    def test_the_kernel_drops_what_is_no_management_message(self) -> None:
+        _ip("-n", self.near, "link", "set", "lo", "up")
+        for address in ("127.0.0.1", "::1"):
+            script = f"""if True:
+                import socket, time, ptpm
+                with ptpm.UdpTransport("lo", "{address}") as way:
+                    with socket.socket(socket.AF_INET6 if ":" in "{address}" else socket.AF_INET, socket.SOCK_DGRAM) as peer:
+                        for octets in (b"", bytes([0x0b, 2]), bytes([0x1d, 2])):     # the second is an Announce message
+                            peer.sendto(octets, ("{address}", 320))
+                    print(way.receive(time.monotonic() + 2).hex())"""
+            words = [*self.inside(self.near), sys.executable, "-c", script]
+            self.assertEqual(subprocess.run(words, capture_output=True, text=True, check=True).stdout, "1d02\n")
+
     def test_a_ptp4l(self) -> None:
         path = self.start_ptp4l()
         with ptpm.UnixTransport(path) as way:
