@@ -137,22 +137,32 @@ class Task:
         by_one_manager = words.manager is not None or words.numbers is not None
         return self.action is not None and (by_one_manager or (words.unix is None and self.action != Action.GET))
 
+    def _manager(self) -> PortIdentity:
+        """The identity of who asks, without a socket."""
+        words = self.words
+        if words.manager is not None:
+            return PortIdentity.of(words.manager)
+        if words.unix is not None:
+            return PortIdentity(Transport.identity, 1)
+        return PortIdentity(UdpTransport.identity_at(words.interface, words.udp, ipv6=words.ipv6), 1)
+
     def ask(self) -> int:
         """Asks, and prints what was answered; the status."""
         words = self.words
         seconds = words.timeout / 1000
-        with self.way() as way:
-            asked = {"domain": words.domain, "hops": words.hops, "attempts": words.attempts}
-            if self.action is None or self.target is None:
+        asked = {"domain": words.domain, "hops": words.hops, "attempts": words.attempts}
+        if self.action is None or self.target is None:
+            with self.way() as way:
                 return _print(list(survey(way, self.id, manager=words.manager, timeout=seconds, **asked)), words.hexadecimal)
-            manager = PortIdentity.of(words.manager) if words.manager is not None else PortIdentity(way.identity, 1)
-            settings = SessionSettings(manager, self.target, **asked)
-            if not self.is_numbered:
-                report = ask_as_nobody(way, settings, self.action, self.id, self.data, self.port, timeout=seconds)
-                return _print([report], words.hexadecimal)
-            begin_request(Requests(settings), self.action, self.id, self.data, self.port)  # what is refused makes no file
-            with SessionFile(manager, self.target, words.numbers) as file:
+        settings = SessionSettings(self._manager(), self.target, **asked)
+        begin_request(Requests(settings), self.action, self.id, self.data, self.port)  # what is refused makes no file
+        if self.is_numbered:
+            # An answer to this host alone comes in at the latest socket, so who waits for its turn has none yet.
+            with SessionFile(settings.manager, self.target, words.numbers) as file, self.way() as way:
                 return self._ask_by(file, settings, way)
+        with self.way() as way:
+            report = ask_as_nobody(way, settings, self.action, self.id, self.data, self.port, timeout=seconds)
+            return _print([report], words.hexadecimal)
 
     def _ask_by(self, file: SessionFile, settings: SessionSettings, way: Transport) -> int:
         words = self.words

@@ -8,7 +8,7 @@ from typing import List, Optional, TextIO
 
 from .site import SiteError, site
 from .site_tree import Site
-from .streams import NOT_WRITTEN, NotWritten, complain, flush
+from .streams import NOT_WRITTEN, NotWritten, complain, flush, say
 
 NOTHING_FOUND, FOUND, NOT_ASKED, NO_CLOCK = range(4)
 
@@ -61,11 +61,11 @@ def main(arguments: List[str]) -> int:
         complain(error)
         is_silent = isinstance(error, SiteError) and error.status == NO_CLOCK
         return NO_CLOCK if is_silent else NOT_ASKED
+    for note in found.notes:
+        say(note)
     try:
         with flush():
             print(found)
-        for note in found.notes:
-            print(note, file=sys.stderr)
     except NotWritten as error:
         complain(error)
         return NOT_WRITTEN

@@ -29,13 +29,18 @@ def hold_streams() -> None:
             setattr(sys, name, io.TextIOWrapper(raw, encoding="utf-8", write_through=True))  # nothing is left for the end
 
 
-def complain(what: object) -> bool:
-    """Says it on standard error; whether it could be written."""
+def say(what: object) -> bool:
+    """Writes it on standard error; whether it could be written."""
     try:
-        print(f"ptpm: {what}", file=sys.stderr, flush=True)
+        print(what, file=sys.stderr, flush=True)
     except OSError:
         return False
     return True
+
+
+def complain(what: object) -> bool:
+    """Says what is wrong, or what else whoever asks should know."""
+    return say(f"ptpm: {what}")
 
 
 @contextmanager

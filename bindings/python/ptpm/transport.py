@@ -122,21 +122,32 @@ def _interface_to(address: Address, family: socket.AddressFamily) -> str:
     raise OSError(f"no interface leads to {address[0]}")
 
 
+def _destination(interface: Optional[str], address: Optional[str], ipv6: bool) -> Tuple[str, socket.AddressFamily, Address]:
+    """The interface, and where it is sent to."""
+    if interface is None and address is None:
+        raise ValueError("a way over UDP takes an interface or an address")
+    to: Address = (address or (_GROUP_6 if ipv6 else _GROUP_4), GENERAL_PORT)
+    family = socket.AF_INET6 if ipv6 else socket.AF_INET
+    if address is not None:
+        flags = socket.AI_NUMERICHOST
+        family, _, _, _, to = socket.getaddrinfo(address, GENERAL_PORT, type=socket.SOCK_DGRAM, flags=flags)[0]
+    return interface or _interface_to(to, family), family, to
+
+
 class UdpTransport(Transport):
     """UDP port 320 at an interface, to the group of all clocks there, or to one address. It takes root, or the capability
-    CAP_NET_BIND_SERVICE."""
+    CAP_NET_BIND_SERVICE. An answer to this host alone comes in at the socket that was opened last there. So a session has its turn
+    at its file before its way is opened."""
 
     def __init__(self, interface: Optional[str] = None, address: Optional[str] = None, *, ipv6: bool = False) -> None:
-        if interface is None and address is None:
-            raise ValueError("a way over UDP takes an interface or an address")
-        to: Address = (address or (_GROUP_6 if ipv6 else _GROUP_4), GENERAL_PORT)
-        family = socket.AF_INET6 if ipv6 else socket.AF_INET
-        if address is not None:
-            flags = socket.AI_NUMERICHOST
-            family, _, _, _, to = socket.getaddrinfo(address, GENERAL_PORT, type=socket.SOCK_DGRAM, flags=flags)[0]
-        self.interface = interface or _interface_to(to, family)
+        self.interface, family, to = _destination(interface, address, ipv6)
         self.identity = Identity.of_mac(_mac_of(self.interface))
         super().__init__(_opened(self.interface, family), to)
+
+    @staticmethod
+    def identity_at(interface: Optional[str] = None, address: Optional[str] = None, *, ipv6: bool = False) -> Identity:
+        """The clockIdentity that a manager has by default at such a way. No socket is opened at UDP port 320."""
+        return Identity.of_mac(_mac_of(_destination(interface, address, ipv6)[0]))
 
 
 def _filter(opened: socket.socket) -> None:

@@ -5,8 +5,9 @@ from __future__ import annotations
 import os
 import subprocess
 import sys
+import threading
 import unittest
-from typing import Optional
+from typing import List, Optional
 
 import ptpm
 
@@ -61,6 +62,26 @@ class Asking(Folder):
             self.assertEqual(str(report), "refused WRONG_VALUE")
             self.assertEqual(session.next_number, 3)
             self.assertRaisesRegex(ptpm.Error, "NEEDS_PORT", session.ask, self.way, ptpm.Action.GET, "PORT_DATA_SET")
+
+    def test_threads_that_ask_in_one_session_take_turns(self) -> None:
+        wrong: List[object] = []
+
+        def ask(session: ptpm.Session, first: int) -> None:
+            for value in range(first, first + 30):
+                try:
+                    members = session.ask(self.way, ptpm.Action.SET, "PRIORITY1", value).members
+                except ptpm.Error as error:
+                    members = {"refused": error}
+                if members != {"priority1": value}:
+                    wrong.append((value, members))
+
+        with self.session(100) as session:
+            threads = [threading.Thread(target=ask, args=(session, first)) for first in (0, 100)]
+            for thread in threads:
+                thread.start()
+            for thread in threads:
+                thread.join()
+        self.assertEqual(wrong, [])
 
     def test_a_clock_that_is_not_there_is_told_apart(self) -> None:
         with ptpm.Session(ptpm.SessionSettings(MANAGER, "0102030405060708", 1, attempts=2)) as session:

@@ -69,6 +69,14 @@ class Network(Folder):
         self.assertEqual(self.asked("--udp", "10.9.9.2", "get", "PRIORITY1", "--target", CLOCK), "priority1 101\n")
         self.assertEqual(self.asked("-i", "near0", "survey", "PRIORITY1"), f"{CLOCK}/1 priority1 101\n")
 
+    def test_runs_beside_each_other_are_answered(self) -> None:
+        """The answers come to this host alone, at its latest socket."""
+        self.start_far_clock("-m", "020000fffe000010/1")
+        self.asked("-i", "near0", "-w", "0", "set", "PRIORITY1", "100", "-T", CLOCK)
+        words = [*self.inside(self.near), sys.executable, "-m", "ptpm", "--udp", "10.9.9.2", "-T", CLOCK, "set", "PRIORITY1"]
+        runs = [subprocess.Popen([*words, str(value)], stdout=subprocess.PIPE, text=True) for value in (1, 2, 3)]
+        self.assertEqual([run.communicate()[0] for run in runs], ["priority1 1\n", "priority1 2\n", "priority1 3\n"])
+
     def test_a_clock_over_ipv6(self) -> None:
         self.start_far_clock("-6")
         self.assertEqual(self.asked("-i", "near0", "--ipv6", "get", "PRIORITY1", "--target", CLOCK), "priority1 128\n")
