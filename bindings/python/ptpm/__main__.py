@@ -3,6 +3,7 @@
 from __future__ import annotations
 
 import argparse
+import re
 import signal
 import sys
 from typing import Callable, List, Optional
@@ -15,7 +16,7 @@ from .ids import Action, ManagementId, id_of
 from .members import data_field, has_one_member, parse, takes_no_value
 from .nobody import ask_as_nobody
 from .report import Report
-from .requests import Requests, SessionSettings, begin_request
+from .requests import EVERY_PORT, Requests, SessionSettings, begin_request
 from .session import Session
 from .session_file import SessionFile, SessionFileError
 from .site_command import main as show_site
@@ -104,15 +105,17 @@ class Task:
             raise ValueError(f"--text: {words.id} has no text")
         is_named = self.action == Action.SET and not words.hexadecimal and not words.text
         if is_named and (len(value) > 1 or has_one_member(self.id)):
-            return parse(self.id, value)
+            try:
+                return parse(self.id, value)
+            except ValueError as error:
+                raise ValueError(f"set {words.id} {' '.join(value)}: {error}") from None
         if len(value) > 1:
             raise ValueError(f"{value[1]}: there is a word too many")
         if words.text:
             return data_field(self.id, value[0])
-        octets = bytes.fromhex(value[0])
-        if len(octets) % 2:
+        if not re.fullmatch("([0-9a-fA-F]{4})*", value[0]):
             raise ValueError(f"{value[0]}: it is no even number of octets in hexadecimal")
-        return octets
+        return bytes.fromhex(value[0])
 
     def _judge(self) -> None:
         words = self.words
@@ -141,7 +144,10 @@ class Task:
         """The identity of who asks, without a socket."""
         words = self.words
         if words.manager is not None:
-            return PortIdentity.of(words.manager)
+            manager = PortIdentity.of(words.manager)
+            if manager.port == EVERY_PORT:
+                raise ValueError(f"--manager {words.manager}: port {EVERY_PORT} means every port")
+            return manager
         if words.unix is not None:
             return PortIdentity(Transport.identity, 1)
         return PortIdentity(UdpTransport.identity_at(words.interface, words.udp, ipv6=words.ipv6), 1)

@@ -127,10 +127,11 @@ class SessionFile:
             if error.errno == errno.ELOOP:
                 raise SessionFileError(f"{self.path}: it is a link") from None
             raise
+        self._before = os.fstat(opened)
+        if not stat.S_ISREG(self._before.st_mode):
+            os.close(opened)
+            raise SessionFileError(f"{self.path}: it is no file")
         with open(opened, "rb") as file:
-            self._before = os.fstat(opened)
-            if not stat.S_ISREG(self._before.st_mode):
-                raise SessionFileError(f"{self.path}: it is no file")
             return file.read(_MOST)
 
     def _write_new(self, octets: bytes) -> str:

@@ -92,7 +92,10 @@ class Transport:
 def _ask_interface(name: str, request: int) -> bytes:
     """What the kernel says of an interface (netdevice(7))."""
     with socket.socket(socket.AF_INET, socket.SOCK_DGRAM) as probe:
-        return fcntl.ioctl(probe, request, struct.pack("256s", name.encode()))
+        try:
+            return fcntl.ioctl(probe, request, struct.pack("256s", name.encode()))
+        except OSError as error:
+            raise OSError(error.errno, error.strerror, name) from None
 
 
 def _mac_of(interface: str) -> bytes:
@@ -130,7 +133,10 @@ def _destination(interface: Optional[str], address: Optional[str], ipv6: bool) -
     family = socket.AF_INET6 if ipv6 else socket.AF_INET
     if address is not None:
         flags = socket.AI_NUMERICHOST
-        family, _, _, _, to = socket.getaddrinfo(address, GENERAL_PORT, type=socket.SOCK_DGRAM, flags=flags)[0]
+        try:
+            family, _, _, _, to = socket.getaddrinfo(address, GENERAL_PORT, type=socket.SOCK_DGRAM, flags=flags)[0]
+        except socket.gaierror:
+            raise OSError(f"{address}: it is no address of IPv4 or IPv6") from None
     return interface or _interface_to(to, family), family, to
 
 

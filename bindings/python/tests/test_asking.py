@@ -179,6 +179,8 @@ class Asking(Folder):
         os.unlink(path)
         os.symlink("elsewhere", path)
         self.assertRaisesRegex(ptpm.SessionFileError, "link", ptpm.SessionFile, MANAGER, CLOCK, path)
+        os.mkdir(f"{path}-2")
+        self.assertRaisesRegex(ptpm.SessionFileError, "it is no file", ptpm.SessionFile, MANAGER, CLOCK, f"{path}-2")
 
     def test_a_file_has_one_turn_at_a_time(self) -> None:
         path = f"{self.folder}/session"
@@ -224,6 +226,8 @@ class Asking(Folder):
         self.assertEqual(run("-t", "20", "-a", "2", "get", "PRIORITY1", "--target", "0102030405060708"), (3, ""))
         self.assertEqual(run("survey", "PRIORITY1", "-x"), (0, f"{CLOCK}/1 value 6400\n"))
         self.assertEqual(run("survey", "PRIORITY1", "--target", CLOCK), (2, ""))
+        self.assertEqual(run("-m", "0011223344556677/65535", "get", "PRIORITY1", "--target", CLOCK), (2, ""))
+        self.assertEqual(run("-x", "set", "PRIORITY1", "64 00", "--target", CLOCK), (2, ""))
 
     def test_what_could_not_be_reported_stays_in_the_file(self) -> None:
         def run(streams: str, *words: str) -> int:
