@@ -7,6 +7,7 @@ import subprocess
 import sys
 import threading
 import unittest
+import unittest.mock
 from typing import List, Optional
 
 import ptpm
@@ -228,6 +229,9 @@ class Asking(Folder):
         self.assertEqual(run("survey", "PRIORITY1", "--target", CLOCK), (2, ""))
         self.assertEqual(run("-m", "0011223344556677/65535", "get", "PRIORITY1", "--target", CLOCK), (2, ""))
         self.assertEqual(run("-x", "set", "PRIORITY1", "64 00", "--target", CLOCK), (2, ""))
+        with unittest.mock.patch.dict(os.environ, PYTHONIOENCODING="ascii"):
+            said = run("-m", MANAGER, "set", "USER_DESCRIPTION", "--text", "Köln", "--target", CLOCK)
+        self.assertEqual(said, (0, "userDescription K\\xc3\\xb6ln\n"))
 
     def test_what_could_not_be_reported_stays_in_the_file(self) -> None:
         def run(streams: str, *words: str) -> int:
