@@ -126,7 +126,7 @@ def _interface_to(address: Address, family: socket.AddressFamily) -> str:
 
 
 def _destination(interface: Optional[str], address: Optional[str], ipv6: bool) -> Tuple[str, socket.AddressFamily, Address]:
-    """The interface, and where it is sent to."""
+    """The interface, and the address to send to."""
     if interface is None and address is None:
         raise ValueError("a way over UDP takes an interface or an address")
     to: Address = (address or (_GROUP_6 if ipv6 else _GROUP_4), GENERAL_PORT)

@@ -70,7 +70,7 @@ class Asking(Folder):
         def ask(session: ptpm.Session, first: int) -> None:
             for value in range(first, first + 30):
                 try:
-                    members = session.ask(self.way, ptpm.Action.SET, "PRIORITY1", value).members
+                    members = session.ask(self.way, ptpm.Action.SET, "PRIORITY1", value, timeout=1).members
                 except ptpm.Error as error:
                     members = {"refused": error}
                 if members != {"priority1": value}:
