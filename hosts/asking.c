@@ -64,14 +64,20 @@ static void print_own_answer(const struct task *task) {
     else print_answer(stdout, task, "", &answer);
 }
 
+/* Names the manager as a clock is started with it. */
+static void say_not_supported(const struct ptpm_session_settings *manager) {
+    char identity[IDENTITY_TEXT];
+    write_identity(identity, manager->clock);
+    complain("the clock lacks that id, or takes no change of it from manager %s/%u: a ptp4l takes some at its Unix socket alone",
+             identity, manager->port);
+}
+
 /* Prints what the answer says, before the session is kept without the request. */
 static int print_report(struct session *session, const struct task *task) {
     take_report(&session->handle, &answer);
     print_own_answer(task);
     if (fflush(stdout)) return NOT_WRITTEN;
-    if (answer.told == PTPM_REFUSED && answer.error == NOT_SUPPORTED && task->action != PTPM_GET) {
-        complain("the clock lacks that id, or takes no change of it from this manager: a ptp4l takes some at its Unix socket alone");
-    }
+    if (answer.told == PTPM_REFUSED && answer.error == NOT_SUPPORTED && task->action != PTPM_GET) say_not_supported(&session->settings);
     return answer.told == PTPM_REFUSED ? REFUSED : ANSWERED;
 }
 

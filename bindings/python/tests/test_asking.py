@@ -189,7 +189,9 @@ class Asking(Folder):
             old.write(f"7 {MANAGER} {CLOCK}\n")  # as an earlier version wrote it
         os.chmod(path, 0o640)
         with ptpm.SessionFile(MANAGER, CLOCK, path) as file:
-            self.assertRaisesRegex(ptpm.SessionFileError, "holds it", ptpm.SessionFile, MANAGER, CLOCK, path)
+            os.symlink(self.folder, f"{self.folder}/link")
+            for name in (path, f"{self.folder}/link/session"):
+                self.assertRaisesRegex(ptpm.SessionFileError, "holds it", ptpm.SessionFile, MANAGER, CLOCK, name)
             words = [str(TOP / "hosts/manage"), "-u", self.path, "-m", MANAGER, "-k", path, "--target", CLOCK, "get", "PRIORITY1"]
             with subprocess.Popen(words, stdout=subprocess.PIPE, text=True) as waiting:
                 self.assertRaises(subprocess.TimeoutExpired, waiting.wait, 0.3)
@@ -255,6 +257,12 @@ class Asking(Folder):
             session = ptpm.Session(ptpm.SessionSettings(MANAGER, CLOCK), file, wait=0)
         with self.assertRaises(ptpm.SessionFileError):
             session.ask(self.way, ptpm.Action.SET, "PRIORITY1", 100)
+        with ptpm.SessionFile(MANAGER, CLOCK) as file:
+            child = os.fork()
+            if child == 0:  # it holds nothing of its parent
+                file.close()
+                os._exit(file.is_open or not os.path.exists(f"{file.path}.lock"))
+            self.assertEqual((os.waitpid(child, 0)[1], file.is_open), (0, True))
         self.assertEqual(ptpm.get(self.way, CLOCK, "PRIORITY1").members, {"priority1": 128})
 
 
