@@ -19,7 +19,7 @@ from . import CLOCK, MANAGER, TOP, Folder
 class Asking(Folder):
     def setUp(self) -> None:
         super().setUp()
-        self.path = self.start_clock("-m", MANAGER)
+        self.path = self.start_clock("-m", MANAGER, CLOCK)
         self.way = ptpm.UnixTransport(self.path)
         self.addCleanup(self.way.close)
 

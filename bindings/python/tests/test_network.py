@@ -13,7 +13,7 @@ from typing import List
 
 import ptpm
 
-from . import CLOCK, TOP, Folder
+from . import CLOCK, Folder
 
 PTP4L = "020000fffe000020"
 
@@ -48,15 +48,14 @@ class Network(Folder):
         return ran.stdout + ran.stderr
 
     def start_far_clock(self, *words: str) -> None:
-        path = f"{self.folder}/clock.socket"
-        self.run_until(path, [*self.inside(self.far), str(TOP / "hosts/clock"), "-n", "60", "-u", path, *words, CLOCK, "far0"])
+        self.start_clock(*words, CLOCK, "far0", before=self.inside(self.far))
 
     def start_ptp4l(self, name: str = "", interface: str = "far0", more: str = "") -> str:
         path, settings = f"{self.folder}/ptp4l-{interface}", f"{self.folder}/ptp4l-{interface}.conf"
         with open(settings, "w", encoding="ascii") as file:
             file.write(f"[global]\nfree_running 1\n{more}")
         words = ["ptp4l", "-f", settings, "-S", "-4", "-i", interface, f"--uds_address={path}"]
-        self.run_until(path, [*self.inside(name or self.far), *words])
+        self.run_until(lambda _: os.path.exists(path), [*self.inside(name or self.far), *words])
         return path
 
     def test_a_clock_over_udp(self) -> None:
