@@ -228,10 +228,13 @@ def main(arguments: Optional[List[str]] = None) -> int:
         return show_site(given[1:])
     words = _parser().parse_intermixed_args(given)
     try:
-        return Task(words).ask()
+        task = Task(words)
+        return task.ask()
     except NoAnswer as error:
         may_be = error.was_sent and words.verb in ("set", "command")
         complain(f"{error}{': the request may have been carried out' if may_be else ''}")
+        if error.was_sent and task.is_numbered:
+            complain("the next run sends it again before its own; --give-up lets it go")
         return NOT_ANSWERED
     except KeyboardInterrupt:
         changes = words.verb in ("set", "command")
