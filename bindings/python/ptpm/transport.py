@@ -3,6 +3,7 @@ socket of this machine, for example that of ptp4l."""
 
 from __future__ import annotations
 
+import contextlib
 import ctypes
 import fcntl
 import ipaddress
@@ -206,10 +207,11 @@ class UnixTransport(Transport):
         super().__init__(opened, clock)
 
     def close(self) -> None:
-        """Closes the socket, and removes its file."""
+        """Closes the socket, and removes its file, if that is still there."""
         if self._socket.fileno() >= 0:
             super().close()
-            os.unlink(self._path)
+            with contextlib.suppress(OSError):
+                os.unlink(self._path)
 
 
 def _bound_beside(opened: socket.socket, clock: str) -> str:

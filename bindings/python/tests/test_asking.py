@@ -252,6 +252,13 @@ class Asking(Folder):
             self.assertEqual(run("", "-m", MANAGER, "set", "PRIORITY1", "101"), 0)
         self.assertEqual(run("2>&-", "-t", "20", "-a", "2", "get", "PORT_DATA_SET"), 2)
 
+    def test_a_socket_that_is_gone_fails_no_run(self) -> None:
+        with ptpm.UnixTransport(self.path) as way:
+            self.assertEqual(ptpm.get(way, CLOCK, "PRIORITY1").members, {"priority1": 128})
+            for name in os.listdir(self.folder):
+                if name.startswith(f"clock.socket.{os.getpid()}."):     # beside that of setUp
+                    os.unlink(f"{self.folder}/{name}")
+
     def test_a_file_that_was_closed_is_not_written(self) -> None:
         with ptpm.SessionFile(MANAGER, CLOCK) as file:
             session = ptpm.Session(ptpm.SessionSettings(MANAGER, CLOCK), file, wait=0)
