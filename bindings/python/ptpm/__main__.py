@@ -225,7 +225,10 @@ def main(arguments: Optional[List[str]] = None) -> int:
     hold_streams()
     given = sys.argv[1:] if arguments is None else arguments
     if given[:1] == ["site"]:
-        return show_site(given[1:])
+        try:
+            return show_site(given[1:])
+        except KeyboardInterrupt:
+            return BY_SIGNAL + signal.SIGINT
     words = _parser().parse_intermixed_args(given)
     try:
         task = Task(words)
