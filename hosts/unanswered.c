@@ -27,21 +27,22 @@ static bool tell_value(const struct task *task) {
 
 /* Why a clock that answers reads may drop what this manager asks. */
 static void tell_reason(const struct task *task, enum unanswered what, uint16_t number) {
+    static const char unsaved[] = ", or the clock can't save its state, for example since its disk is full";
     char manager[IDENTITY_TEXT];
     unsigned port = task->settings.port;
     write_identity(manager, task->settings.clock);
     switch (what) {
     case REQUEST:
-        complain("it dropped the request, since a copy of manager %s/%u asks too, or each answer was lost", manager, port);
+        complain("it dropped the request, since a copy of manager %s/%u asks too, or each answer was lost%s", manager, port, unsaved);
         break;
     case EARLIER_REQUEST:
     case NUMBER:
         complain("it dropped number %u of manager %s/%u, since another file or a copy of the manager is ahead, or each answer was "
-                 "lost", number, manager, port);
+                 "lost%s", number, manager, port, unsaved);
         complain("if it does so each time: once %s is removed, the next run begins a new session", session_path());
         break;
     case FIRST_NUMBER:
-        complain("it answers no GET of manager %s/%u under any of four numbers", manager, port);
+        complain("it answers no GET of manager %s/%u under any of four numbers: each answer was lost%s", manager, port, unsaved);
         break;
     }
 }

@@ -2,6 +2,7 @@
 
 from __future__ import annotations
 
+import threading
 from dataclasses import replace
 from types import TracebackType
 from typing import Optional, Type
@@ -27,12 +28,15 @@ class Session(Requests):
     `ask` sends a request until it is answered, and reports nothing that the clock had kept of an earlier session. It first finds
     that its number is new. With a file the next session goes on from this one. A request is in the file before it is sent. If it
     had no answer, the next session finishes it first, and has what came of it in `earlier`.
+
+    Threads that ask in one session take turns: a request is answered before the next one begins.
     """
 
     def __init__(self, settings: SessionSettings, file: Optional[SessionFile] = None, *, wait: float = 3.0) -> None:
         """`wait` is how many seconds a session without a number waits before it asks, until no copy of an earlier one is on its
         way."""
         octets = None if file is None else file.octets
+        self._asking = threading.RLock()
         self._file = file
         self._wait = wait
         self._is_known = settings.first is not None or octets is not None
@@ -71,10 +75,11 @@ class Session(Requests):
 
     def close(self) -> None:
         """Stops it. A file then has it without the request whose answer was reported."""
-        if self._file is not None and self._file.is_open and self._is_fresh and not self.is_busy():
-            self._file.write(self.image())
-        self._file = None
-        super().close()
+        with self._asking:
+            if self._file is not None and self._file.is_open and self._is_fresh and not self.is_busy():
+                self._file.write(self.image())
+            self._file = None
+            super().close()
 
     def _gives_up(self) -> bool:
         """Lets a question go. One that can't be is finished like any request."""
@@ -98,15 +103,18 @@ class Session(Requests):
         begin_request(probe, action, number, data, port)
         probe.close()
 
-    def _finish(self, way: Transport, timeout: float) -> None:
-        """Sends the request of an earlier run until it is answered."""
-        self.resume(self.settings.attempts)
-        try:
-            self.earlier = carry_out(self, way, timeout)
-        except NoAnswer as error:
-            why = f"{error} of an earlier request: the request itself was not sent"
-            raise NoAnswer(why, was_sent=False) from None
-        self.is_under_way = False
+    def finish(self, way: Transport, *, timeout: float = 0.2) -> Report:
+        """Sends the request of an earlier run until it is answered, and answers what came of it. `ask` does so too, but the file is
+        then kept without that request before `earlier` can be read."""
+        with self._asking:
+            self.resume(self.settings.attempts)
+            try:
+                self.earlier = carry_out(self, way, timeout)
+            except NoAnswer as error:
+                why = f"{error} of an earlier request: the request itself was not sent"
+                raise NoAnswer(why, was_sent=False) from None
+            self.is_under_way = False
+            return self.earlier
 
     def _keep_number(self, number: int) -> None:
         """Has the file say that the next request has this number."""
@@ -147,15 +155,17 @@ class Session(Requests):
         the id. If no answer came, NoAnswer says whether the request itself was sent; if it was, `go_on` asks the same again."""
         number = id_of(named)
         data = data_field(number, value)
-        self._judge(action, number, data, port)
-        if self.is_under_way:
-            self._finish(way, timeout)
-        if not self._is_fresh:
-            self._find_number(way, number, port, timeout)
-        self._begin(action, number, data, port)
-        return carry_out(self, way, timeout)
+        with self._asking:
+            self._judge(action, number, data, port)
+            if self.is_under_way:
+                self.finish(way, timeout=timeout)
+            if not self._is_fresh:
+                self._find_number(way, number, port, timeout)
+            self._begin(action, number, data, port)
+            return carry_out(self, way, timeout)
 
     def go_on(self, way: Transport, attempts: int = 30, *, timeout: float = 0.2) -> Report:
         """Asks the unanswered request again. The clock carries it out once all the same."""
-        self.resume(attempts)
-        return carry_out(self, way, timeout)
+        with self._asking:
+            self.resume(attempts)
+            return carry_out(self, way, timeout)

@@ -5,8 +5,10 @@ from __future__ import annotations
 import os
 import subprocess
 import sys
+import threading
 import unittest
-from typing import Optional
+import unittest.mock
+from typing import List, Optional
 
 import ptpm
 
@@ -17,7 +19,7 @@ from . import CLOCK, MANAGER, TOP, Folder
 class Asking(Folder):
     def setUp(self) -> None:
         super().setUp()
-        self.path = self.start_clock("-m", MANAGER)
+        self.path = self.start_clock("-m", MANAGER, CLOCK)
         self.way = ptpm.UnixTransport(self.path)
         self.addCleanup(self.way.close)
 
@@ -61,6 +63,26 @@ class Asking(Folder):
             self.assertEqual(str(report), "refused WRONG_VALUE")
             self.assertEqual(session.next_number, 3)
             self.assertRaisesRegex(ptpm.Error, "NEEDS_PORT", session.ask, self.way, ptpm.Action.GET, "PORT_DATA_SET")
+
+    def test_threads_that_ask_in_one_session_take_turns(self) -> None:
+        wrong: List[object] = []
+
+        def ask(session: ptpm.Session, first: int) -> None:
+            for value in range(first, first + 30):
+                try:
+                    members = session.ask(self.way, ptpm.Action.SET, "PRIORITY1", value, timeout=1).members
+                except ptpm.Error as error:
+                    members = {"refused": error}
+                if members != {"priority1": value}:
+                    wrong.append((value, members))
+
+        with self.session(100) as session:
+            threads = [threading.Thread(target=ask, args=(session, first)) for first in (0, 100)]
+            for thread in threads:
+                thread.start()
+            for thread in threads:
+                thread.join()
+        self.assertEqual(wrong, [])
 
     def test_a_clock_that_is_not_there_is_told_apart(self) -> None:
         with ptpm.Session(ptpm.SessionSettings(MANAGER, "0102030405060708", 1, attempts=2)) as session:
@@ -158,6 +180,8 @@ class Asking(Folder):
         os.unlink(path)
         os.symlink("elsewhere", path)
         self.assertRaisesRegex(ptpm.SessionFileError, "link", ptpm.SessionFile, MANAGER, CLOCK, path)
+        os.mkdir(f"{path}-2")
+        self.assertRaisesRegex(ptpm.SessionFileError, "it is no file", ptpm.SessionFile, MANAGER, CLOCK, f"{path}-2")
 
     def test_a_file_has_one_turn_at_a_time(self) -> None:
         path = f"{self.folder}/session"
@@ -165,7 +189,9 @@ class Asking(Folder):
             old.write(f"7 {MANAGER} {CLOCK}\n")  # as an earlier version wrote it
         os.chmod(path, 0o640)
         with ptpm.SessionFile(MANAGER, CLOCK, path) as file:
-            self.assertRaisesRegex(ptpm.SessionFileError, "holds it", ptpm.SessionFile, MANAGER, CLOCK, path)
+            os.symlink(self.folder, f"{self.folder}/link")
+            for name in (path, f"{self.folder}/link/session"):
+                self.assertRaisesRegex(ptpm.SessionFileError, "holds it", ptpm.SessionFile, MANAGER, CLOCK, name)
             words = [str(TOP / "hosts/manage"), "-u", self.path, "-m", MANAGER, "-k", path, "--target", CLOCK, "get", "PRIORITY1"]
             with subprocess.Popen(words, stdout=subprocess.PIPE, text=True) as waiting:
                 self.assertRaises(subprocess.TimeoutExpired, waiting.wait, 0.3)
@@ -203,6 +229,48 @@ class Asking(Folder):
         self.assertEqual(run("-t", "20", "-a", "2", "get", "PRIORITY1", "--target", "0102030405060708"), (3, ""))
         self.assertEqual(run("survey", "PRIORITY1", "-x"), (0, f"{CLOCK}/1 value 6400\n"))
         self.assertEqual(run("survey", "PRIORITY1", "--target", CLOCK), (2, ""))
+        self.assertEqual(run("-m", "0011223344556677/65535", "get", "PRIORITY1", "--target", CLOCK), (2, ""))
+        self.assertEqual(run("-x", "set", "PRIORITY1", "64 00", "--target", CLOCK), (2, ""))
+        with unittest.mock.patch.dict(os.environ, PYTHONIOENCODING="ascii"):
+            said = run("-m", MANAGER, "set", "USER_DESCRIPTION", "--text", "Köln", "--target", CLOCK)
+        self.assertEqual(said, (0, "userDescription K\\xc3\\xb6ln\n"))
+
+    def test_what_could_not_be_reported_stays_in_the_file(self) -> None:
+        def run(streams: str, *words: str) -> int:
+            command = ["sh", "-c", f'exec "$0" -m ptpm -u "$@" {streams}', sys.executable, self.path, "--target", CLOCK, *words]
+            return subprocess.run(command, stdout=subprocess.DEVNULL, stderr=subprocess.DEVNULL, check=False).returncode
+
+        settings = ptpm.SessionSettings(MANAGER, CLOCK)
+        for streams in (">&-", "> /dev/full"):
+            self.assertEqual(run(streams, "get", "PRIORITY1"), 4)
+            self.assertEqual(run(streams, "-m", MANAGER, "-w", "0", "set", "PRIORITY1", "100"), 4)
+            with ptpm.SessionFile(MANAGER, CLOCK) as file, ptpm.Session(settings, file) as session:
+                self.assertTrue(session.is_under_way)
+            for closed in ("2>&-", "2> /dev/full"):     # the answer of the earlier run is said on standard error
+                self.assertEqual(run(closed, "-m", MANAGER, "set", "PRIORITY2", "7"), 4)
+            self.assertEqual(ptpm.get(self.way, CLOCK, "PRIORITY2").members, {"priority2": 128})
+            self.assertEqual(run("", "-m", MANAGER, "set", "PRIORITY1", "101"), 0)
+        self.assertEqual(run("2>&-", "-t", "20", "-a", "2", "get", "PORT_DATA_SET"), 2)
+
+    def test_a_socket_that_is_gone_fails_no_run(self) -> None:
+        with ptpm.UnixTransport(self.path) as way:
+            self.assertEqual(ptpm.get(way, CLOCK, "PRIORITY1").members, {"priority1": 128})
+            for name in os.listdir(self.folder):
+                if name.startswith(f"clock.socket.{os.getpid()}."):     # beside that of setUp
+                    os.unlink(f"{self.folder}/{name}")
+
+    def test_a_file_that_was_closed_is_not_written(self) -> None:
+        with ptpm.SessionFile(MANAGER, CLOCK) as file:
+            session = ptpm.Session(ptpm.SessionSettings(MANAGER, CLOCK), file, wait=0)
+        with self.assertRaises(ptpm.SessionFileError):
+            session.ask(self.way, ptpm.Action.SET, "PRIORITY1", 100)
+        with ptpm.SessionFile(MANAGER, CLOCK) as file:
+            child = os.fork()
+            if child == 0:  # it holds nothing of its parent
+                file.close()
+                os._exit(file.is_open or not os.path.exists(f"{file.path}.lock"))
+            self.assertEqual((os.waitpid(child, 0)[1], file.is_open), (0, True))
+        self.assertEqual(ptpm.get(self.way, CLOCK, "PRIORITY1").members, {"priority1": 128})
 
 
 if __name__ == "__main__":
