@@ -22,8 +22,8 @@ use ptpm_codec::{ClockIdentity, OutOfMemory, PortIdentity};
 use ptpm_data::{Reply, Request, Rights};
 use std::alloc::Global;
 
-/// The latest accepted requests, in as many slots as the clock has managers, of 2,136 octets each. They lie in one block of memory,
-/// which is taken when the table is made: no call after that takes any, and `keep` is never refused. A table without managers
+/// The latest accepted requests, in as many slots as the clock has managers, of 2,136 octets each. They lie in one block of memory.
+/// It is taken when the table is made. No call after that takes any, and `keep` is never refused. A table without managers
 /// takes none. Besides, the table has 32 octets. What is kept is kept as in a `SlotTable`.
 #[derive(Drop)]
 pub struct HeapTable {
