@@ -186,16 +186,27 @@ class Task:
             complain(f"{error}: the next run asks this again")
         return status
 
+    def _finish_in(self, session: Session, way: Transport) -> Report:
+        """What came of the request of an earlier run. If nothing did, it is said what can be done."""
+        domain = session.earlier_domain
+        try:
+            return session.finish(way, timeout=self.words.timeout / 1000)
+        except NoAnswer as error:
+            there = "" if domain == self.words.domain else f", and --domain {domain} asks there"
+            raise NoAnswer(f"{error}; --give-up lets the earlier one go{there}", was_sent=False) from None
+
     def _ask_in(self, session: Session, way: Transport) -> Report:
         words = self.words
         seconds = words.timeout / 1000
         assert self.action is not None
+        domain = session.earlier_domain
+        where = "" if domain == words.domain else f" in domain {domain}"
         if words.give_up and session.is_under_way:
             session.let_go()
-            complain("the request of an earlier run is let go: a get shows whether it was carried out")
+            complain(f"the request of an earlier run is let go: a get{where} shows whether it was carried out")
         if session.is_under_way:
-            earlier = session.finish(way, timeout=seconds)
-            said = complain("a request of an earlier run had no answer yet, and was sent again:") and complain(earlier)
+            earlier = self._finish_in(session, way)
+            said = complain(f"a request of an earlier run{where} had no answer yet, and was sent again:") and complain(earlier)
             if not said:  # and then it stays in the file
                 raise NotWritten("standard error could not be written")
         return session.ask(way, self.action, self.id, self.data, self.port, timeout=seconds)

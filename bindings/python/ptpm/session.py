@@ -18,7 +18,7 @@ from .nobody import draw
 from .report import Report
 from .requests import Requests, SessionSettings, begin_request
 from .session_file import SessionFile
-from .session_image import first_number, has_question, number_of_line
+from .session_image import domain_of_unanswered, first_number, has_question, number_of_line
 from .transport import Transport
 
 
@@ -27,7 +27,8 @@ class Session(Requests):
 
     `ask` sends a request until it is answered, and reports nothing that the clock had kept of an earlier session. It first finds
     that its number is new. With a file the next session goes on from this one. A request is in the file before it is sent. If it
-    had no answer, the next session finishes it first, and has what came of it in `earlier`.
+    had no answer, the next session finishes it first, and has what came of it in `earlier`. A SET or a COMMAND is finished in the
+    domain in which it was asked, whichever this session's is.
 
     Threads that ask in one session take turns: a request is answered before the next one begins.
     """
@@ -45,6 +46,8 @@ class Session(Requests):
         """Whether a request of an earlier run has no answer yet."""
         self.earlier: Optional[Report] = None
         """What came of it."""
+        self.earlier_domain = settings.domain
+        """The domain in which it is sent again."""
         first = settings.first if octets is None else first_number(octets)
         super().__init__(replace(settings, first=draw() if first is None else first))
         if octets is not None:
@@ -60,8 +63,10 @@ class Session(Requests):
                 raise
             self._start(replace(settings, first=number))
             return
-        self.retune(settings.domain)
         self.is_under_way = self.is_busy() and not (has_question(octets) and self._gives_up())
+        if self.is_under_way:
+            self.earlier_domain = domain_of_unanswered(octets, settings.domain)
+        self.retune(self.earlier_domain)
 
     def __enter__(self) -> Session:
         return self
@@ -93,7 +98,13 @@ class Session(Requests):
         """Goes on at the next number, without the request that has no answer. Once the clock has answered a later one, it was
         carried out, or never will be. It is refused if 32,767 one after the other had no answer (OUT_OF_REACH)."""
         self.give_up()
+        if self.is_under_way:
+            self._come_back()
+
+    def _come_back(self) -> None:
+        """Asks in its own domain, once the request of an earlier run is settled."""
         self.is_under_way = False
+        self.retune(self.settings.domain)
 
     def _judge(self, action: int, number: int, data: bytes, port: int) -> None:
         """Refuses what the library refuses to begin, before anything is sent."""
@@ -111,9 +122,10 @@ class Session(Requests):
             try:
                 self.earlier = carry_out(self, way, timeout)
             except NoAnswer as error:
-                why = f"{error} of an earlier request: the request itself was not sent"
+                where = "" if self.earlier_domain == self.settings.domain else f" in domain {self.earlier_domain}"
+                why = f"{error} of an earlier request{where}: the request itself was not sent"
                 raise NoAnswer(why, was_sent=False) from None
-            self.is_under_way = False
+            self._come_back()
             return self.earlier
 
     def _keep_number(self, number: int) -> None:

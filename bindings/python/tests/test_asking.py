@@ -3,9 +3,11 @@
 from __future__ import annotations
 
 import os
+import socket
 import subprocess
 import sys
 import threading
+import time
 import unittest
 import unittest.mock
 from typing import List, Optional
@@ -13,6 +15,24 @@ from typing import List, Optional
 import ptpm
 
 from . import CLOCK, MANAGER, TOP, Folder
+
+
+class Both(ptpm.Transport):
+    """A way to two clocks of one identity."""
+
+    def __init__(self, *ways: ptpm.Transport) -> None:  # it has no socket of its own
+        self._ways = ways
+
+    def send(self, octets: bytes) -> bool:
+        return all([way.send(octets) for way in self._ways])
+
+    def receive(self, until: float) -> Optional[bytes]:
+        while time.monotonic() < until:
+            for way in self._ways:
+                datagram = way.receive(time.monotonic() + 0.01)
+                if datagram is not None:
+                    return datagram
+        return None
 
 
 @unittest.skipUnless((TOP / "hosts/clock").exists(), "hosts/clock is not built")
@@ -121,13 +141,17 @@ class Asking(Folder):
     def ask_by_manage(self, value: int) -> object:
         return int(self.manage("set", "PRIORITY1", str(value)).stdout.split()[1])
 
-    def leave(self, value: int) -> None:
-        """A session that ends before its SET has an answer."""
-        with self.assertRaises(ptpm.NoAnswer) as caught, ptpm.SessionFile(MANAGER, CLOCK) as file:
-            with ptpm.Session(ptpm.SessionSettings(MANAGER, CLOCK, attempts=2), file, wait=0) as session:
-                session.ask(self.way, ptpm.Action.GET, "PRIORITY1", timeout=1)
-                session.retune(4)  # in which the clock is not
-                session.ask(self.way, ptpm.Action.SET, "PRIORITY1", value, timeout=0.05)
+    def leave(self, value: Optional[int], domain: int = 0, action: int = ptpm.Action.SET, named: str = "PRIORITY1") -> None:
+        """A session that ends before its request has an answer: nobody reads what is sent."""
+        with socket.socket(socket.AF_UNIX, socket.SOCK_DGRAM) as nobody:
+            nobody.bind(f"{self.folder}/nobody")
+            with ptpm.SessionFile(MANAGER, CLOCK) as file, ptpm.UnixTransport(f"{self.folder}/nobody") as way:
+                with ptpm.Session(ptpm.SessionSettings(MANAGER, CLOCK, attempts=2), file, wait=0) as session:
+                    session.ask(self.way, ptpm.Action.GET, "PRIORITY1", timeout=1)
+                    session.retune(domain)
+                    with self.assertRaises(ptpm.NoAnswer) as caught:
+                        session.ask(way, action, named, value, timeout=0.05)
+        os.unlink(f"{self.folder}/nobody")
         self.assertTrue(caught.exception.was_sent)
 
     def test_a_request_without_an_answer_is_finished(self) -> None:
@@ -147,6 +171,35 @@ class Asking(Folder):
                 session.let_go()
                 self.assertEqual(str(session.ask(self.way, ptpm.Action.GET, "PRIORITY1", timeout=1)), "priority1 22")
                 self.assertIsNone(session.earlier)
+
+    def goes_on(self, way: ptpm.Transport) -> "tuple[str, str]":
+        """What came of the request of an earlier run, and of a GET in domain 0 after it."""
+        with ptpm.SessionFile(MANAGER, CLOCK) as file:
+            with ptpm.Session(ptpm.SessionSettings(MANAGER, CLOCK, attempts=2), file) as session:
+                report = session.ask(way, ptpm.Action.GET, "PRIORITY1", timeout=0.5)
+                return str(session.earlier), str(report)
+
+    def test_a_request_is_finished_in_the_domain_in_which_it_was_asked(self) -> None:
+        self.leave(24, 4)
+        self.assertRaisesRegex(ptpm.NoAnswer, "request in domain 4: the request itself was not sent", self.goes_on, self.way)
+        words = ["-u", self.path, "-m", MANAGER, "-a", "2", "-t", "20", "get", "PRIORITY1", "--target", CLOCK]
+        ran = subprocess.run([sys.executable, "-m", "ptpm", *words], capture_output=True, text=True, check=False)
+        self.assertEqual((ran.returncode, ran.stdout), (3, ""))
+        self.assertRegex(ran.stderr, "in domain 4: .* --give-up lets the earlier one go, and --domain 4 asks there\n$")
+        self.assertEqual(ptpm.get(self.way, CLOCK, "PRIORITY1").members, {"priority1": 128})
+        with ptpm.UnixTransport(self.start_clock("-d", "4", "-m", MANAGER, CLOCK, name="beside")) as beside:
+            both = Both(self.way, beside)
+            self.assertEqual(self.goes_on(both), ("priority1 24", "priority1 128"))
+            self.leave(25, 4)
+            with ptpm.SessionFile(MANAGER, CLOCK) as file:
+                with ptpm.Session(ptpm.SessionSettings(MANAGER, CLOCK), file) as session:
+                    session.let_go()
+                    self.assertEqual(str(session.ask(both, ptpm.Action.SET, "PRIORITY1", 26, timeout=1)), "priority1 26")
+            self.leave(None, 4, ptpm.Action.GET)  # it changes nothing, so it is asked in this session's domain
+            self.assertEqual(self.goes_on(self.way), ("priority1 26", "priority1 26"))
+            self.leave(0, 4, named="DOMAIN")  # the clock may be there by now
+            self.assertEqual(self.goes_on(self.way), ("domainNumber 0", "priority1 26"))
+            self.assertEqual(ptpm.get(beside, CLOCK, "PRIORITY1", domain=4).members, {"priority1": 24})
 
     def test_an_answer_that_was_not_reported_comes_again(self) -> None:
         settings = ptpm.SessionSettings(MANAGER, CLOCK)
