@@ -4,9 +4,9 @@
 
 #include "task.h"
 
-/* What was sent: the task's request; the request of an earlier run, which is the task here, in this run's domain or in another one;
-   or a question before the task's request. It asks whether the next number of a session is new, or which number of a new session
-   is. */
+/* What was sent: the task's request; the request of an earlier run, which is the task here; or a question before the task's
+   request. An earlier request is in this run's domain, or elsewhere. A question asks whether the next number of a session is new,
+   or which number of a new session is. */
 enum unanswered { REQUEST, EARLIER_REQUEST, EARLIER_ELSEWHERE, NUMBER, FIRST_NUMBER };
 
 /* Says what is known of it, after this many messages of it went out under the number. Nobody knows which of them came in. If a
