@@ -180,6 +180,17 @@ static void refuse_twice(char *const *given, size_t count) {
     }
 }
 
+/* A clock drops what has its own identity as its source: it takes it for a message of its own that came back. */
+static void refuse_itself(const struct options *options) {
+    char identity[IDENTITY_TEXT];
+    for (size_t i = 0; i < options->manager_count; i++) {
+        const struct ptpm_manager_settings *manager = &options->managers[i];
+        if (memcmp(manager->clock, options->settings.identity, sizeof manager->clock) != 0) continue;
+        write_identity(identity, manager->clock);
+        refuse("-m %s/%u: it has the identity of the clock, which hears no such manager", identity, manager->port);
+    }
+}
+
 static void judge(const struct options *options, bool has_two_ways) {
     if (options->interface_count > PORTS) refuse("it takes eight interfaces at most");
     if (options->interface_count == 0 && options->meeting.path == NULL) {
@@ -187,6 +198,7 @@ static void judge(const struct options *options, bool has_two_ways) {
     }
     if (has_two_ways) refuse("-2 and -6 exclude each other");
     refuse_twice(options->interfaces, options->interface_count);
+    refuse_itself(options);
 }
 
 void read_options(struct options *options, int argc, char **argv) {
