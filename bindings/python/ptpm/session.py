@@ -52,6 +52,8 @@ class Session(Requests):
         super().__init__(replace(settings, first=draw() if first is None else first))
         if octets is not None:
             self._go_on_from(octets)
+        if file is not None:
+            file.keep_for(self)
 
     def _go_on_from(self, octets: bytes) -> None:
         settings = self.settings
@@ -75,15 +77,20 @@ class Session(Requests):
         self, kind: Optional[Type[BaseException]], error: Optional[BaseException], trace: Optional[TracebackType]
     ) -> None:
         if kind is not None:
-            self._file = None  # what was answered may not be reported yet
+            self._leave_file()  # what was answered may not be reported yet
         self.close()
+
+    def _leave_file(self) -> None:
+        if self._file is not None:
+            self._file.let_go_of(self)
+        self._file = None
 
     def close(self) -> None:
         """Stops it. A file then has it without the request whose answer was reported."""
         with self._asking:
             if self._file is not None and self._file.is_open and self._is_fresh and not self.is_busy():
                 self._file.write(self.image())
-            self._file = None
+            self._leave_file()
             super().close()
 
     def _gives_up(self) -> bool:

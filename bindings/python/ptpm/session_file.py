@@ -9,6 +9,7 @@ import os
 import stat
 import threading
 import time
+import weakref
 from typing import Optional, Set, Union
 
 from . import _header as header
@@ -59,6 +60,7 @@ class SessionFile:
             os.mkdir(self._folder, 0o755)  # no folder above it is made
         self._own_name = os.path.join(os.path.realpath(self._folder), self._name)
         self._before: Optional[os.stat_result] = None
+        self._session: Optional["weakref.ref[object]"] = None
         self._process = os.getpid()
         self._lock = self._take_turn()
         try:
@@ -176,6 +178,19 @@ class SessionFile:
         finally:
             os.close(folder)
         self.octets = octets
+
+    def keep_for(self, session: object) -> None:
+        """Has one session at a time kept here. Another one would write over its request, which may have no answer yet."""
+        with _own_turn:
+            if self._session is not None and self._session() is not None:
+                raise SessionFileError(f"{self.path}: it keeps another session, which is not closed")
+            self._session = weakref.ref(session)
+
+    def let_go_of(self, session: object) -> None:
+        """Keeps that session no more."""
+        with _own_turn:
+            if self._session is not None and self._session() is session:
+                self._session = None
 
     @property
     def is_open(self) -> bool:

@@ -257,6 +257,18 @@ class Asking(Folder):
             self.assertEqual(ptpm.Session(ptpm.SessionSettings(MANAGER, CLOCK), file).next_number, 11)
         self.assertEqual(os.stat(path).st_mode & 0o777, 0o640)
 
+    def test_a_file_keeps_one_session_at_a_time(self) -> None:
+        settings = ptpm.SessionSettings(MANAGER, CLOCK)
+        with ptpm.SessionFile(MANAGER, CLOCK) as file:
+            with ptpm.Session(settings, file, wait=0) as session:
+                self.assertEqual(str(session.ask(self.way, ptpm.Action.SET, "PRIORITY1", 41, timeout=1)), "priority1 41")
+                self.assertRaisesRegex(ptpm.SessionFileError, "it keeps another session", ptpm.Session, settings, file)
+                self.assertEqual(str(session.ask(self.way, ptpm.Action.SET, "PRIORITY1", 42, timeout=1)), "priority1 42")
+            with self.assertRaises(BrokenPipeError), ptpm.Session(settings, file) as session:
+                raise BrokenPipeError
+            with ptpm.Session(settings, file) as session:
+                self.assertEqual(str(session.ask(self.way, ptpm.Action.GET, "PRIORITY1", timeout=1)), "priority1 42")
+
     def test_no_file_is_left_of_a_clock_that_is_not_there(self) -> None:
         with ptpm.SessionFile(MANAGER, "0102030405060708", f"{self.folder}/session") as file:
             settings = ptpm.SessionSettings(MANAGER, "0102030405060708", attempts=1)
