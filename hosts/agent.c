@@ -8,6 +8,7 @@
 #include "output.h"
 #include "peers.h"
 #include "saving.h"
+#include "twin.h"
 #include <stdbool.h>
 #include <stdio.h>
 #include <stdlib.h>
@@ -35,6 +36,13 @@ static uint8_t domain(void) {
     uint8_t octets[PTPM_MOST_READ];
     size_t size;
     return ptpm_clock_read(&clock_held, PTPM_ID_DOMAIN, 0, octets, sizeof octets, &size) == PTPM_READ ? *octets : 0;
+}
+
+void tell_twin(void) {
+    char identity[IDENTITY_TEXT];
+    if (!has_twin(options->settings.identity, domain())) return;
+    write_identity(identity, options->settings.identity);
+    say("another clock %s runs in domain %u of this machine: both answer, and a SET may change one of them alone", identity, domain());
 }
 
 /* The portState that a GET of PORT_DATA_SET shows, by its name. */

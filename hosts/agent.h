@@ -12,6 +12,9 @@ void start_clock(const struct options *given);
 /* It is saved, if it has a file of its state. */
 void save_clock(void);
 
+/* A line on standard error if another clock of this machine has its identity. */
+void tell_twin(void);
+
 /* A line on standard error: its identity, its interfaces, the states of its ports, and how many managers it has. */
 void say_started(void);
 

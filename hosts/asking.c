@@ -64,14 +64,20 @@ static void print_own_answer(const struct task *task) {
     else print_answer(stdout, task, "", &answer);
 }
 
+/* Names the manager as a clock is started with it. Without a session its port is another one in each run. */
+static void say_not_supported(const struct session *session) {
+    char identity[IDENTITY_TEXT], manager[IDENTITY_TEXT + 16] = "whoever gives no --manager";
+    write_identity(identity, session->settings.clock);
+    if (session->is_kept) snprintf(manager, sizeof manager, "manager %s/%u", identity, session->settings.port);
+    complain("the clock lacks that id, or takes no change of it from %s: a ptp4l takes some at its Unix socket alone", manager);
+}
+
 /* Prints what the answer says, before the session is kept without the request. */
 static int print_report(struct session *session, const struct task *task) {
     take_report(&session->handle, &answer);
     print_own_answer(task);
     if (fflush(stdout)) return NOT_WRITTEN;
-    if (answer.told == PTPM_REFUSED && answer.error == NOT_SUPPORTED && task->action != PTPM_GET) {
-        complain("the clock lacks that id, or takes no change of it from this manager: a ptp4l takes some at its Unix socket alone");
-    }
+    if (answer.told == PTPM_REFUSED && answer.error == NOT_SUPPORTED && task->action != PTPM_GET) say_not_supported(session);
     return answer.told == PTPM_REFUSED ? REFUSED : ANSWERED;
 }
 

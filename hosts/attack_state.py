@@ -212,8 +212,9 @@ def full_disks():
     check("there is room at first", sets(100))
     whole = octets(inner)
     filler = fill_disk(folder)
-    status = manage("-u", path, "-k", session, "-t", "40", "-a", "4", "set", "PRIORITY1", "50")[0]
+    status, said, _ = manage("-u", path, "-k", session, "-t", "40", "-a", "4", "set", "PRIORITY1", "50")
     check("nothing is answered that is not saved", status == 3)
+    check("and the manager is told that this may be why", "or the clock can't save its state" in said)
     time.sleep(0.3)
     said = f"ptpm-clock: {inner}: nothing is answered: No space left on device\n"
     check("which is said", said in clock.text() and ", 0 of 1 sent" in clock.text())

@@ -36,6 +36,9 @@ static size_t answer_of(uint16_t number, uint16_t source, size_t size) {
 }
 
 static struct ptpm_manager_settings managers[MANAGERS];
+static size_t clock_managers = MANAGERS;    /* how many of them a clock has */
+
+static size_t clock_room(void) { return PTPM_CLOCK_MEMORY_OF(clock_managers); }
 
 static enum ptpm_started start_clock(struct ptpm_clock *clock) {
     struct ptpm_clock_settings settings;
@@ -43,13 +46,13 @@ static enum ptpm_started start_clock(struct ptpm_clock *clock) {
     ptpm_clock_defaults(&settings);
     memcpy(settings.identity, target, 8);
     for (int i = 0; i < PORTS; i++) ptpm_port_defaults(&ports[i]);
-    return ptpm_clock_start(clock, &settings, ports, PORTS, managers, MANAGERS);
+    return ptpm_clock_start(clock, &settings, ports, PORTS, managers, clock_managers);
 }
 
 static enum ptpm_restored restore_clock(struct ptpm_clock *clock, const struct ptpm_clock *from) {
     size_t size, gone;
     if (ptpm_clock_image(from, image, sizeof image, &size) != PTPM_SAVED) return PTPM_NOT_AN_IMAGE;
-    return ptpm_clock_restore(clock, target, PORTS, managers, MANAGERS, image, size, &gone);
+    return ptpm_clock_restore(clock, target, PORTS, managers, clock_managers, image, size, &gone);
 }
 
 static bool holds_clock(const struct ptpm_clock *clock) {
@@ -112,14 +115,28 @@ static void given_again(void) {
     check(ptpm_memory_give(block, ROOM) && ptpm_memory_most_taken() == 0, "another block after it");
 }
 
+/* A clock takes what the header says of its managers, and no octet less. */
+static void exact_managers(void) {
+    for (clock_managers = 0; clock_managers <= MANAGERS; clock_managers++) {
+        ptpm_memory_give(block, clock_room() - 1);
+        check(start_clock(&clocks[0]) == PTPM_START_NO_MEMORY, "a clock in one octet less than its managers take");
+        stop_all();
+        ptpm_memory_give(block, clock_room());
+        check(start_clock(&clocks[0]) == PTPM_STARTED && ptpm_memory_taken() == clock_room(), "what a clock takes with its managers");
+        stop_all();
+    }
+    clock_managers = MANAGERS;
+    check(clock_room() == PTPM_CLOCK_MEMORY, "what any clock takes at most");
+}
+
 /* So many clocks in a block for them; and in one octet less one fewer, until another is stopped. */
 static void exact_clocks(int all) {
     int last = all - 1;
-    ptpm_memory_give(block, (size_t)all * PTPM_CLOCK_MEMORY);
+    ptpm_memory_give(block, (size_t)all * clock_room());
     for (int i = 0; i < all; i++) check(start_clock(&clocks[i]) == PTPM_STARTED, "a clock in its share of a block");
     check(restore_clock(&clocks[0], &clocks[last]) == PTPM_RESTORE_NO_MEMORY && holds_clock(&clocks[0]), "no room for both clocks");
     stop_all();
-    ptpm_memory_give(block, (size_t)all * PTPM_CLOCK_MEMORY - 1);
+    ptpm_memory_give(block, (size_t)all * clock_room() - 1);
     for (int i = 0; i < last; i++) check(start_clock(&clocks[i]) == PTPM_STARTED, "a clock in its share of a smaller block");
     check(start_clock(&clocks[last]) == PTPM_START_NO_MEMORY, "a clock in one octet less");
     for (int i = 0; i < last; i++) check(holds_clock(&clocks[i]), "the clocks beside one that was refused");
@@ -131,7 +148,7 @@ static void exact_clocks(int all) {
 /* Clocks that are started, started anew, restored and stopped without end, in a block for just this many. */
 static void endless_clocks(void) {
     unsigned refused = 0;
-    ptpm_memory_give(block, CLOCKS * PTPM_CLOCK_MEMORY);
+    ptpm_memory_give(block, CLOCKS * clock_room());
     for (int i = 0; i < TIMES; i++) {
         struct ptpm_clock *one = &clocks[below(CLOCKS)], *other = &clocks[below(CLOCKS)];
         if (below(3) == 0) ptpm_clock_stop(one);
@@ -238,7 +255,7 @@ static unsigned any_step(void) {
 /* All three side by side in the sum of what each takes. */
 static void side_by_side(void) {
     unsigned refused = 0;
-    ptpm_memory_give(block, CLOCKS * PTPM_CLOCK_MEMORY + PTPM_SESSION_MEMORY + PTPM_SURVEY_MEMORY(200, 130));
+    ptpm_memory_give(block, CLOCKS * clock_room() + PTPM_SESSION_MEMORY + PTPM_SURVEY_MEMORY(200, 130));
     for (int i = 0; i < 10 * TIMES; i++) refused += any_step();
     check(refused == 0, "nothing is refused in the sum of what each takes");
     stop_all();
@@ -253,14 +270,20 @@ int main(void) {
     }
     nothing_given();
     given_again();
-    for (int all = 1; all <= CLOCKS; all++) exact_clocks(all);
-    endless_clocks();
+    exact_managers();
+    for (clock_managers = 1; clock_managers <= MANAGERS; clock_managers += MANAGERS - 1) {
+        for (int all = 1; all <= CLOCKS; all++) exact_clocks(all);
+        endless_clocks();
+    }
+    clock_managers = MANAGERS;
     exact_session();
     for (size_t i = 0; i < sizeof answers / sizeof *answers; i++)
         for (size_t k = 0; k < sizeof sizes / sizeof *sizes; k++)
             roomy_survey(answers[i], sizes[k], PTPM_SURVEY_MEMORY(answers[i], sizes[k]));
     thousand_answers();
     refused_in_turn();
+    side_by_side();
+    clock_managers = 1;
     side_by_side();
     return told("blocks");
 }

@@ -145,6 +145,7 @@ int main(int argc, char **argv) {
     read_options(&options, argc, argv);
     start_clock(&options);
     open_all();
+    tell_twin();
     let_go_of_rights(&options.privileges, needs());
     if (options.source != NULL) source = open_source(options.source);
     start_limits(&options.limits);

@@ -1,13 +1,13 @@
 /* The memory of libptpm_memory.a: what dist/c/heap.c asks of malloc, realloc and free, out of one block that the host gives. The block
    is pieces that lie side by side; each begins with its size and that of the piece below it. Two free pieces are never adjacent. A
-   clock's piece, which is larger than any other, is taken from the lowest place that has room, and all others from the highest. So
-   what lies between clocks is room for clocks, and a clock that was stopped can be started again. */
+   clock has two pieces: its managers' slots, and then itself. They are taken from the lowest place that has room, and all others from
+   the highest. So what lies between clocks is room for clocks, and a clock that was stopped can be started again. */
 #include "ptpm_memory.h"
 #include <stdint.h>
 #include <string.h>
 
-/* A piece lies at a multiple of UNIT, and its size is one. From LARGE on it is a clock's. */
-enum { UNIT = 16, LARGE = 32768 };
+/* A piece lies at a multiple of UNIT, and its size is one. A clock takes CLOCK octets for itself and SLOT for each manager. */
+enum { UNIT = 16, CLOCK = 472, SLOT = 2136 };
 
 struct piece {
     size_t size;                /* with these two words; odd if the piece is taken */
@@ -23,6 +23,9 @@ void *grow_block(void *block, size_t size);
 void return_block(void *block);
 
 static size_t size_of(const struct piece *piece) { return piece->size & ~(size_t)1; }
+
+/* Whether a clock asks for this many octets. Another request for as many is only taken from another place. */
+static bool is_for_clock(size_t size) { return size == CLOCK || size % SLOT == 0; }
 
 static bool is_free(const struct piece *piece) { return (piece->size & 1) == 0; }
 
@@ -65,7 +68,7 @@ static struct piece *take(struct piece *piece, size_t size, bool is_lower) {
 
 void *take_block(size_t size) {
     size_t asked = (size + UNIT - 1) / UNIT * UNIT + sizeof(struct piece);
-    bool is_lower = asked >= LARGE;
+    bool is_lower = is_for_clock(size);
     struct piece *piece = is_lower ? lowest : highest;
     if (size > SIZE_MAX / 2) return NULL;
     while (piece != NULL && (!is_free(piece) || size_of(piece) < asked)) piece = is_lower ? above(piece) : below(piece);

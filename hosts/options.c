@@ -14,6 +14,7 @@
 #include <stdio.h>
 #include <stdlib.h>
 #include <string.h>
+#include <sys/un.h>
 
 enum { SECOND = 1000, HOPS_AT_FIRST = 8, RATE_AT_FIRST = 1000, MOST_RATE = 1000000, MODE_AT_FIRST = 0660 };
 
@@ -112,6 +113,11 @@ static void take_user(struct privileges *privileges) {
     privileges->group = found->pw_gid;
 }
 
+static const char *socket_path(void) {
+    if (strlen(optarg) >= sizeof ((struct sockaddr_un *)0)->sun_path) refuse("-u %s: the path is too long", optarg);
+    return optarg;
+}
+
 /* IDENTITY/PORT, with every right. */
 static struct ptpm_manager_settings read_manager(const char *text) {
     struct ptpm_manager_settings manager = { .rights = PTPM_CLOCK_SET | PTPM_PORT_SET | PTPM_PORT_COMMAND };
@@ -143,7 +149,7 @@ static void take_option(struct options *options, int option) {
     case '6': options->transport = UDP_IPV6; break;
     case 'f': options->limits.is_passed_on_from_host = true; break;
     case 'v': options->is_told = true; break;
-    case 'u': options->meeting.path = optarg; break;
+    case 'u': options->meeting.path = socket_path(); break;
     case 's': options->state = optarg; break;
     case 'o': options->source = optarg; break;
     case 'd':
@@ -174,6 +180,17 @@ static void refuse_twice(char *const *given, size_t count) {
     }
 }
 
+/* A clock drops what has its own identity as its source: it takes it for a message of its own that came back. */
+static void refuse_itself(const struct options *options) {
+    char identity[IDENTITY_TEXT];
+    for (size_t i = 0; i < options->manager_count; i++) {
+        const struct ptpm_manager_settings *manager = &options->managers[i];
+        if (memcmp(manager->clock, options->settings.identity, sizeof manager->clock) != 0) continue;
+        write_identity(identity, manager->clock);
+        refuse("-m %s/%u: it has the identity of the clock, which hears no such manager", identity, manager->port);
+    }
+}
+
 static void judge(const struct options *options, bool has_two_ways) {
     if (options->interface_count > PORTS) refuse("it takes eight interfaces at most");
     if (options->interface_count == 0 && options->meeting.path == NULL) {
@@ -181,6 +198,7 @@ static void judge(const struct options *options, bool has_two_ways) {
     }
     if (has_two_ways) refuse("-2 and -6 exclude each other");
     refuse_twice(options->interfaces, options->interface_count);
+    refuse_itself(options);
 }
 
 void read_options(struct options *options, int argc, char **argv) {

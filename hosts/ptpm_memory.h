@@ -16,9 +16,11 @@
 extern "C" {
 #endif
 
-/* What a clock takes, with any ports and managers, from its start or its restore on. Clocks alone fit a block of as many such
-   sizes, whatever the order of their starts and stops. A restore in a live handle has both clocks for a moment. */
-#define PTPM_CLOCK_MEMORY 34688
+/* What a clock takes that has this many managers, 0 to 16, and any ports, from its start or its restore on. PTPM_CLOCK_MEMORY is
+   enough for any clock. Clocks alone fit a block of the sum, whatever the order of their starts and stops, if all have as many
+   managers. A restore in a live handle has both clocks for a moment. */
+#define PTPM_CLOCK_MEMORY_OF(managers) ((size_t)528 + ((managers) > 0 ? ((size_t)(managers) * 2136 + 31) / 16 * 16 : 0))
+#define PTPM_CLOCK_MEMORY 34720
 
 /* The most that a session takes, whatever its requests and their answers are. A restore in a live handle has both sessions for a
    moment. */

@@ -1,6 +1,7 @@
 #define _GNU_SOURCE
 #include "report.h"
 #include "program.h"
+#include "text.h"
 #include <ctype.h>
 #include <stdbool.h>
 #include <stdlib.h>
@@ -232,7 +233,8 @@ static void print_piece(FILE *to, const struct piece *piece) {
 
 void print_report_text(FILE *to, const struct report *report, bool is_coloured) {
     const char *between = "\n";
-    print_piece(to, &report->head);
+    if (report->is_json) print_piece(to, &report->head);
+    else print_lines(to, report->head.at, report->head.size);
     if (!report->has_findings) return;
     size_t left = findings_left(report);
     if (!report->is_json && left == 0) fprintf(to, "findings: none\n");

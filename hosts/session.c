@@ -14,6 +14,9 @@
 /* A manager and a clock in a notice. */
 enum { OWNER = 2 * IDENTITY_TEXT + 32 };
 
+/* The octets of DOMAIN: the domainNumber, and a reserved one (IEEE 1588-2019, 15.5.3). */
+enum { SIZE_OF_DOMAIN = 2 };
+
 static void write_owner(char text[OWNER], const uint8_t manager[8], uint16_t port, const uint8_t target[8]) {
     char own[IDENTITY_TEXT], clock[IDENTITY_TEXT];
     write_identity(own, manager);
@@ -60,10 +63,19 @@ static void start_at_number(struct session *session, const struct task *task, co
     }
 }
 
-/* Makes the request that is under way a task of this run. It is sent by this run's transport and in its domain, as often as this
-   run's own. */
+/* The domain in which the request under way is sent again: the one in which it was asked. PTP instances of other domains may have
+   the same clockIdentity, and nobody asked them to change anything. A GET changes nothing, so it is sent in this run's domain. So
+   is a SET of DOMAIN to that one: the clock may be there by now. */
+static uint8_t domain_of_earlier(const struct session_image *image, uint8_t domain) {
+    bool has_moved_here = image->action == PTPM_SET && image->id == PTPM_ID_DOMAIN && image->size == SIZE_OF_DOMAIN
+                          && image->octets[0] == domain;
+    return image->action == PTPM_GET || has_moved_here ? domain : image->domain;
+}
+
+/* Makes the request that is under way a task of this run. It is sent by this run's transport, as often as this run's own. */
 static void read_earlier(struct task *earlier, const struct task *task, const struct session_image *image) {
     *earlier = *task;
+    earlier->settings.domain = domain_of_earlier(image, task->settings.domain);
     earlier->action = image->action;
     earlier->id = image->id;
     earlier->port = image->port;
@@ -88,10 +100,9 @@ enum kept open_session(struct session *session, const struct task *task, struct 
     }
     if (answer == PTPM_OTHER_SESSION) refuse_image(&image, &task->settings);
     if (answer != PTPM_RESTORED) refuse_octets(answer);
-    ptpm_session_retune(&session->handle, task->settings.domain);
-    if (!image.is_under_way) return AT_REST;
-    read_earlier(earlier, task, &image);
-    return UNDER_WAY;
+    if (image.is_under_way) read_earlier(earlier, task, &image);
+    see_to_domain(session, image.is_under_way ? earlier : task);
+    return image.is_under_way ? UNDER_WAY : AT_REST;
 }
 
 void start_session(struct session *session, const struct task *task, uint16_t first) {
@@ -103,6 +114,10 @@ void start_session(struct session *session, const struct task *task, uint16_t fi
 
 uint16_t latest_number(struct session *session) {
     return (uint16_t)(session->settings.first + ptpm_session_issued(&session->handle) - 1);
+}
+
+void see_to_domain(struct session *session, const struct task *task) {
+    ptpm_session_retune(&session->handle, task->settings.domain);
 }
 
 /* A session has the hops of its messages from its start. */

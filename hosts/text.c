@@ -55,16 +55,31 @@ static bool is_plain_character(const uint8_t *octets, size_t count, uint32_t num
     return count > 0 && is_shown(number) && (reads_utf8() || !has_control(octets, count));
 }
 
+static void print_character(FILE *to, const uint8_t *octets, size_t count, bool is_plain) {
+    for (size_t i = 0; i < count; i++) {
+        if (is_plain) putc(octets[i], to);
+        else fprintf(to, "\\x%02x", octets[i]);
+    }
+}
+
 void print_text(FILE *to, const uint8_t *octets, size_t size) {
     for (size_t i = 0; i < size;) {
         uint32_t number = 0;
         size_t count = character(octets + i, size - i, &number);
         bool is_plain = is_plain_character(octets + i, count, number);
         if (count == 0) count = 1;
-        for (size_t k = i; k < i + count; k++) {
-            if (is_plain) putc(octets[k], to);
-            else fprintf(to, "\\x%02x", octets[k]);
-        }
+        print_character(to, octets + i, count, is_plain);
+        i += count;
+    }
+}
+
+void print_lines(FILE *to, const char *text, size_t size) {
+    const uint8_t *octets = (const uint8_t *)text;
+    for (size_t i = 0; i < size;) {
+        uint32_t number;
+        size_t count = character(octets + i, size - i, &number);
+        if (count == 0) count = 1;
+        print_character(to, octets + i, count, reads_utf8() || !has_control(octets + i, count));
         i += count;
     }
 }

@@ -11,7 +11,11 @@
    not read UTF-8, so are the octets of each character with one that could be taken there for a control character. */
 void print_text(FILE *to, const uint8_t *octets, size_t size);
 
-/* Prints it as a string of JSON, in quotes. Characters that a terminal does not show as they are come as \u and their number,
+/* Prints lines of `ptpm site`, which have no control character of UTF-8. If the locale does not read UTF-8, characters whose octets
+   could be taken for one are printed as above. */
+void print_lines(FILE *to, const char *text, size_t size);
+
+/* Prints a text as a string of JSON, in quotes. Characters that a terminal does not show as they are come as \u and their number,
    and an octet that is no UTF-8 as U+FFFD. */
 void print_json_text(FILE *to, const uint8_t *octets, size_t size);
 

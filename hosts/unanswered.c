@@ -27,41 +27,48 @@ static bool tell_value(const struct task *task) {
 
 /* Why a clock that answers reads may drop what this manager asks. */
 static void tell_reason(const struct task *task, enum unanswered what, uint16_t number) {
+    static const char unsaved[] = ", or the clock can't save its state, for example since its disk is full";
     char manager[IDENTITY_TEXT];
     unsigned port = task->settings.port;
     write_identity(manager, task->settings.clock);
     switch (what) {
     case REQUEST:
-        complain("it dropped the request, since a copy of manager %s/%u asks too, or each answer was lost", manager, port);
+        complain("it dropped the request, since a copy of manager %s/%u asks too, or each answer was lost%s", manager, port, unsaved);
         break;
     case EARLIER_REQUEST:
+    case EARLIER_ELSEWHERE:
     case NUMBER:
         complain("it dropped number %u of manager %s/%u, since another file or a copy of the manager is ahead, or each answer was "
-                 "lost", number, manager, port);
+                 "lost%s", number, manager, port, unsaved);
         complain("if it does so each time: once %s is removed, the next run begins a new session", session_path());
         break;
     case FIRST_NUMBER:
-        complain("it answers no GET of manager %s/%u under any of four numbers", manager, port);
+        complain("it answers no GET of manager %s/%u under any of four numbers: each answer was lost%s", manager, port, unsaved);
         break;
     }
 }
 
 /* What may be wrong if the clock answers nobody. */
-static void advise(const struct task *task) {
+static void advise(const struct task *task, enum unanswered what) {
+    const char *end = what == EARLIER_REQUEST || what == EARLIER_ELSEWHERE ? "" : "; --domain names another";
     if (task->port > 1) complain("numberPorts of get DEFAULT_DATA_SET shows whether the clock has a port %u", task->port);
     if (task->path != NULL) return;
     if (task->port == 0) complain("a clock that answers only if its port is named, such as a ptpd, is asked with --port 1");
-    complain("survey DEFAULT_DATA_SET shows which clocks are in that domain; --domain names another");
+    complain("survey DEFAULT_DATA_SET shows which clocks are in that domain%s", end);
 }
 
 /* What becomes of a request that stays in the session's file. */
 static void tell_rest(const struct task *task, enum unanswered what, uint16_t number) {
     const char *words = task_words(task);
+    unsigned domain = task->settings.domain;
     if (!task->is_kept) return;
     if (what == REQUEST) {
         complain("the next run sends %s again, under number %u, before its own; --give-up lets it go", words, number);
     } else if (what == EARLIER_REQUEST) {
         complain("%s of an earlier run, number %u, comes before it; --give-up lets it go", words, number);
+    } else if (what == EARLIER_ELSEWHERE) {
+        complain("%s of an earlier run, number %u, was asked in domain %u, and comes before it; --give-up lets it go, and --domain "
+                 "%u asks there", words, number, domain, domain);
     }
 }
 
@@ -69,7 +76,8 @@ static void tell_rest(const struct task *task, enum unanswered what, uint16_t nu
 static const char *request_clause(const struct task *task, enum unanswered what) {
     bool may_change = !task->is_survey && task->action != PTPM_GET;
     if (what == REQUEST) return may_change ? ": the request may have been carried out" : "";
-    if (what == EARLIER_REQUEST && may_change) return ": an earlier request may have been carried out, and this one was not sent";
+    bool is_earlier = what == EARLIER_REQUEST || what == EARLIER_ELSEWHERE;
+    if (is_earlier && may_change) return ": an earlier request may have been carried out, and this one was not sent";
     return ": the request itself was not sent";
 }
 
@@ -87,7 +95,7 @@ int no_answer(const struct task *task, enum unanswered what, uint16_t number, lo
     if (task->is_survey && !task->is_of_clock) return NOT_ANSWERED;
     bool is_answered = (task->is_kept || task->action != PTPM_GET) && tell_value(task);
     if (stopped) return BY_SIGNAL + stopped;
-    if (!is_answered) advise(task);
+    if (!is_answered) advise(task, what);
     else if (task->is_kept) tell_reason(task, what, number);
     return NOT_ANSWERED;
 }

@@ -5,8 +5,9 @@
 #include "task.h"
 
 /* What was sent: the task's request; the request of an earlier run, which is the task here; or a question before the task's
-   request. It asks whether the next number of a session is new, or which number of a new session is. */
-enum unanswered { REQUEST, EARLIER_REQUEST, NUMBER, FIRST_NUMBER };
+   request. An earlier request is in this run's domain, or elsewhere. A question asks whether the next number of a session is new,
+   or which number of a new session is. */
+enum unanswered { REQUEST, EARLIER_REQUEST, EARLIER_ELSEWHERE, NUMBER, FIRST_NUMBER };
 
 /* Says what is known of it, after this many messages of it went out under the number. Nobody knows which of them came in. If a
    clock may have dropped them, nobody reads its value, and what it has is said. The program's status. */

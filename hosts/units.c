@@ -153,13 +153,14 @@ static void frames(void) {
 static void images(void) {
     uint8_t octets[] = {
         'p', 't', 'p', 'm', 2, 1, 0, 0, 0, 0, 0, 48, 0x00, 0x11, 0x22, 0x33, 0x44, 0x55, 0x66, 0x77, 0, 1,
-        0xaa, 0xbb, 0xcc, 0xff, 0xfe, 0xdd, 0xee, 0x01, 2, 0, 7, 1, 2, 0, 0, 0, 0, 0, 0, 0, 0, 1, 0, 0, 0, 0, 0, 0, 0, 0,
+        0xaa, 0xbb, 0xcc, 0xff, 0xfe, 0xdd, 0xee, 0x01, 2, 0, 7, 1, 2, 4, 0, 0, 0, 0, 0, 0, 0, 1, 0, 0, 0, 0, 0, 0, 0, 0,
         1, 0, 0x20, 0x05, 0xff, 0xff, 0, 0, 0xa5, 0x5a,
     };
     size_t size = sizeof octets - 2;
     struct session_image image = read_image(octets, size);
     check(memcmp(image.manager, octets + 12, 8) == 0 && memcmp(image.target, octets + 22, 8) == 0, "the clocks of an image");
     check(image.manager_port == 1 && image.ports == 2 && image.first == 7 && image.hops == 1, "the other members of a session");
+    check(image.domain == 4, "and its domain");
     check(image.is_under_way && image.action == 0 && image.id == 0x2005 && image.size == 0, "what is under way");
     check(image.port == 0, "an id of the clock names no port");
     memcpy(octets + 52, (const uint8_t[]){ 1, 3, 0x20, 0x0e, 0, 2, 0, 2 }, 8);

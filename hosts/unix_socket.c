@@ -19,16 +19,25 @@
 static struct sockaddr_un own_path = { .sun_family = AF_UNIX };
 static struct stat own_file;
 
-/* Removes a socket at the path if no program listens at it. */
-static void remove_unheard(const char *path) {
-    struct sockaddr_un address = { .sun_family = AF_UNIX };
+static bool is_socket(const char *path) {
     struct stat found;
-    if (strlen(path) >= sizeof address.sun_path || lstat(path, &found) || !S_ISSOCK(found.st_mode)) return;
+    return lstat(path, &found) == 0 && S_ISSOCK(found.st_mode);
+}
+
+/* Whether there is a socket at the path, and no program listens at it. */
+static bool is_unheard(const char *path) {
+    struct sockaddr_un address = { .sun_family = AF_UNIX };
+    if (strlen(path) >= sizeof address.sun_path || !is_socket(path)) return false;
     strcpy(address.sun_path, path);
     int probe = socket(AF_UNIX, SOCK_DGRAM | SOCK_CLOEXEC, 0);
     if (probe < 0) give_up(path);
-    if (connect(probe, (const struct sockaddr *)&address, sizeof address) && errno == ECONNREFUSED) unlink(path);
+    bool is_refused = connect(probe, (const struct sockaddr *)&address, sizeof address) && errno == ECONNREFUSED;
     close(probe);
+    return is_refused;
+}
+
+static void remove_unheard(const char *path) {
+    if (is_unheard(path)) unlink(path);
 }
 
 /* Whether a name is another with a dot and the number of a process after it, and there is no such process. */
@@ -65,12 +74,22 @@ static void remove_own(void) {
     unlink(own_path.sun_path);
 }
 
+/* Says why no socket can be made there, by errno. What is there already stays. */
+_Noreturn static void refuse_path(const char *path) {
+    const char *what = "it is there already, and is no socket: it stays as it is";
+    if (errno != EADDRINUSE) give_up(path);
+    if (is_unheard(path)) what = "the socket of a program that has ended is there, and can't be removed";
+    else if (is_socket(path)) what = "another program listens there";
+    fprintf(stderr, "%s: %s: %s\n", program, path, what);
+    exit(2);
+}
+
 int bind_unix(const char *path, mode_t mode) {
     if (strlen(path) >= sizeof own_path.sun_path) usage();
     strcpy(own_path.sun_path, path);
     int opened = socket(AF_UNIX, SOCK_DGRAM | SOCK_CLOEXEC, 0);
     mode_t before = umask(~mode & 0777);
-    if (opened < 0 || bind(opened, (struct sockaddr *)&own_path, sizeof own_path)) give_up(path);
+    if (opened < 0 || bind(opened, (struct sockaddr *)&own_path, sizeof own_path)) refuse_path(path);
     umask(before);
     return opened;
 }

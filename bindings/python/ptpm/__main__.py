@@ -3,6 +3,8 @@
 from __future__ import annotations
 
 import argparse
+import re
+import signal
 import sys
 from typing import Callable, List, Optional
 
@@ -14,14 +16,16 @@ from .ids import Action, ManagementId, id_of
 from .members import data_field, has_one_member, parse, takes_no_value
 from .nobody import ask_as_nobody
 from .report import Report
-from .requests import Requests, SessionSettings, begin_request
+from .requests import EVERY_PORT, Requests, SessionSettings, begin_request
 from .session import Session
 from .session_file import SessionFile, SessionFileError
 from .site_command import main as show_site
+from .streams import NOT_WRITTEN, NotWritten, complain, flush, hold_streams
 from .survey import survey
 from .transport import Transport, UdpTransport, UnixTransport
 
-ANSWERED, REFUSED, NOT_ASKED, NOT_ANSWERED, NOT_WRITTEN = range(5)
+ANSWERED, REFUSED, NOT_ASKED, NOT_ANSWERED = range(4)
+BY_SIGNAL = 128
 
 
 def _number(least: int, most: int) -> Callable[[str], int]:
@@ -101,15 +105,17 @@ class Task:
             raise ValueError(f"--text: {words.id} has no text")
         is_named = self.action == Action.SET and not words.hexadecimal and not words.text
         if is_named and (len(value) > 1 or has_one_member(self.id)):
-            return parse(self.id, value)
+            try:
+                return parse(self.id, value)
+            except ValueError as error:
+                raise ValueError(f"set {words.id} {' '.join(value)}: {error}") from None
         if len(value) > 1:
             raise ValueError(f"{value[1]}: there is a word too many")
         if words.text:
             return data_field(self.id, value[0])
-        octets = bytes.fromhex(value[0])
-        if len(octets) % 2:
+        if not re.fullmatch("([0-9a-fA-F]{4})*", value[0]):
             raise ValueError(f"{value[0]}: it is no even number of octets in hexadecimal")
-        return octets
+        return bytes.fromhex(value[0])
 
     def _judge(self) -> None:
         words = self.words
@@ -134,44 +140,76 @@ class Task:
         by_one_manager = words.manager is not None or words.numbers is not None
         return self.action is not None and (by_one_manager or (words.unix is None and self.action != Action.GET))
 
+    def _manager(self) -> PortIdentity:
+        """The identity of who asks, without a socket."""
+        words = self.words
+        if words.manager is not None:
+            manager = PortIdentity.of(words.manager)
+            if manager.port == EVERY_PORT:
+                raise ValueError(f"--manager {words.manager}: port {EVERY_PORT} means every port")
+            return manager
+        if words.unix is not None:
+            return PortIdentity(Transport.identity, 1)
+        return PortIdentity(UdpTransport.identity_at(words.interface, words.udp, ipv6=words.ipv6), 1)
+
     def ask(self) -> int:
         """Asks, and prints what was answered; the status."""
         words = self.words
         seconds = words.timeout / 1000
-        with self.way() as way:
-            asked = {"domain": words.domain, "hops": words.hops, "attempts": words.attempts}
-            if self.action is None or self.target is None:
+        asked = {"domain": words.domain, "hops": words.hops, "attempts": words.attempts}
+        if self.action is None or self.target is None:
+            with self.way() as way:
                 return _print(list(survey(way, self.id, manager=words.manager, timeout=seconds, **asked)), words.hexadecimal)
-            manager = PortIdentity.of(words.manager) if words.manager is not None else PortIdentity(way.identity, 1)
-            settings = SessionSettings(manager, self.target, **asked)
-            if not self.is_numbered:
-                report = ask_as_nobody(way, settings, self.action, self.id, self.data, self.port, timeout=seconds)
-                return _print([report], words.hexadecimal)
-            begin_request(Requests(settings), self.action, self.id, self.data, self.port)  # what is refused makes no file
-            with SessionFile(manager, self.target, words.numbers) as file:
-                is_new = file.octets is None
-                with Session(settings, file, wait=words.wait / 1000) as session:
-                    report = self._ask_in(session, way)
-                    if is_new:
-                        _complain(f"{file.path} is new: the session begins at number {session.settings.first}")
-                    return _print([report], words.hexadecimal)  # and then it is kept without the request
+        settings = SessionSettings(self._manager(), self.target, **asked)
+        begin_request(Requests(settings), self.action, self.id, self.data, self.port)  # what is refused makes no file
+        if self.is_numbered:
+            # An answer to this host alone comes in at the latest socket, so who waits for its turn has none yet.
+            with SessionFile(settings.manager, self.target, words.numbers) as file, self.way() as way:
+                return self._ask_by(file, settings, way)
+        with self.way() as way:
+            report = ask_as_nobody(way, settings, self.action, self.id, self.data, self.port, timeout=seconds)
+            return _print([report], words.hexadecimal)
+
+    def _ask_by(self, file: SessionFile, settings: SessionSettings, way: Transport) -> int:
+        words = self.words
+        is_new = file.octets is None
+        status: Optional[int] = None
+        try:
+            with Session(settings, file, wait=words.wait / 1000) as session:
+                report = self._ask_in(session, way)
+                if is_new:
+                    complain(f"{file.path} is new: the session begins at number {session.settings.first}")
+                status = _print([report], words.hexadecimal)  # and then it is kept without the request
+        except OSError as error:
+            if status is None:
+                raise
+            complain(f"{error}: the next run asks this again")
+        return status
+
+    def _finish_in(self, session: Session, way: Transport) -> Report:
+        """What came of the request of an earlier run. If nothing did, it is said what can be done."""
+        domain = session.earlier_domain
+        try:
+            return session.finish(way, timeout=self.words.timeout / 1000)
+        except NoAnswer as error:
+            there = "" if domain == self.words.domain else f", and --domain {domain} asks there"
+            raise NoAnswer(f"{error}; --give-up lets the earlier one go{there}", was_sent=False) from None
 
     def _ask_in(self, session: Session, way: Transport) -> Report:
         words = self.words
+        seconds = words.timeout / 1000
         assert self.action is not None
+        domain = session.earlier_domain
+        where = "" if domain == words.domain else f" in domain {domain}"
         if words.give_up and session.is_under_way:
             session.let_go()
-            _complain("the request of an earlier run is let go: a get shows whether it was carried out")
-        try:
-            return session.ask(way, self.action, self.id, self.data, self.port, timeout=words.timeout / 1000)
-        finally:
-            if session.earlier is not None:
-                _complain("a request of an earlier run had no answer yet, and was sent again:")
-                _complain(session.earlier)
-
-
-def _complain(what: object) -> None:
-    print(f"ptpm: {what}", file=sys.stderr)
+            complain(f"the request of an earlier run is let go: a get{where} shows whether it was carried out")
+        if session.is_under_way:
+            earlier = self._finish_in(session, way)
+            said = complain(f"a request of an earlier run{where} had no answer yet, and was sent again:") and complain(earlier)
+            if not said:  # and then it stays in the file
+                raise NotWritten("standard error could not be written")
+        return session.ask(way, self.action, self.id, self.data, self.port, timeout=seconds)
 
 
 def _lines(report: Report, is_hexadecimal: bool) -> List[str]:
@@ -183,43 +221,47 @@ def _lines(report: Report, is_hexadecimal: bool) -> List[str]:
     return [lead + line for line in told]
 
 
-class _NotWritten(Exception):
-    """The answer could not be written to standard output. It is not known to be reported then."""
-
-
 def _print(reports: List[Report], is_hexadecimal: bool) -> int:
-    try:
+    with flush():
         for report in reports:
             print("\n".join(_lines(report, is_hexadecimal)))
-        sys.stdout.flush()
-    except OSError as error:
-        raise _NotWritten(f"standard output could not be written: {error}") from error
     if not reports:
-        _complain("no answer")
+        complain("no answer")
         return NOT_ANSWERED
     return REFUSED if len(reports) == 1 and reports[0].source is None and reports[0].error is not None else ANSWERED
 
 
 def main(arguments: Optional[List[str]] = None) -> int:
     """Asks what a command line says; its status."""
+    hold_streams()
     given = sys.argv[1:] if arguments is None else arguments
     if given[:1] == ["site"]:
-        return show_site(given[1:])
+        try:
+            return show_site(given[1:])
+        except KeyboardInterrupt:
+            return BY_SIGNAL + signal.SIGINT
     words = _parser().parse_intermixed_args(given)
     try:
-        return Task(words).ask()
+        task = Task(words)
+        return task.ask()
     except NoAnswer as error:
         may_be = error.was_sent and words.verb in ("set", "command")
-        _complain(f"{error}{': the request may have been carried out' if may_be else ''}")
+        complain(f"{error}{': the request may have been carried out' if may_be else ''}")
+        if error.was_sent and task.is_numbered:
+            complain("the next run sends it again before its own; --give-up lets it go")
         return NOT_ANSWERED
+    except KeyboardInterrupt:
+        changes = words.verb in ("set", "command")
+        complain(f"ended by a signal{': if the request was sent, it may have been carried out' if changes else ''}")
+        return BY_SIGNAL + signal.SIGINT
     except Error as error:
-        _complain(f"nothing was asked: {error}")
+        complain(f"nothing was asked: {error}")
         return NOT_ASKED
-    except _NotWritten as error:
-        _complain(error)
+    except NotWritten as error:
+        complain(error)
         return NOT_WRITTEN
     except (ValueError, OSError, SessionFileError) as error:
-        _complain(error)
+        complain(error)
         return NOT_ASKED
 
 

@@ -21,7 +21,7 @@ from .settings import write_number, write_octets
 _MANAGEMENT_ERROR_STATUS = 2
 
 # A portNumber (15.4.1).
-_EVERY_PORT = 65535
+EVERY_PORT = 65535
 
 
 @dataclass(frozen=True)
@@ -149,7 +149,7 @@ class Requests(Handle):
 
 def begin_request(session: Requests, action: int, named: IdLike, data: bytes, port: int) -> None:
     """Begins a request at the port that is named, for an id of the clock too. If none is, such an id is asked of every port."""
-    if port in (0, _EVERY_PORT):
+    if port in (0, EVERY_PORT):
         session.begin(action, named, data, port)
     else:
         session.begin_at(action, named, port, data)

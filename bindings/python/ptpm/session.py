@@ -2,6 +2,7 @@
 
 from __future__ import annotations
 
+import threading
 from dataclasses import replace
 from types import TracebackType
 from typing import Optional, Type
@@ -17,7 +18,7 @@ from .nobody import draw
 from .report import Report
 from .requests import Requests, SessionSettings, begin_request
 from .session_file import SessionFile
-from .session_image import first_number, has_question, number_of_line
+from .session_image import domain_of_unanswered, first_number, has_question, number_of_line
 from .transport import Transport
 
 
@@ -26,13 +27,17 @@ class Session(Requests):
 
     `ask` sends a request until it is answered, and reports nothing that the clock had kept of an earlier session. It first finds
     that its number is new. With a file the next session goes on from this one. A request is in the file before it is sent. If it
-    had no answer, the next session finishes it first, and has what came of it in `earlier`.
+    had no answer, the next session finishes it first, and has what came of it in `earlier`. A SET or a COMMAND is finished in the
+    domain in which it was asked, whichever this session's is.
+
+    Threads that ask in one session take turns: a request is answered before the next one begins.
     """
 
     def __init__(self, settings: SessionSettings, file: Optional[SessionFile] = None, *, wait: float = 3.0) -> None:
         """`wait` is how many seconds a session without a number waits before it asks, until no copy of an earlier one is on its
         way."""
         octets = None if file is None else file.octets
+        self._asking = threading.RLock()
         self._file = file
         self._wait = wait
         self._is_known = settings.first is not None or octets is not None
@@ -41,10 +46,14 @@ class Session(Requests):
         """Whether a request of an earlier run has no answer yet."""
         self.earlier: Optional[Report] = None
         """What came of it."""
+        self.earlier_domain = settings.domain
+        """The domain in which it is sent again."""
         first = settings.first if octets is None else first_number(octets)
         super().__init__(replace(settings, first=draw() if first is None else first))
         if octets is not None:
             self._go_on_from(octets)
+        if file is not None:
+            file.keep_for(self)
 
     def _go_on_from(self, octets: bytes) -> None:
         settings = self.settings
@@ -56,8 +65,10 @@ class Session(Requests):
                 raise
             self._start(replace(settings, first=number))
             return
-        self.retune(settings.domain)
         self.is_under_way = self.is_busy() and not (has_question(octets) and self._gives_up())
+        if self.is_under_way:
+            self.earlier_domain = domain_of_unanswered(octets, settings.domain)
+        self.retune(self.earlier_domain)
 
     def __enter__(self) -> Session:
         return self
@@ -66,15 +77,21 @@ class Session(Requests):
         self, kind: Optional[Type[BaseException]], error: Optional[BaseException], trace: Optional[TracebackType]
     ) -> None:
         if kind is not None:
-            self._file = None  # what was answered may not be reported yet
+            self._leave_file()  # what was answered may not be reported yet
         self.close()
+
+    def _leave_file(self) -> None:
+        if self._file is not None:
+            self._file.let_go_of(self)
+        self._file = None
 
     def close(self) -> None:
         """Stops it. A file then has it without the request whose answer was reported."""
-        if self._file is not None and self._file.is_open and self._is_fresh and not self.is_busy():
-            self._file.write(self.image())
-        self._file = None
-        super().close()
+        with self._asking:
+            if self._file is not None and self._file.is_open and self._is_fresh and not self.is_busy():
+                self._file.write(self.image())
+            self._leave_file()
+            super().close()
 
     def _gives_up(self) -> bool:
         """Lets a question go. One that can't be is finished like any request."""
@@ -88,7 +105,13 @@ class Session(Requests):
         """Goes on at the next number, without the request that has no answer. Once the clock has answered a later one, it was
         carried out, or never will be. It is refused if 32,767 one after the other had no answer (OUT_OF_REACH)."""
         self.give_up()
+        if self.is_under_way:
+            self._come_back()
+
+    def _come_back(self) -> None:
+        """Asks in its own domain, once the request of an earlier run is settled."""
         self.is_under_way = False
+        self.retune(self.settings.domain)
 
     def _judge(self, action: int, number: int, data: bytes, port: int) -> None:
         """Refuses what the library refuses to begin, before anything is sent."""
@@ -98,15 +121,19 @@ class Session(Requests):
         begin_request(probe, action, number, data, port)
         probe.close()
 
-    def _finish(self, way: Transport, timeout: float) -> None:
-        """Sends the request of an earlier run until it is answered."""
-        self.resume(self.settings.attempts)
-        try:
-            self.earlier = carry_out(self, way, timeout)
-        except NoAnswer as error:
-            why = f"{error} of an earlier request: the request itself was not sent"
-            raise NoAnswer(why, was_sent=False) from None
-        self.is_under_way = False
+    def finish(self, way: Transport, *, timeout: float = 0.2) -> Report:
+        """Sends the request of an earlier run until it is answered, and answers what came of it. `ask` does so too, but the file is
+        then kept without that request before `earlier` can be read."""
+        with self._asking:
+            self.resume(self.settings.attempts)
+            try:
+                self.earlier = carry_out(self, way, timeout)
+            except NoAnswer as error:
+                where = "" if self.earlier_domain == self.settings.domain else f" in domain {self.earlier_domain}"
+                why = f"{error} of an earlier request{where}: the request itself was not sent"
+                raise NoAnswer(why, was_sent=False) from None
+            self._come_back()
+            return self.earlier
 
     def _keep_number(self, number: int) -> None:
         """Has the file say that the next request has this number."""
@@ -147,15 +174,17 @@ class Session(Requests):
         the id. If no answer came, NoAnswer says whether the request itself was sent; if it was, `go_on` asks the same again."""
         number = id_of(named)
         data = data_field(number, value)
-        self._judge(action, number, data, port)
-        if self.is_under_way:
-            self._finish(way, timeout)
-        if not self._is_fresh:
-            self._find_number(way, number, port, timeout)
-        self._begin(action, number, data, port)
-        return carry_out(self, way, timeout)
+        with self._asking:
+            self._judge(action, number, data, port)
+            if self.is_under_way:
+                self.finish(way, timeout=timeout)
+            if not self._is_fresh:
+                self._find_number(way, number, port, timeout)
+            self._begin(action, number, data, port)
+            return carry_out(self, way, timeout)
 
     def go_on(self, way: Transport, attempts: int = 30, *, timeout: float = 0.2) -> Report:
         """Asks the unanswered request again. The clock carries it out once all the same."""
-        self.resume(attempts)
-        return carry_out(self, way, timeout)
+        with self._asking:
+            self.resume(attempts)
+            return carry_out(self, way, timeout)

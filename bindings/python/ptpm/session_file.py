@@ -9,6 +9,7 @@ import os
 import stat
 import threading
 import time
+import weakref
 from typing import Optional, Set, Union
 
 from . import _header as header
@@ -57,7 +58,10 @@ class SessionFile:
         self._folder, self._name = os.path.split(self.path)
         if not os.path.isdir(self._folder):
             os.mkdir(self._folder, 0o755)  # no folder above it is made
+        self._own_name = os.path.join(os.path.realpath(self._folder), self._name)
         self._before: Optional[os.stat_result] = None
+        self._session: Optional["weakref.ref[object]"] = None
+        self._process = os.getpid()
         self._lock = self._take_turn()
         try:
             self.octets = self._read()
@@ -73,13 +77,13 @@ class SessionFile:
 
     def _take_turn(self) -> int:
         with _own_turn:
-            if self.path in _own:
+            if self._own_name in _own:
                 raise SessionFileError(f"{self.path}: this program holds it already")
-            _own.add(self.path)
+            _own.add(self._own_name)
         try:
             return self._locked(time.monotonic() + _TURN)
         except BaseException:
-            _own.discard(self.path)
+            _own.discard(self._own_name)
             raise
 
     def _locked(self, until: float) -> int:
@@ -127,10 +131,11 @@ class SessionFile:
             if error.errno == errno.ELOOP:
                 raise SessionFileError(f"{self.path}: it is a link") from None
             raise
+        self._before = os.fstat(opened)
+        if not stat.S_ISREG(self._before.st_mode):
+            os.close(opened)
+            raise SessionFileError(f"{self.path}: it is no file")
         with open(opened, "rb") as file:
-            self._before = os.fstat(opened)
-            if not stat.S_ISREG(self._before.st_mode):
-                raise SessionFileError(f"{self.path}: it is no file")
             return file.read(_MOST)
 
     def _write_new(self, octets: bytes) -> str:
@@ -163,7 +168,9 @@ class SessionFile:
 
     def write(self, octets: bytes) -> None:
         """Has the file have these octets, whatever becomes of the program or the machine: they are on the disk when the call
-        returns."""
+        returns. Only whoever holds it may write it."""
+        if not self.is_open:
+            raise SessionFileError(f"{self.path}: it is closed here, and another program may hold it")
         os.replace(self._write_new(octets), self.path)
         folder = os.open(self._folder, os.O_RDONLY | os.O_DIRECTORY | os.O_CLOEXEC)
         try:
@@ -172,18 +179,31 @@ class SessionFile:
             os.close(folder)
         self.octets = octets
 
+    def keep_for(self, session: object) -> None:
+        """Has one session at a time kept here. Another one would write over its request, which may have no answer yet."""
+        with _own_turn:
+            if self._session is not None and self._session() is not None:
+                raise SessionFileError(f"{self.path}: it keeps another session, which is not closed")
+            self._session = weakref.ref(session)
+
+    def let_go_of(self, session: object) -> None:
+        """Keeps that session no more."""
+        with _own_turn:
+            if self._session is not None and self._session() is session:
+                self._session = None
+
     @property
     def is_open(self) -> bool:
-        """Whether it is held."""
-        return self._lock >= 0
+        """Whether it is held. A forked child holds nothing of its parent."""
+        return self._lock >= 0 and self._process == os.getpid()
 
     def close(self) -> None:
         """Lets others have their turn. If no session was kept, for example of a clock that is not there, no lock stays beside
         it."""
-        if self._lock < 0:
+        if not self.is_open:
             return
         if not os.path.lexists(self.path) and os.path.lexists(f"{self.path}.lock"):
             os.unlink(f"{self.path}.lock")
         os.close(self._lock)
         self._lock = -1
-        _own.discard(self.path)
+        _own.discard(self._own_name)

@@ -12,7 +12,10 @@ from .identity import Identity, PortIdentity
 from .ids import Action
 
 # Where the members are. Numbers of two octets have the higher one first.
-_FIRST, _IS_UNDER_WAY, _ACTION, _ID, _SIZE = 31, 52, 53, 54, 58
+_FIRST, _DOMAIN, _IS_UNDER_WAY, _ACTION, _ID, _SIZE, _DATA = 31, 35, 52, 53, 54, 58, 60
+
+# The octets of a dataField of DOMAIN: the domainNumber, and a reserved one (IEEE 1588-2019, 15.5.3).
+_SIZE_OF_DOMAIN = 2
 
 _LINE = re.compile(rb"([0-9]{1,5})( [0-9a-f]{16}/[0-9]{1,5} [0-9a-f]{16})?\n?")
 
@@ -37,6 +40,16 @@ def has_question(image: bytes) -> bool:
         return False
     asked = (_number_at(image, _ID), _number_at(image, _SIZE))
     return asked in ((header.PTPM_ID_DEFAULT_DATA_SET, 20), (header.PTPM_ID_PORT_DATA_SET, 26))
+
+
+def domain_of_unanswered(image: bytes, domain: int) -> int:
+    """The domain in which what has no answer yet is sent again: the one in which it was asked. PTP instances of other domains may
+    have the same clockIdentity, and nobody asked them to change anything. A GET changes nothing, so it is sent in this session's
+    domain. So is a SET of DOMAIN to that one: the clock may be there by now."""
+    action, asked = image[_ACTION], (_number_at(image, _ID), _number_at(image, _SIZE))
+    is_of_domain = action == Action.SET and asked == (header.PTPM_ID_DOMAIN, _SIZE_OF_DOMAIN)
+    has_moved_here = is_of_domain and image[_DATA] == domain
+    return domain if action == Action.GET or has_moved_here else image[_DOMAIN]
 
 
 def number_of_line(octets: bytes, manager: PortIdentity, target: Identity) -> Optional[int]:

@@ -8,6 +8,7 @@ from typing import List, Optional, TextIO
 
 from .site import SiteError, site
 from .site_tree import Site
+from .streams import NOT_WRITTEN, NotWritten, complain, flush, say
 
 NOTHING_FOUND, FOUND, NOT_ASKED, NO_CLOCK = range(4)
 
@@ -57,10 +58,15 @@ def main(arguments: List[str]) -> int:
     try:
         found = _shown(words)
     except (SiteError, ValueError, OSError) as error:
-        print(f"ptpm: {error}", file=sys.stderr)
+        complain(error)
         is_silent = isinstance(error, SiteError) and error.status == NO_CLOCK
         return NO_CLOCK if is_silent else NOT_ASKED
     for note in found.notes:
-        print(note, file=sys.stderr)
-    print(found)
+        say(note)
+    try:
+        with flush():
+            print(found)
+    except NotWritten as error:
+        complain(error)
+        return NOT_WRITTEN
     return FOUND if found.findings else NOTHING_FOUND

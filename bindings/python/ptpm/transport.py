@@ -3,6 +3,8 @@ socket of this machine, for example that of ptp4l."""
 
 from __future__ import annotations
 
+import contextlib
+import ctypes
 import fcntl
 import ipaddress
 import itertools
@@ -21,8 +23,21 @@ MOST_DATAGRAM = 65536
 _GROUP_4 = "224.0.1.129"
 _GROUP_6 = "ff0e::181"
 _SO_BINDTODEVICE = 25
+_SO_ATTACH_FILTER = 26
 _SIOCGIFADDR = 0x8915
 _SIOCGIFHWADDR = 0x8927
+
+# Of datagrams, which begin with their UDP header here, those whose messageType is 0xD: management messages (linux/filter.h).
+_WANTED = b"".join(
+    struct.pack("=HBBI", *instruction)
+    for instruction in (
+        (0x30, 0, 0, 8),  # load the octet after the header
+        (0x54, 0, 0, 0x0F),  # its lower half
+        (0x15, 0, 1, 0x0D),  # if it is not 0xD, pass over the next
+        (0x06, 0, 0, MOST_DATAGRAM - 1),  # keep the datagram
+        (0x06, 0, 0, 0),  # drop it
+    )
+)
 
 Address = Union[str, Tuple[str, int], Tuple[str, int, int, int]]
 
@@ -78,7 +93,10 @@ class Transport:
 def _ask_interface(name: str, request: int) -> bytes:
     """What the kernel says of an interface (netdevice(7))."""
     with socket.socket(socket.AF_INET, socket.SOCK_DGRAM) as probe:
-        return fcntl.ioctl(probe, request, struct.pack("256s", name.encode()))
+        try:
+            return fcntl.ioctl(probe, request, struct.pack("256s", name.encode()))
+        except OSError as error:
+            raise OSError(error.errno, error.strerror, name) from None
 
 
 def _mac_of(interface: str) -> bytes:
@@ -108,27 +126,48 @@ def _interface_to(address: Address, family: socket.AddressFamily) -> str:
     raise OSError(f"no interface leads to {address[0]}")
 
 
+def _destination(interface: Optional[str], address: Optional[str], ipv6: bool) -> Tuple[str, socket.AddressFamily, Address]:
+    """The interface, and the address to send to."""
+    if interface is None and address is None:
+        raise ValueError("a way over UDP takes an interface or an address")
+    to: Address = (address or (_GROUP_6 if ipv6 else _GROUP_4), GENERAL_PORT)
+    family = socket.AF_INET6 if ipv6 else socket.AF_INET
+    if address is not None:
+        flags = socket.AI_NUMERICHOST
+        try:
+            family, _, _, _, to = socket.getaddrinfo(address, GENERAL_PORT, type=socket.SOCK_DGRAM, flags=flags)[0]
+        except socket.gaierror:
+            raise OSError(f"{address}: it is no address of IPv4 or IPv6") from None
+    return interface or _interface_to(to, family), family, to
+
+
 class UdpTransport(Transport):
     """UDP port 320 at an interface, to the group of all clocks there, or to one address. It takes root, or the capability
-    CAP_NET_BIND_SERVICE."""
+    CAP_NET_BIND_SERVICE. An answer to this host alone comes in at the socket that was opened last there. So a session has its turn
+    at its file before its way is opened."""
 
     def __init__(self, interface: Optional[str] = None, address: Optional[str] = None, *, ipv6: bool = False) -> None:
-        if interface is None and address is None:
-            raise ValueError("a way over UDP takes an interface or an address")
-        to: Address = (address or (_GROUP_6 if ipv6 else _GROUP_4), GENERAL_PORT)
-        family = socket.AF_INET6 if ipv6 else socket.AF_INET
-        if address is not None:
-            flags = socket.AI_NUMERICHOST
-            family, _, _, _, to = socket.getaddrinfo(address, GENERAL_PORT, type=socket.SOCK_DGRAM, flags=flags)[0]
-        self.interface = interface or _interface_to(to, family)
+        self.interface, family, to = _destination(interface, address, ipv6)
         self.identity = Identity.of_mac(_mac_of(self.interface))
         super().__init__(_opened(self.interface, family), to)
 
+    @staticmethod
+    def identity_at(interface: Optional[str] = None, address: Optional[str] = None, *, ipv6: bool = False) -> Identity:
+        """The clockIdentity that a manager has by default at such a way. No socket is opened at UDP port 320."""
+        return Identity.of_mac(_mac_of(_destination(interface, address, ipv6)[0]))
+
+
+def _filter(opened: socket.socket) -> None:
+    """Has the kernel drop what is no management message, so that other messages leave the answers their room."""
+    octets = ctypes.create_string_buffer(_WANTED, len(_WANTED))
+    opened.setsockopt(socket.SOL_SOCKET, _SO_ATTACH_FILTER, struct.pack("HP", len(_WANTED) // 8, ctypes.addressof(octets)))
+
 
 def _opened(interface: str, family: socket.AddressFamily) -> socket.socket:
-    """A socket that hears and sends at this interface alone."""
+    """A socket that hears and sends management messages at this interface alone."""
     opened = socket.socket(family, socket.SOCK_DGRAM | socket.SOCK_CLOEXEC)
     try:
+        _filter(opened)  # before it is bound, since it hears nothing until then
         opened.setsockopt(socket.SOL_SOCKET, socket.SO_REUSEADDR, 1)
         opened.setsockopt(socket.SOL_SOCKET, _SO_BINDTODEVICE, interface.encode() + b"\0")
         index = socket.if_nametoindex(interface)
@@ -168,10 +207,11 @@ class UnixTransport(Transport):
         super().__init__(opened, clock)
 
     def close(self) -> None:
-        """Closes the socket, and removes its file."""
+        """Closes the socket, and removes its file, if that is still there."""
         if self._socket.fileno() >= 0:
             super().close()
-            os.unlink(self._path)
+            with contextlib.suppress(OSError):
+                os.unlink(self._path)
 
 
 def _bound_beside(opened: socket.socket, clock: str) -> str:

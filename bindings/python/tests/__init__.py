@@ -9,7 +9,7 @@ import tempfile
 import time
 import unittest
 from pathlib import Path
-from typing import List, Optional
+from typing import Callable, List, Optional, Sequence
 
 TOP = Path(__file__).resolve().parents[3]
 CLOCK = "aabbccfffeddee01"
@@ -33,19 +33,22 @@ class Folder(unittest.TestCase):
         else:
             os.environ["XDG_STATE_HOME"] = before
 
-    def run_until(self, path: str, words: List[str]) -> None:
-        """Runs a program until the test ends, and waits until it has a socket at the path."""
-        program = subprocess.Popen(words, stdout=subprocess.DEVNULL, stderr=subprocess.DEVNULL)
+    def run_until(self, is_started: Callable[[str], bool], words: List[str]) -> None:
+        """Runs a program until the test ends, and waits until it has started by what it says."""
+        said = f"{self.folder}/said"
+        with open(said, "w", encoding="utf-8") as file:
+            program = subprocess.Popen(words, stdout=subprocess.DEVNULL, stderr=file)
         self.addCleanup(program.wait)
         self.addCleanup(program.terminate)
-        for _ in range(200):
-            if os.path.exists(path):
+        for _ in range(500):
+            if is_started(Path(said).read_text(encoding="utf-8")):
                 return
             time.sleep(0.02)
         self.fail(f"{words[0]} does not start")
 
-    def start_clock(self, *words: str) -> str:
-        """Runs the agent of hosts/ at a Unix socket; its path."""
-        path = f"{self.folder}/clock.socket"
-        self.run_until(path, [str(TOP / "hosts/clock"), "-n", "60", "-u", path, *words, CLOCK])
+    def start_clock(self, *words: str, before: Sequence[str] = (), name: str = "clock.socket") -> str:
+        """Runs the agent of hosts/ at a Unix socket; its path. While it starts there is a socket for a moment now and then."""
+        path = f"{self.folder}/{name}"
+        command = [*before, str(TOP / "hosts/clock"), "-n", "60", "-u", path]
+        self.run_until(lambda said: " in domain " in said, [*command, *words])
         return path

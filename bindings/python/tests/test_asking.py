@@ -3,21 +3,43 @@
 from __future__ import annotations
 
 import os
+import socket
 import subprocess
 import sys
+import threading
+import time
 import unittest
-from typing import Optional
+import unittest.mock
+from typing import List, Optional
 
 import ptpm
 
 from . import CLOCK, MANAGER, TOP, Folder
 
 
+class Both(ptpm.Transport):
+    """A way to two clocks of one identity."""
+
+    def __init__(self, *ways: ptpm.Transport) -> None:  # it has no socket of its own
+        self._ways = ways
+
+    def send(self, octets: bytes) -> bool:
+        return all([way.send(octets) for way in self._ways])
+
+    def receive(self, until: float) -> Optional[bytes]:
+        while time.monotonic() < until:
+            for way in self._ways:
+                datagram = way.receive(time.monotonic() + 0.01)
+                if datagram is not None:
+                    return datagram
+        return None
+
+
 @unittest.skipUnless((TOP / "hosts/clock").exists(), "hosts/clock is not built")
 class Asking(Folder):
     def setUp(self) -> None:
         super().setUp()
-        self.path = self.start_clock("-m", MANAGER)
+        self.path = self.start_clock("-m", MANAGER, CLOCK)
         self.way = ptpm.UnixTransport(self.path)
         self.addCleanup(self.way.close)
 
@@ -62,6 +84,26 @@ class Asking(Folder):
             self.assertEqual(session.next_number, 3)
             self.assertRaisesRegex(ptpm.Error, "NEEDS_PORT", session.ask, self.way, ptpm.Action.GET, "PORT_DATA_SET")
 
+    def test_threads_that_ask_in_one_session_take_turns(self) -> None:
+        wrong: List[object] = []
+
+        def ask(session: ptpm.Session, first: int) -> None:
+            for value in range(first, first + 30):
+                try:
+                    members = session.ask(self.way, ptpm.Action.SET, "PRIORITY1", value, timeout=1).members
+                except ptpm.Error as error:
+                    members = {"refused": error}
+                if members != {"priority1": value}:
+                    wrong.append((value, members))
+
+        with self.session(100) as session:
+            threads = [threading.Thread(target=ask, args=(session, first)) for first in (0, 100)]
+            for thread in threads:
+                thread.start()
+            for thread in threads:
+                thread.join()
+        self.assertEqual(wrong, [])
+
     def test_a_clock_that_is_not_there_is_told_apart(self) -> None:
         with ptpm.Session(ptpm.SessionSettings(MANAGER, "0102030405060708", 1, attempts=2)) as session:
             with self.assertRaisesRegex(ptpm.NoAnswer, "no read either"):
@@ -99,13 +141,17 @@ class Asking(Folder):
     def ask_by_manage(self, value: int) -> object:
         return int(self.manage("set", "PRIORITY1", str(value)).stdout.split()[1])
 
-    def leave(self, value: int) -> None:
-        """A session that ends before its SET has an answer."""
-        with self.assertRaises(ptpm.NoAnswer) as caught, ptpm.SessionFile(MANAGER, CLOCK) as file:
-            with ptpm.Session(ptpm.SessionSettings(MANAGER, CLOCK, attempts=2), file, wait=0) as session:
-                session.ask(self.way, ptpm.Action.GET, "PRIORITY1", timeout=1)
-                session.retune(4)  # in which the clock is not
-                session.ask(self.way, ptpm.Action.SET, "PRIORITY1", value, timeout=0.05)
+    def leave(self, value: Optional[int], domain: int = 0, action: int = ptpm.Action.SET, named: str = "PRIORITY1") -> None:
+        """A session that ends before its request has an answer: nobody reads what is sent."""
+        with socket.socket(socket.AF_UNIX, socket.SOCK_DGRAM) as nobody:
+            nobody.bind(f"{self.folder}/nobody")
+            with ptpm.SessionFile(MANAGER, CLOCK) as file, ptpm.UnixTransport(f"{self.folder}/nobody") as way:
+                with ptpm.Session(ptpm.SessionSettings(MANAGER, CLOCK, attempts=2), file, wait=0) as session:
+                    session.ask(self.way, ptpm.Action.GET, "PRIORITY1", timeout=1)
+                    session.retune(domain)
+                    with self.assertRaises(ptpm.NoAnswer) as caught:
+                        session.ask(way, action, named, value, timeout=0.05)
+        os.unlink(f"{self.folder}/nobody")
         self.assertTrue(caught.exception.was_sent)
 
     def test_a_request_without_an_answer_is_finished(self) -> None:
@@ -125,6 +171,35 @@ class Asking(Folder):
                 session.let_go()
                 self.assertEqual(str(session.ask(self.way, ptpm.Action.GET, "PRIORITY1", timeout=1)), "priority1 22")
                 self.assertIsNone(session.earlier)
+
+    def goes_on(self, way: ptpm.Transport) -> "tuple[str, str]":
+        """What came of the request of an earlier run, and of a GET in domain 0 after it."""
+        with ptpm.SessionFile(MANAGER, CLOCK) as file:
+            with ptpm.Session(ptpm.SessionSettings(MANAGER, CLOCK, attempts=2), file) as session:
+                report = session.ask(way, ptpm.Action.GET, "PRIORITY1", timeout=0.5)
+                return str(session.earlier), str(report)
+
+    def test_a_request_is_finished_in_the_domain_in_which_it_was_asked(self) -> None:
+        self.leave(24, 4)
+        self.assertRaisesRegex(ptpm.NoAnswer, "request in domain 4: the request itself was not sent", self.goes_on, self.way)
+        words = ["-u", self.path, "-m", MANAGER, "-a", "2", "-t", "20", "get", "PRIORITY1", "--target", CLOCK]
+        ran = subprocess.run([sys.executable, "-m", "ptpm", *words], capture_output=True, text=True, check=False)
+        self.assertEqual((ran.returncode, ran.stdout), (3, ""))
+        self.assertRegex(ran.stderr, "in domain 4: .* --give-up lets the earlier one go, and --domain 4 asks there\n$")
+        self.assertEqual(ptpm.get(self.way, CLOCK, "PRIORITY1").members, {"priority1": 128})
+        with ptpm.UnixTransport(self.start_clock("-d", "4", "-m", MANAGER, CLOCK, name="beside")) as beside:
+            both = Both(self.way, beside)
+            self.assertEqual(self.goes_on(both), ("priority1 24", "priority1 128"))
+            self.leave(25, 4)
+            with ptpm.SessionFile(MANAGER, CLOCK) as file:
+                with ptpm.Session(ptpm.SessionSettings(MANAGER, CLOCK), file) as session:
+                    session.let_go()
+                    self.assertEqual(str(session.ask(both, ptpm.Action.SET, "PRIORITY1", 26, timeout=1)), "priority1 26")
+            self.leave(None, 4, ptpm.Action.GET)  # it changes nothing, so it is asked in this session's domain
+            self.assertEqual(self.goes_on(self.way), ("priority1 26", "priority1 26"))
+            self.leave(0, 4, named="DOMAIN")  # the clock may be there by now
+            self.assertEqual(self.goes_on(self.way), ("domainNumber 0", "priority1 26"))
+            self.assertEqual(ptpm.get(beside, CLOCK, "PRIORITY1", domain=4).members, {"priority1": 24})
 
     def test_an_answer_that_was_not_reported_comes_again(self) -> None:
         settings = ptpm.SessionSettings(MANAGER, CLOCK)
@@ -158,6 +233,8 @@ class Asking(Folder):
         os.unlink(path)
         os.symlink("elsewhere", path)
         self.assertRaisesRegex(ptpm.SessionFileError, "link", ptpm.SessionFile, MANAGER, CLOCK, path)
+        os.mkdir(f"{path}-2")
+        self.assertRaisesRegex(ptpm.SessionFileError, "it is no file", ptpm.SessionFile, MANAGER, CLOCK, f"{path}-2")
 
     def test_a_file_has_one_turn_at_a_time(self) -> None:
         path = f"{self.folder}/session"
@@ -165,7 +242,9 @@ class Asking(Folder):
             old.write(f"7 {MANAGER} {CLOCK}\n")  # as an earlier version wrote it
         os.chmod(path, 0o640)
         with ptpm.SessionFile(MANAGER, CLOCK, path) as file:
-            self.assertRaisesRegex(ptpm.SessionFileError, "holds it", ptpm.SessionFile, MANAGER, CLOCK, path)
+            os.symlink(self.folder, f"{self.folder}/link")
+            for name in (path, f"{self.folder}/link/session"):
+                self.assertRaisesRegex(ptpm.SessionFileError, "holds it", ptpm.SessionFile, MANAGER, CLOCK, name)
             words = [str(TOP / "hosts/manage"), "-u", self.path, "-m", MANAGER, "-k", path, "--target", CLOCK, "get", "PRIORITY1"]
             with subprocess.Popen(words, stdout=subprocess.PIPE, text=True) as waiting:
                 self.assertRaises(subprocess.TimeoutExpired, waiting.wait, 0.3)
@@ -177,6 +256,18 @@ class Asking(Folder):
         with ptpm.SessionFile(MANAGER, CLOCK, path) as file:
             self.assertEqual(ptpm.Session(ptpm.SessionSettings(MANAGER, CLOCK), file).next_number, 11)
         self.assertEqual(os.stat(path).st_mode & 0o777, 0o640)
+
+    def test_a_file_keeps_one_session_at_a_time(self) -> None:
+        settings = ptpm.SessionSettings(MANAGER, CLOCK)
+        with ptpm.SessionFile(MANAGER, CLOCK) as file:
+            with ptpm.Session(settings, file, wait=0) as session:
+                self.assertEqual(str(session.ask(self.way, ptpm.Action.SET, "PRIORITY1", 41, timeout=1)), "priority1 41")
+                self.assertRaisesRegex(ptpm.SessionFileError, "it keeps another session", ptpm.Session, settings, file)
+                self.assertEqual(str(session.ask(self.way, ptpm.Action.SET, "PRIORITY1", 42, timeout=1)), "priority1 42")
+            with self.assertRaises(BrokenPipeError), ptpm.Session(settings, file) as session:
+                raise BrokenPipeError
+            with ptpm.Session(settings, file) as session:
+                self.assertEqual(str(session.ask(self.way, ptpm.Action.GET, "PRIORITY1", timeout=1)), "priority1 42")
 
     def test_no_file_is_left_of_a_clock_that_is_not_there(self) -> None:
         with ptpm.SessionFile(MANAGER, "0102030405060708", f"{self.folder}/session") as file:
@@ -203,6 +294,48 @@ class Asking(Folder):
         self.assertEqual(run("-t", "20", "-a", "2", "get", "PRIORITY1", "--target", "0102030405060708"), (3, ""))
         self.assertEqual(run("survey", "PRIORITY1", "-x"), (0, f"{CLOCK}/1 value 6400\n"))
         self.assertEqual(run("survey", "PRIORITY1", "--target", CLOCK), (2, ""))
+        self.assertEqual(run("-m", "0011223344556677/65535", "get", "PRIORITY1", "--target", CLOCK), (2, ""))
+        self.assertEqual(run("-x", "set", "PRIORITY1", "64 00", "--target", CLOCK), (2, ""))
+        with unittest.mock.patch.dict(os.environ, PYTHONIOENCODING="ascii"):
+            said = run("-m", MANAGER, "set", "USER_DESCRIPTION", "--text", "Köln", "--target", CLOCK)
+        self.assertEqual(said, (0, "userDescription K\\xc3\\xb6ln\n"))
+
+    def test_what_could_not_be_reported_stays_in_the_file(self) -> None:
+        def run(streams: str, *words: str) -> int:
+            command = ["sh", "-c", f'exec "$0" -m ptpm -u "$@" {streams}', sys.executable, self.path, "--target", CLOCK, *words]
+            return subprocess.run(command, stdout=subprocess.DEVNULL, stderr=subprocess.DEVNULL, check=False).returncode
+
+        settings = ptpm.SessionSettings(MANAGER, CLOCK)
+        for streams in (">&-", "> /dev/full"):
+            self.assertEqual(run(streams, "get", "PRIORITY1"), 4)
+            self.assertEqual(run(streams, "-m", MANAGER, "-w", "0", "set", "PRIORITY1", "100"), 4)
+            with ptpm.SessionFile(MANAGER, CLOCK) as file, ptpm.Session(settings, file) as session:
+                self.assertTrue(session.is_under_way)
+            for closed in ("2>&-", "2> /dev/full"):     # the answer of the earlier run is said on standard error
+                self.assertEqual(run(closed, "-m", MANAGER, "set", "PRIORITY2", "7"), 4)
+            self.assertEqual(ptpm.get(self.way, CLOCK, "PRIORITY2").members, {"priority2": 128})
+            self.assertEqual(run("", "-m", MANAGER, "set", "PRIORITY1", "101"), 0)
+        self.assertEqual(run("2>&-", "-t", "20", "-a", "2", "get", "PORT_DATA_SET"), 2)
+
+    def test_a_socket_that_is_gone_fails_no_run(self) -> None:
+        with ptpm.UnixTransport(self.path) as way:
+            self.assertEqual(ptpm.get(way, CLOCK, "PRIORITY1").members, {"priority1": 128})
+            for name in os.listdir(self.folder):
+                if name.startswith(f"clock.socket.{os.getpid()}."):     # beside that of setUp
+                    os.unlink(f"{self.folder}/{name}")
+
+    def test_a_file_that_was_closed_is_not_written(self) -> None:
+        with ptpm.SessionFile(MANAGER, CLOCK) as file:
+            session = ptpm.Session(ptpm.SessionSettings(MANAGER, CLOCK), file, wait=0)
+        with self.assertRaises(ptpm.SessionFileError):
+            session.ask(self.way, ptpm.Action.SET, "PRIORITY1", 100)
+        with ptpm.SessionFile(MANAGER, CLOCK) as file:
+            child = os.fork()
+            if child == 0:  # it holds nothing of its parent
+                file.close()
+                os._exit(file.is_open or not os.path.exists(f"{file.path}.lock"))
+            self.assertEqual((os.waitpid(child, 0)[1], file.is_open), (0, True))
+        self.assertEqual(ptpm.get(self.way, CLOCK, "PRIORITY1").members, {"priority1": 128})
 
 
 if __name__ == "__main__":

@@ -13,7 +13,7 @@ from typing import List
 
 import ptpm
 
-from . import CLOCK, TOP, Folder
+from . import CLOCK, Folder
 
 PTP4L = "020000fffe000020"
 
@@ -48,15 +48,14 @@ class Network(Folder):
         return ran.stdout + ran.stderr
 
     def start_far_clock(self, *words: str) -> None:
-        path = f"{self.folder}/clock.socket"
-        self.run_until(path, [*self.inside(self.far), str(TOP / "hosts/clock"), "-n", "60", "-u", path, *words, CLOCK, "far0"])
+        self.start_clock(*words, CLOCK, "far0", before=self.inside(self.far))
 
     def start_ptp4l(self, name: str = "", interface: str = "far0", more: str = "") -> str:
         path, settings = f"{self.folder}/ptp4l-{interface}", f"{self.folder}/ptp4l-{interface}.conf"
         with open(settings, "w", encoding="ascii") as file:
             file.write(f"[global]\nfree_running 1\n{more}")
         words = ["ptp4l", "-f", settings, "-S", "-4", "-i", interface, f"--uds_address={path}"]
-        self.run_until(path, [*self.inside(name or self.far), *words])
+        self.run_until(lambda _: os.path.exists(path), [*self.inside(name or self.far), *words])
         return path
 
     def test_a_clock_over_udp(self) -> None:
@@ -69,10 +68,31 @@ class Network(Folder):
         self.assertEqual(self.asked("--udp", "10.9.9.2", "get", "PRIORITY1", "--target", CLOCK), "priority1 101\n")
         self.assertEqual(self.asked("-i", "near0", "survey", "PRIORITY1"), f"{CLOCK}/1 priority1 101\n")
 
+    def test_runs_beside_each_other_are_answered(self) -> None:
+        """The answers come to this host alone, at its latest socket."""
+        self.start_far_clock("-m", "020000fffe000010/1")
+        self.asked("-i", "near0", "-w", "0", "set", "PRIORITY1", "100", "-T", CLOCK)
+        words = [*self.inside(self.near), sys.executable, "-m", "ptpm", "--udp", "10.9.9.2", "-T", CLOCK, "set", "PRIORITY1"]
+        runs = [subprocess.Popen([*words, str(value)], stdout=subprocess.PIPE, text=True) for value in (1, 2, 3)]
+        self.assertEqual([run.communicate()[0] for run in runs], ["priority1 1\n", "priority1 2\n", "priority1 3\n"])
+
     def test_a_clock_over_ipv6(self) -> None:
         self.start_far_clock("-6")
         self.assertEqual(self.asked("-i", "near0", "--ipv6", "get", "PRIORITY1", "--target", CLOCK), "priority1 128\n")
         self.assertEqual(self.asked("--udp", "fd09::2", "get", "PRIORITY1", "--target", CLOCK), "priority1 128\n")
+
+    def test_the_kernel_drops_what_is_no_management_message(self) -> None:
+        _ip("-n", self.near, "link", "set", "lo", "up")
+        for address in ("127.0.0.1", "::1"):
+            script = f"""if True:
+                import socket, time, ptpm
+                with ptpm.UdpTransport("lo", "{address}") as way:
+                    with socket.socket(socket.AF_INET6 if ":" in "{address}" else socket.AF_INET, socket.SOCK_DGRAM) as peer:
+                        for octets in (b"", bytes([0x0b, 2]), bytes([0x1d, 2])):     # the second is an Announce message
+                            peer.sendto(octets, ("{address}", 320))
+                    print(way.receive(time.monotonic() + 2).hex())"""
+            words = [*self.inside(self.near), sys.executable, "-c", script]
+            self.assertEqual(subprocess.run(words, capture_output=True, text=True, check=True).stdout, "1d02\n")
 
     def test_a_ptp4l(self) -> None:
         path = self.start_ptp4l()

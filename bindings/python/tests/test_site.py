@@ -87,6 +87,8 @@ class Recorded(unittest.TestCase):
             ran = subprocess.run(words, capture_output=True, text=True, check=False)
             self.assertEqual((ran.stdout.split("\n")[0], ran.stderr), (str(ptpm.site(lines=lines(name))).split("\n")[0], ""))
             self.assertEqual(ran.returncode, status)
+            with open("/dev/full", "w", encoding="ascii") as full:
+                self.assertEqual(subprocess.run(words, stdout=full, stderr=subprocess.DEVNULL, check=False).returncode, 4)
 
 
 class Programs(Folder):

@@ -111,8 +111,8 @@ impl<T: ReplyTable + Drop> Agent<T> {
     }
 
     /// Takes what the clock's host observed. The data sets change as `DataSets::observe` says. What is kept of each manager
-    /// stays: so each request is carried out once all the same, and a copy of the latest gets the reply that was kept. The
-    /// answer reports the ports that are DISABLED and were left so. Takes no memory.
+    /// stays. So each request is still carried out once, and a copy of the latest gets the reply that was kept. The answer
+    /// reports the ports that are DISABLED and were left so. Takes no memory.
     ///
     /// Refused with the first `ObservationError` that holds, judged on the data sets as they would be; then nothing changes.
     pub fn observe(
@@ -283,7 +283,7 @@ impl<T: ReplyTable + Drop> Agent<T> {
         render(&self.table.clock(), &heard_of(message), reply, ingress, out);
     }
 
-    /// Carries out a new request and keeps it with its reply. Where memory is refused, nothing changes.
+    /// Carries out a new request and keeps it with its reply. If memory is refused, nothing changes.
     fn try_accept(&mut self, message: &View<'_>, rights: Rights) -> Result<Reply, OutOfMemory>
         requires new { judged
             (clock_of T.owner self.old) (state_of T.entries self.old) message.now
@@ -327,8 +327,8 @@ impl<const SLOTS: usize> Agent<SlotTable<SLOTS>> {
         Agent::new(sets, table)
     }
 
-    /// Gives a clock without managers these: whom its table takes, so at most as many as it has slots, sixteen at most, and
-    /// each identity once.
+    /// Gives a clock without managers these. They are those that its table takes: at most as many as it has slots, at most
+    /// sixteen, and each identity once.
     pub fn admit(&mut self, managers: &[(PortIdentity, Rights)])
         requires none { (⟦<SlotTable<SLOTS> as ReplyTable>⟧.owner self.old.table).managers ≡ [] }
         requires few { length managers.now ≤ most_managers SLOTS }

@@ -1,4 +1,4 @@
--- What a call of C tells of words for a SET.
+-- What a call of C answers for the words of a SET.
 use Rattle.std.specs.Prelude.{◌≡◌, ℕ, Result, Ok, Err}
 use Rattle.ptpm_host.specs.declared.refusal.ParseRefusal.{ParseRefusal}
 use Rattle.ptpm_host.specs.Numbers.{parse_number}

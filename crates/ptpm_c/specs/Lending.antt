@@ -1,4 +1,4 @@
--- What is lent of a pointer that a host keeps: what lies behind it.
+-- What is lent of a pointer that a host keeps: what it points to.
 use Rattle.std.specs.Borrow.{Fml, Lends, MutBor}
 use Rattle.std.specs.Prelude.{Some}
 use Rattle.ptpm_c.specs.declared.keeping.Keeping.{Keeping}
@@ -6,7 +6,7 @@ use Rattle.ptpm_c.specs.declared.kept.Kept.{Kept}
 use Rattle.ptpm_c.specs.contracts.keeping.Keeping as keeping
 use Rattle.ptpm_c.specs.contracts.kept.Kept as kept
 
--- the same pointer, and this behind it
+-- the same pointer, which points to this
 abbrev pub with_kept : Keeping → Kept → Keeping
 with_kept k w = record k { kept = Some w }
 

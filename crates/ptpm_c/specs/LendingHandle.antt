@@ -7,7 +7,7 @@ use Rattle.ptpm_c.specs.contracts.handle.Handle as handle
 use Rattle.ptpm_c.specs.contracts.kept.Kept as kept
 use Rattle.ptpm_c.specs.Lending.{with_kept}
 
--- the handle with this behind its pointer
+-- the handle, whose pointer points to this
 abbrev pub holding : Handle → Kept → Handle
 holding h w = record { keeping = with_kept h.keeping w; live = true; tied = refl }
 

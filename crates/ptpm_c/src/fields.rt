@@ -27,9 +27,9 @@ pub extern "C" fn ptpm_id_at(place: usize) -> u32
     }
 }
 
-/// Leaves the members of a dataField of this id at the head of `text`, a line each, the member's name in the standard and its
-/// value, and answers how many octets they have. If the octets are no dataField of the id, one line has them in hexadecimal. 0 if
-/// there is no room for all lines, and then alone; what `text` holds then is not said. What comes after the lines stays.
+/// Leaves the members of a dataField of this id at the head of `text`, and answers how many octets they have. A line has a
+/// member's name in the standard and its value. If the octets are no dataField of the id, one line has them in hexadecimal. 0 if
+/// there is no room for all lines, and only then. What `text` holds then is not said. What comes after the lines stays.
 #[unsafe(no_mangle)]
 pub extern "C" fn ptpm_field_text(id: u16, octets: &[u8], text: &mut [u8]) -> usize
     ensures lines { result ≢ 0
@@ -44,9 +44,9 @@ pub extern "C" fn ptpm_field_text(id: u16, octets: &[u8], text: &mut [u8]) -> us
     hand_out_lines(&lines, text).unwrap_or(0)
 }
 
-/// Leaves the dataField that words mean for a SET of this id at the head of `octets`, `count` octets: 0, or the number of the
-/// refusal, and then `member` is the place of the member that is at fault, counted from 0. Each word has a zero octet after it.
-/// What comes after the dataField stays. What is not told is 0.
+/// Leaves the dataField that words mean for a SET of this id at the head of `octets`: `count` octets. Answers 0, or the number of
+/// the refusal. Then `member` is the place of the member that is at fault, counted from 0. Each word has a zero octet after it.
+/// What comes after the dataField stays. Of `count` and `member`, the one that does not apply is 0.
 #[unsafe(no_mangle)]
 pub extern "C" fn ptpm_field_parse(
     id: u16,

@@ -113,7 +113,7 @@ impl Handle {
         }
     }
 
-    /// What it holds, where it lies. Whoever only reads it writes nothing to the handle.
+    /// What it holds, in place. Whoever only reads it writes nothing to the handle.
     pub fn kept(&mut self) -> Option<&mut Kept>
         ensures* writes_back { sem 𝓛 (LendsHeld self.entry result) }
         ensures value { MatchOption result (held self.old.keeping ≡ Nothing)

@@ -1,4 +1,4 @@
-//! A box behind a pointer that a host keeps. All that is unsafe is here.
+//! A box that a pointer of a host points to. All that is unsafe is here.
 
 ghost use Rattle.std.specs.Prelude.{◌≡◌, IsTrue, Option, None, Some, is_some};
 ghost use Rattle.ptpm_c.specs.declared.kept.Kept.{Kept};
@@ -8,7 +8,8 @@ use crate::kept::Kept;
 use std::alloc::Global;
 use std::marker::Model;
 
-/// Where the box lies, or null. Its type names nothing of what is in the box, since none of it may cross to C.
+/// The address of the box, or null. Its type names nothing of what is in the box, since none of it may cross
+/// to C.
 #[repr(C)]
 #[derive(Drop)]
 pub struct Keeping {
@@ -33,7 +34,7 @@ impl Keeping {
         }
     }
 
-    /// What lies in this box.
+    /// Keeps this box.
     pub fn of_box(kept: Box<Kept>) -> Keeping
         ensures { result.kept ≡ Some kept.value }
     {
@@ -41,7 +42,7 @@ impl Keeping {
         Keeping { at: at as *mut u8 }
     }
 
-    /// What lies in the box, where it lies.
+    /// What is in the box, in place.
     pub fn as_kept(&mut self) -> &mut Kept
         requires { IsTrue (is_some self.old.kept) }
         ensures* writes_back { sem 𝓛 (LendsKept self.entry result) }

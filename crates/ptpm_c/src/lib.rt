@@ -59,8 +59,8 @@ pub extern "C" fn ptpm_port_defaults(settings: &mut PortSettings)
     *settings = PortSettings::new();
 }
 
-/// Starts a clock in a handle, in place of the one that it holds: 0. Where it is refused, by the number of the refusal, the
-/// handle holds none. Want of memory can come in place of any other refusal.
+/// Starts a clock in a handle, in place of the one that it holds: 0. If it is refused, answers the number of the refusal, and
+/// the handle holds none. Want of memory can come in place of any other refusal.
 #[tactic(auto, using(crate::proofs::Numbers::number_of_start_refusal, crate::proofs::Numbers::memory_of_start_refusal))]
 #[unsafe(no_mangle)]
 pub extern "C" fn ptpm_clock_start(
@@ -96,9 +96,9 @@ pub extern "C" fn ptpm_clock_start(
     0
 }
 
-/// What becomes of a datagram that comes in at a port: the number of the verdict, or of the refusal. The first `count`
-/// places of `sent` get what the clock sends; the places after them stay as they are, and so does what follows each
-/// message. Takes no memory.
+/// What becomes of a datagram that comes in at a port: the number of the verdict, or of the refusal. The first `count` places
+/// of `sent` get what the clock sends. The places after them stay as they are, and so does what follows each message. Takes no
+/// memory.
 #[tactic(auto, using(crate::proofs::Turns::turned_to, ptpm_host::specs::PlacesLaws::kept_by_none))]
 #[unsafe(no_mangle)]
 pub extern "C" fn ptpm_clock_handle(
@@ -179,9 +179,9 @@ pub extern "C" fn ptpm_clock_handle_changed(
     number
 }
 
-/// Moves what the host observes of its clock, and of the clock's ports from 1 on, and nothing else: 0, or the number of the
-/// refusal, and then nothing changes. A state that is observed at a disabled port is not taken; `left` gets these ports, 1 for
-/// port 1, 2 for port 2, 4 for port 3, and so on, summed up. Takes no memory.
+/// Sets what the host observes of its clock, and of the clock's ports from 1 on, and nothing else. Answers 0, or the number of
+/// the refusal, and then nothing changes. A state that is observed at a disabled port is not taken. `left` gets these ports:
+/// the sum of 1 for port 1, 2 for port 2, 4 for port 3, and so on. Takes no memory.
 #[unsafe(no_mangle)]
 pub extern "C" fn ptpm_clock_observe(
     alloc: Global,

@@ -20,7 +20,7 @@ pub extern "C" fn ptpm_id_named(name: &[u8]) -> u32
     }
 }
 
-/// Leaves the standard's name of a managementId at the head of `octets`, and answers how many octets it has: 0 if this
+/// Leaves the standard's name of a managementId at the head of `octets`, and answers how many octets it has. That is 0 if this
 /// profile lacks the id, or there is no room for the whole name. What follows it stays.
 #[unsafe(no_mangle)]
 pub extern "C" fn ptpm_id_name(id: u16, octets: &mut [u8]) -> usize
@@ -31,8 +31,8 @@ pub extern "C" fn ptpm_id_name(id: u16, octets: &mut [u8]) -> usize
     hand_out_name(id_name(id), octets)
 }
 
-/// Leaves the name of the number that a call answered at the head of `octets`, and answers how many octets it has: 0 if the
-/// number has none, or there is no room for the whole name. What follows it stays.
+/// Leaves the name of the number that a call answered at the head of `octets`, and answers how many octets it has. That is 0 if
+/// the number has none, or there is no room for the whole name. What follows it stays.
 #[unsafe(no_mangle)]
 pub extern "C" fn ptpm_answer_name(number: u32, octets: &mut [u8]) -> usize
     ensures size { result ≡ length (name_within (length octets.old) (answer_name number)) }
@@ -42,8 +42,9 @@ pub extern "C" fn ptpm_answer_name(number: u32, octets: &mut [u8]) -> usize
     hand_out_name(answer_name(number), octets)
 }
 
-/// Leaves the standard's name of a managementErrorId (15.5.4.3, table 109), such as `WRONG_VALUE`, at the head of `octets`, and
-/// answers how many octets it has: 0 if the standard names none, or there is no room for the whole name. What follows it stays.
+/// Leaves the standard's name of a managementErrorId, such as `WRONG_VALUE`, at the head of `octets` (15.5.4.3, table 109).
+/// Answers how many octets it has. That is 0 if the standard names none, or there is no room for the whole name. What follows it
+/// stays.
 #[unsafe(no_mangle)]
 pub extern "C" fn ptpm_error_name(error: u16, octets: &mut [u8]) -> usize
     ensures size { result ≡ length (name_within (length octets.old) (error_name error)) }

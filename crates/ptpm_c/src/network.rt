@@ -7,8 +7,8 @@ ghost use Rattle.ptpm_host.specs.Rate.{full, has_token, taken};
 
 use ptpm_host::{PassedOn, Rate};
 
-/// Whether a message is to be passed on: none with its key is noted, and a place is free, in which it is noted from now on for a
-/// time. What is no management message is not passed on.
+/// Whether a message is to be passed on: if none with its key is noted, and a place is free. It is noted there from now on for
+/// `time`. Octets that are no management message are not passed on.
 #[unsafe(no_mangle)]
 pub extern "C" fn ptpm_passed_on_is_first(
     table: &mut PassedOn,
@@ -23,7 +23,7 @@ pub extern "C" fn ptpm_passed_on_is_first(
     table.is_first(message, now, time)
 }
 
-/// Makes a full bucket of so many tokens a second, at a time in milliseconds.
+/// Makes a full bucket of `tokens` tokens a second, at a time in milliseconds.
 #[unsafe(no_mangle)]
 pub extern "C" fn ptpm_rate_start(rate: &mut Rate, tokens: u64, now: u64)
     ensures { rate.new ≡ full tokens now }
@@ -31,7 +31,7 @@ pub extern "C" fn ptpm_rate_start(rate: &mut Rate, tokens: u64, now: u64)
     *rate = Rate::new(tokens, now);
 }
 
-/// Takes a token; whether there was one. A time before the latest counts as that.
+/// Takes a token. Answers whether there was one. A time before the latest one counts as the latest.
 #[unsafe(no_mangle)]
 pub extern "C" fn ptpm_rate_take(rate: &mut Rate, now: u64) -> bool
     ensures answer { result ≡ has_token rate.old now }

@@ -15,8 +15,8 @@ use crate::kept::{Hosted, Kept};
 use ptpm_host::{HostedSession, NO_MEMORY, NO_ROOM, NO_SESSION, SessionSettings, restore_number};
 use std::alloc::Global;
 
-/// Leaves the session's image at the head of `octets`, `size` octets, 53 to 1,478: 0, or the number of the refusal, and then
-/// nothing is written. What comes after the image stays. Takes no memory.
+/// Leaves the session's image at the head of `octets`: `size` octets, 53 to 1,478. Answers 0, or the number of the refusal, and
+/// then nothing is written. What comes after the image stays. Takes no memory.
 #[unsafe(no_mangle)]
 pub extern "C" fn ptpm_session_image(
     handle: &mut Handle,
@@ -54,7 +54,7 @@ pub extern "C" fn ptpm_session_image(
 }
 
 /// Puts the session whose image this is in a handle, in place of what it holds: 0. Manager, managed clock, its number of ports
-/// and the first number must be those of the settings; domain, hop field and attempts are those of the image. If it is refused,
+/// and the first number must be those of the settings. Domain, hop field and attempts are those of the image. If it is refused,
 /// by the number of the refusal, the handle holds what it held.
 #[tactic(auto, using(crate::proofs::Numbers::memory_of_restore))]
 #[unsafe(no_mangle)]

@@ -14,8 +14,8 @@ use crate::kept::{Hosted, Kept};
 use ptpm_host::{HostedClock, ManagerSettings, NO_CLOCK, NO_MEMORY, NO_ROOM, clock_restore_number};
 use std::alloc::Global;
 
-/// Leaves the clock's image at the head of `octets`, `size` octets, 104 to 27,185: 0, or the number of the refusal, and then
-/// nothing is written. What comes after the image stays. Takes no memory.
+/// Leaves the clock's image at the head of `octets`: `size` octets, 104 to 27,185. Answers 0, or the number of the refusal, and
+/// then nothing is written. What comes after the image stays. Takes no memory.
 #[unsafe(no_mangle)]
 pub extern "C" fn ptpm_clock_image(handle: &mut Handle, octets: &mut [u8], size: &mut usize) -> u32
     ensures kept { held handle.new.keeping ≡ held handle.old.keeping }
@@ -48,8 +48,8 @@ pub extern "C" fn ptpm_clock_image(handle: &mut Handle, octets: &mut [u8], size:
     }
 }
 
-/// Puts the clock whose image this is in a handle, in place of what it holds: 0. It has this identity and so many ports, and
-/// these managers with these rights; all else is as it was saved. `gone` gets how many entries were let go, since their managers
+/// Puts the clock whose image this is in a handle, in place of what it holds: 0. It has this identity, this many ports, and
+/// these managers with these rights. All else is as it was saved. `gone` gets how many entries were let go, since their managers
 /// are not among these. If it is refused, by the number of the refusal, the handle holds what it held, and `gone` is 0.
 #[unsafe(no_mangle)]
 pub extern "C" fn ptpm_clock_restore(

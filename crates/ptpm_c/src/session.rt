@@ -30,7 +30,7 @@ use ptpm_host::{
 };
 use std::alloc::Global;
 
-/// Starts a session in a handle, in place of the one that it holds: 0. Where it is refused, by the number of the refusal,
+/// Starts a session in a handle, in place of the one that it holds: 0. If it is refused, answers the number of the refusal, and
 /// the handle holds none.
 #[unsafe(no_mangle)]
 pub extern "C" fn ptpm_session_start(
@@ -251,8 +251,8 @@ pub extern "C" fn ptpm_session_retune(alloc: Global, handle: &mut Handle, domain
     0
 }
 
-/// What the session makes of a datagram: 0 for the answer, or the number of the reason to ignore it, or of the refusal, and
-/// then nothing changes.
+/// What the session makes of a datagram: 0 for the answer, or the number of the reason to ignore it. Or it is the number of the
+/// refusal, and then nothing changes.
 #[unsafe(no_mangle)]
 pub extern "C" fn ptpm_session_receive(alloc: Global, handle: &mut Handle, datagram: &[u8]) -> u32
     ensures heard { (s : HostedSession)
@@ -298,8 +298,8 @@ pub extern "C" fn ptpm_session_issued(handle: &mut Handle) -> u64
     session.issued()
 }
 
-/// What the answer to the latest request says, as a number; a dataField is left at the head of `octets`, `size` octets, and
-/// a managementErrorId in `error`. If there is none, they are 0. What follows a dataField stays. Takes no memory.
+/// What the answer to the latest request says, as a number. A dataField is left at the head of `octets`, `size` octets, and a
+/// managementErrorId in `error`. If there is none, they are 0. What follows a dataField stays. Takes no memory.
 #[unsafe(no_mangle)]
 pub extern "C" fn ptpm_session_report(
     handle: &mut Handle,

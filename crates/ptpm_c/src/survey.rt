@@ -26,8 +26,8 @@ use ptpm_host::{
 };
 use std::alloc::Global;
 
-/// Starts a survey in a handle, in place of what it holds: 0. Where it is refused, by the number of the refusal, the handle
-/// holds none.
+/// Starts a survey in a handle, in place of what it holds: 0. If it is refused, answers the number of the refusal, and the
+/// handle holds none.
 #[unsafe(no_mangle)]
 pub extern "C" fn ptpm_survey_start(
     alloc: Global,
@@ -127,7 +127,7 @@ pub extern "C" fn ptpm_survey_send(handle: &mut Handle, octets: &mut [u8], size:
     }
 }
 
-/// What the survey makes of a datagram, as a number. Where memory is refused, nothing changes.
+/// What the survey makes of a datagram, as a number. If memory is refused, nothing changes.
 #[unsafe(no_mangle)]
 pub extern "C" fn ptpm_survey_receive(alloc: Global, handle: &mut Handle, datagram: &[u8]) -> u32
     ensures surveyed { (s : HostedSurvey)
@@ -185,9 +185,9 @@ pub extern "C" fn ptpm_survey_count(handle: &mut Handle) -> usize
     survey.count()
 }
 
-/// What the answer at a place says, as a number, counted from 0, and who gave it; a dataField is left at the head of
-/// `octets`, `size` octets, and a managementErrorId in `error`. If there is none, they are 0. What follows a dataField
-/// stays. Takes no memory.
+/// What the answer at a place says, as a number, and who gave it. Places are counted from 0. A dataField is left at the
+/// head of `octets`, `size` octets, and a managementErrorId in `error`. If there is none, they are 0. What follows a
+/// dataField stays. Takes no memory.
 #[unsafe(no_mangle)]
 pub extern "C" fn ptpm_survey_answer(
     handle: &mut Handle,

@@ -71,8 +71,8 @@ fn a_clock_from_start_to_stop(rt: HostRuntime) {
     assert!(rt; answer == 32 && count == 0);
 }
 
-/// The head of the longest message, a SET of USER_DESCRIPTION with a dataField of 1,418 octets, of the manager to the clock
-/// aabbccfffeddee02, at every port: 1 hop of 2 is left.
+/// The head of the longest message, of the manager to the clock aabbccfffeddee02, at every port. It is a SET of USER_DESCRIPTION
+/// with a dataField of 1,418 octets, and has 1 hop of 2 left.
 const LONGEST_HEAD: &[u8; 54] = b"\x0d\x12\x05\xc0\x00\x00\
     \x00\x00\x00\x00\x00\x00\x00\x00\x00\x00\x00\x00\x00\x00\
     \x00\x11\x22\x33\x44\x55\x66\x77\x00\x01\x00\x07\x04\x7f\
@@ -571,8 +571,8 @@ const DISABLE_PORT: &[u8; 54] = b"\x0d\x12\x00\x36\x00\x00\
     \xaa\xbb\xcc\xff\xfe\xdd\xee\x01\x00\x02\x01\x01\x03\x00\
     \x00\x01\x00\x02\x20\x0e";
 
-/// A clock that is its own grandmaster shows its priority1 as the grandmaster's too: bits 4 and 16 of the clock. portState is
-/// bit 0 of port 2.
+/// A clock that is its own grandmaster shows its priority1 as the grandmaster's too: bits 4 and 16 of the clock. In port 2 bit 0
+/// is portState.
 #[test]
 fn what_a_datagram_changes(rt: HostRuntime) {
     let alloc = rt.alloc();
@@ -604,8 +604,8 @@ fn what_a_datagram_changes(rt: HostRuntime) {
     ptpm_clock_stop(alloc, &mut handle);
 }
 
-/// The structs of a host on a machine of 64 bits, in the order of the header; sizes of a shorter struct, of one struct fewer, and
-/// of one more.
+/// The structs of a host on a machine of 64 bits, in the order of the header. Then sizes of a shorter struct, of one struct
+/// fewer, and of one more.
 #[test]
 fn sizes_of_headers(rt: HostRuntime) {
     let mut sizes = [

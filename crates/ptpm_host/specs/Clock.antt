@@ -1,5 +1,4 @@
 -- A clock that a host keeps, as the definitions of a turn see it, and the messages that are written into its host's places.
-use denote.Param.{number}
 use Rattle.std.specs.Prelude.{◌≡◌, ◌≤◌, ℕ, Bool, not, nat_lt, List, [], ◌∷◌, drop, take, map, Option, Some, None, Result, Ok, Err}
 use Rattle.ptpm_codec.specs.Ordered.{first_of}
 use Rattle.ptpm_data.specs.declared.start.StartError.{StartError}
@@ -7,7 +6,7 @@ use Rattle.ptpm_data.specs.Members.{DataSetsValue}
 use Rattle.ptpm_data.specs.Start.{start_of}
 use Rattle.ptpm_table.specs.declared.error.TableError.{TableError}
 use Rattle.ptpm_table.specs.Managers.{IsFresh, identities, table_refusal}
-use Rattle.ptpm_table.specs.contracts.slot_table.SlotTableReplyTable.TheImpl.{ghosts}
+use Rattle.ptpm_table.specs.contracts.heap_table.HeapTableReplyTable.TheImpl.{ghosts}
 use Rattle.ptpm_agent.specs.Agent.{clock_of, state_of}
 use Rattle.ptpm_agent.specs.Turn.{Clock, State}
 use Rattle.ptpm_host.specs.declared.clock.HostedClock.{HostedClock}
@@ -23,13 +22,13 @@ use Rattle.ptpm_host.specs.Settings as settings
 
 -- ---- a clock
 
--- its identity, its managers, and what each of them may change: `ReplyTable`'s owner, of its table of sixteen slots
+-- its identity, its managers, and what each of them may change: `ReplyTable`'s owner, of its table
 abbrev pub clock_in : HostedClock → Clock
-clock_in c = clock_of (ghosts (number 16)).owner c.agent
+clock_in c = clock_of ghosts.owner c.agent
 
 -- its data sets, and what is kept of each manager: `ReplyTable`'s entries, of its table
 abbrev pub state_in : HostedClock → State
-state_in c = state_of (ghosts (number 16)).entries c.agent
+state_in c = state_of ghosts.entries c.agent
 
 -- of these settings' identity and these managers, and it has heard nothing yet
 abbrev pub IsFreshClock : ClockSettings → List ManagerSettings → HostedClock → Type 0

@@ -12,27 +12,28 @@ ghost use Rattle.ptpm_host.specs.Settings.{configured};
 ghost use Rattle.ptpm_data.specs.Start.{unless};
 
 use crate::judged::JudgedStart;
-use crate::managers::ConfiguredManagers;
 use crate::observing::{ObservedClock, ObservedPort, port_observations};
 use crate::places::Places;
 use crate::refusal::{HandleRefusal, StartRefusal};
 use crate::sent::Sent;
 use crate::settings::{ClockSettings, ManagerSettings, PortSettings};
 use ptpm_agent::{Agent, Verdict};
+use ptpm_codec::OutOfMemory;
 use ptpm_data::{DataSets, ObservationError, PortsLeftDisabled};
-use ptpm_table::{BoundTable, Outgoing, ReplyTable, SlotTable};
+use ptpm_table::{HeapTable, Outgoing, ReplyTable};
 use std::alloc::Global;
 
 /// How many messages a clock sends at most for a datagram: seven copies that it passes on, and eight replies.
 pub const MOST_SENT: usize = 15;
 
-/// A clock. What it sends is written right into places of its host.
+/// A clock. It has a block of memory with a slot of 2,136 octets for each of its managers, from its start or its restore on.
+/// What it sends is written right into places of its host.
 #[derive(Drop)]
 pub struct HostedClock {
-    pub(crate) agent: Agent<BoundTable>,
+    pub(crate) agent: Agent<HeapTable>,
 }
 
-const _: () = prove!(size_of::<HostedClock>() == 34_632);
+const _: () = prove!(size_of::<HostedClock>() == 472);
 
 /// What became of a datagram.
 #[derive(Clone, Copy, Debug)]
@@ -43,7 +44,8 @@ pub struct Handled {
 }
 
 impl HostedClock {
-    /// A clock that has heard nothing yet, with these values and these managers. Memory is taken for the call alone.
+    /// A clock that has heard nothing yet, with these values and these managers. It keeps the block of its managers' slots; other
+    /// memory is taken for the call alone.
     pub fn start(
         alloc: Global,
         settings: &ClockSettings,
@@ -54,20 +56,20 @@ impl HostedClock {
         ensures table { IfOk result
             (λ c.
             IsFresh (record { 0 = settings.now.identity }) (configured managers.now)
-            (⟦<BoundTable as ReplyTable>⟧.owner c.agent.table)
-            (⟦<BoundTable as ReplyTable>⟧.entries c.agent.table)) }
+            (⟦<HeapTable as ReplyTable>⟧.owner c.agent.table)
+            (⟦<HeapTable as ReplyTable>⟧.entries c.agent.table)) }
         ensures permitted { OnOk result (start_refusal settings.now ports.now managers.now ≡ None) }
         ensures refused { IfErr result (λ e. e ≢ StartRefusal.OutOfMemory →
             start_refusal settings.now ports.now managers.now ≡ Some e) }
     {
         let judged = JudgedStart::new(alloc, settings, ports, managers)?;
-        let mut clock = HostedClock::without_managers(&judged.sets);
-        clock.admit(&judged.managers);
-        Ok(clock)
+        match judged.table(alloc) {
+            Ok(table) => Ok(HostedClock::over(&judged.sets, table)),
+            Err(_) => Err(StartRefusal::OutOfMemory),
+        }
     }
 
-    /// What `start` does, with the clock in a block of its own. LLVM makes it right there, so that it takes no room on the stack
-    /// and is not moved.
+    /// What `start` does, with the clock in a block of its own, beside that of the slots.
     pub fn start_boxed(
         alloc: Global,
         settings: &ClockSettings,
@@ -82,36 +84,42 @@ impl HostedClock {
             start_refusal settings.now ports.now managers.now ≡ Some e) }
     {
         let judged = JudgedStart::new(alloc, settings, ports, managers)?;
-        let Ok(mut clock) = Box::new(alloc, HostedClock::without_managers(&judged.sets)) else {
+        let Ok(table) = judged.table(alloc) else {
             return Err(StartRefusal::OutOfMemory);
         };
-        clock.admit(&judged.managers);
-        Ok(clock)
-    }
-
-    /// A clock of these data sets that has heard nothing yet and has no managers. It is inlined, and zeros except its data sets
-    /// and its identity: so LLVM makes it in the block that it is moved to.
-    #[inline(always)]
-    pub(crate) fn without_managers(sets: &DataSets) -> HostedClock
-        ensures sets { result.agent.sets ≡ sets.now }
-        ensures fresh { IsFresh sets.now.default.identity [] (clock_in result)
-            (state_in result).entries }
-    {
-        let sets = sets.copy();
-        let table = SlotTable::without_managers(sets.identity());
-        HostedClock {
-            agent: Agent::new(sets, table),
+        match HostedClock::boxed(alloc, &judged.sets, table) {
+            Ok(clock) => Ok(clock),
+            Err(_) => Err(StartRefusal::OutOfMemory),
         }
     }
 
-    /// Gives a clock without managers these, in place.
-    pub(crate) fn admit(&mut self, managers: &ConfiguredManagers)
-        requires { (clock_in self.old).managers ≡ [] }
-        ensures sets { self.new.agent.sets ≡ self.old.agent.sets }
-        ensures fresh { IsFresh (clock_in self.old).identity (take managers.now.count managers.now.places)
-            (clock_in self.new) (state_in self.new).entries }
+    /// A clock of these data sets over this table, which are of one clock.
+    #[inline(always)]
+    pub(crate) fn over(sets: &DataSets, table: HeapTable) -> HostedClock
+        requires { sets.now.default.identity ≡ (⟦<HeapTable as ReplyTable>⟧.owner table).identity }
+        ensures sets { result.agent.sets ≡ sets.now }
+        ensures table { result.agent.table ≡ table }
     {
-        self.agent.admit(managers.as_slice());
+        HostedClock {
+            agent: Agent::new(sets.copy(), table),
+        }
+    }
+
+    /// The same in a block of its own. Never inlined: so the stack has one such clock at most, and none while entries are read.
+    #[inline(never)]
+    pub(crate) fn boxed(
+        alloc: Global,
+        sets: &DataSets,
+        table: HeapTable,
+    ) -> Result<Box<HostedClock>, OutOfMemory>
+        requires { sets.now.default.identity ≡ (⟦<HeapTable as ReplyTable>⟧.owner table).identity }
+        ensures sets { IfOk result (λ c. c.value.agent.sets ≡ sets.now) }
+        ensures table { IfOk result (λ c. c.value.agent.table ≡ table) }
+    {
+        match Box::new(alloc, HostedClock::over(sets, table)) {
+            Ok(clock) => Ok(clock),
+            Err(_) => Err(OutOfMemory),
+        }
     }
 
     /// The data sets as they are.
@@ -121,10 +129,10 @@ impl HostedClock {
         self.agent.sets()
     }
 
-    /// What becomes of a datagram that comes in at a port: one turn of the clock. What it sends is written into the first
-    /// places of `room`; the places after them stay as they are, and so does what follows each message. If it is
-    /// refused, nothing changes. The data sets change with the verdict `AnsweredNew` alone: a host that acts on what changed
-    /// keeps a copy of them, and then asks `sets` what is another since. Takes no memory.
+    /// What becomes of a datagram that comes in at a port: one turn of the clock. What it sends is written into the first places
+    /// of `room`. The places after them stay as they are, and so does what follows each message. If it is refused, nothing
+    /// changes. The data sets change with the verdict `AnsweredNew` alone. A host that acts on what changed keeps a copy of them,
+    /// and then asks `sets` what has changed since. Takes no memory.
     #[tactic(auto, using(crate::specs::PlacesLaws::kept_by_none))]
     pub fn handle(
         &mut self,

@@ -1,7 +1,7 @@
 //! What a clock begins with, before it is made.
 
 ghost use Rattle.std.specs.Prelude.{◌≡◌, ◌≢◌, IfErr, IfOk, IsOkAnd, MatchResult, None, Ok, OnOk, Some, take};
-ghost use Rattle.ptpm_table.specs.Managers.{identities, table_refusal};
+ghost use Rattle.ptpm_table.specs.Managers.{IsFresh, identities, table_refusal};
 ghost use Rattle.ptpm_saved.specs.Image.{SavedClock};
 ghost use Rattle.ptpm_host.specs.Clock.{start_by, start_refusal};
 ghost use Rattle.ptpm_host.specs.Restoring.{CanRestore, IsRestoreRefused};
@@ -10,10 +10,10 @@ ghost use Rattle.ptpm_host.specs.Settings.{configured};
 use crate::managers::ConfiguredManagers;
 use crate::refusal::{ClockRestoreRefusal, StartRefusal};
 use crate::settings::{ClockSettings, ManagerSettings, NO_IDENTITY, PortSettings, port_starts};
-use ptpm_codec::ClockIdentity;
+use ptpm_codec::{ClockIdentity, OutOfMemory};
 use ptpm_data::DataSets;
 use ptpm_saved::judge_into;
-use ptpm_table::TableError;
+use ptpm_table::{HeapTable, ReplyTable, TableError};
 use std::alloc::Global;
 
 /// The data sets and the managers of a clock that may start.
@@ -55,10 +55,38 @@ impl JudgedStart {
         }
         Ok(JudgedStart { sets, managers })
     }
+
+    /// The reply table of the clock, without entries.
+    pub fn table(&self, alloc: Global) -> Result<HeapTable, OutOfMemory>
+        ensures { IfOk result (λ t. IsFresh self.now.sets.default.identity
+            (take self.now.managers.count self.now.managers.places)
+            (⟦<HeapTable as ReplyTable>⟧.owner t) (⟦<HeapTable as ReplyTable>⟧.entries t)) }
+    {
+        HeapTable::of_judged(alloc, self.sets.identity(), self.managers.as_slice())
+    }
 }
 
-/// Leaves the data sets of an image there, or answers the first reason why no clock of this identity, so many ports and these
-/// managers goes on from it. Of the managers nothing is left on the stack while the image is judged. Takes no memory.
+/// The reply table of a clock without entries, for managers of whom none is refused. Never inlined: so the stack has no room for
+/// them when the table is made.
+#[inline(never)]
+pub(crate) fn judged_table(
+    alloc: Global,
+    clock: ClockIdentity,
+    managers: &[ManagerSettings],
+) -> Result<HeapTable, OutOfMemory>
+    requires { table_refusal (identities (configured managers.now)) ≡ None }
+    ensures { IfOk result (λ t. IsFresh clock (configured managers.now)
+        (⟦<HeapTable as ReplyTable>⟧.owner t) (⟦<HeapTable as ReplyTable>⟧.entries t)) }
+{
+    let Ok(managers) = ConfiguredManagers::new(managers) else {
+        unreachable!()
+    };
+    HeapTable::of_judged(alloc, clock, managers.as_slice())
+}
+
+/// Leaves the data sets of an image in `sets`. Or answers the first reason why no clock of this identity, with this many
+/// ports and these managers, goes on from it. Of the managers nothing is left on the stack while the image is judged. Takes
+/// no memory.
 pub(crate) fn judge_image(
     identity: &[u8; 8],
     ports: usize,

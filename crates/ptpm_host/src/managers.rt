@@ -12,7 +12,7 @@ use ptpm_table::{TableError, managers_refusal};
 /// How many managers a clock has at most.
 const MANAGERS: usize = 16;
 
-/// Whoever stands in a place that no manager has.
+/// What is in a place that no manager has.
 const NOBODY: (PortIdentity, Rights) = (
     PortIdentity {
         clock: NO_IDENTITY,

@@ -5,18 +5,16 @@ ghost use Rattle.std.specs.FinMap as fin;
 ghost use Rattle.std.specs.List.{All};
 ghost use Rattle.ptpm_agent.specs.Turn.{State};
 ghost use Rattle.ptpm_table.specs.Entries.{is_known};
-ghost use Rattle.ptpm_table.specs.Managers.{IsFresh, identities, table_refusal};
+ghost use Rattle.ptpm_table.specs.Managers.{identities};
 ghost use Rattle.ptpm_saved.specs.Image.{SavedClock, clock_image, saved_of};
 ghost use Rattle.ptpm_host.specs.Clock.{clock_in, state_in};
 ghost use Rattle.ptpm_host.specs.Restoring.{CanRestore, IsBack, IsBegunAs, IsRestoreRefused};
 ghost use Rattle.ptpm_host.specs.Settings.{configured};
 
 use crate::clock::HostedClock;
-use crate::judged::judge_image;
-use crate::managers::ConfiguredManagers;
+use crate::judged::{judge_image, judged_table};
 use crate::refusal::ClockRestoreRefusal;
 use crate::settings::ManagerSettings;
-use ptpm_codec::OutOfMemory;
 use ptpm_data::DataSets;
 use ptpm_saved::{image_into, put_back_judged};
 use std::alloc::Global;
@@ -35,9 +33,10 @@ impl HostedClock {
         image_into(&self.agent, octets)
     }
 
-    /// The clock whose image this is, of this identity and so many ports, and how many of its entries were let go, since their
-    /// managers are not among these. Managers and rights are these; all else is as it was saved. The first reason that holds is
-    /// why it is refused. Memory is asked for last, for the block that the clock is made in.
+    /// The clock of an image, if it is of this identity and has this many ports. Also how many of its entries were let go, since
+    /// their managers are not among these. Managers and rights are these; all else is as it was saved. An image is refused for
+    /// the first reason that holds. Memory is asked for last, for the slots of its managers and for the block that the clock is
+    /// made in.
     pub fn restored_boxed(
         alloc: Global,
         identity: &[u8; 8],
@@ -88,40 +87,12 @@ impl HostedClock {
     {
         let mut sets = DataSets::blank();
         judge_image(identity, ports, managers, image, &mut sets)?;
-        let Ok(mut clock) = HostedClock::boxed_without_managers(alloc, &sets) else {
+        let Ok(table) = judged_table(alloc, sets.identity(), managers) else {
             return Err(ClockRestoreRefusal::OutOfMemory);
         };
-        clock.admit_judged(managers);
-        Ok(clock)
-    }
-
-    /// A clock of these data sets without managers, in a block of its own. Never inlined.
-    #[inline(never)]
-    fn boxed_without_managers(
-        alloc: Global,
-        sets: &DataSets,
-    ) -> Result<Box<HostedClock>, OutOfMemory>
-        ensures made { IfOk result (λ r. (r.value.agent.sets ≡ sets.now)
-            × IsFresh sets.now.default.identity [] (clock_in r.value) (state_in r.value).entries) }
-    {
-        match Box::new(alloc, HostedClock::without_managers(sets)) {
+        match HostedClock::boxed(alloc, &sets, table) {
             Ok(clock) => Ok(clock),
-            Err(_) => Err(OutOfMemory),
+            Err(_) => Err(ClockRestoreRefusal::OutOfMemory),
         }
-    }
-
-    /// Gives a clock without managers these, of which none is refused. Never inlined.
-    #[inline(never)]
-    fn admit_judged(&mut self, managers: &[ManagerSettings])
-        requires none { (clock_in self.old).managers ≡ [] }
-        requires judged { table_refusal (identities (configured managers.now)) ≡ None }
-        ensures sets { self.new.agent.sets ≡ self.old.agent.sets }
-        ensures fresh { IsFresh (clock_in self.old).identity (configured managers.now)
-            (clock_in self.new) (state_in self.new).entries }
-    {
-        let Ok(managers) = ConfiguredManagers::new(managers) else {
-            unreachable!()
-        };
-        self.admit(&managers);
     }
 }

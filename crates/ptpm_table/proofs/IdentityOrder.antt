@@ -1,5 +1,5 @@
 -- The order of identities by the numbers that the octets of their clocks spell.
-use Rattle.std.proofs.Common.{suc, arith, ◌≡◌, ℕ, ◌+◌, ◌*◌, ◌==◌, ◌<◌, true, false, cond, refl, sym, ◌∙◌, ap, List, [], ◌∷◌, length, get_or}
+use Rattle.std.proofs.Common.{suc, arith, ◌≡◌, ℕ, ◌+◌, ◌*◌, ◌<◌, refl, sym, ◌∙◌, ap, List, [], ◌∷◌, length, get_or}
 use Rattle.std.proofs.lemmas.Bool.Decides.{nat_tests}
 use Rattle.std.specs.Int.{from_be_bytes, w64}
 use Rattle.std.specs.Cmp.Lexicographic.{slice_cmp}

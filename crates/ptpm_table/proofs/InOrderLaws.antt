@@ -1,18 +1,18 @@
 -- The entries of slots in the order of their managers.
-use Rattle.std.proofs.Common.{suc, zero, arith, cond, ◌≡◌, ℕ, ◌+◌, ◌<◌, ◌≤◌, true, false, refl, sym, ◌∙◌, ap, subst, List, [], ◌∷◌, ◌++◌, length, get_or, map, take, drop, Option, Some, None, All, slice_get}
-use Rattle.std.proofs.lemmas.Bool.{cases_Bool, or_parts, cond-true, cond-false}
+use Rattle.std.proofs.Common.{suc, zero, arith, cond, ◌≡◌, ℕ, ◌<◌, ◌≤◌, true, false, refl, sym, ◌∙◌, ap, subst, List, [], ◌∷◌, ◌++◌, length, get_or, take, drop, Option, Some, None, slice_get}
+use Rattle.std.proofs.lemmas.Bool.{or_parts, cond-true, cond-false}
 use Rattle.std.proofs.lemmas.List.Elements.{All-append, All-cons, All-drop, All-head, All-tail, All-take}
 use Rattle.std.proofs.lemmas.Option.{get_or_from_slice_get, slice_get-get_or, slice_get_within}
 use Rattle.std.proofs.lemmas.List.{drop_all, nil_from_length}
 use Rattle.std.specs.Prelude.{insert, is_some}
 use Rattle.std.specs.FinMap.Entries.{by_order}
-use Rattle.std.specs.FinMap.{entries, entries-insert, find, from_entries, get, get-entries, len-empty, len-entries, put}
+use Rattle.std.specs.FinMap.{entries, entries-insert, find, from_entries, get-entries, len-empty, len-entries, put}
 use Rattle.std.specs.Ordering.{is_eq, is_lt}
 use Rattle.std.specs.declared.cmp.Ordering.{Ordering}
 use Rattle.std.specs.declared.cmp.Ordering.TheVariants.{Equal, Greater, Less}
 use Rattle.ptpm_codec.specs.declared.identity.PortIdentity.{PortIdentity}
 use Rattle.ptpm_codec.specs.Identity.{identity_cmp}
-use Rattle.ptpm_table.specs.Entries.{Entry, is_known}
+use Rattle.ptpm_table.specs.Entries.{Entry}
 use Rattle.ptpm_table.specs.InOrder.{AreLendable, IsLendable, entries_at, entry_at, rank}
 use Rattle.ptpm_table.specs.Lending.{IsKeepable}
 use Rattle.ptpm_table.specs.Managers.{has_twice, identities}

@@ -10,7 +10,7 @@ use Rattle.std.proofs.lemmas.List.Elements.{All-cons, All-nil, All-push, All-set
 use Rattle.std.proofs.lemmas.Cmp.{tied_itself}
 use Rattle.std.specs.Prelude.{◌↔◌, IfSome, IsTrue, MatchOption, ⊤, count_by, is_some}
 use Rattle.std.specs.List.{position_or_len}
-use Rattle.std.specs.FinMap.{get, from_entries, insert, len, len-empty, len-insert}
+use Rattle.std.specs.FinMap.{get, from_entries, len, len-empty, len-insert}
 use Rattle.std.specs.declared.cmp.Ordering.TheVariants.{Equal, Greater, Less}
 use Rattle.ptpm_codec.specs.declared.error.ErrorId.{ErrorId}
 use Rattle.ptpm_codec.specs.declared.error.ErrorId.TheVariants as errors

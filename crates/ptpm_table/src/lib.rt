@@ -2,6 +2,7 @@
 #![tactic(auto)]
 
 mod error;
+mod heap_table;
 mod heard;
 mod in_order;
 mod kept;
@@ -17,9 +18,11 @@ mod renewal;
 mod reply_table;
 mod serial;
 mod slot;
+mod slot_list;
 mod slot_table;
 
 pub use error::TableError;
+pub use heap_table::HeapTable;
 pub use heard::Heard;
 pub use in_order::LentEntries;
 pub use lending::{LendingTable, LentAnswer, LentAnswers, LentEntry, LentWhat};

@@ -38,17 +38,28 @@ impl Default for Slot {
     /// A slot of nobody.
     fn default() -> Slot {
         let clock = ClockIdentity([0; 8]);
-        Slot {
-            kept: Kept::nothing(&clock, &PortIdentity { clock, port: 0 }),
-            rights: Rights::NONE,
-            taken: false,
-        }
+        Slot::unused(&clock, &(PortIdentity { clock, port: 0 }, Rights::NONE))
     }
 }
 
 impl Slot {
-    ghost use Rattle.std.specs.Prelude.{◌↔◌, IsTrue};
+    ghost use Rattle.std.specs.Prelude.{◌↔◌, IsTrue, false};
     ghost use Rattle.ptpm_table.specs.Slots.{IsUsedAfter};
+
+    /// A slot of a manager of this clock, in which no request is kept yet.
+    #[inline(always)]
+    pub(crate) fn unused(clock: &ClockIdentity, manager: &(PortIdentity, Rights)) -> Slot
+        ensures clock { result.kept.clock ≡ clock.now }
+        ensures manager { result.kept.manager ≡ manager.now.0 }
+        ensures rights { result.rights ≡ manager.now.1 }
+        ensures empty { result.taken ≡ false }
+    {
+        Slot {
+            kept: Kept::nothing(clock, &manager.0),
+            rights: manager.1,
+            taken: false,
+        }
+    }
 
     /// Whether a request is kept, of a manager who comes after this one; any does after none.
     pub(crate) fn is_used_after(&self, after: Option<PortIdentity>) -> bool

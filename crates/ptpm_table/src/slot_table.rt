@@ -1,29 +1,22 @@
 //! A reply table in fixed slots.
 
-ghost use Rattle.std.specs.Prelude.{◌≡◌, ◌↔◌, ◌≤◌, ◌<◌, ◌+◌, ◌++◌, ℕ, [], false, MatchOption, count_by, slice_get, IfOk, IfSome, IsOk, IsTrue, OnErr, OnOk, All, MatchResult, None, Some, is_some, length, position};
+ghost use Rattle.std.specs.Prelude.{◌≡◌, ◌≤◌, [], false, IfOk, IsOk, IsTrue, OnErr, OnOk, All, MatchResult, None, Some, length};
 ghost use Rattle.std.specs.FinMap as fin;
-ghost use Rattle.std.specs.Option.{option_copied};
-ghost use Rattle.ptpm_codec.specs.declared.identity.ClockIdentity.{ClockIdentity};
-ghost use Rattle.ptpm_codec.specs.Identity.{identity_cmp, same_identity};
 ghost use Rattle.ptpm_codec.specs.Message.{IsDataField, IsRequestAction};
 ghost use Rattle.ptpm_table.specs.Entries.{FitsRequest, is_known};
-ghost use Rattle.ptpm_table.specs.Lending.{HasNoneAfter, IsKeepable, IsNext};
-ghost use Rattle.ptpm_table.specs.declared.slot.Slot.{Slot};
-ghost use Rattle.ptpm_data.specs.Reply.{ReplyValue};
-ghost use Rattle.ptpm_table.specs.Sending.{IsSentReply};
-ghost use Rattle.ptpm_table.specs.Managers.{IsFresh, has_twice, identities, most_managers, rights_in, slots_refusal, table_refusal};
-ghost use Rattle.ptpm_table.specs.Slots.{AreKeepable, AreKeepable-prop, IsSooner, clocks, configured, entry_in, rights_at, slot_of, used};
+ghost use Rattle.ptpm_table.specs.Managers.{IsFresh, has_twice, identities, most_managers, slots_refusal, table_refusal};
+ghost use Rattle.ptpm_table.specs.Slots.{AreKeepable, AreKeepable-prop, clocks, configured, used};
 
 use crate::error::TableError;
 use crate::heard::Heard;
 use crate::in_order::{LentEntries, in_order};
-use crate::kept::judge;
 use crate::lending::{LendingTable, LentEntry};
 use crate::managers::{MANAGERS, refusal};
 use crate::outbox::Outbox;
 use crate::outgoing::Outgoing;
 use crate::reply_table::{Look, ReplyTable, SureTable};
-use crate::slot::{Kept, Slot, is_before};
+use crate::slot::Slot;
+use crate::slot_list::{count_used, look_at, next_slot, put, put_sent, rights_of, slot_at};
 use arrayvec::ArrayVec;
 use ptpm_codec::{ClockIdentity, OutOfMemory, PortIdentity};
 use ptpm_data::{Reply, Request, Rights};
@@ -130,94 +123,7 @@ fn assign<const SLOTS: usize>(
     ensures used { used slots.new.items ≡ [] }
 {
     for manager in managers {
-        slots.push(Slot {
-            kept: Kept::nothing(clock, &manager.0),
-            rights: manager.1,
-            taken: false,
-        });
-    }
-}
-
-/// A manager's slot.
-fn slot_at<'a>(slots: &'a [Slot], who: &PortIdentity) -> Option<&'a Slot>
-    requires { has_twice (identities (configured slots.now)) ≡ false }
-    ensures known { is_known who.now (identities (configured slots.now))
-        ≡ is_some (option_copied result) }
-    ensures rights { rights_in (configured slots.now) who.now ≡ rights_at (option_copied result) }
-    ensures kept { fin.get (fin.from_entries {R = identity_cmp} (used slots.now)) who.now
-        ≡ entry_in (option_copied result) }
-    ensures manager { IfSome result (λ s. s.now.kept.manager ≡ who.now) }
-    ensures own { (clock : ClockIdentity)
-        → All (λ c. c ≡ clock) (clocks slots.now)
-        → IfSome result (λ s. s.now.kept.clock ≡ clock) }
-{
-    find_slot(slots, who)
-}
-
-fn find_slot<'a>(slots: &'a [Slot], who: &PortIdentity) -> Option<&'a Slot>
-    ensures { option_copied result ≡ slot_of who.now slots.now }
-{
-    slots.iter().find(|s| *who == *s.kept.manager())
-}
-
-fn place_of(slots: &[Slot], who: &PortIdentity) -> Option<usize>
-    ensures { result ≡ position (λ s. same_identity who.now s.kept.manager) slots.now }
-{
-    slots.iter().position(|s| *who == *s.kept.manager())
-}
-
-/// Keeps a request in its manager's slot.
-fn put(slots: &mut [Slot], who: &PortIdentity, number: u16, request: &Request<'_>, reply: &Reply)
-    requires action { IsRequestAction request.now.action }
-    requires known { IsTrue (is_known who.now (identities (configured slots.old))) }
-    requires distinct { has_twice (identities (configured slots.old)) ≡ false }
-    requires octets { IsDataField request.now.octets }
-    requires fits { FitsRequest request.now reply.now }
-    ensures entries { fin.from_entries {R = identity_cmp} (used slots.new)
-        ≡ fin.insert (fin.from_entries (used slots.old)) who.now
-        (record { number = number; request = request.now; reply = reply.now }) }
-    ensures configured { configured slots.new ≡ configured slots.old }
-    ensures clocks { clocks slots.new ≡ clocks slots.old }
-    ensures keepable { AreKeepable slots.old → AreKeepable slots.new }
-{
-    if let Some(place) = place_of(slots, who) {
-        let slot = &mut slots[place];
-        slot.taken = true;
-        slot.kept.replace(number, request, reply);
-    }
-}
-
-/// Keeps a request in its manager's slot, and the messages of its reply as they were sent for the copy that was heard.
-#[inline(always)]
-fn put_sent<O: Outgoing>(
-    slots: &mut [Slot],
-    heard: &Heard,
-    request: &Request<'_>,
-    of_port: bool,
-    out: &O,
-)
-    requires action { IsRequestAction request.now.action }
-    requires known { IsTrue (is_known heard.now.source (identities (configured slots.old))) }
-    requires distinct { has_twice (identities (configured slots.old)) ≡ false }
-    requires octets { IsDataField request.now.octets }
-    requires sent { (clock : ClockIdentity) × (r : ReplyValue)
-        × All (λ c. c ≡ clock) (clocks slots.old) × IsSentReply clock heard.now
-        request.now.action request.now.id of_port (O.sent out.now) r }
-    ensures entries { (clock : ClockIdentity) (r : ReplyValue)
-        → All (λ c. c ≡ clock) (clocks slots.old)
-        → IsSentReply clock heard.now request.now.action request.now.id of_port
-        (O.sent out.now) r
-        → fin.from_entries {R = identity_cmp} (used slots.new)
-        ≡ fin.insert (fin.from_entries (used slots.old)) heard.now.source
-        (record { number = heard.now.number; request = request.now; reply = r }) }
-    ensures configured { configured slots.new ≡ configured slots.old }
-    ensures clocks { clocks slots.new ≡ clocks slots.old }
-    ensures keepable { AreKeepable slots.old → AreKeepable slots.new }
-{
-    if let Some(place) = place_of(slots, &heard.source) {
-        let slot = &mut slots[place];
-        slot.taken = true;
-        slot.kept.keep_sent(heard, request, of_port, out);
+        slots.push(Slot::unused(clock, manager));
     }
 }
 
@@ -239,10 +145,7 @@ impl<const SLOTS: usize> ReplyTable for SlotTable<SLOTS> {
     }
 
     fn rights(&self, who: &PortIdentity) -> Rights {
-        match slot_at(self.slots.as_slice(), who) {
-            Some(slot) => slot.rights,
-            None => Rights::NONE,
-        }
+        rights_of(self.slots.as_slice(), who)
     }
 
     fn look(&self, who: &PortIdentity, number: u16, request: &Request<'_>) -> Look {
@@ -255,17 +158,7 @@ impl<const SLOTS: usize> ReplyTable for SlotTable<SLOTS> {
         number: u16,
         request: &Request<'_>,
     ) -> (Look, Rights) {
-        match slot_at(self.slots.as_slice(), who) {
-            None => (Look::Unknown, Rights::NONE),
-            Some(slot) => {
-                let look = if slot.taken {
-                    judge(slot.kept.number(), &slot.kept.request(), number, request)
-                } else {
-                    Look::New
-                };
-                (look, slot.rights)
-            }
-        }
+        look_at(self.slots.as_slice(), who, number, request)
     }
 
     /// Never refused.
@@ -312,58 +205,6 @@ impl<const SLOTS: usize> LendingTable for SlotTable<SLOTS> {
 
     fn in_order(&self) -> LentEntries<'_> {
         in_order(self.slots.as_slice())
-    }
-}
-
-/// How many slots are in use.
-fn count_used(slots: &[Slot]) -> usize
-    requires { has_twice (identities (configured slots.now)) ≡ false }
-    ensures count { result ≡ fin.len (fin.from_entries {R = identity_cmp} (used slots.now)) }
-    ensures few { result ≤ length slots.now }
-{
-    count_taken(slots)
-}
-
-fn count_taken(slots: &[Slot]) -> usize
-    ensures { result ≡ count_by (λ s. s.taken) slots.now }
-{
-    slots.iter().filter(|slot| slot.taken).count()
-}
-
-/// The slot of the first manager after this one whose slot is in use.
-fn next_slot<'a>(slots: &'a [Slot], after: Option<PortIdentity>) -> Option<&'a Slot>
-    requires distinct { has_twice (identities (configured slots.now)) ≡ false }
-    requires keepable { AreKeepable slots.now }
-    ensures next { MatchOption result
-        (HasNoneAfter (fin.from_entries (used slots.now)) after)
-        (λ s. IsNext (fin.from_entries (used slots.now)) after
-        (record { manager = s.now.kept.manager; entry = s.now.kept.entry })) }
-    ensures known { IfSome result
-        (λ s. IsTrue (is_known s.now.kept.manager (identities (configured slots.now)))) }
-    ensures keepable { IfSome result (λ s. IsKeepable s.now.kept.entry) }
-{
-    let mut next = None;
-    for place in 0..slots.len() {
-        if slots[place].is_used_after(after) && is_sooner(slots, place, next) {
-            next = Some(place);
-        }
-    }
-    match next {
-        None => None,
-        Some(place) => Some(&slots[place]),
-    }
-}
-
-/// Whether the manager of a slot comes before that of the next one, as far as one was found.
-fn is_sooner(slots: &[Slot], place: usize, next: Option<usize>) -> bool
-    requires place { place < length slots.now }
-    requires next { IfSome next (λ j. j < length slots.now) }
-    ensures { (s : Slot) → slice_get slots.now place ≡ Some s
-        → IsTrue result ↔ IsSooner slots.now s next }
-{
-    match next {
-        None => true,
-        Some(next) => is_before(slots[place].kept.manager(), slots[next].kept.manager()),
     }
 }
 

@@ -1,4 +1,4 @@
-//! Worked examples, over both tables.
+//! Worked examples, over each table.
 
 ghost use Rattle.std.specs.Prelude.{◌≡◌, ◌<◌, ◌≤◌, [], length, true};
 ghost use Rattle.ptpm_codec.specs.Message.{IsDataField, IsRequestAction};
@@ -46,13 +46,17 @@ fn serial_numbers(rt: HostRuntime) {
     }
 }
 
-/// Why no plain table is made of these managers, and no bound one.
+/// Why no plain table is made of these managers, no bound one, and none on the heap.
 fn plain_fault(alloc: Global, managers: &[(PortIdentity, Rights)]) -> Option<TableError> {
     PlainTable::new(alloc, K, managers).err()
 }
 
 fn bound_fault(managers: &[(PortIdentity, Rights)]) -> Option<TableError> {
     BoundTable::new(K, managers).err()
+}
+
+fn heap_fault(alloc: Global, managers: &[(PortIdentity, Rights)]) -> Option<TableError> {
+    HeapTable::new(alloc, K, managers).err()
 }
 
 #[test]
@@ -66,8 +70,11 @@ fn table_constructors(rt: HostRuntime) -> Result<(), TableError> {
     assert!(rt; plain_fault(rt.alloc(), &twice) == Some(TableError::Twice));
     assert!(rt; bound_fault(&many) == Some(TableError::TooMany));
     assert!(rt; bound_fault(&twice) == Some(TableError::Twice));
+    assert!(rt; heap_fault(rt.alloc(), &many) == Some(TableError::TooMany));
+    assert!(rt; heap_fault(rt.alloc(), &twice) == Some(TableError::Twice));
     knows_its_managers(&rt, &PlainTable::new(rt.alloc(), K, &two)?);
     knows_its_managers(&rt, &BoundTable::new(K, &two)?);
+    knows_its_managers(&rt, &HeapTable::new(rt.alloc(), K, &two)?);
     Ok(())
 }
 
@@ -116,26 +123,30 @@ const DISABLE_PORT: u16 = 0x200e;
 /// Entries are lent in the order of their managers, whichever order these were configured in; a manager without one is
 /// passed over.
 #[test]
-#[tactic(auto, unfolding(ptpm_data::specs::ManagementId::row_of))]
 fn entries_are_lent_in_order(rt: HostRuntime) -> Result<(), TableError> {
     let three = [(M2, Rights(7)), (STRANGER, Rights(7)), (M, Rights(7))];
-    let mut table = SlotTable::<3>::of_size(K, &three)?;
+    lends_in_order(&rt, &mut SlotTable::<3>::of_size(K, &three)?);
+    lends_in_order(&rt, &mut HeapTable::new(rt.alloc(), K, &three)?);
+    Ok(())
+}
+
+#[tactic(auto, unfolding(ptpm_data::specs::ManagementId::row_of))]
+fn lends_in_order<T: LendingTable>(rt: &impl Abort, table: &mut T) {
     assert!(rt; table.next_entry(None).is_none());
     let short = set_port(&[2, 0]);
     let refusal = reply_to(&short, Some(1), What::Refused(ErrorId::WrongValue));
-    accept(&rt, &mut table, &M2, 9, &short, &refusal);
+    accept(rt, table, &M2, 9, &short, &refusal);
     let asked = get(PRIORITY1);
     let reply = reply_to(&asked, None, value(&[0x80, 0]));
-    accept(&rt, &mut table, &M, 7, &asked, &reply);
-    assert_lent(&rt, &table, None, &M, 7, &asked);
-    assert_lent(&rt, &table, Some(M), &M2, 9, &short);
+    accept(rt, table, &M, 7, &asked, &reply);
+    assert_lent(rt, table, None, &M, 7, &asked);
+    assert_lent(rt, table, Some(M), &M2, 9, &short);
     assert!(rt; table.next_entry(Some(M2)).is_none());
-    let answer = first_answer(&rt, &table, None);
+    let answer = first_answer(rt, table, None);
     assert!(rt; answer.port.is_none() && matches!(answer.what, LentWhat::Value([0x80, 0])));
-    let answer = first_answer(&rt, &table, Some(M));
+    let answer = first_answer(rt, table, Some(M));
     assert!(rt; answer.port == Some(1));
     assert!(rt; matches!(answer.what, LentWhat::Refused(ErrorId::WrongValue)));
-    Ok(())
 }
 
 fn assert_lent<T: LendingTable>(
@@ -209,6 +220,15 @@ fn kept_replies_of_a_bound_table(rt: HostRuntime) -> Result<(), TableError> {
     half_the_number_space(&rt, &mut bound()?);
     longest_user_description(&rt, &mut bound()?);
     replaced_reply(&rt, &mut bound()?);
+    Ok(())
+}
+
+#[test]
+fn kept_replies_of_a_heap_table(rt: HostRuntime) -> Result<(), TableError> {
+    set_log_sync_interval(&rt, &mut HeapTable::new(rt.alloc(), K, &TWO)?);
+    repeat_gets_kept_reply(&rt, &mut HeapTable::new(rt.alloc(), K, &TWO)?);
+    replaced_reply(&rt, &mut HeapTable::new(rt.alloc(), K, &TWO)?);
+    values_of_eight_ports(&rt, &mut HeapTable::new(rt.alloc(), K, &TWO[..1])?);
     Ok(())
 }
 
@@ -516,6 +536,18 @@ fn refused_memory_changes_nothing(rt: HostRuntime) -> Result<(), TableError> {
     keep_twice_at_most(&rt, &mut table, &M, 7, &long, &value);
     keep_twice_at_most(&rt, &mut table, &M2, 7, &long, &value);
     keep_twice_at_most(&rt, &mut table, &M, 8, &long, &value);
+    Ok(())
+}
+
+/// As `refused_memory_changes_nothing`.
+#[test]
+fn heap_table_after_refused_memory(rt: HostRuntime) -> Result<(), TableError> {
+    let two = [(M, Rights(7)), (M2, Rights(0))];
+    let table = match HeapTable::new(rt.alloc(), K, &two) {
+        Err(TableError::OutOfMemory) => HeapTable::new(rt.alloc(), K, &two)?,
+        made => made?,
+    };
+    knows_its_managers(&rt, &table);
     Ok(())
 }
 

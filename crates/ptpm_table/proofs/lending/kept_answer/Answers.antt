@@ -1,4 +1,4 @@
-use Rattle.std.proofs.Common.{◌≡◌, ◌∙◌, Bool, Option, Some, ap, subst, sym, ℕ}
+use Rattle.std.proofs.Common.{◌≡◌, ◌∙◌, Bool, Some, ap, sym}
 use Rattle.ptpm_codec.specs.Reading.{message_at}
 use Rattle.ptpm_table.specs.KeptMessages.{port_in}
 use Rattle.ptpm_table.proofs.KeptMessageLaws.{answer_read, source_port_at}

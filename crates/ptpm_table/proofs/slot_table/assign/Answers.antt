@@ -1,4 +1,4 @@
-use Rattle.std.proofs.Common.{arith, refl, subst, sym}
+use Rattle.std.proofs.Common.{arith, subst, sym}
 use Rattle.std.proofs.lemmas.Grind.{common_steps}
 use Rattle.ptpm_table.specs.Slots.{AreKeepable}
 use Rattle.ptpm_table.proofs.LendingLaws.{keepable_more}
@@ -9,7 +9,7 @@ pub loop-manager-preserved : goal.loop-manager-preserved
 loop-manager-preserved g c = record {
   configured = grind (arith, configured_more, common_steps);
   own = grind (arith, own_more);
-  keepable = subst AreKeepable (sym c.push.ensures.items) (keepable_more c.loop-manager.slots.items _ c.loop-manager.invariant.keepable refl);
+  keepable = subst AreKeepable (sym c.push.ensures.items) (keepable_more c.loop-manager.slots.items _ c.loop-manager.invariant.keepable c.unused.ensures.empty);
   used = grind (arith, used_more);
   count = grind (arith, common_steps);
 }

@@ -1,4 +1,4 @@
-use Rattle.std.proofs.Common.{◌≡◌, ◌<◌, ◌∙◌, List, Some, ap, arith, length, slice_get, subst, sym, ℕ}
+use Rattle.std.proofs.Common.{◌<◌, ◌∙◌, List, Some, ap, arith, length, slice_get, subst, sym}
 use Rattle.ptpm_codec.specs.declared.identity.PortIdentity.{PortIdentity}
 use Rattle.ptpm_table.specs.Entries.{Entry}
 use Rattle.ptpm_table.specs.Lending.{IsKeepable, ManagerEntry}

@@ -11,7 +11,7 @@ use Rattle.ptpm_codec.proofs.IdentityLaws.{same_identity-true}
 use Rattle.ptpm_table.specs.Entries.{Entry}
 use Rattle.ptpm_table.proofs.LendingLaws.{keepable_set, sent_fits}
 use Rattle.ptpm_table.proofs.Slots.{clock_at, clocks_set, configured_set, entries_set, has_place}
-use Rattle.ptpm_table.proofs.slot_table.put_sent.Goals as goal
+use Rattle.ptpm_table.proofs.slot_list.put_sent.Goals as goal
 
 pub keep_sent-requires-clause-manager : goal.keep_sent-requires-clause-manager
 keep_sent-requires-clause-manager g c = grind (arith, get_or, position-Some, same_identity-true)

@@ -1,7 +1,7 @@
 use Rattle.std.proofs.Common.{arith, ◌∙◌, sym}
 use Rattle.std.proofs.lemmas.List.Sums.{count_by-le-length}
 use Rattle.ptpm_table.proofs.LendingLaws.{used_count}
-use Rattle.ptpm_table.proofs.slot_table.count_used.Goals as goal
+use Rattle.ptpm_table.proofs.slot_list.count_used.Goals as goal
 
 pub returns-clause-count : goal.returns-clause-count
 returns-clause-count c = c.count_taken.ensures ∙ sym (used_count c.args.slots.now c.requires)

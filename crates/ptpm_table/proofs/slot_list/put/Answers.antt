@@ -8,7 +8,7 @@ use Rattle.ptpm_table.specs.declared.slot.Slot.{Slot}
 use Rattle.ptpm_table.specs.Entries.{Entry}
 use Rattle.ptpm_table.proofs.LendingLaws.{keepable_set}
 use Rattle.ptpm_table.proofs.Slots.{clocks_set, configured_set, entries_set, has_place}
-use Rattle.ptpm_table.proofs.slot_table.put.Goals as goal
+use Rattle.ptpm_table.proofs.slot_list.put.Goals as goal
 
 pub returns-in-Some-clause-entries : goal.returns-in-Some-clause-entries
 returns-in-Some-clause-entries c =

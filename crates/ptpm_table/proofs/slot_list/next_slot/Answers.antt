@@ -2,8 +2,8 @@ use Rattle.std.proofs.Common.{◌≡◌, ◌+◌, ◌∙◌, Option, arith, leng
 use Rattle.std.proofs.lemmas.Bool.{false≢true}
 use Rattle.std.proofs.lemmas.Option.{slice_get_read}
 use Rattle.ptpm_table.proofs.LendingLaws.{IsFound, first_next, found_same, found_this, keepable_at, known_at, none_next}
-use Rattle.ptpm_table.proofs.slot_table.next_slot.Goals.{then-is_used_after+then-is_sooner, else-is_used_after, else-is_used_after-via-then-is_used_after+else-is_sooner, else-is_used_after-via-else-is_used_after}
-use Rattle.ptpm_table.proofs.slot_table.next_slot.Goals as goal
+use Rattle.ptpm_table.proofs.slot_list.next_slot.Goals.{then-is_used_after+then-is_sooner, else-is_used_after, else-is_used_after-via-then-is_used_after+else-is_sooner, else-is_used_after-via-else-is_used_after}
+use Rattle.ptpm_table.proofs.slot_list.next_slot.Goals as goal
 
 pub loop-place-preserved : goal.loop-place-preserved
 loop-place-preserved c =

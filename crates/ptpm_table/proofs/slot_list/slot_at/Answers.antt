@@ -3,7 +3,7 @@ use Rattle.std.specs.Prelude.{MatchOption, ⊤, is_some}
 use Rattle.ptpm_table.specs.Slots.{entry_in, rights_at}
 use Rattle.ptpm_table.specs.declared.slot.Slot.{Slot}
 use Rattle.ptpm_table.proofs.Slots.{copied_Some, found_clock, found_manager, get_used, known_slot, rights_slot}
-use Rattle.ptpm_table.proofs.slot_table.slot_at.Goals as goal
+use Rattle.ptpm_table.proofs.slot_list.slot_at.Goals as goal
 
 pub returns-clause-known : goal.returns-clause-known
 returns-clause-known c = known_slot c.args.who.now c.args.slots.now ∙ ap is_some (sym c.find_slot.ensures)

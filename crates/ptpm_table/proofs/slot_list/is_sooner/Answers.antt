@@ -4,7 +4,7 @@ use Rattle.ptpm_codec.specs.Identity.{identity_cmp}
 use Rattle.std.specs.Ordering.{is_lt}
 use Rattle.ptpm_table.specs.Slots.{IsSooner}
 use Rattle.ptpm_table.proofs.LendingLaws.{sooner_by_test}
-use Rattle.ptpm_table.proofs.slot_table.is_sooner.Goals as goal
+use Rattle.ptpm_table.proofs.slot_list.is_sooner.Goals as goal
 
 pub returns-in-Some : goal.returns-in-Some
 returns-in-Some c = λ s at.

@@ -1,0 +1,66 @@
+"""The streams of a program that reports: what could not be written is not known to be reported."""
+
+from __future__ import annotations
+
+import codecs
+import fcntl
+import io
+import os
+import sys
+from contextlib import contextmanager
+from typing import Iterator, Tuple
+
+NOT_WRITTEN = 4
+
+
+class NotWritten(Exception):
+    """What was to be reported could not be written."""
+
+
+def _as_octets(error: UnicodeError) -> Tuple[str, int]:
+    """What a stream can't encode, as ptpm-manage writes an octet that it can't print."""
+    assert isinstance(error, UnicodeEncodeError)
+    return "".join(f"\\x{octet:02x}" for octet in error.object[error.start : error.end].encode()), error.end
+
+
+codecs.register_error("ptpm", _as_octets)
+
+
+def hold_streams() -> None:
+    """Has a stream that is closed refuse what is written. Otherwise a file or a socket would get its number, and Python has no
+    stream for it, so that print passes over it. And has each write what its encoding lacks."""
+    for number, name in enumerate(("stdin", "stdout", "stderr")):
+        try:
+            fcntl.fcntl(number, fcntl.F_GETFD)
+        except OSError:
+            os.open("/dev/null", os.O_RDONLY if number else os.O_WRONLY)  # it gets the least number that is free
+        if getattr(sys, name) is None:
+            raw = open(number, "wb" if number else "rb", buffering=0, closefd=False)
+            setattr(sys, name, io.TextIOWrapper(raw, encoding="utf-8", write_through=True))  # nothing is left for the end
+    for stream in (sys.stdout, sys.stderr):
+        if isinstance(stream, io.TextIOWrapper):
+            stream.reconfigure(errors="ptpm")
+
+
+def say(what: object) -> bool:
+    """Writes it on standard error; whether it could be written."""
+    try:
+        print(what, file=sys.stderr, flush=True)
+    except OSError:
+        return False
+    return True
+
+
+def complain(what: object) -> bool:
+    """Says what is wrong, or what else whoever asks should know."""
+    return say(f"ptpm: {what}")
+
+
+@contextmanager
+def flush() -> Iterator[None]:
+    """What is printed in its `with` is written at its end, or NotWritten is raised."""
+    try:
+        yield
+        sys.stdout.flush()
+    except OSError as error:
+        raise NotWritten(f"standard output could not be written: {error.strerror}") from error
