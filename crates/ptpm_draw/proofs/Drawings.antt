@@ -1,14 +1,20 @@
 -- A script that is read and drawn.
-use Rattle.ptpm_world.proofs.Common.{◌≡◌, ℕ, true, false, List, None, Some, Ok, Err, Option, Result, refl, sym, ap, ◌∙◌, IfErr, IfSome, IsErrAnd, Keeps, network_value, is_outside, scripted}
-use Rattle.ptpm_draw.specs.Drawing.{HasDrawn, HasEnded, IsDrawing, ShowsScript}
+use Rattle.ptpm_world.proofs.Common.{◌≡◌, ℕ, Bool, true, false, List, None, Some, Ok, Err, Option, Result, refl, sym, ap, ◌∙◌, IfErr, IfSome, IsErrAnd, Keeps, length, map, network_value, is_outside, range_with_len, scripted}
+use Rattle.std.specs.Prelude.{filter}
+use Rattle.ptpm_draw.specs.Chosen.{chosen_of, is_chosen}
+use Rattle.ptpm_draw.specs.Drawing.{HasDrawn, HasEnded, IsDrawing, ShowsScript, whole_picture}
+use Rattle.ptpm_draw.specs.declared.chosen.Chosen.{Chosen}
 use Rattle.ptpm_draw.specs.declared.drawing.Drawing.{Drawing}
-use Rattle.ptpm_draw.specs.Picture.{drawn_in, picture_of}
+use Rattle.ptpm_draw.specs.declared.picture.Picture.{Picture}
+use Rattle.ptpm_draw.specs.Picture.{Drawn, drawn_in, is_delivered, picture_of}
 use Rattle.ptpm_world.proofs.FaultLemmas.{outside}
 use Rattle.ptpm_world.proofs.Playing.{err-is, some-is}
 use Rattle.ptpm_world.specs.declared.script_error.ScriptError.{ScriptError}
 use Rattle.ptpm_world.specs.declared.script_error.ScriptError.TheVariants as faults
 use Rattle.ptpm_world.specs.ScriptError.{is_of_writing}
-use Rattle.ptpm_world.specs.WholeScript.{IsRead, IsScript}
+use Rattle.ptpm_world.specs.declared.whole_script.EventLine.{EventLine}
+use Rattle.ptpm_world.specs.declared.whole_script.Script.{Script}
+use Rattle.ptpm_world.specs.WholeScript.{IsScript}
 
 keeps-same : (a : Option (List ℕ)) → Keeps a a
 keeps-same None = tt
@@ -16,20 +22,38 @@ keeps-same (Some xs) = refl
 
 -- ---- what is read
 
-pub shows : (all : Option (List ℕ)) (d : Drawing)
-    → IfSome all (λ input. IsScript input d.script)
-    → drawn_in d.picture ≡ picture_of (network_value d.script.network) d.script.lines.items
-    → IfSome all (λ input. ShowsScript input d)
-shows all d h is =
+pub shows : (all : Option (List ℕ)) (chosen : Chosen) (s : Script) (p : Picture) (flags : List Bool) (d : Drawing)
+    → IfSome all (λ input. IsScript input s)
+    → drawn_in p ≡ picture_of (network_value s.network) s.lines.items
+    → flags ≡ map (is_delivered p.rows.items) (range_with_len 1 (length p.messages.items))
+    → network_value d.network ≡ network_value s.network
+    → d.lines.items ≡ filter (λ (line : EventLine). is_chosen chosen line.number) s.lines.items
+    → drawn_in d.picture ≡ chosen_of chosen (drawn_in p)
+    → d.is_delivered.items ≡ flags
+    → d.events ≡ length s.lines.items
+    → IfSome all (λ input. ShowsScript input chosen d)
+shows all chosen s p flags d read drawn marks network lines picture delivered events =
     some-is all
-    (λ input script. record { script = script; picture = is ∙ ap (picture_of (network_value d.script.network)) script.events })
-    h
+    (λ input (script : IsScript input s).
+    let whole : drawn_in p ≡ whole_picture d.network input =
+    drawn
+    ∙ ap (picture_of (network_value s.network)) script.events
+    ∙ ap (λ n. picture_of n (scripted input).events) (sym network) in
+    record {
+      network = script.network ∙ ap Ok (sym network);
+      lines = lines ∙ ap (filter (λ (line : EventLine). is_chosen chosen line.number)) script.events;
+      picture = picture ∙ ap (chosen_of chosen) whole;
+      delivered = delivered ∙ marks ∙ ap (λ (w : Drawn). map (is_delivered w.rows) (range_with_len 1 (length w.messages))) whole;
+      events = events ∙ ap (λ (ls : List EventLine). length ls) script.events;
+      faultless = script.faultless;
+    })
+    read
 
 pub unread : (r : Result Drawing ScriptError) (e : ScriptError) (all : Option (List ℕ))
     → IsErrAnd r (λ x. x ≡ e)
     → IfSome all (λ input. is_outside e ≡ false → (scripted input).end ≡ Err e)
-    → IfSome all (λ input. IsDrawing input r)
-unread r e all given h = err-is r e (λ x. IfSome all (λ input. IsDrawing input x)) given h
+    → (chosen : Chosen) → IfSome all (λ input. IsDrawing input chosen r)
+unread r e all given h chosen = err-is r e (λ x. IfSome all (λ input. IsDrawing input chosen x)) given h
 
 -- ---- what is written
 
@@ -51,12 +75,12 @@ ended-first r e all a given h =
     err-is r e (λ x. IfSome all (λ input. HasDrawn input a a x)) given
     (some-is all (λ input fault. record { fault = λ inside. (fault inside, keeps-same a); unread = λ reading. keeps-same a }) h)
 
-pub drawn-or-ended : {A : Type 0} (r : Result A ScriptError) (d : Drawing) (all a b : Option (List ℕ))
-    → IfSome all (λ input. ShowsScript input d)
+pub drawn-or-ended : {A : Type 0} (r : Result A ScriptError) (chosen : Chosen) (d : Drawing) (all a b : Option (List ℕ))
+    → IfSome all (λ input. ShowsScript input chosen d)
     → IfErr r (λ e. is_of_writing e ≡ true)
     → IfSome all (λ input. HasDrawn input a b r)
-drawn-or-ended (Ok done) d all a b h e = some-is all (λ input is. is.script.faultless) h
-drawn-or-ended (Err x) d all a b h e =
+drawn-or-ended (Ok done) chosen d all a b h e = some-is all (λ input is. is.faultless) h
+drawn-or-ended (Err x) chosen d all a b h e =
     some-is all
     (λ input is. record {
       fault = λ inside. outside x (is_outside-writing x e) inside;

@@ -1,25 +1,41 @@
 -- What it comes to that a script is drawn (this project's profile).
-use Rattle.std.specs.Prelude.{◌≡◌, ℕ, false, List, None, Option, Result, Ok, Err}
+use Rattle.std.specs.Prelude.{◌≡◌, ℕ, false, List, None, Option, Result, Ok, Err, filter, length, map}
 use Rattle.std.specs.Io.KnownBytes.{Keeps}
+use Rattle.std.specs.List.{range_with_len}
 use Rattle.std.specs.Result.{result_err}
+use Rattle.ptpm_draw.specs.Chosen.{chosen_of, is_chosen}
+use Rattle.ptpm_draw.specs.declared.chosen.Chosen.{Chosen}
 use Rattle.ptpm_draw.specs.declared.drawing.Drawing.{Drawing}
-use Rattle.ptpm_draw.specs.Picture.{drawn_in, picture_of}
+use Rattle.ptpm_draw.specs.Picture.{Drawn, drawn_in, is_delivered, picture_of}
+use Rattle.ptpm_script.specs.declared.network.Network.{Network}
+use Rattle.ptpm_script.specs.NetworkText.{network_of}
 use Rattle.ptpm_script.specs.NetworkView.{network_value}
+use Rattle.ptpm_world.specs.declared.whole_script.EventLine.{EventLine}
+use Rattle.ptpm_world.specs.Lines.{whole_lines}
 use Rattle.ptpm_world.specs.declared.script_error.ScriptError.{ScriptError}
 use Rattle.ptpm_world.specs.declared.script_error.ScriptError.TheVariants.{ReadFault}
-use Rattle.ptpm_world.specs.Script.{scripted}
+use Rattle.ptpm_world.specs.Script.{network_text, scripted}
 use Rattle.ptpm_world.specs.ScriptError.{is_outside}
-use Rattle.ptpm_world.specs.WholeScript.{IsScript}
 
--- the script of these octets, and the picture of its events in the network of its file
-pub record ShowsScript (input : List ℕ) (d : Drawing) : Type 0 where
-  pub script : IsScript input d.script
-  pub picture : drawn_in d.picture ≡ picture_of (network_value d.script.network) (scripted input).events
+-- everything that is drawn of the events of a script in this network
+abbrev pub whole_picture : Network → List ℕ → Drawn
+whole_picture network input = picture_of (network_value network) (scripted input).events
+
+-- The network of a script's file, and of the script's events those of the lines that are chosen, with the picture that all
+-- events come to. A frame is known as delivered if any line delivers it.
+pub record ShowsScript (input : List ℕ) (chosen : Chosen) (d : Drawing) : Type 0 where
+  pub network : network_of (network_text (whole_lines input)) ≡ Ok (network_value d.network)
+  pub lines : d.lines.items ≡ filter (λ (line : EventLine). is_chosen chosen line.number) (scripted input).events
+  pub picture : drawn_in d.picture ≡ chosen_of chosen (whole_picture d.network input)
+  pub delivered : d.is_delivered.items
+      ≡ map (is_delivered (whole_picture d.network input).rows) (range_with_len 1 (length (whole_picture d.network input).messages))
+  pub events : d.events ≡ length (scripted input).events
+  pub faultless : result_err (scripted input).end ≡ None
 
 -- or the script's first fault, unless reading or memory failed
-abbrev pub IsDrawing : List ℕ → Result Drawing ScriptError → Type 0
-IsDrawing input (Ok d) = ShowsScript input d
-IsDrawing input (Err e) = is_outside e ≡ false → (scripted input).end ≡ Err e
+abbrev pub IsDrawing : List ℕ → Chosen → Result Drawing ScriptError → Type 0
+IsDrawing input chosen (Ok d) = ShowsScript input chosen d
+IsDrawing input chosen (Err e) = is_outside e ≡ false → (scripted input).end ≡ Err e
 
 -- It ended early: by the script's first fault, or because reading, writing or memory failed. After the script's fault, or if
 -- reading failed, nothing was written.

@@ -1,4 +1,5 @@
 pub mod Party
 pub mod Changes
 pub mod Picture
+pub mod Chosen
 pub mod Drawing

@@ -4,18 +4,18 @@ ghost use Rattle.std.specs.Prelude.{◌≡◌, IfErr, true};
 ghost use Rattle.ptpm_world.specs.ScriptError.{is_of_writing};
 
 use crate::changes::Changes;
-use crate::drawing::Chosen;
+use crate::drawing::Drawing;
 use crate::lifelines::{CHARACTER, Lifelines, kind_of};
 use crate::members::member_texts;
 use crate::party::Party;
-use crate::picture::{Message, Picture, Row, Way};
+use crate::picture::{Message, Row, Way};
 use crate::shapes::{Arrow, write_mark};
 use crate::sizes::{MEMBER, STUB, Sizes, row_height};
 use crate::strokes::{LOST, Stroke, stroke_of};
 use crate::text::Escaped;
 use crate::words::{LabelText, LineText, ListText, LostText, OutcomeText, error_told, spell};
 use ptpm_codec::OutOfMemory;
-use ptpm_world::{Event, Script, ScriptError};
+use ptpm_world::{Event, ScriptError};
 use std::alloc::Global;
 use std::io;
 use std::io::Write;
@@ -32,11 +32,7 @@ const RISE: usize = 28;
 /// A picture with the places of all that is in it, in the picture's units.
 #[derive(Drop)]
 pub(crate) struct Chart<'a> {
-    script: &'a Script,
-    picture: &'a Picture,
-    chosen: Chosen,
-    /// Of each frame, by its number from 1, whether an event delivered it.
-    is_delivered: Vec<bool>,
+    drawing: &'a Drawing,
     sizes: Sizes,
     lifelines: Lifelines<'a>,
     /// The x at which arrows from the edge begin.
@@ -58,21 +54,15 @@ struct Line<'a> {
 
 impl<'a> Chart<'a> {
     /// Lays out a picture.
-    pub(crate) fn new(
-        alloc: Global,
-        script: &'a Script,
-        picture: &'a Picture,
-        chosen: Chosen,
-    ) -> Result<Chart<'a>, OutOfMemory> {
-        let is_delivered = picture.is_delivered(alloc)?;
-        let sizes = Sizes::of(alloc, script, picture, chosen, is_delivered.as_slice())?;
+    pub(crate) fn new(alloc: Global, drawing: &'a Drawing) -> Result<Chart<'a>, OutOfMemory> {
+        let sizes = Sizes::of(alloc, drawing)?;
         let box_half = across(sizes.name, 24) / 2;
         let label = across(sizes.label, 32);
         let edge = across(sizes.line, 2 * MARGIN);
         let lead = if sizes.has_edge { label } else { box_half };
         let beside = label.max(across(sizes.stub, 64));
         let lifelines = Lifelines {
-            network: &script.network,
+            network: &drawing.network,
             first: edge.saturating_add(lead).saturating_add(MARGIN),
             step: beside.max(across(sizes.name, 48)),
         };
@@ -82,10 +72,7 @@ impl<'a> Chart<'a> {
             .saturating_add(overhang)
             .saturating_add(MARGIN);
         Ok(Chart {
-            script,
-            picture,
-            chosen,
-            is_delivered,
+            drawing,
             sizes,
             lifelines,
             edge,
@@ -102,21 +89,19 @@ impl<'a> Chart<'a> {
         self.write_start(out)?;
         self.write_lifelines(out)?;
         let mut label = String::new(alloc);
-        let mut changes = Changes::of(self.picture);
+        let picture = &self.drawing.picture;
+        let mut changes = Changes::of(picture);
         let mut top = HEADER;
-        for (row, line) in self.picture.rows.iter().zip(self.script.lines.as_slice()) {
-            let change = changes.take(row.line);
-            if self.chosen.contains(row.line) {
-                let changed = member_texts(alloc, change)?;
-                let drawn = Line {
-                    row,
-                    event: &line.event,
-                    changed: changed.as_slice(),
-                };
-                self.write_row(&drawn, top, &mut label, out)?;
-                let below = top.saturating_add(row_height(changed.len()));
-                top = self.write_lost(row, below, &mut label, out)?;
-            }
+        for (row, line) in picture.rows.iter().zip(self.drawing.lines.as_slice()) {
+            let changed = member_texts(alloc, changes.take(row.line))?;
+            let drawn = Line {
+                row,
+                event: &line.event,
+                changed: changed.as_slice(),
+            };
+            self.write_row(&drawn, top, &mut label, out)?;
+            let below = top.saturating_add(row_height(changed.len()));
+            top = self.write_lost(row, below, &mut label, out)?;
         }
         writeln!(out, "</svg>")?;
         Ok(())
@@ -147,7 +132,7 @@ impl<'a> Chart<'a> {
             let name = self.lifelines.name(Some(party));
             write!(out, "{} {name}, ", kind_of(party))?;
         }
-        let (rows, all) = (self.sizes.rows, self.picture.rows.len());
+        let (rows, all) = (self.drawing.lines.len(), self.drawing.events);
         write!(out, "and what became of events. From top to bottom: ")?;
         writeln!(out, "{rows} of {all} events.</desc>")?;
         writeln!(
@@ -204,7 +189,7 @@ impl<'a> Chart<'a> {
         ensures { IfErr result (λ e. is_of_writing e ≡ true) }
     {
         let Line { row, event, .. } = *line;
-        let picture = self.picture;
+        let picture = &self.drawing.picture;
         spell(
             label,
             LabelText {
@@ -232,7 +217,7 @@ impl<'a> Chart<'a> {
 
     /// Writes what became of a row's event, and below it each member that it changed.
     fn write_outcome<W: Write>(&self, line: &Line<'_>, base: usize, out: &mut W) -> io::Result<()> {
-        let (right, picture, row) = (self.right, self.picture, line.row);
+        let (right, picture, row) = (self.right, &self.drawing.picture, line.row);
         let colour = self.stroke(row).colour;
         write!(out, r#"<text x="{right}" y="{base}" fill="{colour}">"#)?;
         write!(out, "{}</text>", OutcomeText { picture, row })?;
@@ -251,7 +236,7 @@ impl<'a> Chart<'a> {
         match row.way {
             Way::Mark => write!(out, ", at {}", self.lifelines.name(row.at)),
             Way::FromEdge => write!(out, ", from a stranger to {}", self.lifelines.name(row.at)),
-            Way::Arrow(frame) => match self.picture.message(frame) {
+            Way::Arrow(frame) => match self.drawing.picture.message(frame) {
                 Some(message) => self.write_message(message, out),
                 None => Ok(()),
             },
@@ -280,7 +265,7 @@ impl<'a> Chart<'a> {
                 }
                 .write(label, out)
             }
-            Way::Arrow(frame) => match self.picture.message(frame) {
+            Way::Arrow(frame) => match self.drawing.picture.message(frame) {
                 Some(message) => self.arrow(message, y, stroke).write(label, out),
                 None => Ok(()),
             },
@@ -297,12 +282,16 @@ impl<'a> Chart<'a> {
     ) -> Result<usize, ScriptError>
         ensures { IfErr result (λ e. is_of_writing e ≡ true) }
     {
-        let picture = self.picture;
+        let Drawing {
+            picture,
+            is_delivered,
+            ..
+        } = self.drawing;
         let mut top = top;
         for count in row.before..row.after {
             let frame = count.saturating_add(1);
             if let (Some(false), Some(message)) = (
-                self.is_delivered.get(count as usize).copied(),
+                is_delivered.get(count as usize).copied(),
                 picture.message(frame),
             ) {
                 spell(label, LostText { picture, frame })?;
@@ -321,7 +310,10 @@ impl<'a> Chart<'a> {
 
     /// How a row is drawn.
     fn stroke(&self, row: &Row) -> Stroke {
-        stroke_of(row.outcome(), error_told(self.picture, row).is_some())
+        stroke_of(
+            row.outcome(),
+            error_told(&self.drawing.picture, row).is_some(),
+        )
     }
 
     /// The arrow of a message, at this height.

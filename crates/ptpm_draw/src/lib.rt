@@ -3,6 +3,7 @@
 
 mod changes;
 mod chart;
+mod chosen;
 mod drawing;
 mod lifelines;
 mod members;
@@ -16,7 +17,8 @@ mod text;
 mod words;
 
 pub use changes::Change;
-pub use drawing::{Chosen, draw};
+pub use chosen::Chosen;
+pub use drawing::draw;
 pub use outcome::Outcome;
 pub use party::Party;
 pub use picture::{Message, Picture, Row, Says, Way};

@@ -1,9 +1,10 @@
 //! What a picture of a run shows: a row for each event, each message that was sent, and what changed.
 
-ghost use Rattle.std.specs.Prelude.{◌≡◌, [], ◌∷◌, ◌++◌, IfErr, IfOk, OnOk, drop, length, map, option_and_then, option_map, option_to_list};
+ghost use Rattle.std.specs.Prelude.{◌≡◌, [], ◌∷◌, ◌++◌, IfErr, IfOk, OnOk, drop, filter, length, map, option_and_then, option_map, option_to_list};
 ghost use Rattle.std.specs.List.{range_with_len};
 ghost use Rattle.std.specs.Option.{option_copied};
 ghost use Rattle.ptpm_codec.specs.Reading.{reading};
+ghost use Rattle.ptpm_draw.specs.Chosen.{chosen_of, is_chosen};
 ghost use Rattle.ptpm_draw.specs.Picture.{IsWorldOf, drawn_by, drawn_in, is_delivered, marked, marked_by, message_of, picture_of, says_in, then_drawn, way_of};
 ghost use Rattle.ptpm_network.specs.Events.{frame_at};
 ghost use Rattle.ptpm_network.specs.Network as machine;
@@ -17,6 +18,7 @@ ghost use Rattle.ptpm_world.specs.Took.{after, answer};
 ghost use Rattle.ptpm_world.specs.Trace.{is_late_event, is_out_of_memory};
 
 use crate::changes::{Change, change_of, copy_of, sets_of};
+use crate::chosen::Chosen;
 use crate::party::{Party, party_at, party_of};
 use ptpm_codec::{Action, OutOfMemory, view};
 use ptpm_world::{Event, EventLine, Frame, Network, Script, ScriptError, StepError, Took, World};
@@ -206,6 +208,14 @@ impl Picture {
         Ok(())
     }
 
+    /// Keeps the rows and the changes of the lines that are chosen, and every message.
+    pub(crate) fn choose(&mut self, chosen: Chosen)
+        ensures { drawn_in self.new ≡ chosen_of chosen (drawn_in self.old) }
+    {
+        choose_rows(&mut self.rows, chosen);
+        choose_changes(&mut self.changes, chosen);
+    }
+
     /// The message of the frame of a number, counted from 1.
     pub fn message(&self, number: u32) -> Option<&Message>
         ensures { option_copied result ≡ frame_at self.now.messages.items number }
@@ -236,6 +246,21 @@ impl Picture {
     {
         self.message(number)?.says
     }
+}
+
+/// Keeps the rows of the lines that are chosen.
+fn choose_rows(rows: &mut Vec<Row>, chosen: Chosen)
+    ensures { rows.new.items ≡ filter (λ row. is_chosen chosen row.line) rows.old.items }
+{
+    rows.retain(|row| chosen.contains(row.line));
+}
+
+/// Keeps what the lines that are chosen changed.
+fn choose_changes(changes: &mut Vec<Change>, chosen: Chosen)
+    ensures { changes.new.items
+        ≡ filter (λ change. is_chosen chosen change.line) changes.old.items }
+{
+    changes.retain(|change| chosen.contains(change.line));
 }
 
 /// Notes the frame that an arrow delivers.

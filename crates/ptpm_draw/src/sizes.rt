@@ -1,13 +1,13 @@
 //! How large a picture is, by the longest of its words.
 
 use crate::changes::{Change, Changes};
-use crate::drawing::Chosen;
+use crate::drawing::Drawing;
 use crate::members::member_texts;
 use crate::party::Party;
 use crate::picture::{Picture, Row, Way};
 use crate::words::{LabelText, LineText, LostText, OutcomeText, spell};
 use ptpm_codec::OutOfMemory;
-use ptpm_world::{Event, Network, Script};
+use ptpm_world::{Event, Network};
 use std::alloc::Global;
 
 /// From a row to the next, in the picture's units.
@@ -32,8 +32,6 @@ pub(crate) struct Sizes {
     pub(crate) line: usize,
     /// Of names.
     pub(crate) name: usize,
-    /// How many events are drawn.
-    pub(crate) rows: usize,
     /// How high all rows are together.
     pub(crate) height: usize,
     /// Whether something comes from the edge, or happens at nobody.
@@ -43,35 +41,31 @@ pub(crate) struct Sizes {
 }
 
 impl Sizes {
-    /// The sizes of what is drawn of a script. Frames that were delivered are known by their numbers.
-    pub(crate) fn of(
-        alloc: Global,
-        script: &Script,
-        picture: &Picture,
-        chosen: Chosen,
-        is_delivered: &[bool],
-    ) -> Result<Sizes, OutOfMemory> {
+    /// The sizes of what is drawn of a script.
+    pub(crate) fn of(alloc: Global, drawing: &Drawing) -> Result<Sizes, OutOfMemory> {
+        let Drawing {
+            network,
+            picture,
+            ..
+        } = drawing;
+        let is_delivered = drawing.is_delivered.as_slice();
         let mut sizes = Sizes {
             label: 0,
             stub: 0,
             outcome: 0,
             line: 0,
-            name: longest_name(&script.network),
-            rows: 0,
+            name: longest_name(network),
             height: 0,
             has_edge: false,
             has_overhang: false,
         };
         let mut text = String::new(alloc);
         let mut changes = Changes::of(picture);
-        for (row, line) in picture.rows.iter().zip(script.lines.as_slice()) {
-            let change = changes.take(row.line);
-            if chosen.contains(row.line) {
-                sizes.note_row(picture, row, &line.event, &mut text)?;
-                sizes.note_changed(alloc, change)?;
-                sizes.note_lost(picture, row, is_delivered, &mut text)?;
-                sizes.note_ends(&script.network, picture, row);
-            }
+        for (row, line) in picture.rows.iter().zip(drawing.lines.as_slice()) {
+            sizes.note_row(picture, row, &line.event, &mut text)?;
+            sizes.note_changed(alloc, changes.take(row.line))?;
+            sizes.note_lost(picture, row, is_delivered, &mut text)?;
+            sizes.note_ends(network, picture, row);
         }
         Ok(sizes)
     }
@@ -95,7 +89,6 @@ impl Sizes {
         let line = row.line;
         spell(text, LineText { line, event })?;
         self.line = self.line.max(text.len());
-        self.rows = self.rows.saturating_add(1);
         Ok(())
     }
 

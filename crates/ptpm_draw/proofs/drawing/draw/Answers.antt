@@ -4,7 +4,7 @@ use Rattle.ptpm_draw.proofs.drawing.draw.Goals as goal
 pub returns : goal.returns
 returns g c =
     let W = g.W.Write.contents in
-    drawn-or-ended c.write_drawing.result c.in_ok-drawing.drawing (g.R.Read.remaining c.args.reader) (W c.args.out.now) (W c.write_drawing.new.out)
+    drawn-or-ended c.write_drawing.result c.args.chosen c.in_ok-drawing.drawing (g.R.Read.remaining c.args.reader) (W c.args.out.now) (W c.write_drawing.new.out)
     c.in_ok-drawing.ensures c.write_drawing.ensures
 
 pub returns-in_err-drawing : goal.returns-in_err-drawing
