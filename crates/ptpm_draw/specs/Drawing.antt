@@ -21,8 +21,8 @@ use Rattle.ptpm_world.specs.ScriptError.{is_outside}
 abbrev pub whole_picture : Network → List ℕ → Drawn
 whole_picture network input = picture_of (network_value network) (scripted input).events
 
--- The network of a script's file, and of the script's events those of the lines that are chosen, with the picture that all
--- events come to. A frame is known as delivered if any line delivers it.
+-- The network of a script's file, the events of the lines that are chosen, and what the picture of all events has of these. A
+-- frame is known as delivered if any line delivers it.
 pub record ShowsScript (input : List ℕ) (chosen : Chosen) (d : Drawing) : Type 0 where
   pub network : network_of (network_text (whole_lines input)) ≡ Ok (network_value d.network)
   pub lines : d.lines.items ≡ filter (λ (line : EventLine). is_chosen chosen line.number) (scripted input).events
