@@ -5,7 +5,8 @@ use Rattle.std.specs.List.{range_with_len}
 use Rattle.std.specs.Result.{result_err}
 use Rattle.ptpm_draw.specs.Chosen.{chosen_of, is_chosen}
 use Rattle.ptpm_draw.specs.declared.chosen.Chosen.{Chosen}
-use Rattle.ptpm_draw.specs.declared.drawing.Drawing.{Drawing}
+use Rattle.ptpm_draw.specs.declared.selection.Selection.{Selection}
+use Rattle.ptpm_draw.specs.Parts.{ShowsLines}
 use Rattle.ptpm_draw.specs.Picture.{Drawn, drawn_in, is_delivered, picture_of}
 use Rattle.ptpm_script.specs.declared.network.Network.{Network}
 use Rattle.ptpm_script.specs.NetworkText.{network_of}
@@ -23,19 +24,19 @@ whole_picture network input = picture_of (network_value network) (scripted input
 
 -- The network of a script's file, the events of the lines that are chosen, and what the picture of all events has of these. A
 -- frame is known as delivered if any line delivers it.
-pub record ShowsScript (input : List ℕ) (chosen : Chosen) (d : Drawing) : Type 0 where
-  pub network : network_of (network_text (whole_lines input)) ≡ Ok (network_value d.network)
-  pub lines : d.lines.items ≡ filter (λ (line : EventLine). is_chosen chosen line.number) (scripted input).events
-  pub picture : drawn_in d.picture ≡ chosen_of chosen (whole_picture d.network input)
-  pub delivered : d.is_delivered.items
-      ≡ map (is_delivered (whole_picture d.network input).rows) (range_with_len 1 (length (whole_picture d.network input).messages))
-  pub events : d.events ≡ length (scripted input).events
+pub record IsSelectionOf (input : List ℕ) (chosen : Chosen) (s : Selection) : Type 0 where
+  pub network : network_of (network_text (whole_lines input)) ≡ Ok (network_value s.network)
+  pub lines : s.lines.items ≡ filter (λ (line : EventLine). is_chosen chosen line.number) (scripted input).events
+  pub picture : drawn_in s.picture ≡ chosen_of chosen (whole_picture s.network input)
+  pub delivered : s.is_delivered.items
+      ≡ map (is_delivered (whole_picture s.network input).rows) (range_with_len 1 (length (whole_picture s.network input).messages))
+  pub events : s.events ≡ length (scripted input).events
   pub faultless : result_err (scripted input).end ≡ None
 
 -- or the script's first fault, unless reading or memory failed
-abbrev pub IsDrawing : List ℕ → Chosen → Result Drawing ScriptError → Type 0
-IsDrawing input chosen (Ok d) = ShowsScript input chosen d
-IsDrawing input chosen (Err e) = is_outside e ≡ false → (scripted input).end ≡ Err e
+abbrev pub IsSelection : List ℕ → Chosen → Result Selection ScriptError → Type 0
+IsSelection input chosen (Ok s) = IsSelectionOf input chosen s
+IsSelection input chosen (Err e) = is_outside e ≡ false → (scripted input).end ≡ Err e
 
 -- It ended early: by the script's first fault, or because reading, writing or memory failed. After the script's fault, or if
 -- reading failed, nothing was written.
@@ -43,7 +44,13 @@ pub record HasEnded (input : List ℕ) (before after : Option (List ℕ)) (e : S
   pub fault : is_outside e ≡ false → ((scripted input).end ≡ Err e) × Keeps before after
   pub unread : e ≡ ReadFault → Keeps before after
 
--- a script that was drawn has no fault
-abbrev pub HasDrawn : {A : Type 0} → List ℕ → Option (List ℕ) → Option (List ℕ) → Result A ScriptError → Type 0
-HasDrawn input before after (Ok done) = result_err (scripted input).end ≡ None
-HasDrawn input before after (Err e) = HasEnded input before after e
+-- the numbers of a script's lines that are chosen, of those that are events
+abbrev pub chosen_lines : List ℕ → Chosen → List ℕ
+chosen_lines input chosen =
+    map (λ (line : EventLine). line.number) (filter (λ (line : EventLine). is_chosen chosen line.number) (scripted input).events)
+
+-- A script that was drawn has no fault, and the picture shows its events of the lines that are chosen.
+abbrev pub HasDrawn : {A : Type 0} → List ℕ → Chosen → Option (List ℕ) → Option (List ℕ) → Result A ScriptError → Type 0
+HasDrawn input chosen before after (Ok done) =
+    (result_err (scripted input).end ≡ None) × ShowsLines (chosen_lines input chosen) before after
+HasDrawn input chosen before after (Err e) = HasEnded input before after e

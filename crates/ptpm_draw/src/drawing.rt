@@ -1,21 +1,21 @@
 //! A script, drawn.
 
-ghost use Rattle.std.specs.Prelude.{◌≡◌, IfErr, IfSome, filter, length, true};
-ghost use Rattle.ptpm_draw.specs.Chosen.{chosen_of, is_chosen};
-ghost use Rattle.ptpm_draw.specs.Drawing.{HasDrawn, IsDrawing};
-ghost use Rattle.ptpm_draw.specs.Picture.{drawn_in};
-ghost use Rattle.ptpm_script.specs.NetworkView.{network_value};
+ghost use Rattle.std.specs.Prelude.{◌≡◌, IfErr, IfSome, OnOk, map, true};
+ghost use Rattle.ptpm_draw.specs.Drawing.{HasDrawn, IsSelection};
+ghost use Rattle.ptpm_draw.specs.Parts.{ShowsLines};
 ghost use Rattle.ptpm_world.specs.ScriptError.{is_of_writing};
 
 use crate::chart::Chart;
 use crate::chosen::Chosen;
 use crate::picture::Picture;
-use ptpm_world::{EventLine, Network, Script, ScriptError, read_script};
+use crate::selection::Selection;
+use ptpm_world::{ScriptError, read_script};
 use std::alloc::Global;
 use std::io::{Read, Write};
 
 /// Reads a network file, the line `%%` and events from a reader, and lets all events happen. Writes a picture of those that are
-/// chosen, in SVG 1.1: a message sequence chart.
+/// chosen, in SVG 1.1: a message sequence chart. Each of them has a part of its own there, which begins with the number of its
+/// line.
 ///
 /// A script that cannot be read is refused as `run_script` refuses it, and then nothing is written. Ends for every reader. The
 /// world that runs is in a frame of its own, so that no other subcommand pays for it.
@@ -27,83 +27,42 @@ pub fn draw<R: Read + Drop, W: Write>(
     out: &mut W,
 ) -> Result<(), ScriptError>
     ensures { IfSome (R.remaining reader)
-        (λ input. HasDrawn input (W.contents out.old) (W.contents out.new) result) }
+        (λ input. HasDrawn input chosen (W.contents out.old) (W.contents out.new) result) }
 {
-    let drawing = read_drawing(alloc, chosen, reader)?;
-    write_drawing(alloc, &drawing, out)
-}
-
-/// What is drawn of a script. Nothing else of it is left, so a line that is not chosen cannot be shown.
-#[derive(Drop)]
-pub(crate) struct Drawing {
-    pub(crate) network: Network,
-    /// The lines that are chosen.
-    pub(crate) lines: Vec<EventLine>,
-    /// What the picture has of these lines, and the messages of all.
-    pub(crate) picture: Picture,
-    /// Of each frame, by its number from 1, whether an event of any line delivered it.
-    pub(crate) is_delivered: Vec<bool>,
-    /// How many events the script has.
-    pub(crate) events: usize,
+    let selection = read_selection(alloc, chosen, reader)?;
+    write_selection(alloc, &selection, out)
 }
 
 /// Reads a script, lets all of its events happen, and keeps what is chosen.
 #[inline(never)]
-fn read_drawing<R: Read + Drop>(
+fn read_selection<R: Read + Drop>(
     alloc: Global,
     chosen: Chosen,
     reader: R,
-) -> Result<Drawing, ScriptError>
-    ensures { IfSome (R.remaining reader) (λ input. IsDrawing input chosen result) }
+) -> Result<Selection, ScriptError>
+    ensures { IfSome (R.remaining reader) (λ input. IsSelection input chosen result) }
 {
     let script = read_script(alloc, reader)?;
     let picture = Picture::of(alloc, &script)?;
     let is_delivered = picture.is_delivered(alloc)?;
-    Ok(chosen_drawing(script, picture, is_delivered, chosen))
+    Ok(Selection::of(script, picture, is_delivered, chosen))
 }
 
-/// Keeps what is chosen of a script and its picture.
-fn chosen_drawing(
-    script: Script,
-    picture: Picture,
-    is_delivered: Vec<bool>,
-    chosen: Chosen,
-) -> Drawing
-    ensures network { network_value result.network ≡ network_value script.network }
-    ensures lines { result.lines.items
-        ≡ filter (λ line. is_chosen chosen line.number) script.lines.items }
-    ensures picture { drawn_in result.picture ≡ chosen_of chosen (drawn_in picture) }
-    ensures delivered { result.is_delivered.items ≡ is_delivered.items }
-    ensures events { result.events ≡ length script.lines.items }
-{
-    let Script { network, lines, .. } = script;
-    let events = lines.len();
-    let mut lines = lines;
-    choose_lines(&mut lines, chosen);
-    let mut picture = picture;
-    picture.choose(chosen);
-    Drawing {
-        network,
-        lines,
-        picture,
-        is_delivered,
-        events,
-    }
-}
-
-/// Keeps the lines that are chosen.
-fn choose_lines(lines: &mut Vec<EventLine>, chosen: Chosen)
-    ensures { lines.new.items ≡ filter (λ line. is_chosen chosen line.number) lines.old.items }
-{
-    lines.retain(|line| chosen.contains(line.number));
-}
-
-/// Writes the picture.
+/// Writes the picture of what was chosen.
 #[inline(never)]
-fn write_drawing<W: Write>(alloc: Global, drawing: &Drawing, out: &mut W) -> Result<(), ScriptError>
-    ensures { IfErr result (λ e. is_of_writing e ≡ true) }
+fn write_selection<W: Write>(
+    alloc: Global,
+    selection: &Selection,
+    out: &mut W,
+) -> Result<(), ScriptError>
+    ensures shown { OnOk result
+        (ShowsLines (map (λ line. line.number) selection.now.lines.items)
+        (W.contents out.old) (W.contents out.new)) }
+    ensures fault { IfErr result (λ e. is_of_writing e ≡ true) }
 {
-    let chart = Chart::new(alloc, drawing)?;
+    let Ok(chart) = Chart::new(alloc, selection) else {
+        return Err(ScriptError::OutOfMemory);
+    };
     chart.write(alloc, out)?;
     out.flush()?;
     Ok(())

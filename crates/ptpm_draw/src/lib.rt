@@ -10,6 +10,7 @@ mod members;
 mod outcome;
 mod party;
 mod picture;
+mod selection;
 mod shapes;
 mod sizes;
 mod strokes;

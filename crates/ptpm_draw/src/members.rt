@@ -1,11 +1,10 @@
 //! The members that an event changed, as texts: each by its name, with its new value.
 
 use crate::changes::Change;
-use ptpm_codec::OutOfMemory;
 use ptpm_data::{DataSets, Layout, Member as DataSetMember, Value};
 use ptpm_members::{Field, Form, Member, fields};
 use ptpm_script::Hexadecimal;
-use std::alloc::Global;
+use std::alloc::{AllocError, Global};
 use std::fmt;
 
 /// What a GET of a clock's data set is answered (15.5.3); of a port's, PORT_DATA_SET.
@@ -44,7 +43,7 @@ struct Place {
 pub(crate) fn member_texts(
     alloc: Global,
     change: Option<&Change>,
-) -> Result<Vec<String>, OutOfMemory> {
+) -> Result<Vec<String>, AllocError> {
     let mut texts = Vec::new(alloc);
     if let Some(change) = change {
         let bits = change.members.clock.0;
@@ -65,14 +64,12 @@ fn push_texts(
     bits: u32,
     data_sets: &[DataSet],
     texts: &mut Vec<String>,
-) -> Result<(), OutOfMemory> {
+) -> Result<(), AllocError> {
     let mut bits = bits;
     for bit in 0..32 {
         if bits % 2 == 1 {
             if let Some(place) = place_of(bit, data_sets) {
-                texts
-                    .push(member_text(alloc, sets, port, place)?)
-                    .map_err(|_| OutOfMemory)?;
+                texts.push(member_text(alloc, sets, port, place)?)?;
             }
         }
         bits /= 2;
@@ -127,15 +124,15 @@ fn member_text(
     sets: &DataSets,
     port: u16,
     place: Place,
-) -> Result<String, OutOfMemory> {
+) -> Result<String, AllocError> {
     let mut octets = Value::new();
     lay(sets, place.data_set, port, &mut octets);
     let value = value_at(place.start, place.form, octets.as_slice());
     let mut text = String::new(alloc);
     if port != 0 {
-        write!(text, "port {port} ").map_err(|_| OutOfMemory)?;
+        write!(text, "port {port} ")?;
     }
-    write!(text, "{} {value}", place.member).map_err(|_| OutOfMemory)?;
+    write!(text, "{} {value}", place.member)?;
     Ok(text)
 }
 

@@ -2,8 +2,7 @@
 
 use crate::lifelines::CHARACTER;
 use crate::strokes::{Head, LOST, Stroke};
-use std::io;
-use std::io::Write;
+use std::alloc::AllocError;
 
 /// How far out an arrow goes that comes back to where it began.
 const LOOP: usize = 32;
@@ -30,21 +29,27 @@ pub(crate) struct Arrow {
 
 impl Arrow {
     /// Writes the arrow and a label above it.
-    pub(crate) fn write<W: Write>(&self, label: &str, out: &mut W) -> io::Result<()> {
+    pub(crate) fn write(&self, label: &str, text: &mut String) -> Result<(), AllocError> {
         if self.from == self.to {
-            return self.write_loop(label, out);
+            return self.write_loop(label, text);
         }
         let middle = self.from / 2 + self.to / 2;
-        write_label(middle, self.y.saturating_sub(8), Anchor::Middle, label, out)?;
-        self.write_line(out)
+        write_label(
+            middle,
+            self.y.saturating_sub(8),
+            Anchor::Middle,
+            label,
+            text,
+        )?;
+        self.write_line(text)
     }
 
     /// Writes an arrow out and back to where it began, with a label beside it.
-    fn write_loop<W: Write>(&self, label: &str, out: &mut W) -> io::Result<()> {
+    fn write_loop(&self, label: &str, text: &mut String) -> Result<(), AllocError> {
         let (x, y) = (self.from, self.y.saturating_sub(8));
         let colour = self.stroke.colour;
         writeln!(
-            out,
+            text,
             r#"<path d="M{x} {y}h{LOOP}v14" fill="none" stroke="{colour}"/>"#
         )?;
         let back = Arrow {
@@ -53,13 +58,13 @@ impl Arrow {
             y: y.saturating_add(14),
             stroke: self.stroke,
         };
-        back.write_line(out)?;
+        back.write_line(text)?;
         let start = x.saturating_add(LOOP + 8);
-        write_label(start, self.y.saturating_add(4), Anchor::Start, label, out)
+        write_label(start, self.y.saturating_add(4), Anchor::Start, label, text)
     }
 
     /// Writes a short arrow in the same direction, which ends in a cross, and a label after it.
-    pub(crate) fn write_stub<W: Write>(&self, label: &str, out: &mut W) -> io::Result<()> {
+    pub(crate) fn write_stub(&self, label: &str, text: &mut String) -> Result<(), AllocError> {
         let leads_left = self.to < self.from;
         let (to, start, anchor) = if leads_left {
             let to = self.from.saturating_sub(STUB);
@@ -73,12 +78,12 @@ impl Arrow {
             stroke: LOST,
             ..*self
         };
-        stub.write_line(out)?;
-        write_label(start, self.y.saturating_add(4), anchor, label, out)
+        stub.write_line(text)?;
+        write_label(start, self.y.saturating_add(4), anchor, label, text)
     }
 
     /// Writes the line with its end.
-    fn write_line<W: Write>(&self, out: &mut W) -> io::Result<()> {
+    fn write_line(&self, text: &mut String) -> Result<(), AllocError> {
         let Stroke {
             colour,
             width,
@@ -87,35 +92,41 @@ impl Arrow {
         } = self.stroke;
         let (from, y) = (self.from, self.y);
         let end = self.before_end(inset_of(head));
-        write!(out, r#"<path d="M{from} {y}H{end}" stroke="{colour}" "#)?;
+        write!(text, r#"<path d="M{from} {y}H{end}" stroke="{colour}" "#)?;
         writeln!(
-            out,
+            text,
             r#"stroke-width="{width}" stroke-dasharray="{dashes}"/>"#
         )?;
-        self.write_head(out)
+        self.write_head(text)
     }
 
     /// Writes the end.
-    fn write_head<W: Write>(&self, out: &mut W) -> io::Result<()> {
+    fn write_head(&self, text: &mut String) -> Result<(), AllocError> {
         let (to, y, colour) = (self.to, self.y, self.stroke.colour);
         let back = if self.from < self.to { "-" } else { "" };
         match self.stroke.head {
             Head::Filled => writeln!(
-                out,
+                text,
                 r#"<path d="M{to} {y}l{back}10 -5v10z" fill="{colour}"/>"#
             ),
             Head::Empty => writeln!(
-                out,
+                text,
                 r##"<path d="M{to} {y}l{back}10 -5v10z" fill="#ffffff" stroke="{colour}"/>"##
             ),
             Head::Open => {
                 let side = self.before_end(10);
                 let (above, below) = (y.saturating_sub(5), y.saturating_add(5));
-                write!(out, r#"<path d="M{side} {above}L{to} {y}L{side} {below}" "#)?;
-                writeln!(out, r#"fill="none" stroke="{colour}" stroke-width="1.5"/>"#)
+                write!(
+                    text,
+                    r#"<path d="M{side} {above}L{to} {y}L{side} {below}" "#
+                )?;
+                writeln!(
+                    text,
+                    r#"fill="none" stroke="{colour}" stroke-width="1.5"/>"#
+                )
             }
-            Head::Cross => write_cross(self.before_end(7), y, colour, out),
-            Head::Ring => write_ring(self.before_end(5), y, colour, "#ffffff", out),
+            Head::Cross => write_cross(self.before_end(7), y, colour, text),
+            Head::Ring => write_ring(self.before_end(5), y, colour, "#ffffff", text),
         }
     }
 
@@ -139,50 +150,50 @@ fn inset_of(head: Head) -> usize {
 }
 
 /// Writes a mark on a lifeline, with a label to the right of it: a cross if an event was refused, else a dot.
-pub(crate) fn write_mark<W: Write>(
+pub(crate) fn write_mark(
     x: usize,
     y: usize,
     stroke: Stroke,
     label: &str,
-    out: &mut W,
-) -> io::Result<()> {
+    text: &mut String,
+) -> Result<(), AllocError> {
     if let Head::Cross = stroke.head {
-        write_cross(x, y, stroke.colour, out)?;
+        write_cross(x, y, stroke.colour, text)?;
     } else {
-        write_ring(x, y, stroke.colour, stroke.colour, out)?;
+        write_ring(x, y, stroke.colour, stroke.colour, text)?;
     }
     let start = x.saturating_add(12);
-    write_label(start, y.saturating_add(4), Anchor::Start, label, out)
+    write_label(start, y.saturating_add(4), Anchor::Start, label, text)
 }
 
-fn write_cross<W: Write>(x: usize, y: usize, colour: &str, out: &mut W) -> io::Result<()> {
+fn write_cross(x: usize, y: usize, colour: &str, text: &mut String) -> Result<(), AllocError> {
     let (left, above) = (x.saturating_sub(5), y.saturating_sub(5));
-    write!(out, r#"<path d="M{left} {above}l10 10m0 -10l-10 10" "#)?;
-    writeln!(out, r#"fill="none" stroke="{colour}" stroke-width="2"/>"#)
+    write!(text, r#"<path d="M{left} {above}l10 10m0 -10l-10 10" "#)?;
+    writeln!(text, r#"fill="none" stroke="{colour}" stroke-width="2"/>"#)
 }
 
-fn write_ring<W: Write>(
+fn write_ring(
     x: usize,
     y: usize,
     colour: &str,
     fill: &str,
-    out: &mut W,
-) -> io::Result<()> {
-    write!(out, r#"<circle cx="{x}" cy="{y}" r="4" "#)?;
+    text: &mut String,
+) -> Result<(), AllocError> {
+    write!(text, r#"<circle cx="{x}" cy="{y}" r="4" "#)?;
     writeln!(
-        out,
+        text,
         r#"fill="{fill}" stroke="{colour}" stroke-width="1.5"/>"#
     )
 }
 
 /// Writes a label on white, so that lifelines do not run through it.
-fn write_label<W: Write>(
+fn write_label(
     x: usize,
     y: usize,
     anchor: Anchor,
     label: &str,
-    out: &mut W,
-) -> io::Result<()> {
+    text: &mut String,
+) -> Result<(), AllocError> {
     let width = label.len().saturating_mul(CHARACTER);
     let (left, anchor) = match anchor {
         Anchor::Start => (x, "start"),
@@ -190,10 +201,10 @@ fn write_label<W: Write>(
         Anchor::End => (x.saturating_sub(width), "end"),
     };
     let top = y.saturating_sub(12);
-    write!(out, r#"<rect x="{left}" y="{top}" width="{width}" "#)?;
-    writeln!(out, r##"height="16" fill="#ffffff"/>"##)?;
+    write!(text, r#"<rect x="{left}" y="{top}" width="{width}" "#)?;
+    writeln!(text, r##"height="16" fill="#ffffff"/>"##)?;
     writeln!(
-        out,
+        text,
         r#"<text x="{x}" y="{y}" text-anchor="{anchor}">{label}</text>"#
     )
 }

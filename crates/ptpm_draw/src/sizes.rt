@@ -1,14 +1,13 @@
 //! How large a picture is, by the longest of its words.
 
 use crate::changes::{Change, Changes};
-use crate::drawing::Drawing;
 use crate::members::member_texts;
 use crate::party::Party;
 use crate::picture::{Picture, Row, Way};
+use crate::selection::Selection;
 use crate::words::{LabelText, LineText, LostText, OutcomeText, spell};
-use ptpm_codec::OutOfMemory;
 use ptpm_world::{Event, Network};
-use std::alloc::Global;
+use std::alloc::{AllocError, Global};
 
 /// From a row to the next, in the picture's units.
 const ROW: usize = 44;
@@ -42,13 +41,13 @@ pub(crate) struct Sizes {
 
 impl Sizes {
     /// The sizes of what is drawn of a script.
-    pub(crate) fn of(alloc: Global, drawing: &Drawing) -> Result<Sizes, OutOfMemory> {
-        let Drawing {
+    pub(crate) fn of(alloc: Global, selection: &Selection) -> Result<Sizes, AllocError> {
+        let Selection {
             network,
             picture,
             ..
-        } = drawing;
-        let is_delivered = drawing.is_delivered.as_slice();
+        } = selection;
+        let is_delivered = selection.is_delivered.as_slice();
         let mut sizes = Sizes {
             label: 0,
             stub: 0,
@@ -61,7 +60,7 @@ impl Sizes {
         };
         let mut text = String::new(alloc);
         let mut changes = Changes::of(picture);
-        for (row, line) in picture.rows.iter().zip(drawing.lines.as_slice()) {
+        for (row, line) in picture.rows.iter().zip(selection.lines.as_slice()) {
             sizes.note_row(picture, row, &line.event, &mut text)?;
             sizes.note_changed(alloc, changes.take(row.line))?;
             sizes.note_lost(picture, row, is_delivered, &mut text)?;
@@ -76,7 +75,7 @@ impl Sizes {
         row: &Row,
         event: &Event,
         text: &mut String,
-    ) -> Result<(), OutOfMemory> {
+    ) -> Result<(), AllocError> {
         let label = LabelText {
             picture,
             row,
@@ -93,7 +92,7 @@ impl Sizes {
     }
 
     /// Notes how high a row is by itself, and the members that its event changed.
-    fn note_changed(&mut self, alloc: Global, change: Option<&Change>) -> Result<(), OutOfMemory> {
+    fn note_changed(&mut self, alloc: Global, change: Option<&Change>) -> Result<(), AllocError> {
         let texts = member_texts(alloc, change)?;
         for text in texts.as_slice() {
             self.outcome = self.outcome.max(text.len());
@@ -109,7 +108,7 @@ impl Sizes {
         row: &Row,
         is_delivered: &[bool],
         text: &mut String,
-    ) -> Result<(), OutOfMemory> {
+    ) -> Result<(), AllocError> {
         for count in row.before..row.after {
             let frame = count.saturating_add(1);
             if let (Some(false), Some(message)) = (

@@ -3,11 +3,12 @@
 use crate::outcome::Outcome;
 use crate::picture::{Picture, Row, Says, Way, said_by};
 use crate::text::Escaped;
-use ptpm_codec::{ErrorId, OutOfMemory};
+use ptpm_codec::ErrorId;
 use ptpm_data::row;
 use ptpm_manager::Ask;
 use ptpm_script::Hexadecimal;
 use ptpm_world::Event;
+use std::alloc::AllocError;
 use std::fmt;
 
 /// An act shows a value of at most this many octets.
@@ -168,7 +169,21 @@ impl fmt::Display for FramesText<'_> {
     }
 }
 
-/// The number of an event's line, its verb and, if it is a delivery, the number of its frame.
+/// An event's verb and, if it is a delivery, the number of its frame.
+#[derive(Clone, Copy)]
+pub(crate) struct VerbText<'a>(pub &'a Event);
+
+impl fmt::Display for VerbText<'_> {
+    fn fmt<W: fmt::Write>(&self, f: &mut fmt::Formatter<W>) -> fmt::Result {
+        let verb = self.0.verb();
+        match self.0 {
+            Event::Deliver(frame) => write!(f, "{verb} {frame}"),
+            _ => f.write_str(verb),
+        }
+    }
+}
+
+/// The number of an event's line, and its verb.
 #[derive(Clone, Copy)]
 pub(crate) struct LineText<'a> {
     pub(crate) line: u32,
@@ -177,12 +192,7 @@ pub(crate) struct LineText<'a> {
 
 impl fmt::Display for LineText<'_> {
     fn fmt<W: fmt::Write>(&self, f: &mut fmt::Formatter<W>) -> fmt::Result {
-        let line = self.line;
-        let verb = self.event.verb();
-        match self.event {
-            Event::Deliver(frame) => write!(f, "{line} {verb} {frame}"),
-            _ => write!(f, "{line} {verb}"),
-        }
+        write!(f, "{} {}", self.line, VerbText(self.event))
     }
 }
 
@@ -230,10 +240,7 @@ impl fmt::Display for LostText<'_> {
 }
 
 /// Makes a text of this alone.
-pub(crate) fn spell<T: fmt::Display + Drop>(
-    text: &mut String,
-    shown: T,
-) -> Result<(), OutOfMemory> {
+pub(crate) fn spell<T: fmt::Display + Drop>(text: &mut String, shown: T) -> Result<(), AllocError> {
     text.clear();
-    write!(text, "{shown}").map_err(|_| OutOfMemory)
+    write!(text, "{shown}")
 }

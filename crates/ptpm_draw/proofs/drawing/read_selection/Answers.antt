@@ -1,11 +1,19 @@
+use Rattle.ptpm_world.proofs.Common.{network_value}
+use Rattle.ptpm_draw.proofs.Choosing.{picture-numbers}
 use Rattle.ptpm_draw.proofs.Drawings.{shows, unread}
-use Rattle.ptpm_draw.proofs.drawing.read_drawing.Goals as goal
+use Rattle.ptpm_draw.specs.Picture.{drawn_in}
+use Rattle.ptpm_draw.proofs.drawing.read_selection.Goals as goal
+
+pub of-requires : goal.of-requires
+of-requires g c =
+    picture-numbers (network_value c.in_ok-script.script.network) c.in_ok-script.script.lines.items (drawn_in c.in_ok-picture.picture)
+    c.in_ok-picture.ensures.drawn
 
 pub returns : goal.returns
 returns g c =
-    let is = c.chosen_drawing.ensures in
+    let is = c.of.ensures in
     shows (g.R.Read.remaining c.args.reader) c.args.chosen c.in_ok-script.script c.in_ok-picture.picture c.in_ok-is_delivered.is_delivered.items
-    c.chosen_drawing.result
+    c.of.result
     c.in_ok-script.ensures.read
     c.in_ok-picture.ensures.drawn
     c.in_ok-is_delivered.ensures
