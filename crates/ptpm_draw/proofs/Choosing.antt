@@ -1,5 +1,6 @@
 -- Lines that are chosen, and the parts that are written of them.
-use Rattle.ptpm_world.proofs.Common.{◌≡◌, ℕ, ◌+◌, ◌++◌, ◌<◌, Bool, true, false, List, [], ◌∷◌, Option, refl, sym, ap, subst, ◌∙◌, append_assoc, append-nil, filter, get_or, length, map, map-append, take, take_more, Appends, Appends-nil, Appends-trans, Network, RunningNetwork, Names, NetworkValue, network_value, placed, after, described, names_of, started}
+use Rattle.ptpm_world.proofs.Common.{◌≡◌, ℕ, ◌+◌, ◌++◌, ◌<◌, Bool, true, false, List, [], ◌∷◌, Option, refl, sym, ap, subst, ◌∙◌, append_assoc, append-nil, filter, get_or, length, map, map-append, take, take_more, Appends, Appends-nil, Appends-trans, Keeps, Network, RunningNetwork, Names, NetworkValue, placed, after, described, names_of, started}
+use Rattle.std.proofs.KnownBytes.{Appends-kept}
 use Rattle.std.specs.Prelude.{codes, cond}
 use Rattle.ptpm_draw.specs.Chosen.{chosen_of, is_chosen}
 use Rattle.ptpm_draw.specs.Parts.{AddsParts, ArePartsOf, ShowsLines, opening}
@@ -83,3 +84,12 @@ pub shown-all : (lines : List ℕ) (a b c d : Option (List ℕ)) (head : List �
     → ShowsLines lines a d
 shown-all lines a b c d head first (text, (parts, written)) last =
     (head, (text, (parts, Appends-trans a c d (head ++ text) (codes "</svg>\n") (Appends-trans a b c head text first written) last)))
+
+-- and what was flushed stays
+pub shown-flushed : (lines rows : List ℕ) (a b c : Option (List ℕ))
+    → rows ≡ lines
+    → ShowsLines rows a b
+    → Keeps b c
+    → ShowsLines lines a c
+shown-flushed lines rows a b c same (head, (parts, (are, written))) kept =
+    subst (λ ns. ShowsLines ns a c) same (head, (parts, (are, Appends-kept a b c ((head ++ parts) ++ codes "</svg>\n") written kept)))

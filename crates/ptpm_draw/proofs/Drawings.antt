@@ -3,7 +3,7 @@ use Rattle.ptpm_world.proofs.Common.{◌≡◌, ℕ, Bool, true, false, List, No
 use Rattle.std.specs.Prelude.{filter}
 use Rattle.ptpm_draw.specs.Parts.{ShowsLines}
 use Rattle.ptpm_draw.specs.Chosen.{chosen_of, is_chosen}
-use Rattle.ptpm_draw.specs.Drawing.{HasDrawn, HasEnded, IsSelection, IsSelectionOf, whole_picture}
+use Rattle.ptpm_draw.specs.Drawing.{HasDrawn, IsSelection, IsSelectionOf, whole_picture}
 use Rattle.ptpm_draw.specs.declared.chosen.Chosen.{Chosen}
 use Rattle.ptpm_draw.specs.declared.selection.Selection.{Selection}
 use Rattle.ptpm_draw.specs.declared.picture.Picture.{Picture}

@@ -4,16 +4,16 @@ use Rattle.ptpm_draw.proofs.Drawings.{shows, unread}
 use Rattle.ptpm_draw.specs.Picture.{drawn_in}
 use Rattle.ptpm_draw.proofs.drawing.read_selection.Goals as goal
 
-pub of-requires : goal.of-requires
-of-requires g c =
+pub of-requires-2 : goal.of-requires-2
+of-requires-2 g c =
     picture-numbers (network_value c.in_ok-script.script.network) c.in_ok-script.script.lines.items (drawn_in c.in_ok-picture.picture)
     c.in_ok-picture.ensures.drawn
 
 pub returns : goal.returns
 returns g c =
-    let is = c.of.ensures in
+    let is = c.of-2.ensures in
     shows (g.R.Read.remaining c.args.reader) c.args.chosen c.in_ok-script.script c.in_ok-picture.picture c.in_ok-is_delivered.is_delivered.items
-    c.of.result
+    c.of-2.result
     c.in_ok-script.ensures.read
     c.in_ok-picture.ensures.drawn
     c.in_ok-is_delivered.ensures
