@@ -63,8 +63,8 @@ pub fn run_script<R: Read + Drop, W: Write>(
     let network = read_network(alloc, &mut script)?;
     let mut world = World::new(alloc, &network)?;
     play(alloc, &mut script, &mut world, out)?;
-    write_reports(&world, out)?;
-    write_data_sets(&world, out)?;
+    write_reports(alloc, &world, out)?;
+    write_data_sets(alloc, &world, out)?;
     out.flush()?;
     Ok(())
 }
@@ -190,7 +190,7 @@ fn play<R: Read + Drop, W: Write>(
         let event = event_of(alloc, number, line)?;
         // it is in the range that the laws of networks ask for
         placed_event(&event);
-        write_event(world, number, &event, out)?;
+        write_event(alloc, world, number, &event, out)?;
         drop(event);
     }
     Ok(())
