@@ -258,7 +258,12 @@ plays-err r e last {N} {names} {start} {now} {first} {written} {a} {b} {k} {n} {
     stopped None b p f = tt
     stopped (Some xs) None p f = absurd p
     stopped (Some xs) (Some ys) p f = (
-      (p.text, ((played N names now n place (whole_lines ys)).text, (sym (ap (λ x. x.text) p.comes), p.is))),
+      record {
+        text = p.text;
+        rest = (played N names now n place (whole_lines ys)).text;
+        is = sym (ap (λ x. x.text) p.comes);
+        taken = p.is;
+      },
       λ inside. (
         ap (λ x. x.end) p.comes ∙ ap (λ x. x.end) (f inside),
         subst (Appends first written) (sym (ap (λ x. x.text) p.comes ∙ ap (λ x. p.text ++ x.text) (f inside) ∙ append-nil p.text)) p.is,
@@ -304,7 +309,7 @@ plays-cut {A} r e last {N} {names} {start} {now} {first} {written} more {a} {b} 
         let whole : (played N names start k 1 (whole_lines xs)).text ≡ p.text ++ (one ++ rest) =
         ap (λ x. x.text) p.comes ∙ ap (λ x. p.text ++ x.text) (step ys zs at) in (
           subst (λ l. TakesFirst l first more) (sym whole)
-              (takes-after first written more p.text (one ++ rest) p.is (takes-front written more one rest cut)),
+              (takes-after first p.text p.is (takes-front rest cut)),
           λ inside. outside e (outside-writing e writing) inside,
         )
 

@@ -167,7 +167,7 @@ script-stopped r e all second before after n names start k given goes h =
     (λ input ys is stopped.
     let p = played (described n) names start k 1 (whole_lines ys) in
     subst (λ s. HasStopped s (s.text ++ last_lines s.end) before after e) (sym is.0) (
-      takes-front before after p.text (last_lines (closing names p.end)) stopped.0,
+      takes-front (last_lines (closing names p.end)) stopped.0,
       λ inside. (ap (closing names) (stopped.1 inside).0, (stopped.1 inside).1),
     ))
     goes h)
@@ -199,7 +199,7 @@ script-cut r e all second o0 o1 o2 n names start last k given writing goes h cut
     (λ input ys is done.
     let p = played (described n) names start k 1 (whole_lines ys) in
     subst (λ s. HasStopped s (s.text ++ last_lines s.end) o0 o2 e) (sym is.0) (
-      subst (λ end. TakesFirst (p.text ++ last_lines (closing names end)) o0 o2) (sym done.0) (takes-after o0 o1 o2 p.text rest done.1.0 cut),
+      subst (λ end. TakesFirst (p.text ++ last_lines (closing names end)) o0 o2) (sym done.0) (takes-after o0 p.text done.1.0 cut),
       λ inside. outside e (outside-writing e writing) inside,
     ))
     goes h)

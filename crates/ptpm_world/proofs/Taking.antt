@@ -16,54 +16,61 @@ kept-appended (Some x) (Some y) (Some z) bs p k = k ∙ p
 -- ---- a beginning of a text
 
 pub takes-none : (a : Option (List ℕ)) (whole : List ℕ) → TakesFirst whole a a
-takes-none a whole = ([], (whole, (refl, Appends-nil a)))
+takes-none a whole = record { text = []; rest = whole; is = refl; taken = Appends-nil a }
 
 pub takes-whole : (a b : Option (List ℕ)) (whole : List ℕ)
     → Appends a b whole
     → TakesFirst whole a b
-takes-whole a b whole p = (whole, ([], (append-nil whole, p)))
+takes-whole a b whole p = record { text = whole; rest = []; is = append-nil whole; taken = p }
 
 -- more of the text follows
-pub takes-front : (a b : Option (List ℕ)) (front rest : List ℕ)
+pub takes-front : {a b : Option (List ℕ)} {front : List ℕ} (rest : List ℕ)
     → TakesFirst front a b
     → TakesFirst (front ++ rest) a b
-takes-front a b front rest h =
-    (h.0, (h.1.0 ++ rest, (sym (append_assoc h.0 h.1.0 rest) ∙ ap (λ l. l ++ rest) h.1.1.0, h.1.1.1)))
+takes-front rest h = record {
+  text = h.text;
+  rest = h.rest ++ rest;
+  is = sym (append_assoc h.text h.rest rest) ∙ ap (λ l. l ++ rest) h.is;
+  taken = h.taken;
+}
 
 -- what comes before it was taken
-pub takes-after : (a b c : Option (List ℕ)) (front rest : List ℕ)
+pub takes-after : (a : Option (List ℕ)) {b c : Option (List ℕ)} (front : List ℕ) {rest : List ℕ}
     → Appends a b front
     → TakesFirst rest b c
     → TakesFirst (front ++ rest) a c
-takes-after a b c front rest p h =
-    (front ++ h.0, (h.1.0, (append_assoc front h.0 h.1.0 ∙ ap (λ l. front ++ l) h.1.1.0, Appends-trans a b c front h.0 p h.1.1.1)))
+takes-after a {b} {c} front p h = record {
+  text = front ++ h.text;
+  rest = h.rest;
+  is = append_assoc front h.text h.rest ∙ ap (λ l. front ++ l) h.is;
+  taken = Appends-trans a b c front h.text p h.taken;
+}
 
 -- what was taken stays
-pub takes-kept : (a b c : Option (List ℕ)) (whole : List ℕ)
+pub takes-kept : {a b : Option (List ℕ)} (c : Option (List ℕ)) {whole : List ℕ}
     → TakesFirst whole a b
     → Keeps b c
     → TakesFirst whole a c
-takes-kept a b c whole h k = (h.0, (h.1.0, (h.1.1.0, kept-appended a b c h.0 h.1.1.1 k)))
+takes-kept {a} {b} c h k = record { text = h.text; rest = h.rest; is = h.is; taken = kept-appended a b c h.text h.taken k }
 
--- ---- a piece and what follows it
+-- ---- a call that writes a text
 
--- the piece was taken whole
+-- an error that `?` hands on
+pub writes-err : {A : Type 0} (r : Result A ScriptError) (e : ScriptError) {a b : Option (List ℕ)} {whole : List ℕ}
+    → IsErrAnd r (λ x. x ≡ e)
+    → is_of_writing e ≡ true
+    → TakesFirst whole a b
+    → Writes whole a b r
+writes-err (Ok done) e given writing h = absurd given
+writes-err (Err x) e given writing h = (ap is_of_writing given ∙ writing, h)
+
+-- after a piece that was taken whole
 pub writes-after : {A : Type 0} (r : Result A ScriptError) (a b c : Option (List ℕ)) (front rest : List ℕ)
     → Appends a b front
     → Writes rest b c r
     → Writes (front ++ rest) a c r
 writes-after (Ok done) a b c front rest p h = Appends-trans a b c front rest p h
-writes-after (Err e) a b c front rest p h = (h.0, takes-after a b c front rest p h.1)
-
--- an error that `?` hands on, and of the text a beginning was taken
-pub writes-err : {A : Type 0} (r : Result A ScriptError) (e : ScriptError) (a b : Option (List ℕ))
-    (whole : List ℕ)
-    → IsErrAnd r (λ x. x ≡ e)
-    → is_of_writing e ≡ true
-    → TakesFirst whole a b
-    → Writes whole a b r
-writes-err (Ok done) e a b whole given writing h = absurd given
-writes-err (Err x) e a b whole given writing h = (ap is_of_writing given ∙ writing, h)
+writes-after (Err e) a b c front rest p h = (h.0, takes-after a front p h.1)
 
 -- ---- octets of which these are left
 

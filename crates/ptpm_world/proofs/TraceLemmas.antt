@@ -19,7 +19,9 @@ one_more : {X : Type 0} (f : X → List ℕ) (xs : List X) (i : ℕ) (x : X)
     → i < length xs
     → x ≡ get_or xs i x
     → flat_map f (take (i + 1) xs) ≡ flat_map f (take i xs) ++ f x
-one_more f xs i x h e = grind (arith, flat_map_more, take_more)
+one_more f xs i x h e =
+    ap (flat_map f) (take_more xs i x h ∙ ap (λ y. take i xs ++ y ∷ []) (sym e)) ∙ flat_map-append f (take i xs) (x ∷ [])
+    ∙ ap (λ l. flat_map f (take i xs) ++ l) (append-nil (f x))
 
 pub written-cut : {X : Type 0} (a b c : Option (List ℕ)) (f : X → List ℕ) (xs : List X) (i : ℕ)
     (x : X)
@@ -34,7 +36,7 @@ written-cut a b c f xs i x h e p q =
     let split : (done ++ f x) ++ rest ≡ flat_map f xs =
     ap (λ l. l ++ rest) (sym (one_more f xs i x h e))
     ∙ sym (flat_map-append f (take (i + 1) xs) (drop (i + 1) xs)) ∙ ap (flat_map f) (take-append-drop (i + 1) xs) in
-    subst (λ l. TakesFirst l a c) split (takes-front a c (done ++ f x) rest (takes-after a b c done (f x) p q))
+    subst (λ l. TakesFirst l a c) split (takes-front rest (takes-after a done p q))
 
 range-more : (a n : ℕ) → range_with_len a (n + 1) ≡ range_with_len a n ++ (a + n) ∷ []
 range-more a n = ap (range_with_len a) (add-one n) ∙ range_with_len-suc a n
@@ -54,12 +56,11 @@ one_port f k =
 later_ports : (a c : Option (List ℕ)) (f : ℕ → List ℕ) (n k : ℕ)
     → TakesFirst (flat_map f (range_with_len 1 n)) a c
     → TakesFirst (flat_map f (range_with_len 1 (n + k))) a c
-later_ports a c f n zero h = h
+later_ports a c f n zero h = subst (λ m. TakesFirst (flat_map f (range_with_len 1 m)) a c) (omega arith) h
 later_ports a c f n (suc k) h =
     let next : n + suc k ≡ (n + k) + 1 = omega arith in
-    let done = flat_map f (range_with_len 1 (n + k)) in
     subst (λ l. TakesFirst l a c) (sym (ap (λ m. flat_map f (range_with_len 1 m)) next ∙ one_port f (n + k)))
-    (takes-front a c done (f (1 + (n + k))) (later_ports a c f n k h))
+    (takes-front (f (1 + (n + k))) (later_ports a c f n k h))
 
 pub ports-cut : (a b c : Option (List ℕ)) (f : ℕ → List ℕ) (port n : ℕ)
     → 1 ≤ port
@@ -75,7 +76,7 @@ ports-cut a b c f port n first last p q =
     ap (λ k. done ++ f k) (sym same) ∙ sym (one_port f (port - 1)) ∙ ap (λ k. flat_map f (range_with_len 1 k)) counted in
     let all : port + (n - port) ≡ n = omega arith in
     subst (λ k. TakesFirst (flat_map f (range_with_len 1 k)) a c) all
-    (later_ports a c f port (n - port) (subst (λ l. TakesFirst l a c) upto (takes-after a b c done (f port) p q)))
+    (later_ports a c f port (n - port) (subst (λ l. TakesFirst l a c) upto (takes-after a done p q)))
 
 -- ---- by names and places
 

@@ -4,10 +4,12 @@ use Rattle.std.specs.Io.KnownBytes.{Appends}
 use Rattle.ptpm_world.specs.declared.script_error.ScriptError.{ScriptError}
 use Rattle.ptpm_world.specs.ScriptError.{is_of_writing}
 
--- a beginning of it
-abbrev pub TakesFirst : List ℕ → Option (List ℕ) → Option (List ℕ) → Type 0
-TakesFirst whole before after =
-    (text : List ℕ) × ((rest : List ℕ) × ((text ++ rest ≡ whole) × Appends before after text))
+-- a beginning of it, before this rest
+pub record TakesFirst (whole : List ℕ) (before after : Option (List ℕ)) : Type 0 where
+  pub text : List ℕ
+  pub rest : List ℕ
+  pub is : text ++ rest ≡ whole
+  pub taken : Appends before after text
 
 -- All of it, or, if writing or memory failed, a beginning of it.
 abbrev pub Writes : {A : Type 0} → List ℕ → Option (List ℕ) → Option (List ℕ) → Result A ScriptError → Type 0

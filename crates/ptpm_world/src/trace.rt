@@ -1,7 +1,10 @@
 //! The trace of a script: what each event did, and the state of the network at the end.
 
-ghost use Rattle.std.specs.Prelude.{◌≡◌, OnOk, decimal, flat_map};
+ghost use Rattle.std.specs.Prelude.{◌≡◌, OnOk, decimal, false, flat_map, true};
 ghost use Rattle.std.specs.Fmt.{WritesOnOk};
+ghost use Rattle.ptpm_codec.specs.declared.message.Action.TheVariants.{Get};
+ghost use Rattle.ptpm_data.specs.DataField.{data_field_of_id, permits};
+ghost use Rattle.ptpm_data.specs.ManagementId.{is_of_port};
 ghost use Rattle.ptpm_data.specs.Members.{HasPort};
 ghost use Rattle.ptpm_network.specs.Network.{Network};
 ghost use Rattle.ptpm_script.specs.EventLine.{verb_of};
@@ -254,33 +257,32 @@ fn write_clock<W: Write>(
     ensures { Writes (data_set_lines name.now sets.now)
         (W.contents out.old) (W.contents out.new) result }
 {
-    let mut value = Value::new();
-    sets.lay(0x0002, 0, &mut value);
-    write_data(alloc, name, "0002", &value, out)?;
-    sets.lay(0x2000, 0, &mut value);
-    write_data(alloc, name, "2000", &value, out)?;
-    sets.lay(0x2001, 0, &mut value);
-    write_data(alloc, name, "2001", &value, out)?;
-    sets.lay(0x2002, 0, &mut value);
-    write_data(alloc, name, "2002", &value, out)?;
-    sets.lay(0x2003, 0, &mut value);
-    write_data(alloc, name, "2003", &value, out)
+    write_data(alloc, name, sets, 0x0002, "0002", out)?;
+    write_data(alloc, name, sets, 0x2000, "2000", out)?;
+    write_data(alloc, name, sets, 0x2001, "2001", out)?;
+    write_data(alloc, name, sets, 0x2002, "2002", out)?;
+    write_data(alloc, name, sets, 0x2003, "2003", out)
 }
 
-/// A data set of a clock, by its managementId in four digits.
+/// A data set of a clock, by its managementId, which is spelled in four digits.
 #[tactic(auto, unfolding(crate::specs::Trace::data_line))]
 fn write_data<W: Write>(
     alloc: Global,
     name: &str,
-    id: &str,
-    value: &Value,
+    sets: &DataSets,
+    id: u16,
+    digits: &str,
     out: &mut W,
 ) -> Result<(), ScriptError>
-    ensures { Writes (data_line name.now id.now value.now.items)
+    requires permits { permits Get id ≡ true }
+    requires clock { is_of_port id ≡ false }
+    ensures { Writes (data_line name.now digits.now (data_field_of_id id 0 sets.now))
         (W.contents out.old) (W.contents out.new) result }
 {
+    let mut value = Value::new();
+    sets.lay(id, 0, &mut value);
     let value = Hexadecimal(value.as_slice());
-    write_shown(alloc, &format_args!("data {name} {id} {value}\n"), out)
+    write_shown(alloc, &format_args!("data {name} {digits} {value}\n"), out)
 }
 
 /// PORT_DATA_SET of one of a clock's ports.
