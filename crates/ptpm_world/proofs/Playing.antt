@@ -247,7 +247,7 @@ pub plays-err : {A : Type 0} (r : Result A ScriptError) (e : ScriptError) (last 
     → PlaysOn N names start now first written k n place a b
     → (is_outside e ≡ false → IfSome b (λ ys. played N names now n place (whole_lines ys) ≡ ends (Err e)))
     → IfSome a (λ xs. HasPlayed names (played N names start k 1 (whole_lines xs)) last first written r)
-plays-err r e last {N} {names} {start} {now} {first} {written} {a} {b} {k} {n} {place} given h fault =
+plays-err {A} r e last {N} {names} {start} {now} {first} {written} {a} {b} {k} {n} {place} given h fault =
     err-is r e (λ r. IfSome a (λ xs. HasPlayed names (played N names start k 1 (whole_lines xs)) last first written r)) given
     (stopped a b h.each fault)
   where

@@ -55,7 +55,8 @@ pub(crate) fn write_event<W: Write>(
     }
     let after = world.frames();
     let answer = Answer { took, is_late };
-    write_line(alloc, number, event, answer, MadeFrames { before, after }, out)?;
+    let made = MadeFrames { before, after };
+    write_line(alloc, number, event, answer, made, out)?;
     Ok(())
 }
 
@@ -177,7 +178,12 @@ pub(crate) fn write_reports<W: Write>(
         (W.contents out.old) (W.contents out.new) result }
 {
     for session in &world.sessions {
-        write_session(alloc, session.name.as_str(), session.reports.as_slice(), out)?;
+        write_session(
+            alloc,
+            session.name.as_str(),
+            session.reports.as_slice(),
+            out,
+        )?;
     }
     Ok(())
 }
@@ -301,7 +307,11 @@ fn write_port<W: Write>(
     let mut value = Value::new();
     sets.lay(0x2004, port, &mut value);
     let value = Hexadecimal(value.as_slice());
-    write_shown(alloc, &format_args!("data {name}.{port} 2004 {value}\n"), out)
+    write_shown(
+        alloc,
+        &format_args!("data {name}.{port} 2004 {value}\n"),
+        out,
+    )
 }
 
 /// What a report's line says.
