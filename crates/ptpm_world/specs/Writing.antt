@@ -1,4 +1,4 @@
--- What a writer took of a text, of which it is asked to take all.
+-- What a writer took of a text that it is given.
 use Rattle.std.specs.Prelude.{◌≡◌, ℕ, true, List, ◌++◌, Option, Result, Ok, Err}
 use Rattle.std.specs.Io.KnownBytes.{Appends}
 use Rattle.ptpm_world.specs.declared.script_error.ScriptError.{ScriptError}

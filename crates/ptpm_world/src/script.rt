@@ -48,9 +48,9 @@ pub fn one_trace()
 ///
 /// All lines before the divider are read before the network is judged. Each event's line is written before the next is read,
 /// and flushed if that may have to be waited for. Whichever way it ends, also if writing fails, what was written is a
-/// beginning of the trace; and if the script has a fault of its own, that is the lines of all events before it. Ends for every
-/// reader, since lines and their octets are bounded. The world that runs is in a frame of its own, so that no other subcommand
-/// pays for it.
+/// beginning of the trace. If it ends with a fault of the script, that is the lines of all events before the fault. Ends for
+/// every reader, since lines and their octets are bounded. The world that runs is in a frame of its own, so that no other
+/// subcommand pays for it.
 #[inline(never)]
 pub fn run_script<R: Read + Drop, W: Write>(
     alloc: Global,
