@@ -1,5 +1,5 @@
 -- What an event did, or why it was refused, and the state to which it led, as its line says it.
-use Rattle.ptpm_world.proofs.Common.{arith, ne_eqb, true≢false, ◌≡◌, ℕ, false, Result, refl, sym, OnErr, Network, StepError, Took, World, IsStep, running, ◌==◌, after, answer, error_text, is_out_of_memory}
+use Rattle.ptpm_world.proofs.Common.{arith, ne_eqb, true≢false, ◌≡◌, ℕ, Bool, false, Result, refl, sym, ap, ◌∙◌, length, OnErr, Network, RunningNetwork, StepError, Took, World, IsStep, names_in, placed, running, verb_of, ◌==◌, after, answer, error_text, event_line, event_text, is_out_of_memory}
 use Rattle.ptpm_network.specs.Events.{Event}
 use Rattle.ptpm_world.proofs.Ending.{stays_or_goes}
 use Rattle.std.specs.Int.{to_be_bytes, w16}
@@ -7,6 +7,8 @@ use Rattle.ptpm_codec.specs.declared.error.ErrorId.{ErrorId}
 use Rattle.ptpm_codec.specs.declared.error.ErrorId.TheVariants as errors
 use Rattle.ptpm_codec.specs.Message.{error_name, error_number}
 use Rattle.ptpm_script.specs.OctetText.{text_of_octets}
+use Rattle.ptpm_script.specs.declared.event.Event.{Event as EventOfScript}
+use Rattle.ptpm_world.specs.Trace.{is_late_event}
 
 pub answered : (N : Network) (old new : World) (e : Event) (result : Result Took StepError)
     → is_out_of_memory result ≡ false
@@ -14,6 +16,22 @@ pub answered : (N : Network) (old new : World) (e : Event) (result : Result Took
     → OnErr result (running new ≡ running old)
     → (result ≡ answer N (running old) e) × (running new ≡ after N (running old) e)
 answered N old new e result memory step same = grind (arith, true≢false, stays_or_goes)
+
+-- what its line says is the event's line
+pub line-said : (N : Network) (old new : World) (number : ℕ) (e : EventOfScript) (took : Result Took StepError) (late : Bool)
+    (before count : ℕ)
+    → is_out_of_memory took ≡ false
+    → IsStep N old new (placed (names_in old) e) took
+    → OnErr took (running new ≡ running old)
+    → late ≡ is_late_event (running old) (placed (names_in old) e)
+    → before ≡ length (running old).frames
+    → count ≡ length (running new).frames
+    → event_text number (verb_of e) took late before count ≡ event_line N (names_in old) (running old) number e
+line-said N old new number e took late before count memory step same l b c =
+    let h = answered N old new (placed (names_in old) e) took memory step same in
+    let made : count ≡ length (after N (running old) (placed (names_in old) e)).frames =
+    c ∙ ap (λ (r : RunningNetwork). length r.frames) h.1 in
+    (λ i. event_text number (verb_of e) (h.0 i) (l i) (b i) (made i))
 
 -- ---- managementErrorIds
 

@@ -45,14 +45,15 @@ pub use Rattle.ptpm_world.specs.Frames.{HasRoom, ends_of, frame_in, frame_value,
 pub use Rattle.ptpm_world.specs.Lines.{BothKnown, given, left_in, whole_lines}
 pub use Rattle.ptpm_world.specs.Placed.{Names, names_in, names_of, place_in, placed, placed_all}
 pub use Rattle.ptpm_world.specs.Running.{IsClockOf, IsOf, agent_clock, agent_state, is_late_held, is_late_of, reports_of, running, session_of, sets_of, state_of, table_entries}
-pub use Rattle.ptpm_world.specs.Script.{HasPlayed, HasPrinted, HasStopped, Played, Prints, StandsFor, TakesFirst, begins_comment, behind, closed, closing, ends, event_of, from_file, in_network, is_divider, is_skipped, network_text, played, played_by, read_as, scripted, scripted_from, started, started_session, unless_fault}
-pub use Rattle.ptpm_world.specs.ScriptError.{HasNextFault, ReadsWhole, is_of_reading, is_outside, line_fault, next_fault, size_fault, text_fault}
+pub use Rattle.ptpm_world.specs.Script.{HasPlayed, HasPrinted, HasStopped, Played, Prints, StandsFor, begins_comment, behind, closed, closing, ends, event_of, from_file, in_network, is_divider, is_skipped, last_lines, network_text, played, played_by, read_as, scripted, scripted_from, started, started_session, trace_of, unless_fault}
+pub use Rattle.ptpm_world.specs.ScriptError.{HasNextFault, ReadsWhole, is_of_reading, is_of_writing, is_outside, line_fault, next_fault, size_fault, text_fault}
 pub use Rattle.ptpm_world.specs.Starting.{AreStartedClocks, AreStartedSessions, IsStartedClock, IsStartedSession}
 pub use Rattle.ptpm_world.specs.Stepping.{IsStep, Leads}
 pub use Rattle.ptpm_world.specs.Stored.{IsShort, IsWithin, at_end, is_same, others}
 pub use Rattle.ptpm_world.specs.Took.{after, answer, answer_of, begin_error, error_of, heard, reports_in, took_of}
 pub use Rattle.ptpm_world.specs.Trace.{clock_lines, data_lines, event_line, is_out_of_memory, line_feed, report_lines, session_lines}
 unfoldable pub use Rattle.ptpm_world.specs.Trace.{error_text, event_text, port_line, report_line}
+pub use Rattle.ptpm_world.specs.Writing.{TakesFirst, Writes}
 pub use Rattle.ptpm_world.specs.declared.frames.Frames.{Frames}
 pub use Rattle.ptpm_world.specs.declared.frames.Stored.{Stored}
 pub use Rattle.ptpm_world.specs.declared.took.StepError.{StepError}

@@ -1,5 +1,5 @@
 -- The first fault of a script, line by line.
-use Rattle.ptpm_world.proofs.Common.{◌≡◌, ℕ, ◌<◌, ◌≤◌, ◌++◌, List, [], ◌∷◌, length, length-append, Bool, true, false, None, Some, Ok, Err, refl, sym, ap, subst, ◌∙◌, append_assoc, append-nil, arith, IfErr, IfOk, IsErrAnd, OnSome, Option, Result, nat_lt, option_map, zip, ◌==◌, onto_first, Consumes, IsAtEnd, lines_of_parts, strip_carriage_return, cond-false, cond-true, lt-ltb, whole_lines, HasNextFault, ReadsWhole, is_outside, next_fault, size_fault, text_fault}
+use Rattle.ptpm_world.proofs.Common.{◌≡◌, ℕ, ◌<◌, ◌≤◌, ◌++◌, List, [], ◌∷◌, length, length-append, Bool, true, false, None, Some, Ok, Err, refl, sym, ap, subst, ◌∙◌, append_assoc, append-nil, arith, IfErr, IfOk, IsErrAnd, OnSome, Option, Result, nat_lt, option_map, zip, ◌==◌, onto_first, Consumes, IsAtEnd, lines_of_parts, strip_carriage_return, cond-false, cond-true, lt-ltb, whole_lines, HasNextFault, ReadsWhole, is_of_writing, is_outside, next_fault, size_fault, text_fault}
 use Rattle.std.specs.Str.{IsUtf8}
 use Rattle.std.proofs.lemmas.Bool.Decides.{nat_tests}
 use Rattle.std.proofs.lemmas.Str.{IsUtf8-from_is_utf8, is_utf8-from_IsUtf8}
@@ -10,6 +10,9 @@ use Rattle.ptpm_world.proofs.LineLemmas.{IsRead, NoFeed, last_line, line_ends, n
 -- what fails outside the script is none of its faults
 pub outside : {P : Type 0} (e : ScriptError) → is_outside e ≡ true → is_outside e ≡ false → P
 outside e h i = absurd (cc)
+
+pub outside-writing : (e : ScriptError) → is_of_writing e ≡ true → is_outside e ≡ true
+outside-writing e h = grind arith
 
 -- an error that `?` hands on
 pub err-on : {A : Type 0} (r : Result A ScriptError) (e : ScriptError) (Q : ScriptError → Type 0)

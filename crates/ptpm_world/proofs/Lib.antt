@@ -22,6 +22,7 @@ pub mod Naming
 pub mod NetworkFacts
 pub mod StartingLemmas
 pub mod WorldLemmas
+pub mod Taking
 pub mod TraceLemmas
 pub mod Answering
 pub mod Playing

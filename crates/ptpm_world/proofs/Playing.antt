@@ -1,10 +1,10 @@
 -- A script as far as it is played: what is left of its lines comes to what all of them do, after what was written.
-use Rattle.ptpm_world.proofs.Common.{arith, ◌≡◌, ◌≢◌, ℕ, ◌+◌, ◌++◌, List, [], ◌∷◌, Bool, true, false, None, Some, Ok, Err, refl, sym, ap, subst, ◌∙◌, append_assoc, append-nil, cond-false, cond-true, IfSome, IsErrAnd, Option, Result, if◌then◌else◌, option_or, Appends, Keeps, Appends-nil, Appends-trans, Network, RunningNetwork, AllByRecursion, IsInRange, placed_all, BothKnown, HasNextFault, ReadsWhole, whole_lines, Names, HasPlayed, HasStopped, Played, behind, ends, event_of, from_file, is_divider, is_outside, is_skipped, line_fault, next_fault, played, played_by, read_as, reading, text_fault, unless_fault}
+use Rattle.ptpm_world.proofs.Common.{arith, ◌≡◌, ℕ, ◌+◌, ◌++◌, List, [], ◌∷◌, Bool, true, false, None, Some, Ok, Err, refl, sym, ap, subst, ◌∙◌, append_assoc, append-nil, cond-false, cond-true, IfSome, IsErrAnd, Option, Result, if◌then◌else◌, option_or, Appends, Keeps, Appends-nil, Appends-trans, TakesFirst, Network, RunningNetwork, AllByRecursion, IsInRange, placed_all, BothKnown, HasNextFault, ReadsWhole, whole_lines, Names, placed, after, event_line, is_of_writing, HasPlayed, Played, behind, ends, event_of, from_file, is_divider, is_outside, is_skipped, line_fault, next_fault, played, played_by, read_as, reading, text_fault, unless_fault}
 use Rattle.ptpm_script.specs.declared.event.Event.{Event}
 use Rattle.ptpm_world.specs.declared.script_error.ScriptError.{ScriptError}
 use Rattle.ptpm_world.specs.declared.whole_script.EventLine.{EventLine}
-use Rattle.ptpm_world.specs.declared.script_error.ScriptError.TheVariants as faults
-use Rattle.ptpm_world.proofs.FaultLemmas.{outside}
+use Rattle.ptpm_world.proofs.FaultLemmas.{outside, outside-writing}
+use Rattle.ptpm_world.proofs.Taking.{kept-appended, takes-after, takes-front}
 
 -- ---- what a reader says, call after call
 
@@ -181,21 +181,6 @@ plays-first N names start first k a = record {
       (λ xs. record { events = []; text = []; comes = refl; range = tt; is = Appends-nil first });
 }
 
-pub keeps-nil : (a b : Option (List ℕ)) → Keeps a b → Appends a b []
-keeps-nil None b k = tt
-keeps-nil (Some x) None k = absurd k
-keeps-nil (Some x) (Some y) k = k ∙ sym (append-nil x)
-
--- what was written stays
-pub kept-appended : (a b c : Option (List ℕ)) (bs : List ℕ)
-    → Appends a b bs
-    → Keeps b c
-    → Appends a c bs
-kept-appended None b c bs p k = tt
-kept-appended (Some x) None c bs p k = absurd p
-kept-appended (Some x) (Some y) None bs p k = absurd k
-kept-appended (Some x) (Some y) (Some z) bs p k = k ∙ p
-
 pub plays-kept : {N : Network} {names : Names} {start now : RunningNetwork}
     {first written : Option (List ℕ)} (more : Option (List ℕ)) {a b : Option (List ℕ)} {k n place : ℕ}
     → PlaysOn N names start now first written k n place a b
@@ -257,33 +242,76 @@ plays-end {N} {names} {start} {now} {first} {written} {a} {b} {c} {k} {n} {place
 -- an error, which the lines that are left come to
 pub plays-err : {A : Type 0} (r : Result A ScriptError) (e : ScriptError) (last : RunningNetwork)
     {N : Network} {names : Names} {start now : RunningNetwork}
-    {first written : Option (List ℕ)} (more : Option (List ℕ)) {a b : Option (List ℕ)} {k n place : ℕ}
+    {first written : Option (List ℕ)} {a b : Option (List ℕ)} {k n place : ℕ}
     → IsErrAnd r (λ x. x ≡ e)
     → PlaysOn N names start now first written k n place a b
-    → (e ≢ faults.WriteFault → more ≡ written)
     → (is_outside e ≡ false → IfSome b (λ ys. played N names now n place (whole_lines ys) ≡ ends (Err e)))
-    → IfSome a (λ xs. HasPlayed names (played N names start k 1 (whole_lines xs)) last first more r)
-plays-err r e last {N} {names} {start} {now} {first} {written} more {a} {b} {k} {n} {place} given h kept fault =
-    err-is r e (λ r. IfSome a (λ xs. HasPlayed names (played N names start k 1 (whole_lines xs)) last first more r)) given
+    → IfSome a (λ xs. HasPlayed names (played N names start k 1 (whole_lines xs)) last first written r)
+plays-err {A} r e last {N} {names} {start} {now} {first} {written} {a} {b} {k} {n} {place} given h fault =
+    err-is r e (λ r. IfSome a (λ xs. HasPlayed names (played N names start k 1 (whole_lines xs)) last first written r)) given
     (stopped a b h.each fault)
   where
     stopped : (a b : Option (List ℕ))
         → BothKnown a b (Plays N names start now first written k n place)
         → (is_outside e ≡ false → IfSome b (λ ys. played N names now n place (whole_lines ys) ≡ ends (Err e)))
-        → IfSome a (λ xs. HasStopped (played N names start k 1 (whole_lines xs)) first more e)
+        → IfSome a (λ xs. HasPlayed {A = A} names (played N names start k 1 (whole_lines xs)) last first written (Err e))
     stopped None b p f = tt
     stopped (Some xs) None p f = absurd p
     stopped (Some xs) (Some ys) p f = (
+      record {
+        text = p.text;
+        rest = (played N names now n place (whole_lines ys)).text;
+        is = sym (ap (λ x. x.text) p.comes);
+        taken = p.is;
+      },
       λ inside. (
         ap (λ x. x.end) p.comes ∙ ap (λ x. x.end) (f inside),
-        subst (Appends first more) (sym (ap (λ x. x.text) p.comes ∙ ap (λ x. p.text ++ x.text) (f inside) ∙ append-nil p.text))
-            (subst (λ w. Appends first w p.text) (sym (kept (λ writing. outside e (ap is_outside writing) inside))) p.is),
-      ),
-      λ other. (
-        p.text,
-        ((played N names now n place (whole_lines ys)).text, (sym (ap (λ x. x.text) p.comes), subst (λ w. Appends first w p.text) (sym (kept other)) p.is)),
+        subst (Appends first written) (sym (ap (λ x. x.text) p.comes ∙ ap (λ x. p.text ++ x.text) (f inside) ∙ append-nil p.text)) p.is,
       ),
     )
+
+-- the next line is an event's, and of the line that this prints a beginning was taken
+pub plays-cut : {A : Type 0} (r : Result A ScriptError) (e : ScriptError) (last : RunningNetwork)
+    {N : Network} {names : Names} {start now : RunningNetwork}
+    {first written : Option (List ℕ)} (more : Option (List ℕ)) {a b c : Option (List ℕ)} {k n place : ℕ} {line : List ℕ}
+    (event : Event)
+    → IsErrAnd r (λ x. x ≡ e)
+    → PlaysOn N names start now first written k n place a b
+    → NextIs n None line b c
+    → event_of place line ≡ Ok (Some event)
+    → is_of_writing e ≡ true
+    → TakesFirst (event_line N names now place event) written more
+    → IfSome a (λ xs. HasPlayed names (played N names start k 1 (whole_lines xs)) last first more r)
+plays-cut {A} r e last {N} {names} {start} {now} {first} {written} more {a} {b} {c} {k} {n} {place} {line} event given h is read writing cut =
+    err-is r e (λ r. IfSome a (λ xs. HasPlayed names (played N names start k 1 (whole_lines xs)) last first more r)) given
+    (both-end a b c stopped h.each is.is)
+  where
+    one : List ℕ
+    one = event_line N names now place event
+
+    next : RunningNetwork
+    next = after N now (placed names event)
+
+    step : (ys zs : List ℕ)
+        → (octets : List ℕ) × ((whole_lines ys ≡ (line, octets) ∷ whole_lines zs) × (line_fault n (line, octets) ≡ None))
+        → played N names now n place (whole_lines ys)
+        ≡ behind (record { number = place; event = event } ∷ []) one (played N names next (n + 1) (place + 1) (whole_lines zs))
+    step ys zs at =
+        guarded (playing N names now place) (others_played N names now place) None n line ys zs (play-guards N names now place) at
+        ∙ ap (λ y. played_by y N names now place (λ r. played N names r (n + 1) (place + 1) (whole_lines zs))) read
+
+    stopped : (xs ys zs : List ℕ)
+        → Plays N names start now first written k n place xs ys
+        → (octets : List ℕ) × ((whole_lines ys ≡ (line, octets) ∷ whole_lines zs) × (line_fault n (line, octets) ≡ None))
+        → HasPlayed {A = A} names (played N names start k 1 (whole_lines xs)) last first more (Err e)
+    stopped xs ys zs p at =
+        let rest = (played N names next (n + 1) (place + 1) (whole_lines zs)).text in
+        let whole : (played N names start k 1 (whole_lines xs)).text ≡ p.text ++ (one ++ rest) =
+        ap (λ x. x.text) p.comes ∙ ap (λ x. p.text ++ x.text) (step ys zs at) in (
+          subst (λ l. TakesFirst l first more) (sym whole)
+              (takes-after first p.text p.is (takes-front rest cut)),
+          λ inside. outside e (outside-writing e writing) inside,
+        )
 
 -- it is no event
 pub at-event : (N : Network) (names : Names) (now : RunningNetwork) {n : ℕ} (place : ℕ) {line : List ℕ}

@@ -1,5 +1,5 @@
 -- A script that is read whole: its network file, and the events after it.
-use Rattle.ptpm_world.proofs.Common.{◌≡◌, ℕ, ◌+◌, ◌++◌, List, [], ◌∷◌, false, None, Some, Ok, Err, Result, refl, sym, ap, subst, ◌∙◌, append_assoc, append-nil, IfSome, IsErrAnd, Option, result_err, string_bytes, Network, RunningNetwork, NetworkValue, network_of, network_value, described, BothKnown, whole_lines, Names, names_of, Played, behind, closing, ends, event_of, in_network, is_outside, network_text, played, played_by, scripted, scripted_from, started}
+use Rattle.ptpm_world.proofs.Common.{◌≡◌, ℕ, ◌+◌, ◌++◌, List, [], false, None, Some, Ok, Err, Result, refl, sym, ap, subst, ◌∙◌, append_assoc, append-nil, IfSome, IsErrAnd, Option, result_err, string_bytes, Network, RunningNetwork, NetworkValue, network_of, network_value, described, BothKnown, whole_lines, Names, names_of, Played, behind, closing, ends, event_of, is_outside, network_text, played, played_by, scripted, scripted_from, started}
 use Rattle.ptpm_script.specs.declared.event.Event.{Event}
 use Rattle.ptpm_world.specs.declared.script_error.ScriptError.{ScriptError}
 use Rattle.ptpm_world.specs.declared.whole_script.EventLine.{EventLine}

@@ -1,12 +1,12 @@
 -- A whole script: its network file is read, its events are played, and the rest of its trace is written.
-use Rattle.ptpm_world.proofs.Common.{◌≡◌, ℕ, ◌+◌, ◌<◌, ◌≤◌, ◌++◌, ◌⊎◌, inl, inr, true, false, List, [], ◌∷◌, length, None, Some, Ok, Err, Result, refl, sym, ap, subst, ◌∙◌, append_assoc, length-append, append-nil, arith, Option, IfSome, cases_lt, cond-false, cond-true, lt-ltb, Appends-nil, Appends-trans, Appends, IsErrAnd, Keeps, OnOk, AreInTime, Network, initial_state, StandsAfter, placed_all, RunningNetwork, network_of, NetworkValue, described, BothKnown, Names, names_of, HasPrinted, HasStopped, Played, Prints, StandsFor, closed, closing, ends, from_file, in_network, is_divider, is_outside, network_text, played, scripted, scripted_from, started, whole_lines, data_lines, line_feed, report_lines}
+use Rattle.ptpm_world.proofs.Common.{◌≡◌, ℕ, ◌+◌, ◌<◌, ◌≤◌, ◌++◌, ◌⊎◌, inl, inr, true, false, List, [], ◌∷◌, length, None, Some, Ok, Err, Result, refl, sym, ap, subst, ◌∙◌, append_assoc, length-append, append-nil, arith, Option, IfSome, cases_lt, cond-false, cond-true, lt-ltb, Appends-nil, Appends-trans, Appends, IsErrAnd, Keeps, TakesFirst, OnOk, AreInTime, Network, initial_state, StandsAfter, placed_all, RunningNetwork, network_of, NetworkValue, described, BothKnown, Names, names_of, HasPrinted, HasStopped, Played, Prints, StandsFor, closed, closing, ends, from_file, in_network, is_divider, is_of_writing, is_outside, last_lines, network_text, played, scripted, scripted_from, started, trace_of, whole_lines, data_lines, line_feed, report_lines}
 use Rattle.ptpm_script.specs.declared.net_error.NetError.{NetError}
 use Rattle.ptpm_script.specs.declared.net_error.NetError.TheVariants as refusals
 use Rattle.ptpm_world.specs.declared.script_error.ScriptError.{ScriptError}
-use Rattle.ptpm_world.specs.declared.script_error.ScriptError.TheVariants as faults
 use Rattle.ptpm_world.specs.MachineTrace.{IsMachineTrace, ShowsNetwork}
-use Rattle.ptpm_world.proofs.FaultLemmas.{outside}
-use Rattle.ptpm_world.proofs.Playing.{AreInRange, FileEnds, NextIs, NoneIs, both-is, both-on, both-some, err-is, kept-appended, left-some, some-is}
+use Rattle.ptpm_world.proofs.FaultLemmas.{outside, outside-writing}
+use Rattle.ptpm_world.proofs.Playing.{AreInRange, FileEnds, NextIs, NoneIs, both-is, both-on, both-some, err-is, left-some, some-is}
+use Rattle.ptpm_world.proofs.Taking.{kept-appended, takes-after, takes-front, takes-none}
 use Rattle.ptpm_world.proofs.Telling.{machine-trace}
 
 -- ---- the network file
@@ -121,8 +121,8 @@ pub stopped-first : {A : Type 0} (r : Result A ScriptError) (e : ScriptError)
 stopped-first r e None before given fault = tt
 stopped-first r e (Some input) before given fault =
     err-is r e (HasPrinted input before before) given (
+      takes-none before (trace_of input),
       λ inside. (ap (λ p. p.end) (fault inside), subst (Appends before before) (sym (ap (λ p. p.text) (fault inside))) (Appends-nil before)),
-      λ other. ([], ((scripted input).text, (refl, Appends-nil before))),
     )
 
 -- a fault of the network file
@@ -134,13 +134,6 @@ pub stopped-file : {A : Type 0} (r : Result A ScriptError) (e : ScriptError)
     → (is_outside e ≡ false → IfSome first (λ xs. scripted_from (n + 1) xs ≡ ends (Err e)))
     → IfSome all (λ input. HasPrinted input before before r)
 stopped-file r e all first before n given z same fault = grind (arith, stopped-first, some-is, none_some, some_same)
-
--- writing failed
-pub stopped-writing : {A : Type 0} (r : Result A ScriptError) (all before after : Option (List ℕ))
-    → IsErrAnd r (λ x. x ≡ faults.WriteFault)
-    → IfSome all (λ input. HasPrinted input before after r)
-stopped-writing r None before after given = tt
-stopped-writing r (Some input) before after given = grind (arith, err-is, outside)
 
 -- a script comes to what the lines after its network file do, in the network of that file
 abbrev pub ScriptGoes : Option (List ℕ) → Option (List ℕ) → NetworkValue → Names → RunningNetwork → ℕ → Type 0
@@ -164,9 +157,20 @@ pub script-stopped : {A : Type 0} (r : Result A ScriptError) (e : ScriptError)
     (start : RunningNetwork) (k : ℕ)
     → IsErrAnd r (λ x. x ≡ e)
     → ScriptGoes all second n names start k
-    → IfSome second (λ ys. HasStopped (played (described n) names start k 1 (whole_lines ys)) before after e)
+    → IfSome second
+    (λ ys.
+    HasStopped (played (described n) names start k 1 (whole_lines ys)) (played (described n) names start k 1 (whole_lines ys)).text before after e)
     → IfSome all (λ input. HasPrinted input before after r)
-script-stopped r e all second before after n names start k given goes h = grind (arith, err-is, both-some)
+script-stopped r e all second before after n names start k given goes h =
+    err-is r e (λ r. IfSome all (λ input. HasPrinted input before after r)) given
+    (both-some all second
+    (λ input ys is stopped.
+    let p = played (described n) names start k 1 (whole_lines ys) in
+    subst (λ s. HasStopped s (s.text ++ last_lines s.end) before after e) (sym is.0) (
+      takes-front (last_lines (closing names p.end)) stopped.0,
+      λ inside. (ap (closing names) (stopped.1 inside).0, (stopped.1 inside).1),
+    ))
+    goes h)
 
 -- the lines of all events lead to this last network, and what they print was written
 abbrev pub ArePlayed : NetworkValue → Names → RunningNetwork → RunningNetwork → ℕ → Option (List ℕ)
@@ -177,6 +181,28 @@ ArePlayed n names start last k o0 o1 ys =
     ((played (described n) names start k 1 (whole_lines ys)).end ≡ Ok last)
     × (Appends o0 o1 (played (described n) names start k 1 (whole_lines ys)).text
     × AreInRange names (played (described n) names start k 1 (whole_lines ys)).events)
+
+-- all events were played, and of what follows their lines a beginning was taken
+pub script-cut : {A : Type 0} (r : Result A ScriptError) (e : ScriptError)
+    (all second o0 o1 o2 : Option (List ℕ)) (n : NetworkValue) (names : Names)
+    (start last : RunningNetwork) (k : ℕ)
+    → IsErrAnd r (λ x. x ≡ e)
+    → is_of_writing e ≡ true
+    → ScriptGoes all second n names start k
+    → IfSome second (ArePlayed n names start last k o0 o1)
+    → TakesFirst (report_lines names last ++ data_lines names last) o1 o2
+    → IfSome all (λ input. HasPrinted input o0 o2 r)
+script-cut r e all second o0 o1 o2 n names start last k given writing goes h cut =
+    let rest = report_lines names last ++ data_lines names last in
+    err-is r e (λ r. IfSome all (λ input. HasPrinted input o0 o2 r)) given
+    (both-some all second
+    (λ input ys is done.
+    let p = played (described n) names start k 1 (whole_lines ys) in
+    subst (λ s. HasStopped s (s.text ++ last_lines s.end) o0 o2 e) (sym is.0) (
+      subst (λ end. TakesFirst (p.text ++ last_lines (closing names end)) o0 o2) (sym done.0) (takes-after o0 p.text done.1.0 cut),
+      λ inside. outside e (outside-writing e writing) inside,
+    ))
+    goes h)
 
 pub script-prints : (all second o0 o1 o2 o3 o4 : Option (List ℕ)) (n : NetworkValue) (names : Names)
     (start last : RunningNetwork) (k : ℕ)

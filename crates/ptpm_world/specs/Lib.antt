@@ -11,6 +11,7 @@ pub mod TookText
 pub mod Trace
 pub mod Lines
 pub mod ScriptError
+pub mod Writing
 pub mod Script
 pub mod WholeScript
 pub mod MachineTrace

@@ -1,5 +1,5 @@
 -- What the lines of a script come to (this project's profile): a network file, a line `%%`, and events, one a line.
-use Rattle.std.specs.Prelude.{◌≡◌, ◌≢◌, ◌<◌, ◌⊎◌, ℕ, ◌+◌, ◌==◌, length, not, slice_get, Bool, true, false, bytes_eq, codes, find, List, [], ◌∷◌, ◌++◌, Option, Some, None, Result, Ok, Err, if◌then◌else◌}
+use Rattle.std.specs.Prelude.{◌≡◌, ◌<◌, ◌⊎◌, ℕ, ◌+◌, ◌==◌, length, not, slice_get, Bool, true, false, bytes_eq, codes, find, List, [], ◌∷◌, ◌++◌, Option, Some, None, Result, Ok, Err, if◌then◌else◌}
 use Rattle.std.specs.Io.KnownBytes.{Appends}
 use Rattle.std.specs.List.{AllByRecursion}
 use Rattle.ptpm_agent.specs.Laws.{initial_clock_state}
@@ -16,7 +16,7 @@ use Rattle.ptpm_script.specs.declared.network.NetworkSession.{NetworkSession}
 use Rattle.ptpm_script.specs.NetworkValue.{NetworkValue, first_sets}
 use Rattle.ptpm_script.specs.Words.{space}
 use Rattle.ptpm_world.specs.declared.script_error.ScriptError.{ScriptError}
-use Rattle.ptpm_world.specs.declared.script_error.ScriptError.TheVariants.{BadLine, BadNetwork, WriteFault}
+use Rattle.ptpm_world.specs.declared.script_error.ScriptError.TheVariants.{BadLine, BadNetwork}
 use Rattle.ptpm_world.specs.declared.whole_script.EventLine.{EventLine}
 use Rattle.ptpm_world.specs.Described.{clock_at, described, described_session}
 use Rattle.ptpm_world.specs.Lines.{whole_lines}
@@ -25,6 +25,7 @@ use Rattle.ptpm_world.specs.Running.{no_session}
 use Rattle.ptpm_world.specs.ScriptError.{is_outside, line_fault}
 use Rattle.ptpm_world.specs.Took.{after}
 use Rattle.ptpm_world.specs.Trace.{data_lines, event_line, line_feed, report_lines}
+use Rattle.ptpm_world.specs.Writing.{TakesFirst}
 
 -- ---- the network file
 
@@ -155,6 +156,15 @@ scripted_from number octets =
 abbrev pub scripted : List ℕ → Played (List ℕ)
 scripted input = scripted_from 1 input
 
+-- the lines of the reports and of the data sets, if there is no fault
+abbrev pub last_lines : Result (List ℕ) ScriptError → List ℕ
+last_lines (Ok last) = last
+last_lines (Err fault) = []
+
+-- the whole trace of a script: the lines of its events, and then these
+abbrev pub trace_of : List ℕ → List ℕ
+trace_of input = (scripted input).text ++ last_lines (scripted input).end
+
 -- A script prints this text. The lines before the divider are a network file, and each line after it is an event or is skipped.
 -- The text is the trace of these events in that network, from its start on.
 abbrev pub Prints : List ℕ → List ℕ → Type 0
@@ -162,16 +172,17 @@ Prints input text = (last : List ℕ) × (((scripted input).end ≡ Ok last) × 
 
 -- ---- what a call does that plays lines
 
--- a writer took the beginning of a text
-abbrev pub TakesFirst : List ℕ → Option (List ℕ) → Option (List ℕ) → Type 0
-TakesFirst whole before after =
-    (text : List ℕ) × ((rest : List ℕ) × ((text ++ rest ≡ whole) × Appends before after text))
-
--- It ends early. If neither reading, writing nor memory failed, it ends with the lines' first fault, and the lines of all events
--- before that were written. If reading or memory failed, a beginning of them was written.
-abbrev pub HasStopped : {A : Type 0} → Played A → Option (List ℕ) → Option (List ℕ) → ScriptError → Type 0
-HasStopped p before after e =
-    (is_outside e ≡ false → (p.end ≡ Err e) × Appends before after p.text) × (e ≢ WriteFault → TakesFirst p.text before after)
+-- It ends early. Of the whole text a beginning was written. If neither reading, writing nor memory failed, it ends with the lines'
+-- first fault, and the lines of all events before that were written.
+abbrev pub HasStopped : {A : Type 0}
+    → Played A
+    → List ℕ
+    → Option (List ℕ)
+    → Option (List ℕ)
+    → ScriptError
+    → Type 0
+HasStopped p whole before after e =
+    TakesFirst whole before after × (is_outside e ≡ false → (p.end ≡ Err e) × Appends before after p.text)
 
 -- the lines of all events were written, and they lead here; each is one that a program can hand in
 abbrev pub HasPlayed : {A : Type 0}
@@ -184,7 +195,7 @@ abbrev pub HasPlayed : {A : Type 0}
     → Type 0
 HasPlayed names p r before after (Ok done) =
     (p.end ≡ Ok r) × (Appends before after p.text × AllByRecursion IsInRange (placed_all names p.events))
-HasPlayed names p r before after (Err e) = HasStopped p before after e
+HasPlayed names p r before after (Err e) = HasStopped p p.text before after e
 
 -- a script was run: it has no fault, and the text that it prints was written
 abbrev pub HasPrinted : {A : Type 0}
@@ -194,4 +205,4 @@ abbrev pub HasPrinted : {A : Type 0}
     → Result A ScriptError
     → Type 0
 HasPrinted input before after (Ok done) = (text : List ℕ) × (Prints input text × Appends before after text)
-HasPrinted input before after (Err e) = HasStopped (scripted input) before after e
+HasPrinted input before after (Err e) = HasStopped (scripted input) (trace_of input) before after e

@@ -14,6 +14,7 @@ mod took;
 mod trace;
 mod whole_script;
 mod world;
+mod writing;
 
 pub use frames::Frame;
 pub use lines::{Lines, SCRIPT_LINES};

@@ -47,8 +47,10 @@ pub fn one_trace()
 /// says what the network machine does, with `Answered` exactly if a report is appended (`ShowsNetwork`).
 ///
 /// All lines before the divider are read before the network is judged. Each event's line is written before the next is read,
-/// and flushed if that may have to be waited for. Ends for every reader, since lines and their octets are bounded. The world
-/// that runs is in a frame of its own, so that no other subcommand pays for it.
+/// and flushed if that may have to be waited for. Whichever way it ends, also if writing fails, what was written is a
+/// beginning of the trace. If it ends with a fault of the script, that is the lines of all events before the fault. Ends for
+/// every reader, since lines and their octets are bounded. The world that runs is in a frame of its own, so that no other
+/// subcommand pays for it.
 #[inline(never)]
 pub fn run_script<R: Read + Drop, W: Write>(
     alloc: Global,
@@ -63,8 +65,8 @@ pub fn run_script<R: Read + Drop, W: Write>(
     let network = read_network(alloc, &mut script)?;
     let mut world = World::new(alloc, &network)?;
     play(alloc, &mut script, &mut world, out)?;
-    write_reports(&world, out)?;
-    write_data_sets(&world, out)?;
+    write_reports(alloc, &world, out)?;
+    write_data_sets(alloc, &world, out)?;
     out.flush()?;
     Ok(())
 }
@@ -190,7 +192,7 @@ fn play<R: Read + Drop, W: Write>(
         let event = event_of(alloc, number, line)?;
         // it is in the range that the laws of networks ask for
         placed_event(&event);
-        write_event(world, number, &event, out)?;
+        write_event(alloc, world, number, &event, out)?;
         drop(event);
     }
     Ok(())

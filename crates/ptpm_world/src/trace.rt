@@ -1,44 +1,44 @@
 //! The trace of a script: what each event did, and the state of the network at the end.
 
-ghost use Rattle.std.specs.Prelude.{◌≡◌, ◌≢◌, IfErr, IfSome, OnOk, decimal, flat_map, true};
+ghost use Rattle.std.specs.Prelude.{◌≡◌, OnOk, decimal, false, flat_map, true};
 ghost use Rattle.std.specs.Fmt.{WritesOnOk};
-ghost use Rattle.std.specs.Io.KnownBytes.{Appends};
+ghost use Rattle.ptpm_codec.specs.declared.message.Action.TheVariants.{Get};
+ghost use Rattle.ptpm_data.specs.DataField.{data_field_of_id, permits};
+ghost use Rattle.ptpm_data.specs.ManagementId.{is_of_port};
 ghost use Rattle.ptpm_data.specs.Members.{HasPort};
 ghost use Rattle.ptpm_network.specs.Network.{Network};
 ghost use Rattle.ptpm_script.specs.EventLine.{verb_of};
 ghost use Rattle.ptpm_world.specs.Placed.{names_in, placed};
 ghost use Rattle.ptpm_world.specs.Running.{IsOf, running};
-ghost use Rattle.ptpm_world.specs.declared.script_error.ScriptError.TheVariants as faults;
-ghost use Rattle.ptpm_world.specs.ScriptError.{is_outside};
 ghost use Rattle.ptpm_world.specs.Took.{after};
 ghost use Rattle.ptpm_world.specs.Trace.{answer_text, clock_lines, data_line, data_lines, data_set_lines, event_line, event_text, frames_text, is_out_of_memory, outcome_text, port_line, report_line, report_lines};
+ghost use Rattle.ptpm_world.specs.Writing.{Writes};
 
 use crate::script_error::ScriptError;
 use crate::took::{StepError, Took};
 use crate::world::World;
-use arrayvec::ArrayString;
+use crate::writing::write_shown;
 use itoa::Buffer;
 use ptpm_codec::ErrorId;
 use ptpm_data::{DataSets, Value};
 use ptpm_manager::{Outcome, Report};
 use ptpm_script::{Event, Hexadecimal};
+use std::alloc::Global;
+use std::fmt;
 use std::io::Write;
-use std::{fmt, io};
-
-/// Room for what is displayed in one piece: a line of any event, and of a report whose value is short.
-const SHORT: usize = 128;
 
 /// Lets an event happen and writes its line. The line has its number and its verb, and what it did or why it was
 /// refused. It says whether the event delivered a late frame, and which frames were made.
 pub(crate) fn write_event<W: Write>(
+    alloc: Global,
     world: &mut World,
     number: u32,
     event: &Event,
     out: &mut W,
 ) -> Result<(), ScriptError>
     ensures line { (N : Network) → IsOf N world.old
-        → OnOk result (Appends (W.contents out.old) (W.contents out.new)
-        (event_line N (names_in world.old) (running world.old) number event.now)) }
+        → Writes (event_line N (names_in world.old) (running world.old) number event.now)
+        (W.contents out.old) (W.contents out.new) result }
     ensures after { (N : Network)
         → IsOf N world.old
         → OnOk result
@@ -46,9 +46,6 @@ pub(crate) fn write_event<W: Write>(
         ≡ after N (running world.old) (placed (names_in world.old) event.now)) }
     ensures names { names_in world.new ≡ names_in world.old }
     ensures network { (N : Network) → IsOf N world.old → IsOf N world.new }
-    ensures fault { IfErr result (λ e. is_outside e ≡ true) }
-    ensures kept { IfErr result
-        (λ e. e ≢ faults.WriteFault → W.contents out.new ≡ W.contents out.old) }
 {
     let is_late = world.is_late_delivery(event);
     let before = world.frames();
@@ -58,20 +55,22 @@ pub(crate) fn write_event<W: Write>(
     }
     let after = world.frames();
     let answer = Answer { took, is_late };
-    write_line(number, event, answer, MadeFrames { before, after }, out)?;
+    let made = MadeFrames { before, after };
+    write_line(alloc, number, event, answer, made, out)?;
     Ok(())
 }
 
 fn write_line<W: Write>(
+    alloc: Global,
     number: u32,
     event: &Event,
     answer: Answer,
     made: MadeFrames,
     out: &mut W,
 ) -> Result<(), ScriptError>
-    ensures line { OnOk result (Appends (W.contents out.old) (W.contents out.new)
-        (event_text number (verb_of event.now) answer.took answer.is_late made.before made.after)) }
-    ensures fault { IfErr result (λ e. e ≡ faults.WriteFault) }
+    ensures { Writes
+        (event_text number (verb_of event.now) answer.took answer.is_late made.before made.after)
+        (W.contents out.old) (W.contents out.new) result }
 {
     let line = EventText {
         number,
@@ -79,21 +78,7 @@ fn write_line<W: Write>(
         answer,
         made,
     };
-    write_shown(&line, out)?;
-    Ok(())
-}
-
-/// What a value displays: in one piece if it is short, since each piece costs a writer as much again.
-#[inline(always)]
-fn write_shown<W: Write, D: fmt::Display>(value: &D, out: &mut W) -> io::Result<()>
-    ensures { OnOk result (IfSome (D.output value.now)
-        (Appends (W.contents out.old) (W.contents out.new))) }
-{
-    let mut text = ArrayString::<SHORT>::new();
-    match fmt::Write::write(&mut text, value) {
-        Ok(()) => out.write_all(text.as_str().as_bytes()),
-        Err(_) => out.write_fmt(value),
-    }
+    write_shown(alloc, &line, out)
 }
 
 /// Whether an event is refused for want of memory.
@@ -184,100 +169,149 @@ fn show_frames<W: fmt::Write>(made: MadeFrames, f: &mut fmt::Formatter<W>) -> fm
 }
 
 /// A line for each report, session by session.
-pub(crate) fn write_reports<W: Write>(world: &World, out: &mut W) -> io::Result<()>
-    ensures { OnOk result (Appends (W.contents out.old) (W.contents out.new)
-        (report_lines (names_in world.now) (running world.now))) }
+pub(crate) fn write_reports<W: Write>(
+    alloc: Global,
+    world: &World,
+    out: &mut W,
+) -> Result<(), ScriptError>
+    ensures { Writes (report_lines (names_in world.now) (running world.now))
+        (W.contents out.old) (W.contents out.new) result }
 {
     for session in &world.sessions {
-        write_session(session.name.as_str(), session.reports.as_slice(), out)?;
+        write_session(
+            alloc,
+            session.name.as_str(),
+            session.reports.as_slice(),
+            out,
+        )?;
     }
     Ok(())
 }
 
 /// A line for each report of a session.
-fn write_session<W: Write>(name: &str, reports: &[Report], out: &mut W) -> io::Result<()>
-    ensures { OnOk result (Appends (W.contents out.old) (W.contents out.new)
-        (flat_map (report_line name.now) reports.now)) }
+fn write_session<W: Write>(
+    alloc: Global,
+    name: &str,
+    reports: &[Report],
+    out: &mut W,
+) -> Result<(), ScriptError>
+    ensures { Writes (flat_map (report_line name.now) reports.now)
+        (W.contents out.old) (W.contents out.new) result }
 {
     for report in reports {
-        write_report(name, report, out)?;
+        write_report(alloc, name, report, out)?;
     }
     Ok(())
 }
 
-fn write_report<W: Write>(name: &str, report: &Report, out: &mut W) -> io::Result<()>
-    ensures { OnOk result (Appends (W.contents out.old) (W.contents out.new)
-        (report_line name.now report.now)) }
+fn write_report<W: Write>(
+    alloc: Global,
+    name: &str,
+    report: &Report,
+    out: &mut W,
+) -> Result<(), ScriptError>
+    ensures { Writes (report_line name.now report.now)
+        (W.contents out.old) (W.contents out.new) result }
 {
     let line = ReportText {
         session: name,
         report,
     };
-    write_shown(&line, out)
+    write_shown(alloc, &line, out)
 }
 
 /// A line for each data set of the clocks and of their ports.
-pub(crate) fn write_data_sets<W: Write>(world: &World, out: &mut W) -> io::Result<()>
-    ensures { OnOk result (Appends (W.contents out.old) (W.contents out.new)
-        (data_lines (names_in world.now) (running world.now))) }
+pub(crate) fn write_data_sets<W: Write>(
+    alloc: Global,
+    world: &World,
+    out: &mut W,
+) -> Result<(), ScriptError>
+    ensures { Writes (data_lines (names_in world.now) (running world.now))
+        (W.contents out.old) (W.contents out.new) result }
 {
     for clock in &world.clocks {
-        write_sets(clock.name.as_str(), clock.agent.sets(), out)?;
+        write_sets(alloc, clock.name.as_str(), clock.agent.sets(), out)?;
     }
     Ok(())
 }
 
 /// A line for each data set of a clock and of its ports.
-fn write_sets<W: Write>(name: &str, sets: &DataSets, out: &mut W) -> io::Result<()>
-    ensures { OnOk result (Appends (W.contents out.old) (W.contents out.new)
-        (clock_lines name.now sets.now)) }
+fn write_sets<W: Write>(
+    alloc: Global,
+    name: &str,
+    sets: &DataSets,
+    out: &mut W,
+) -> Result<(), ScriptError>
+    ensures { Writes (clock_lines name.now sets.now)
+        (W.contents out.old) (W.contents out.new) result }
 {
-    write_clock(name, sets, out)?;
+    write_clock(alloc, name, sets, out)?;
     for port in 1..sets.port_count() + 1 {
-        write_port(name, sets, port, out)?;
+        write_port(alloc, name, sets, port, out)?;
     }
     Ok(())
 }
 
 /// USER_DESCRIPTION and the four data sets of a clock, a line each.
 #[tactic(auto, unfolding(ptpm_data::specs::ManagementId::row_of, crate::specs::Trace::data_set_lines))]
-fn write_clock<W: Write>(name: &str, sets: &DataSets, out: &mut W) -> io::Result<()>
-    ensures { OnOk result (Appends (W.contents out.old) (W.contents out.new)
-        (data_set_lines name.now sets.now)) }
+fn write_clock<W: Write>(
+    alloc: Global,
+    name: &str,
+    sets: &DataSets,
+    out: &mut W,
+) -> Result<(), ScriptError>
+    ensures { Writes (data_set_lines name.now sets.now)
+        (W.contents out.old) (W.contents out.new) result }
 {
-    let mut value = Value::new();
-    sets.lay(0x0002, 0, &mut value);
-    write_data(name, "0002", &value, out)?;
-    sets.lay(0x2000, 0, &mut value);
-    write_data(name, "2000", &value, out)?;
-    sets.lay(0x2001, 0, &mut value);
-    write_data(name, "2001", &value, out)?;
-    sets.lay(0x2002, 0, &mut value);
-    write_data(name, "2002", &value, out)?;
-    sets.lay(0x2003, 0, &mut value);
-    write_data(name, "2003", &value, out)
+    write_data(alloc, name, sets, 0x0002, "0002", out)?;
+    write_data(alloc, name, sets, 0x2000, "2000", out)?;
+    write_data(alloc, name, sets, 0x2001, "2001", out)?;
+    write_data(alloc, name, sets, 0x2002, "2002", out)?;
+    write_data(alloc, name, sets, 0x2003, "2003", out)
 }
 
-/// A data set of a clock, by its managementId in four digits.
+/// A data set of a clock, by its managementId, which is spelled in four digits.
 #[tactic(auto, unfolding(crate::specs::Trace::data_line))]
-fn write_data<W: Write>(name: &str, id: &str, value: &Value, out: &mut W) -> io::Result<()>
-    ensures { OnOk result (Appends (W.contents out.old) (W.contents out.new)
-        (data_line name.now id.now value.now.items)) }
+fn write_data<W: Write>(
+    alloc: Global,
+    name: &str,
+    sets: &DataSets,
+    id: u16,
+    digits: &str,
+    out: &mut W,
+) -> Result<(), ScriptError>
+    requires permits { permits Get id ≡ true }
+    requires clock { is_of_port id ≡ false }
+    ensures { Writes (data_line name.now digits.now (data_field_of_id id 0 sets.now))
+        (W.contents out.old) (W.contents out.new) result }
 {
-    writeln!(out, "data {name} {id} {}", Hexadecimal(value.as_slice()))
+    let mut value = Value::new();
+    sets.lay(id, 0, &mut value);
+    let value = Hexadecimal(value.as_slice());
+    write_shown(alloc, &format_args!("data {name} {digits} {value}\n"), out)
 }
 
 /// PORT_DATA_SET of one of a clock's ports.
 #[tactic(auto, unfolding(ptpm_data::specs::ManagementId::row_of, crate::specs::Trace::port_line, crate::specs::Trace::data_line))]
-fn write_port<W: Write>(name: &str, sets: &DataSets, port: u16, out: &mut W) -> io::Result<()>
+fn write_port<W: Write>(
+    alloc: Global,
+    name: &str,
+    sets: &DataSets,
+    port: u16,
+    out: &mut W,
+) -> Result<(), ScriptError>
     requires { HasPort port sets.now }
-    ensures { OnOk result (Appends (W.contents out.old) (W.contents out.new)
-        (port_line name.now sets.now port)) }
+    ensures { Writes (port_line name.now sets.now port)
+        (W.contents out.old) (W.contents out.new) result }
 {
     let mut value = Value::new();
     sets.lay(0x2004, port, &mut value);
     let value = Hexadecimal(value.as_slice());
-    writeln!(out, "data {name}.{port} 2004 {value}")
+    write_shown(
+        alloc,
+        &format_args!("data {name}.{port} 2004 {value}\n"),
+        out,
+    )
 }
 
 /// What a report's line says.

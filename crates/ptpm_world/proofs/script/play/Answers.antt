@@ -1,7 +1,6 @@
-use Rattle.ptpm_world.proofs.Common.{◌≡◌, ◌+◌, List, [], ◌∷◌, arith, refl, true, false, None, Some, Ok, Err, ap, subst, sym, ◌∙◌, Appends, Appends-nil, reading, left_in, names_in, placed, running, is_skipped, after, event_line, behind, read_as}
+use Rattle.ptpm_world.proofs.Common.{◌≡◌, ◌+◌, List, [], ◌∷◌, arith, refl, true, false, None, Some, Ok, Err, ap, subst, sym, ◌∙◌, Appends, Appends-nil, TakesFirst, reading, left_in, names_in, placed, running, is_skipped, after, event_line, behind, read_as}
 use Rattle.ptpm_world.specs.declared.whole_script.EventLine.{EventLine}
-use Rattle.ptpm_world.proofs.FaultLemmas.{outside}
-use Rattle.ptpm_world.proofs.Playing.{at-event, at-line, at-size, event-read, event-skip, next-is, none-is, others_played, play-guards, playing, plays-end, plays-err, plays-first, plays-kept, plays-more}
+use Rattle.ptpm_world.proofs.Playing.{at-event, at-line, at-size, event-read, event-skip, next-is, none-is, others_played, play-guards, playing, plays-cut, plays-end, plays-err, plays-first, plays-kept, plays-more}
 use Rattle.ptpm_world.proofs.script.play.Goals as goal
 
 pub loop-number-init : goal.loop-number-init
@@ -69,7 +68,7 @@ returns-in_err-read_shown-clause-played g c = λ N is.
     let now = running c.loop-number.world in
     let p = c.loop-number.number + 1 in
     let shown = g.W.Write.contents c.read_shown.new.out in
-    plays-err c.from_residual.result c.in_err-read_shown.field-0.0 _ shown c.from_residual.ensures.1 (plays-kept shown (c.loop-number.invariant.plays N is) c.read_shown.ensures.kept) (λ other. refl)
+    plays-err c.from_residual.result c.in_err-read_shown.field-0.0 _ c.from_residual.ensures.1 (plays-kept shown (c.loop-number.invariant.plays N is) c.read_shown.ensures.kept)
     (λ inside. at-size (playing N called now p) (others_played N called now p) (c.loop-number.script.count + 1) (left_in g.R.Read.remaining c.loop-number.script)
     c.in_err-read_shown.field-0.0 (play-guards N called now p) (c.in_err-read_shown.ensures.fault inside))
 
@@ -87,7 +86,7 @@ returns-in_err-line-clause-played g c = λ N is.
     let shown = g.W.Write.contents c.read_shown.new.out in
     let came = next-is n c.read_shown.new.self.count (Some e) had has _ line c.if-branch.true c.in_ok-read_shown.ensures.whole
     (c.in_ok-read_shown.ensures.count (ap Ok c.if-branch.true)) c.in_err-line.ensures.fault in
-    plays-err c.from_residual-in_err-line.result e _ shown c.from_residual-in_err-line.ensures.1 (plays-kept shown (c.loop-number.invariant.plays N is) c.read_shown.ensures.kept) (λ other. refl)
+    plays-err c.from_residual-in_err-line.result e _ c.from_residual-in_err-line.ensures.1 (plays-kept shown (c.loop-number.invariant.plays N is) c.read_shown.ensures.kept)
     (λ inside. at-line (playing N called now p) (others_played N called now p) n line had has e (play-guards N called now p) came)
 
 pub returns-in_err-event-clause-played : goal.returns-in_err-event-clause-played
@@ -101,12 +100,26 @@ returns-in_err-event-clause-played g c = λ N is.
     let take : is_skipped line ≡ false = ap is_skipped (sym c.in_ok-line.ensures.text) ∙ sym c.is_skipped.ensures ∙ c.if-is_skipped.false in
     let came = next-is n c.read_shown.new.self.count None (left_in R c.loop-number.script) (left_in R c.read_shown.new.self) _ line c.if-branch.true c.in_ok-read_shown.ensures.whole
     (c.in_ok-read_shown.ensures.count (ap Ok c.if-branch.true)) c.in_ok-line.ensures.none in
-    plays-err c.from_residual-in_err-event.result e _ shown c.from_residual-in_err-event.ensures.1 (plays-kept shown (c.loop-number.invariant.plays N is) c.read_shown.ensures.kept) (λ other. refl)
+    plays-err c.from_residual-in_err-event.result e _ c.from_residual-in_err-event.ensures.1 (plays-kept shown (c.loop-number.invariant.plays N is) c.read_shown.ensures.kept)
     (λ inside. at-event N (names_in c.args.world.now) (running c.loop-number.world) p e came (event-read p line (Err e) take (ap (λ l. read_as p (reading l)) (sym c.in_ok-line.ensures.text) ∙ c.in_err-event.ensures.fault inside)))
 
+-- while its line is
 pub returns-in_err-write_event-clause-played : goal.returns-in_err-write_event-clause-played
 returns-in_err-write_event-clause-played g c = λ N is.
+    let R = g.R.Read.remaining in
+    let line = c.read_shown.new.self.line.items in
+    let n = c.loop-number.script.count + 1 in
+    let p = c.loop-number.number + 1 in
+    let h = c.loop-number.invariant in
+    let event = c.in_ok-event.event in
     let shown = g.W.Write.contents c.read_shown.new.out in
-    plays-err c.from_residual-in_err-write_event.result c.in_err-write_event.field-0.0 _ (g.W.Write.contents c.write_event.new.out) c.from_residual-in_err-write_event.ensures.1
-    (plays-kept shown (c.loop-number.invariant.plays N is) c.read_shown.ensures.kept) c.in_err-write_event.ensures.kept
-    (λ inside. outside c.in_err-write_event.field-0.0 c.in_err-write_event.ensures.fault inside)
+    let more = g.W.Write.contents c.write_event.new.out in
+    let now = running c.loop-number.world in
+    let wrote = c.in_err-write_event.ensures.line N (h.network N is) in
+    let take : is_skipped line ≡ false = ap is_skipped (sym c.in_ok-line.ensures.text) ∙ sym c.is_skipped.ensures ∙ c.if-is_skipped.false in
+    let read = sym (ap (λ l. read_as p (reading l)) c.in_ok-line.ensures.text) ∙ c.in_ok-event.ensures.event in
+    let came = next-is n c.read_shown.new.self.count None (left_in R c.loop-number.script) (left_in R c.read_shown.new.self) _ line c.if-branch.true c.in_ok-read_shown.ensures.whole
+    (c.in_ok-read_shown.ensures.count (ap Ok c.if-branch.true)) c.in_ok-line.ensures.none in
+    plays-cut c.from_residual-in_err-write_event.result c.in_err-write_event.field-0.0 _ more event c.from_residual-in_err-write_event.ensures.1
+    (plays-kept shown (h.plays N is) c.read_shown.ensures.kept) came (event-read p line (Ok (Some event)) take read) wrote.0
+    (subst (λ m. TakesFirst (event_line N m now p event) shown more) h.names wrote.1)

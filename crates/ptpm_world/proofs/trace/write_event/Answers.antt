@@ -1,6 +1,6 @@
-use Rattle.ptpm_world.proofs.Common.{arith, refl}
-use Rattle.ptpm_world.proofs.Answering.{answered}
-use Rattle.ptpm_world.proofs.FaultLemmas.{err-on}
+use Rattle.ptpm_world.proofs.Common.{arith, ℕ, List, refl, sym, subst, ◌∙◌, TakesFirst}
+use Rattle.ptpm_world.proofs.Answering.{answered, line-said}
+use Rattle.ptpm_world.proofs.Taking.{takes-none, writes-err}
 use Rattle.ptpm_world.proofs.trace.write_event.Goals as goal
 
 pub returns-clause-line : goal.returns-clause-line
@@ -9,14 +9,17 @@ returns-clause-line g c = grind (arith, answered)
 pub returns-clause-after : goal.returns-clause-after
 returns-clause-after g c = grind (arith, answered)
 
-pub returns-in_err-write_line-clause-fault : goal.returns-in_err-write_line-clause-fault
-returns-in_err-write_line-clause-fault g c = grind (arith, err-on)
+pub returns-in_err-write_line-clause-line : goal.returns-in_err-write_line-clause-line
+returns-in_err-write_line-clause-line g c = λ N is.
+    let W = g.W.Write.contents in
+    let told = line-said N c.args.world.now c.step-took.new.self c.args.number c.args.event.now c.step-took.result c.is_late_delivery-is_late.result c.frames-before.result c.frames-after.result
+    (sym c.is_out_of_memory.ensures ∙ c.if-is_out_of_memory.false) (c.step-took.ensures.step N is) c.step-took.ensures.unchanged
+    c.is_late_delivery-is_late.ensures.late c.frames-before.ensures.count c.frames-after.ensures.count in
+    writes-err c.from_residual.result c.in_err-write_line.field-0.0 c.from_residual.ensures.1 c.in_err-write_line.ensures.0
+    (subst (λ (l : List ℕ). TakesFirst l (W c.args.out.now) (W c.write_line.new.out)) told c.in_err-write_line.ensures.1)
 
-pub returns-in_err-write_line-clause-kept : goal.returns-in_err-write_line-clause-kept
-returns-in_err-write_line-clause-kept g c = grind (arith, err-on)
-
-pub returns-then-is_out_of_memory-clause-kept : goal.returns-then-is_out_of_memory-clause-kept
-returns-then-is_out_of_memory-clause-kept g c = λ other. refl
+pub returns-then-is_out_of_memory-clause-line : goal.returns-then-is_out_of_memory-clause-line
+returns-then-is_out_of_memory-clause-line g c = λ N is. (refl, takes-none _ _)
 
 pub returns-clause-network : goal.returns-clause-network
 returns-clause-network g c = λ N is. (c.step-took.ensures.step N is).network

@@ -1,5 +1,6 @@
 use Rattle.ptpm_world.proofs.Common.{arith, flat_map, Appends-nil, take_all}
-use Rattle.ptpm_world.proofs.TraceLemmas.{written-more}
+use Rattle.ptpm_world.proofs.Taking.{writes-err}
+use Rattle.ptpm_world.proofs.TraceLemmas.{written-cut, written-more}
 use Rattle.ptpm_world.proofs.trace.write_session.Goals as goal
 
 pub loop-report-init : goal.loop-report-init
@@ -10,3 +11,8 @@ loop-report-preserved g c = grind (arith, written-more)
 
 pub returns : goal.returns
 returns g c = grind (arith, flat_map, take_all)
+
+pub returns-in_err-write_report : goal.returns-in_err-write_report
+returns-in_err-write_report g c =
+    writes-err c.from_residual.result c.in_err-write_report.field-0.0 c.from_residual.ensures.1 c.in_err-write_report.ensures.0
+    (written-cut _ _ _ _ _ c.loop-report.report-index _ c.loop-report-test.true c.report-item.is c.loop-report.invariant c.in_err-write_report.ensures.1)

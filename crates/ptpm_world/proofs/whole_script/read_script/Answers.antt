@@ -1,4 +1,4 @@
-use Rattle.ptpm_world.proofs.Common.{◌≡◌, ◌+◌, Ok, refl, ap, sym, ◌∙◌, string_bytes, network_of, network_value, left_in, whole_lines, in_network, network_text}
+use Rattle.ptpm_world.proofs.Common.{◌+◌, refl, ap, sym, ◌∙◌, string_bytes, network_of, network_value, left_in, whole_lines, in_network, network_text}
 use Rattle.ptpm_world.specs.declared.whole_script.Script.{Script}
 use Rattle.ptpm_world.proofs.FaultLemmas.{outside}
 use Rattle.ptpm_world.proofs.Playing.{some-is}
