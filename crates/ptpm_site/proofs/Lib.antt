@@ -6,7 +6,7 @@ pub mod Circles
 pub mod Clocks
 pub mod DatagramLemmas
 pub mod Dropped
-pub mod Kept
+pub mod Followed
 pub mod KeptAnswers
 pub mod KeptStatements
 pub mod Links

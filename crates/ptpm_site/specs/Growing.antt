@@ -18,13 +18,13 @@ MayStand forest rows r = StandsBelow (IsFollowedIn forest) rows r
 abbrev pub AreTrue : Forest → List Row → Type 0
 AreTrue forest rows = AreBelow (IsFollowedIn forest) rows
 
--- each that waits may stand next, at a depth from this one on, and none waits for one that is less deep
+-- each that waits may stand next, at this depth or a deeper one, and the depths do not fall
 pub record AreWaiting (forest : Forest) (rows : List Row) (from : ℕ) (waiting : List (ℕ × ℕ)) : Type 0 where
   pub stand : All (λ w. MayStand forest rows (row.Clock w.0 w.1)) waiting
   pub deep : All (λ w. from ≤ w.1) waiting
   pub ordered : IsNonDecreasingBy (λ w. w.1) waiting
 
--- more wait, which follow the clock at a place
+-- more wait, which follow the clock at a place, one below it
 pub record WaitBelow (forest : Forest) (place depth : ℕ) (old new : List (ℕ × ℕ)) : Type 0 where
   pub more : List (ℕ × ℕ)
   pub is : new ≡ old ++ more

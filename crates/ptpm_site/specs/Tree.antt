@@ -30,7 +30,7 @@ abbrev pub depth_of : Row → ℕ
 depth_of (row.Clock place depth) = depth
 depth_of (row.NotSeen domain parent) = 0
 
--- what is above a row of this depth that comes after these: the nearest of them that is less deep, and it is one less deep
+-- what is above a row of this depth that comes after these: the nearest that is less deep, and it is one less deep
 pub record IsAbove (rows : List Row) (depth : ℕ) (above : Row) : Type 0 where
   pub earlier : List Row
   pub later : List Row

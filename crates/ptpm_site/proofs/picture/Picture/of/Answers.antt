@@ -8,7 +8,7 @@ use Rattle.ptpm_site.specs.Loops.{AreLeast, AreWithin}
 use Rattle.ptpm_site.specs.Site.{site_answers}
 use Rattle.ptpm_site.specs.Tree.{IsFollowed}
 use Rattle.ptpm_site.proofs.Below.{AreBelow-weaker}
-use Rattle.ptpm_site.proofs.Kept.{IsFollowed-kept}
+use Rattle.ptpm_site.proofs.Followed.{IsFollowed-kept}
 use Rattle.ptpm_site.proofs.Links.{AreLeast-placed}
 use Rattle.ptpm_site.proofs.Placing.{AreWithin-placed}
 use Rattle.ptpm_site.proofs.picture.Picture.of.Goals as goal
