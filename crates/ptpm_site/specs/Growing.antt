@@ -18,7 +18,7 @@ MayStand forest rows r = StandsBelow (IsFollowedIn forest) rows r
 abbrev pub AreTrue : Forest → List Row → Type 0
 AreTrue forest rows = AreBelow (IsFollowedIn forest) rows
 
--- each that waits may stand next, at this depth or a deeper one, and the depths do not fall
+-- each that waits may come next, at this depth or a deeper one, and the depths do not fall
 pub record AreWaiting (forest : Forest) (rows : List Row) (from : ℕ) (waiting : List (ℕ × ℕ)) : Type 0 where
   pub stand : All (λ w. MayStand forest rows (row.Clock w.0 w.1)) waiting
   pub deep : All (λ w. from ≤ w.1) waiting

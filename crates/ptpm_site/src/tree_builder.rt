@@ -49,7 +49,7 @@ impl TreeBuilder {
         ensures below { OnOk result (AreTrue forest.now self.new.rows.items) }
         ensures above { OnOk result (StaysAbove depth self.old.rows.items self.new.rows.items) }
     {
-        // What waits stands below the rows of now, so no subtree takes over what another left.
+        // What waits belongs below the rows of this subtree, so none is taken over from another.
         self.waiting.clear();
         self.put(forest, place, depth)?;
         'grow: for _ in 0..usize::MAX {
@@ -110,7 +110,7 @@ fn wait_below(
 ) -> Result<(), AllocError>
     ensures { OnOk result (WaitBelow forest.now place depth waiting.old.items waiting.new.items) }
 {
-    // No memory holds a tree of so many rows.
+    // No memory holds a tree with such a depth.
     let deeper = depth.checked_add(1).ok_or(AllocError)?;
     let followers = forest.followers_of(place);
     for index in (0..followers.len()).rev() {
