@@ -1,15 +1,18 @@
 pub mod Agreeing
 pub mod Alike
 pub mod AnswerOrder
+pub mod Below
 pub mod Circles
 pub mod Clocks
 pub mod DatagramLemmas
 pub mod Dropped
+pub mod Followed
 pub mod KeptAnswers
 pub mod KeptStatements
 pub mod Links
 pub mod Marking
 pub mod Pairs
+pub mod Parts
 pub mod Passing
 pub mod Places
 pub mod Placing
@@ -17,6 +20,7 @@ pub mod Ports
 pub mod Reports
 pub mod Rows
 pub mod Settling
+pub mod Sorted
 pub mod Sources
 pub mod Statements
 pub mod Strays

@@ -7,7 +7,9 @@ pub mod Datagrams
 pub mod Differences
 pub mod Findings
 pub mod Following
+pub mod Forest
 pub mod Grandmasters
+pub mod Growing
 pub mod Ids
 pub mod KeptAnswers
 pub mod KeptStatements

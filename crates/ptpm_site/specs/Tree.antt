@@ -1,8 +1,11 @@
--- The rows of the tree: each clock has exactly one.
-use Rattle.std.specs.Prelude.{◌≡◌, ℕ, ◌==◌, ◌<◌, Bool, true, false, List, Option, Some, None, if◌then◌else◌, slice_index_or, count_by}
-use Rattle.std.specs.List.{filter_map}
+-- The rows of the tree: each clock has exactly one, at depth 0 or below the row of what it follows.
+use Rattle.std.specs.Prelude.{◌≡◌, ℕ, ◌+◌, ◌==◌, ◌<◌, ◌≤◌, ◌⊎◌, Bool, true, false, List, ◌∷◌, ◌++◌, length, take, Option, Some, None, if◌then◌else◌, slice_index_or, count_by}
+use Rattle.std.specs.List.{All, filter_map}
+use Rattle.ptpm_site.specs.declared.source.Source.{Source}
 use Rattle.ptpm_site.specs.declared.tree.Row.{Row}
 use Rattle.ptpm_site.specs.declared.tree.Row.TheVariants as row
+use Rattle.ptpm_site.specs.Following.{followed, parent_clock}
+use Rattle.ptpm_site.specs.SiteAnswers.{SiteAnswers}
 
 -- the clock of a row, by its place; a row that names a port has none
 abbrev pub place_of : Row → Option ℕ
@@ -20,7 +23,41 @@ rows_at p rows = count_by (λ q. q == p) (places_of rows)
 abbrev pub StandsOnce : ℕ → List Row → Type 0
 StandsOnce count rows = (p : ℕ) → p < count → rows_at p rows ≡ 1
 
--- while the tree grows, each clock that is marked has one row, and no other has any
+-- ---- below which row a clock is
+
+-- a row that names a port is a root
+abbrev pub depth_of : Row → ℕ
+depth_of (row.Clock place depth) = depth
+depth_of (row.NotSeen domain parent) = 0
+
+-- what is above a row of this depth that comes after these: the nearest that is less deep, and it is one less deep
+pub record IsAbove (rows : List Row) (depth : ℕ) (above : Row) : Type 0 where
+  pub earlier : List Row
+  pub later : List Row
+  pub split : rows ≡ earlier ++ above ∷ later
+  pub step : depth_of above + 1 ≡ depth
+  pub nearest : All (λ r. depth ≤ depth_of r) later
+
+-- a row after these is a root, or below the row of what its clock follows
+abbrev pub StandsBelow : (ℕ → Row → Type 0) → List Row → Row → Type 0
+StandsBelow follows rows (row.Clock place depth) = (depth ≡ 0) ⊎ ((above : Row) × IsAbove rows depth above × follows place above)
+StandsBelow follows rows (row.NotSeen domain parent) = Unit {0}
+
+-- each row after those before it
+abbrev pub AreBelow : (ℕ → Row → Type 0) → List Row → Type 0
+AreBelow follows rows = (k : ℕ) (d : Row) → k < length rows → StandsBelow follows (take k rows) (slice_index_or rows k d)
+
+-- a row is of what the clock at a place follows: of the clock, or of its port, if that clock is not seen
+abbrev pub IsFollowed : SiteAnswers → ℕ → Row → Type 0
+IsFollowed site place (row.Clock above depth) = (place < length site.clocks) × (above < length site.clocks)
+    × ((d : Source) → parent_clock site (slice_index_or site.clocks place d) ≡ Some (slice_index_or site.clocks above d))
+IsFollowed site place (row.NotSeen domain parent) = (place < length site.clocks)
+    × ((d : Source) → let clock = slice_index_or site.clocks place d in
+    (clock.domain ≡ domain) × (followed site clock ≡ Some parent) × (parent_clock site clock ≡ None))
+
+-- ---- while the tree grows
+
+-- each clock that is marked has one row, and no other has any
 abbrev pub IsGrown : List Bool → List Row → Type 0
 IsGrown marks rows = (p : ℕ) → rows_at p rows ≡ (if slice_index_or marks p false then 1 else 0)
 

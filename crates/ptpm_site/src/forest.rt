@@ -1,11 +1,12 @@
 //! Who follows whom, by the places of the clocks in their order.
 
-ghost use Rattle.std.specs.Prelude.{◌≡◌, ◌<◌, false, IfOk, MatchOption, length, slice_index_or};
-ghost use Rattle.std.specs.List.{list_any};
+ghost use Rattle.std.specs.Prelude.{◌≡◌, ◌<◌, false, None, IfOk, OnOk, MatchOption, length, slice_index_or};
+ghost use Rattle.std.specs.List.{All, Contains, HoldsAt, list_any};
 ghost use Rattle.std.specs.List.Sorted.{IsStrictlySortedBy};
 ghost use Rattle.std.specs.Ordering.{eq_by_cmp};
 ghost use Rattle.ptpm_site.specs.Answers.{source_cmp};
 ghost use Rattle.ptpm_site.specs.Following.{ArePlaced, IsParentPlace};
+ghost use Rattle.ptpm_site.specs.Forest.{AreByDomain, AreFollowers, IsFollower, IsLost};
 ghost use Rattle.ptpm_site.specs.Site.{site_answers};
 
 use crate::site::Site;
@@ -43,6 +44,8 @@ pub struct Forest {
     followers: Vec<Follower>,
     /// Sorted.
     lost: Vec<Lost>,
+    ghost followers_are: { AreFollowers followed.items followers.items },
+    ghost by_domain: { AreByDomain lost.items },
 }
 
 impl Forest {
@@ -50,6 +53,7 @@ impl Forest {
         ensures clocks { IfOk result (λ forest. forest.sources.items ≡ (site_answers site.now).clocks) }
         ensures ordered { IfOk result (λ forest. IsStrictlySortedBy source_cmp forest.sources.items) }
         ensures placed { IfOk result (λ forest. ArePlaced (site_answers site.now) forest.followed.items) }
+        ensures lost { IfOk result (λ forest. All (IsLost (site_answers site.now)) forest.lost.items) }
     {
         let sources = site.sources(alloc)?;
         let followed = parent_places(alloc, site, sources.as_slice())?;
@@ -58,7 +62,7 @@ impl Forest {
             lost: Vec::new(alloc),
         };
         for (place, source) in sources.as_slice().iter().enumerate() {
-            following.add(site, place, *source, next(followed.as_slice(), place))?;
+            following.add(site, followed.as_slice(), place, *source)?;
         }
         let Following {
             mut followers,
@@ -91,7 +95,9 @@ impl Forest {
     }
 
     /// The clocks that follow the clock at a place, by its port, and then by identity.
-    pub fn followers_of(&self, place: usize) -> &[Follower] {
+    pub fn followers_of(&self, place: usize) -> &[Follower]
+        ensures { All (λ f. slice_index_or self.now.followed.items f.place None ≡ Some place) result.now }
+    {
         let followers = self.followers.as_slice();
         let from = followers.partition_point(|follower| follower.above < place);
         let to = followers.partition_point(|follower| follower.above <= place);
@@ -99,7 +105,9 @@ impl Forest {
     }
 
     /// The clocks of a domain whose parent is not seen, by its port, and then by identity.
-    pub fn lost_of(&self, domain: u8) -> &[Lost] {
+    pub fn lost_of(&self, domain: u8) -> &[Lost]
+        ensures { All (λ l. (l.domain ≡ domain) × Contains self.now.lost.items l) result.now }
+    {
         let lost = self.lost.as_slice();
         let from = lost.partition_point(|lost| lost.domain < domain);
         let to = lost.partition_point(|lost| lost.domain <= domain);
@@ -115,19 +123,25 @@ struct Following {
 }
 
 impl Following {
-    /// Adds the clock at a place, if it follows another. `above` is the place of that other clock, or
+    /// Adds the clock at a place, if it follows another. `followed` has the place of that other clock, or
     /// `None` if it is not seen.
     fn add(
         &mut self,
         site: &Site,
+        followed: &[Option<usize>],
         place: usize,
         source: Source,
-        above: Option<usize>,
-    ) -> Result<(), AllocError> {
+    ) -> Result<(), AllocError>
+        requires clock { HoldsAt (λ s. s ≡ source) (site_answers site.now).clocks place }
+        requires within { place < length (site_answers site.now).clocks }
+        requires placed { ArePlaced (site_answers site.now) followed.now }
+        ensures followers { OnOk result (All (IsFollower followed.now) self.old.followers.items → All (IsFollower followed.now) self.new.followers.items) }
+        ensures lost { OnOk result (All (IsLost (site_answers site.now)) self.old.lost.items → All (IsLost (site_answers site.now)) self.new.lost.items) }
+    {
         let Some(parent) = site.followed(source) else {
             return Ok(());
         };
-        match above {
+        match next(followed, place) {
             Some(above) => self.followers.push(Follower {
                 above,
                 port: parent.port,

@@ -3,7 +3,7 @@
 ghost use Rattle.std.specs.Prelude.{◌≡◌, IfOk, length};
 ghost use Rattle.ptpm_site.specs.Findings.{findings_of, reported};
 ghost use Rattle.ptpm_site.specs.Site.{site_answers};
-ghost use Rattle.ptpm_site.specs.Tree.{StandsOnce};
+ghost use Rattle.ptpm_site.specs.Tree.{AreBelow, IsFollowed, StandsOnce};
 
 use crate::finding::Finding;
 use crate::forest::Forest;
@@ -33,7 +33,8 @@ impl<'a> Picture<'a> {
         limits: Limits,
     ) -> Result<Picture<'a>, AllocError>
         ensures clocks { IfOk result (λ picture. picture.forest.sources.items ≡ (site_answers site.now).clocks) }
-        ensures rows { IfOk result (λ picture. StandsOnce (length (site_answers site.now).clocks) picture.rows.items) }
+        ensures once { IfOk result (λ picture. StandsOnce (length (site_answers site.now).clocks) picture.rows.items) }
+        ensures below { IfOk result (λ picture. AreBelow (IsFollowed (site_answers site.now)) picture.rows.items) }
         ensures findings { IfOk result (λ picture. reported picture.findings.items ≡ findings_of (site_answers site.now) limits) }
     {
         let forest = Forest::of(alloc, site)?;

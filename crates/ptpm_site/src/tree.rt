@@ -1,6 +1,7 @@
 //! The tree of a site: each clock below the one that it follows.
 
-ghost use Rattle.std.specs.Prelude.{IfOk, vec_len};
+ghost use Rattle.std.specs.Prelude.{IfOk, OnOk, vec_len};
+ghost use Rattle.ptpm_site.specs.Growing.{AreTrue};
 ghost use Rattle.ptpm_site.specs.Tree.{StandsOnce};
 
 use crate::forest::Forest;
@@ -28,7 +29,8 @@ pub fn rows(
     forest: &Forest,
     least: &[bool],
 ) -> Result<Vec<Row>, AllocError>
-    ensures { IfOk result (λ rows. StandsOnce (vec_len forest.now.sources) rows.items) }
+    ensures once { IfOk result (λ rows. StandsOnce (vec_len forest.now.sources) rows.items) }
+    ensures below { IfOk result (λ rows. AreTrue forest.now rows.items) }
 {
     let mut builder = TreeBuilder::new(alloc);
     for domain in 0..=u8::MAX {
@@ -45,7 +47,10 @@ fn add_grandmasters(
     forest: &Forest,
     domain: u8,
     builder: &mut TreeBuilder,
-) -> Result<(), AllocError> {
+) -> Result<(), AllocError>
+    requires { AreTrue forest.now builder.old.rows.items }
+    ensures { OnOk result (AreTrue forest.now builder.new.rows.items) }
+{
     for place in forest.places_of(domain) {
         if let Some(source) = forest.sources.get(place) {
             if site.is_own_grandmaster(*source) {
@@ -57,7 +62,10 @@ fn add_grandmasters(
 }
 
 /// The clocks of a domain whose parent is not seen, below its port.
-fn add_lost(forest: &Forest, domain: u8, builder: &mut TreeBuilder) -> Result<(), AllocError> {
+fn add_lost(forest: &Forest, domain: u8, builder: &mut TreeBuilder) -> Result<(), AllocError>
+    requires { AreTrue forest.now builder.old.rows.items }
+    ensures { OnOk result (AreTrue forest.now builder.new.rows.items) }
+{
     let mut above = None;
     for lost in forest.lost_of(domain) {
         if above != Some(lost.parent) {
@@ -75,7 +83,10 @@ fn add_loops(
     domain: u8,
     least: &[bool],
     builder: &mut TreeBuilder,
-) -> Result<(), AllocError> {
+) -> Result<(), AllocError>
+    requires { AreTrue forest.now builder.old.rows.items }
+    ensures { OnOk result (AreTrue forest.now builder.new.rows.items) }
+{
     for place in forest.places_of(domain) {
         if is_marked(least, place) {
             builder.add_subtree(forest, place, 0)?;
@@ -90,7 +101,10 @@ fn add_without_parent(
     forest: &Forest,
     domain: u8,
     builder: &mut TreeBuilder,
-) -> Result<(), AllocError> {
+) -> Result<(), AllocError>
+    requires { AreTrue forest.now builder.old.rows.items }
+    ensures { OnOk result (AreTrue forest.now builder.new.rows.items) }
+{
     for place in forest.places_of(domain) {
         if let Some(source) = forest.sources.get(place) {
             if site.parent(*source).is_none() {

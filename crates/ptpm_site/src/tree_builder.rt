@@ -1,6 +1,8 @@
 //! The tree while it grows. Each clock gets its row in it once.
 
-ghost use Rattle.std.specs.Prelude.{◌≡◌, true, false, ℕ, ◌<◌, slice_index_or, slice_set, vec_len, OnOk, IfOk};
+ghost use Rattle.std.specs.Prelude.{◌≡◌, true, false, ℕ, ◌<◌, ◌≤◌, ◌++◌, ◌∷◌, [], slice_index_or, slice_set, vec_len, OnOk, IfOk};
+ghost use Rattle.std.specs.List.{All};
+ghost use Rattle.ptpm_site.specs.Growing.{AreTrue, AreWaiting, MayStand, StaysAbove, WaitBelow};
 ghost use Rattle.ptpm_site.specs.Tree.{IsGrown, StandsOnce, StaysMarked, rows_at};
 
 use crate::forest::Forest;
@@ -22,7 +24,9 @@ pub struct TreeBuilder {
 
 impl TreeBuilder {
     /// A tree without rows.
-    pub fn new(alloc: Global) -> TreeBuilder {
+    pub fn new(alloc: Global) -> TreeBuilder
+        ensures { result.rows.items ≡ [] }
+    {
         TreeBuilder {
             rows: Vec::new(alloc),
             marks: Vec::new(alloc),
@@ -38,9 +42,15 @@ impl TreeBuilder {
         place: usize,
         depth: u32,
     ) -> Result<(), AllocError>
+        requires stands { MayStand forest.now self.old.rows.items (Row.Clock place depth) }
+        requires below { AreTrue forest.now self.old.rows.items }
         ensures marked { OnOk result (slice_index_or self.new.marks.items place false ≡ true) }
         ensures stays { OnOk result (StaysMarked self.old.marks.items self.new.marks.items) }
+        ensures below { OnOk result (AreTrue forest.now self.new.rows.items) }
+        ensures above { OnOk result (StaysAbove depth self.old.rows.items self.new.rows.items) }
     {
+        // What waits belongs below the rows of this subtree, so none is taken over from another.
+        self.waiting.clear();
         self.put(forest, place, depth)?;
         'grow: for _ in 0..usize::MAX {
             let Some((below, deeper)) = self.waiting.pop() else {
@@ -54,8 +64,14 @@ impl TreeBuilder {
     /// Gives a clock its row at this depth, unless it has one. Then those that follow it are next, the first of
     /// them last.
     fn put(&mut self, forest: &Forest, place: usize, depth: u32) -> Result<(), AllocError>
+        requires stands { MayStand forest.now self.old.rows.items (Row.Clock place depth) }
+        requires below { AreTrue forest.now self.old.rows.items }
+        requires shallow { All (λ w. w.1 ≤ depth) self.old.waiting.items }
         ensures marked { OnOk result (slice_index_or self.new.marks.items place false ≡ true) }
         ensures stays { OnOk result (StaysMarked self.old.marks.items self.new.marks.items) }
+        ensures below { OnOk result (AreTrue forest.now self.new.rows.items) }
+        ensures above { OnOk result (StaysAbove depth self.old.rows.items self.new.rows.items) }
+        ensures waiting { OnOk result ((from : ℕ) → from ≤ depth → AreWaiting forest.now self.old.rows.items from self.old.waiting.items → AreWaiting forest.now self.new.rows.items from self.new.waiting.items) }
     {
         if is_marked(self.marks.as_slice(), place) {
             return Ok(());
@@ -65,13 +81,17 @@ impl TreeBuilder {
     }
 
     /// A row that names a port whose clock is not seen.
-    pub fn add_not_seen(&mut self, domain: u8, parent: PortIdentity) -> Result<(), AllocError> {
+    pub fn add_not_seen(&mut self, domain: u8, parent: PortIdentity) -> Result<(), AllocError>
+        ensures { OnOk result (self.new.rows.items ≡ self.old.rows.items ++ Row.NotSeen domain parent ∷ []) }
+    {
         add_port(&mut self.rows, domain, parent)
     }
 
     /// The rows. A clock that has none yet gets one at depth 0.
     pub fn finish(mut self, forest: &Forest) -> Result<Vec<Row>, AllocError>
-        ensures { IfOk result (λ rows. StandsOnce (vec_len forest.now.sources) rows.items) }
+        requires { AreTrue forest.now self.rows.items }
+        ensures once { IfOk result (λ rows. StandsOnce (vec_len forest.now.sources) rows.items) }
+        ensures below { IfOk result (λ rows. AreTrue forest.now rows.items) }
     {
         for place in 0..forest.sources.len() {
             self.add_subtree(forest, place, 0)?;
@@ -87,9 +107,14 @@ fn wait_below(
     forest: &Forest,
     place: usize,
     depth: u32,
-) -> Result<(), AllocError> {
-    for follower in forest.followers_of(place).iter().rev() {
-        waiting.push((follower.place, depth.saturating_add(1)))?;
+) -> Result<(), AllocError>
+    ensures { OnOk result (WaitBelow forest.now place depth waiting.old.items waiting.new.items) }
+{
+    // No memory holds a tree with such a depth.
+    let deeper = depth.checked_add(1).ok_or(AllocError)?;
+    let followers = forest.followers_of(place);
+    for index in (0..followers.len()).rev() {
+        waiting.push((followers[index].place, deeper))?;
     }
     Ok(())
 }
@@ -106,6 +131,7 @@ fn add_clock(
     ensures grown { IsGrown marks.new.items rows.new.items }
     ensures marked { OnOk result (slice_index_or marks.new.items place false ≡ true) }
     ensures stays { StaysMarked marks.old.items marks.new.items }
+    ensures row { OnOk result (rows.new.items ≡ rows.old.items ++ Row.Clock place depth ∷ []) }
 {
     cover(marks, place)?;
     rows.push(Row::Clock { place, depth })?;
@@ -123,7 +149,8 @@ fn mark(marks: &mut Vec<bool>, place: usize)
 
 /// A row that names a port.
 fn add_port(rows: &mut Vec<Row>, domain: u8, parent: PortIdentity) -> Result<(), AllocError>
-    ensures { (p : ℕ) → rows_at p rows.new.items ≡ rows_at p rows.old.items }
+    ensures same { (p : ℕ) → rows_at p rows.new.items ≡ rows_at p rows.old.items }
+    ensures row { OnOk result (rows.new.items ≡ rows.old.items ++ Row.NotSeen domain parent ∷ []) }
 {
     rows.push(Row::NotSeen { domain, parent })?;
     Ok(())

@@ -3,8 +3,12 @@ use Rattle.std.proofs.Common.{◌≡◌, length, ap, subst, sym, arith}
 use Rattle.std.specs.List.Sorted.{IsStrictlySortedBy}
 use Rattle.ptpm_site.specs.Answers.{source_cmp}
 use Rattle.ptpm_site.specs.Following.{ArePlaced}
+use Rattle.ptpm_site.specs.Growing.{IsFollowedIn}
 use Rattle.ptpm_site.specs.Loops.{AreLeast, AreWithin}
 use Rattle.ptpm_site.specs.Site.{site_answers}
+use Rattle.ptpm_site.specs.Tree.{IsFollowed}
+use Rattle.ptpm_site.proofs.Below.{AreBelow-weaker}
+use Rattle.ptpm_site.proofs.Followed.{IsFollowed-kept}
 use Rattle.ptpm_site.proofs.Links.{AreLeast-placed}
 use Rattle.ptpm_site.proofs.Placing.{AreWithin-placed}
 use Rattle.ptpm_site.proofs.picture.Picture.of.Goals as goal
@@ -22,8 +26,15 @@ findings_of-requires c =
     let ordered : IsStrictlySortedBy source_cmp t.clocks = subst (IsStrictlySortedBy source_cmp) c.in_ok-forest.ensures.clocks c.in_ok-forest.ensures.ordered in
     subst (AreLeast t) (sym c.as_slice-3.ensures.value) (AreLeast-placed t followed c.in_ok-least.least.items placed ordered c.in_ok-least.ensures)
 
-pub returns-clause-rows : goal.returns-clause-rows
-returns-clause-rows c = λ p h.
+pub returns-clause-once : goal.returns-clause-once
+returns-clause-once c = λ p h.
     let sources = c.in_ok-forest.forest.sources in
     let same : length sources.items ≡ length (site_answers c.args.site.now).clocks = ap length c.in_ok-forest.ensures.clocks in
-    c.in_ok-rows.ensures p (omega (arith, sources.ok.0, same))
+    c.in_ok-rows.ensures.once p (omega (arith, sources.ok.0, same))
+
+pub returns-clause-below : goal.returns-clause-below
+returns-clause-below c =
+    let t = site_answers c.args.site.now in
+    let forest = c.in_ok-forest.forest in
+    AreBelow-weaker (IsFollowedIn forest) (IsFollowed t) c.in_ok-rows.rows.items
+    (IsFollowed-kept t forest.followed.items forest.lost.items c.in_ok-forest.ensures.placed c.in_ok-forest.ensures.lost) c.in_ok-rows.ensures.below
