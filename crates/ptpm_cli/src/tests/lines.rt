@@ -5,7 +5,7 @@ use super::{
     PASSED_ON, REFUSAL, REPLY, REQUEST, SHOWN_REFUSAL, SHOWN_REPLY, TO_EVERY_CLOCK, UNNAMED,
     edited, ends, prints,
 };
-use std::alloc::Global;
+use std::alloc::{AllocError, Global};
 use std::io::Read;
 use std::test::Fail;
 
@@ -19,6 +19,15 @@ fn reads<R: Read + Drop>(alloc: Global, name: &str, reader: R, printed: &[u8], t
 /// Whether `answer` reads these lines and prints those.
 fn answers(alloc: Global, input: &str, output: &str) -> bool {
     reads(alloc, "answer", input.as_bytes(), output.as_bytes(), "")
+}
+
+/// One text after another.
+fn joined(alloc: Global, texts: &[&[u8]]) -> Result<Vec<u8>, AllocError> {
+    let mut all = Vec::new(alloc);
+    for text in texts {
+        all.extend_from_slice(*text)?;
+    }
+    Ok(all)
 }
 
 /// SET PRIORITY1 to 100, number 8, of the manager; and its GET, number 9.
@@ -53,9 +62,7 @@ fn one_clock_for_all_lines(rt: HostRuntime) -> Result<(), Fail> {
 fn printed_lines_are_read(rt: HostRuntime) -> Result<(), Fail> {
     let alloc = rt.alloc();
     let input = format!(in alloc; "1 {REPLY}\nnothing\n65535 {REFUSAL}\n")?;
-    let mut output = Vec::new(alloc);
-    output.extend_from_slice(SHOWN_REPLY)?;
-    output.extend_from_slice(SHOWN_REFUSAL)?;
+    let output = joined(alloc, &[SHOWN_REPLY, SHOWN_REFUSAL])?;
     assert!(rt; reads(alloc, "show", input.as_bytes(), output.as_slice(), ""));
     let input = format!(in alloc; "{TO_EVERY_CLOCK}\n1 {REQUEST}\n")?;
     let output = format!(in alloc; "2 {PASSED_ON}\n1 {REPLY}\n1 {REPLY}\n")?;
@@ -207,10 +214,8 @@ fn columns(rt: HostRuntime) -> Result<(), Fail> {
     let alloc = rt.alloc();
     let input = format!(in alloc; "7 s\t\t1 {REPLY}\n{REPLY}\n7 s\tnothing\n{REPLY}\t\n")?;
     let fault = b"ptpm: BadLine 4 TooShort\n";
-    let mut shown = Vec::new(alloc);
-    shown.extend_from_slice(b"column 7 s\ncolumn \n")?;
-    shown.extend_from_slice(SHOWN_REPLY)?;
-    shown.extend_from_slice(SHOWN_REPLY)?;
+    let first = b"column 7 s\ncolumn \n".as_slice();
+    let shown = joined(alloc, &[first, SHOWN_REPLY, SHOWN_REPLY])?;
     let words = ["ptpm", "show", "--lines", "--json"];
     let lines = input.as_bytes();
     assert!(rt; ends(alloc, &words[..3], lines, 1, shown.as_slice(), fault));
@@ -309,9 +314,7 @@ fn skipped_lines(rt: HostRuntime) -> Result<(), Fail> {
     let words = ["ptpm", "show", "--lines", "--skip"];
     let long = "0".repeat(alloc, 5_000)?;
     let input = format!(in alloc; "{REPLY}\n{ANNOUNCE}\n\nx\n{long}\nnothing\n1 {REFUSAL}\r\n00")?;
-    let mut shown = Vec::new(alloc);
-    shown.extend_from_slice(SHOWN_REPLY)?;
-    shown.extend_from_slice(SHOWN_REFUSAL)?;
+    let shown = joined(alloc, &[SHOWN_REPLY, SHOWN_REFUSAL])?;
     let lines = input.as_bytes();
     assert!(rt; ends(alloc, &words, lines, 0, shown.as_slice(), SKIPPED));
     let octets = b"00\n";
