@@ -438,7 +438,7 @@ fn make_command<'a>(alloc: Global) -> Result<Command<'a>, AllocError> {
     with_numbers(alloc, with(make, to)?)
 }
 
-/// The command, with what is asked, of which id, and with which dataField.
+/// The command, with the action, the id and the dataField of the request.
 fn with_request<'a>(alloc: Global, make: Command<'a>) -> Result<Command<'a>, AllocError> {
     let action = required_word(alloc, "ACTION", "get, set or command");
     let make = with(make, action)?;
