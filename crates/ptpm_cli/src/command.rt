@@ -74,40 +74,69 @@ fn run<R: Read, O: Write, E: Write>(
     out: &mut O,
     err: &mut E,
 ) -> Result<u8, Failure> {
-    let mut status = 0;
-    match parse(alloc, words) {
-        Ok(Task::Answer(Datagrams::One(text))) => answer(alloc, text, out)?,
-        Ok(Task::Answer(Datagrams::Lines)) => answer_lines(alloc, reader, out)?,
-        Ok(Task::Show(form, Datagrams::One(text))) => show_as(alloc, form, text, out)?,
-        Ok(Task::Show(form, Datagrams::Lines)) => show_lines_as(alloc, form, reader, out)?,
-        Ok(Task::ShowGoodLines(form)) => show_good_lines_as(alloc, form, reader, out, err)?,
-        Ok(Task::Ids) => ids(out)?,
-        Ok(Task::Make(words)) => make(alloc, &words, out)?,
-        Ok(Task::MakeWithMembers(words, members)) => {
-            make_with_members(alloc, &words, members.as_slice(), out)?;
-        }
-        Ok(Task::Run) => run_script(alloc, reader, out).map_err(Failure::Script)?,
-        Ok(Task::Schedule(chances)) => {
-            schedule(alloc, chances, reader, out, err).map_err(Failure::Script)?;
-        }
-        Ok(Task::Draw(chosen)) => draw(alloc, chosen, reader, out).map_err(Failure::Script)?,
-        Ok(Task::Site(options)) => {
-            status = report(alloc, options, reader, out)?.status();
-        }
-        Ok(Task::Check) => {
-            let findings = check_script(alloc, reader, out).map_err(Failure::Script)?;
-            if findings.first.is_some() {
-                status = 1;
-            }
-        }
-        Err(error) if error.kind() == ErrorKind::OutOfMemory => {
-            return Err(Failure::Fault(Fault::OutOfMemory));
-        }
-        Err(error) if error.use_stderr() => return Err(Failure::Refused(error)),
-        Err(help) => write!(out, "{help}").map_err(Fault::from)?,
-    }
+    let status = match parse(alloc, words) {
+        Ok(task) => carry_out(alloc, task, reader, out, err)?,
+        Err(error) => end_without_task(error, out)?,
+    };
     out.flush().map_err(Fault::from)?;
     Ok(status)
+}
+
+/// Prints the help or the version that the words ask for, or says why they were refused.
+fn end_without_task<O: Write>(error: clap::Error, out: &mut O) -> Result<u8, Failure> {
+    if error.kind() == ErrorKind::OutOfMemory {
+        return Err(Failure::Fault(Fault::OutOfMemory));
+    }
+    if error.use_stderr() {
+        return Err(Failure::Refused(error));
+    }
+    write!(out, "{error}").map_err(Fault::from)?;
+    Ok(0)
+}
+
+/// Does what a task asks for, and answers the exit status.
+fn carry_out<R: Read, O: Write, E: Write>(
+    alloc: Global,
+    task: Task<'_>,
+    reader: &mut R,
+    out: &mut O,
+    err: &mut E,
+) -> Result<u8, Failure> {
+    match task {
+        Task::Answer(Datagrams::One(text)) => done(answer(alloc, text, out)),
+        Task::Answer(Datagrams::Lines) => done(answer_lines(alloc, reader, out)),
+        Task::Show(form, Datagrams::One(text)) => done(show_as(alloc, form, text, out)),
+        Task::Show(form, Datagrams::Lines) => done(show_lines_as(alloc, form, reader, out)),
+        Task::ShowGoodLines(form) => done(show_good_lines_as(alloc, form, reader, out, err)),
+        Task::Ids => done(ids(out)),
+        Task::Make(words) => done(make(alloc, &words, out)),
+        Task::MakeWithMembers(words, members) => {
+            done(make_with_members(alloc, &words, members.as_slice(), out))
+        }
+        Task::Run => played(run_script(alloc, reader, out)),
+        Task::Schedule(chances) => played(schedule(alloc, chances, reader, out, err)),
+        Task::Draw(chosen) => played(draw(alloc, chosen, reader, out)),
+        Task::Site(options) => Ok(report(alloc, options, reader, out)?.status()),
+        Task::Check => check(alloc, reader, out),
+    }
+}
+
+/// The status of a subcommand that ended so.
+fn done(ended: Result<(), Fault>) -> Result<u8, Failure> {
+    ended?;
+    Ok(0)
+}
+
+/// The status of a subcommand that read a script and ended so.
+fn played(ended: Result<(), ScriptError>) -> Result<u8, Failure> {
+    ended.map_err(Failure::Script)?;
+    Ok(0)
+}
+
+/// Checks a script. The status is 1 if it has a fault.
+fn check<R: Read, O: Write>(alloc: Global, reader: &mut R, out: &mut O) -> Result<u8, Failure> {
+    let findings = check_script(alloc, reader, out).map_err(Failure::Script)?;
+    Ok(if findings.first.is_some() { 1 } else { 0 })
 }
 
 /// What the words ask for.
@@ -143,13 +172,23 @@ enum Datagrams<'a> {
 /// The task, or why there is none: the words were refused, or they ask for help or the version.
 fn parse<'a>(alloc: Global, words: &'a [&'a str]) -> Result<Task<'a>, clap::Error> {
     let mut ptpm = command_line(alloc)?;
-    let matches = ptpm.try_get_matches_from_mut(words)?;
-    if let Some((name, values)) = matches.subcommand() {
-        if let Some(task) = task_of(alloc, name, values)? {
-            return Ok(task);
-        }
+    match task_among(alloc, &mut ptpm, words)? {
+        Some(task) => Ok(task),
+        None => Err(ptpm.error(ErrorKind::MissingSubcommand, "a command is required")?),
     }
-    Err(ptpm.error(ErrorKind::MissingSubcommand, "a command is required")?)
+}
+
+/// The task of the words; `None` if they have no subcommand.
+fn task_among<'a>(
+    alloc: Global,
+    ptpm: &mut Command<'a>,
+    words: &'a [&'a str],
+) -> Result<Option<Task<'a>>, clap::Error> {
+    let matches = ptpm.try_get_matches_from_mut(words)?;
+    match matches.subcommand() {
+        Some((name, values)) => Ok(task_of(alloc, name, values)?),
+        None => Ok(None),
+    }
 }
 
 /// The task of a subcommand whose values were taken; `None` if it is no subcommand, or one of its values is missing.
@@ -259,180 +298,252 @@ fn site_options(values: &ArgMatches<'_>) -> Options {
 }
 
 fn command_line<'a>(alloc: Global) -> Result<Command<'a>, AllocError> {
-    let answer = Command::new(alloc, "answer").about(
+    let ptpm = program(alloc)?;
+    let ptpm = with_command(ptpm, answer_command(alloc))?;
+    let ptpm = with_command(ptpm, show_command(alloc))?;
+    let ptpm = with_command(ptpm, ids_command(alloc))?;
+    let ptpm = with_command(ptpm, make_command(alloc))?;
+    let ptpm = with_command(ptpm, run_command(alloc))?;
+    let ptpm = with_command(ptpm, check_command(alloc))?;
+    let ptpm = with_command(ptpm, schedule_command(alloc))?;
+    let ptpm = with_command(ptpm, draw_command(alloc))?;
+    with_command(ptpm, site_command(alloc))
+}
+
+/// The program, which has no subcommand yet.
+fn program<'a>(alloc: Global) -> Result<Command<'a>, AllocError> {
+    let ptpm = described(
+        alloc,
+        "ptpm",
+        "Management messages of the Precision Time Protocol",
+    );
+    Ok(
+        ptpm.bin_name("ptpm")?
+            .version(VERSION)
+            .disable_help_subcommand(true)
+            .subcommand_required(true),
+    )
+}
+
+/// A command without arguments.
+fn described<'a>(alloc: Global, name: &'a str, about: &'a str) -> Command<'a> {
+    Command::new(alloc, name).about(about)
+}
+
+/// The program, with one subcommand more. Like `with`, it promises nothing, so that whoever adds several is quick to prove.
+fn with_command<'a>(
+    ptpm: Command<'a>,
+    command: Result<Command<'a>, AllocError>,
+) -> Result<Command<'a>, AllocError> {
+    ptpm.subcommand(command?)
+}
+
+/// The command, with one argument more.
+fn with<'a>(command: Command<'a>, argument: Arg<'a>) -> Result<Command<'a>, AllocError> {
+    command.arg(argument)
+}
+
+/// The command, with one argument more that is refused beside another.
+fn with_either<'a>(
+    command: Command<'a>,
+    argument: Arg<'a>,
+    other: &'a str,
+) -> Result<Command<'a>, AllocError> {
+    with(command, argument.conflicts_with(other)?)
+}
+
+fn answer_command<'a>(alloc: Global) -> Result<Command<'a>, AllocError> {
+    let answer = described(
+        alloc,
+        "answer",
         "Prints what a fresh clock sends for a datagram at its port 1",
     );
-    let ids = Command::new(alloc, "ids").about("Prints the table of management ids");
-    let run = Command::new(alloc, "run").about(
+    with_datagrams(alloc, answer)
+}
+
+fn ids_command<'a>(alloc: Global) -> Result<Command<'a>, AllocError> {
+    Ok(described(alloc, "ids", "Prints the table of management ids"))
+}
+
+fn run_command<'a>(alloc: Global) -> Result<Command<'a>, AllocError> {
+    Ok(described(
+        alloc,
+        "run",
         "Runs a network as the script on standard input says, and prints the trace",
-    );
-    let check = Command::new(alloc, "check").about(
+    ))
+}
+
+fn check_command<'a>(alloc: Global) -> Result<Command<'a>, AllocError> {
+    Ok(described(
+        alloc,
+        "check",
         "Prints every fault of the network file or script on standard input, and runs nothing",
-    );
-    Command::new(alloc, "ptpm")
-        .bin_name("ptpm")?
-        .version(VERSION)
-        .about("Management messages of the Precision Time Protocol")
-        .disable_help_subcommand(true)
-        .subcommand_required(true)
-        .subcommand(with_datagrams(alloc, answer)?)?
-        .subcommand(show_command(alloc)?)?
-        .subcommand(ids)?
-        .subcommand(make_command(alloc)?)?
-        .subcommand(run)?
-        .subcommand(check)?
-        .subcommand(schedule_command(alloc)?)?
-        .subcommand(draw_command(alloc)?)?
-        .subcommand(site_command(alloc)?)
+    ))
 }
 
 /// The command, with a datagram or `--lines`.
 fn with_datagrams<'a>(alloc: Global, command: Command<'a>) -> Result<Command<'a>, AllocError> {
     let datagram = word(alloc, "HEX", "The datagram in hexadecimal digits");
+    let command = with(command, datagram)?;
     let lines = flag(
         alloc,
         "lines",
         "Reads a datagram from each line of standard input",
     );
+    with_either_required(alloc, with(command, lines)?)
+}
+
+/// The command, of whose arguments `HEX` and `--lines` one is required.
+fn with_either_required<'a>(
+    alloc: Global,
+    command: Command<'a>,
+) -> Result<Command<'a>, AllocError> {
     let either = ArgGroup::new(alloc, "datagrams")
         .arg("HEX")?
         .arg("lines")?
         .required(true);
-    command.arg(datagram)?.arg(lines)?.group(either)
+    command.group(either)
 }
 
 /// `show`, which takes `--skip` with `--lines` alone: without a datagram `--lines` is required.
 fn show_command<'a>(alloc: Global) -> Result<Command<'a>, AllocError> {
-    let show = Command::new(alloc, "show").about("Prints the fields of a management message");
+    let show = described(alloc, "show", "Prints the fields of a management message");
+    let show = with_datagrams(alloc, show)?;
     let members = flag(
         alloc,
         "members",
         "Prints each member of the dataField on its line, in place of the octets",
     );
+    let show = with(show, members)?;
     let json = flag(
         alloc,
         "json",
         "Prints a message as one JSON object, in a line",
-    )
-    .conflicts_with("members")?;
+    );
+    let show = with_either(show, json, "members")?;
     let skip = flag(
         alloc,
         "skip",
         "With --lines: names each line without a management message on standard error and reads on, with status 0",
-    )
-    .conflicts_with("HEX")?;
-    with_datagrams(alloc, show)?
-        .arg(members)?
-        .arg(json)?
-        .arg(skip)
+    );
+    with_either(show, skip, "HEX")
 }
 
 fn make_command<'a>(alloc: Global) -> Result<Command<'a>, AllocError> {
-    let action = word(alloc, "ACTION", "get, set or command").required(true);
-    let id = word(
+    let make = described(alloc, "make", "Prints a request in hexadecimal digits");
+    let make = with_request(alloc, make)?;
+    let from = required_option(alloc, "from", "ID/PORT", "sourcePortIdentity");
+    let make = with(make, from)?;
+    let to = required_option(alloc, "to", "ID/PORT", "targetPortIdentity");
+    with_numbers(alloc, with(make, to)?)
+}
+
+/// The command, with the action, the id and the dataField of the request.
+fn with_request<'a>(alloc: Global, make: Command<'a>) -> Result<Command<'a>, AllocError> {
+    let action = required_word(alloc, "ACTION", "get, set or command");
+    let make = with(make, action)?;
+    let id = required_word(
         alloc,
         "ID",
         "A name that `ids` prints, or four hexadecimal digits",
-    )
-    .required(true);
+    );
+    let make = with(make, id)?;
     let value = word(
         alloc,
         "VALUE",
         "The dataField in hexadecimal digits, none if absent",
     );
+    let make = with(make, value)?;
     let member = option(
         alloc,
         "member",
         "NAME=VALUE",
         "In place of VALUE: a member of the dataField, in the order of `show --members`",
-    )
-    .action(ArgAction::Append)
-    .conflicts_with("VALUE")?;
-    let from = option(alloc, "from", "ID/PORT", "sourcePortIdentity").required(true);
-    let to = option(alloc, "to", "ID/PORT", "targetPortIdentity").required(true);
-    let make = Command::new(alloc, "make")
-        .about("Prints a request in hexadecimal digits")
-        .arg(action)?
-        .arg(id)?
-        .arg(value)?
-        .arg(member)?
-        .arg(from)?
-        .arg(to)?;
-    with_numbers(alloc, make)
+    );
+    with_either(make, member.action(ArgAction::Append), "VALUE")
 }
 
 /// The command, with the options that are numbers after the others.
 fn with_numbers<'a>(alloc: Global, command: Command<'a>) -> Result<Command<'a>, AllocError> {
-    let number = option(alloc, "number", "N", "sequenceId, 0 to 65535")
-        .value_parser(value_parser!(u16))
-        .required(true);
-    let hops = option(
+    let number = required_option(alloc, "number", "N", "sequenceId, 0 to 65535").value_parser(
+        value_parser!(u16),
+    );
+    let command = with(command, number)?;
+    let hops = required_option(
         alloc,
         "hops",
         "N",
         "startingBoundaryHops and boundaryHops, 0 to 255",
     )
-    .value_parser(value_parser!(u8))
-    .required(true);
+    .value_parser(value_parser!(u8));
+    let command = with(command, hops)?;
     let domain = option(alloc, "domain", "N", "domainNumber, 0 to 255")
         .value_parser(value_parser!(u8))
         .default_value("0");
-    command.arg(number)?.arg(hops)?.arg(domain)
+    with(command, domain)
 }
 
 fn schedule_command<'a>(alloc: Global) -> Result<Command<'a>, AllocError> {
+    let schedule = described(
+        alloc,
+        "schedule",
+        "Makes the requests on standard input into a script for `run`, on a network that loses and repeats messages",
+    );
     let loss = percent(alloc, "loss", "Of a hundred frames N are lost, 0 to 100");
+    let schedule = with(schedule, loss)?;
     let repeat = percent(
         alloc,
         "repeat",
         "Of a hundred frames that arrive N arrive twice, 0 to 100",
     );
+    let schedule = with(schedule, repeat)?;
     let seed = option(alloc, "seed", "N", "The same seed draws the same")
         .value_parser(value_parser!(u64))
         .default_value("0");
-    Command::new(alloc, "schedule")
-        .about(
-            "Makes the requests on standard input into a script for `run`, on a network that loses and repeats messages",
-        )
-        .arg(loss)?
-        .arg(repeat)?
-        .arg(seed)
+    with(schedule, seed)
 }
 
 fn draw_command<'a>(alloc: Global) -> Result<Command<'a>, AllocError> {
-    let from = option(alloc, "from", "N", "The first event line that is drawn")
-        .value_parser(value_parser!(u32))
-        .default_value("1");
-    let to = option(alloc, "to", "N", "The last event line that is drawn")
-        .value_parser(value_parser!(u32))
-        .default_value("2000000");
-    Command::new(alloc, "draw")
-        .about("Draws what happens in the script on standard input, as a picture in SVG")
-        .arg(from)?
-        .arg(to)
+    let draw = described(
+        alloc,
+        "draw",
+        "Draws what happens in the script on standard input, as a picture in SVG",
+    );
+    let from = line_number(alloc, "from", "The first event line that is drawn", "1");
+    let draw = with(draw, from)?;
+    let to = line_number(alloc, "to", "The last event line that is drawn", "2000000");
+    with(draw, to)
 }
 
 fn site_command<'a>(alloc: Global) -> Result<Command<'a>, AllocError> {
+    let site = described(
+        alloc,
+        "site",
+        "Shows a site at a glance, by the answers of its clocks on standard input, a datagram a line",
+    );
     let json = flag(alloc, "json", "Prints one JSON object");
-    let draw = flag(alloc, "draw", "Draws the tree, as a picture in SVG").conflicts_with("json")?;
+    let site = with(site, json)?;
+    let draw = flag(alloc, "draw", "Draws the tree, as a picture in SVG");
+    let site = with_either(site, draw, "json")?;
     let offset = nanoseconds(
         alloc,
         "max-offset",
         "An offset from the master of more than NS nanoseconds is a finding",
     );
+    let site = with(site, offset)?;
     let delay = nanoseconds(
         alloc,
         "max-delay",
         "A mean delay of more than NS nanoseconds is a finding",
     );
-    Command::new(alloc, "site")
-        .about(
-            "Shows a site at a glance, by the answers of its clocks on standard input, a datagram a line",
-        )
-        .arg(json)?
-        .arg(draw)?
-        .arg(offset)?
-        .arg(delay)
+    with(site, delay)
+}
+
+/// An option `--NAME N` that is an event line's number.
+fn line_number<'a>(alloc: Global, name: &'a str, help: &'a str, absent: &'a str) -> Arg<'a> {
+    option(alloc, name, "N", help)
+        .value_parser(value_parser!(u32))
+        .default_value(absent)
 }
 
 /// An option `--NAME NS`, no limit if it is absent.
@@ -452,6 +563,10 @@ fn word<'a>(alloc: Global, id: &'a str, help: &'a str) -> Arg<'a> {
     Arg::new(alloc, id).help(help).action(ArgAction::Set)
 }
 
+fn required_word<'a>(alloc: Global, id: &'a str, help: &'a str) -> Arg<'a> {
+    word(alloc, id, help).required(true)
+}
+
 /// An option `--NAME` without a value.
 fn flag<'a>(alloc: Global, name: &'a str, help: &'a str) -> Arg<'a> {
     Arg::new(alloc, name)
@@ -463,4 +578,8 @@ fn flag<'a>(alloc: Global, name: &'a str, help: &'a str) -> Arg<'a> {
 /// An option `--NAME VALUE`.
 fn option<'a>(alloc: Global, name: &'a str, value: &'a str, help: &'a str) -> Arg<'a> {
     word(alloc, name, help).long(name).value_name(value)
+}
+
+fn required_option<'a>(alloc: Global, name: &'a str, value: &'a str, help: &'a str) -> Arg<'a> {
+    option(alloc, name, value, help).required(true)
 }

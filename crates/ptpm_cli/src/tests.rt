@@ -11,7 +11,7 @@ mod scheduling;
 use crate::command::command;
 use std::alloc::Global;
 use std::io;
-use std::io::Write;
+use std::io::{Read, Write};
 use std::process::Abort;
 use std::test::Fail;
 
@@ -29,22 +29,33 @@ const REPLY: &str = "0d1200380000\
     0011223344556677000100000200\
     0001000420058000";
 
-/// The program does what the words say, and prints this.
-fn prints(rt: &impl Abort, alloc: Global, words: &[&str], text: &[u8]) {
+/// Whether the program reads this, ends with this status, and writes this on its two outputs. All tests that keep both outputs
+/// call it, and it promises nothing, so that they stay quick to prove.
+fn ends<R: Read + Drop>(
+    alloc: Global,
+    words: &[&str],
+    reader: R,
+    wanted: u8,
+    printed: &[u8],
+    told: &[u8],
+) -> bool {
     let mut out = Vec::new(alloc);
     let mut err = Vec::new(alloc);
-    let status = command(alloc, words, &mut io::empty(), &mut out, &mut err);
-    assert!(rt; out.as_slice() == text, "{words:?}");
-    assert!(rt; status == 0 && err.is_empty(), "{words:?}");
+    let mut reader = reader;
+    let status = command(alloc, words, &mut reader, &mut out, &mut err);
+    status == wanted && out.as_slice() == printed && err.as_slice() == told
+}
+
+/// The program does what the words say, and prints this.
+fn prints(rt: &impl Abort, alloc: Global, words: &[&str], text: &[u8]) {
+    let is_right = ends(alloc, words, io::empty(), 0, text, b"");
+    assert!(rt; is_right, "{words:?}");
 }
 
 /// The program ends with this status, prints nothing, and has this on standard error.
 fn fails(rt: &impl Abort, alloc: Global, words: &[&str], wanted: u8, text: &[u8]) {
-    let mut out = Vec::new(alloc);
-    let mut err = Vec::new(alloc);
-    let status = command(alloc, words, &mut io::empty(), &mut out, &mut err);
-    assert!(rt; err.as_slice() == text, "{words:?}");
-    assert!(rt; status == wanted && out.is_empty(), "{words:?}");
+    let is_right = ends(alloc, words, io::empty(), wanted, b"", text);
+    assert!(rt; is_right, "{words:?}");
 }
 
 /// The request with some octets replaced, and others after it, in hexadecimal.
@@ -469,29 +480,34 @@ fn room_for(room: usize, full: Full) -> Narrow {
     }
 }
 
+/// Whether the program, with room for this many octets, ends with this status and says this. If it ends well, the room is full.
+fn ends_in_room(
+    alloc: Global,
+    words: &[&str],
+    room: usize,
+    full: Full,
+    wanted: u8,
+    told: &[u8],
+) -> bool {
+    let mut out = room_for(room, full);
+    let mut err = Vec::new(alloc);
+    let status = command(alloc, words, &mut io::empty(), &mut out, &mut err);
+    status == wanted && err.as_slice() == told && (wanted != 0 || out.room == 0)
+}
+
+fn is_write_fault(alloc: Global, words: &[&str], room: usize, full: Full) -> bool {
+    ends_in_room(alloc, words, room, full, 1, b"ptpm: WriteFault\n")
+}
+
 /// Wherever standard output fails, the program ends with WriteFault, at its flush too. Every seventeenth place is tried.
 fn meets_full_output(rt: &impl Abort, alloc: Global, words: &[&str], size: usize) {
     for place in 0..size / 17 {
         let room = place * 17;
-        is_write_fault(rt, alloc, words, room_for(room, Full::Fails));
-        is_write_fault(rt, alloc, words, room_for(room, Full::TakesNothing));
+        assert!(rt; is_write_fault(alloc, words, room, Full::Fails));
+        assert!(rt; is_write_fault(alloc, words, room, Full::TakesNothing));
     }
-    is_write_fault(rt, alloc, words, room_for(size, Full::Fails));
-    let mut out = room_for(size, Full::TakesNothing);
-    let mut err = Vec::new(alloc);
-    let status = command(alloc, words, &mut io::empty(), &mut out, &mut err);
-    assert!(rt; status == 0 && out.room == 0 && err.is_empty());
-}
-
-fn is_write_fault(rt: &impl Abort, alloc: Global, words: &[&str], out: Narrow) {
-    let mut out = out;
-    let mut err = Vec::new(alloc);
-    let status = command(alloc, words, &mut io::empty(), &mut out, &mut err);
-    assert!(rt;
-        err.as_slice() == b"ptpm: WriteFault\n".as_slice(),
-        "{words:?}"
-    );
-    assert!(rt; status == 1);
+    assert!(rt; is_write_fault(alloc, words, size, Full::Fails));
+    assert!(rt; ends_in_room(alloc, words, size, Full::TakesNothing, 0, b""));
 }
 
 #[test]
@@ -501,18 +517,19 @@ fn failing_output(rt: HostRuntime) {
     meets_full_output(&rt, rt.alloc(), &["ptpm", "ids"], IDS.len());
 }
 
-/// What standard error does changes nothing.
-fn ends_in_silence(rt: &impl Abort, alloc: Global, words: &[&str], wanted: u8) {
-    for room in 0..20 {
-        let mut out = Vec::new(alloc);
-        let mut err = room_for(room, Full::Fails);
-        let status = command(alloc, words, &mut io::empty(), &mut out, &mut err);
-        assert!(rt; status == wanted && out.is_empty(), "{words:?}");
-    }
+/// Whether the program ends with this status and prints nothing, with room for this many octets on standard error.
+fn ends_in_silence(alloc: Global, words: &[&str], room: usize, wanted: u8) -> bool {
+    let mut out = Vec::new(alloc);
+    let mut err = room_for(room, Full::Fails);
+    let status = command(alloc, words, &mut io::empty(), &mut out, &mut err);
+    status == wanted && out.is_empty()
 }
 
+/// What standard error does changes nothing.
 #[test]
 fn failing_error_output(rt: HostRuntime) {
-    ends_in_silence(&rt, rt.alloc(), &["ptpm", "answer", "0g"], 1);
-    ends_in_silence(&rt, rt.alloc(), &["ptpm"], 2);
+    for room in 0..20 {
+        assert!(rt; ends_in_silence(rt.alloc(), &["ptpm", "answer", "0g"], room, 1));
+        assert!(rt; ends_in_silence(rt.alloc(), &["ptpm"], room, 2));
+    }
 }

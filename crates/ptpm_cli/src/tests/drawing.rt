@@ -1,8 +1,7 @@
 //! `ptpm draw`: the picture of an example, as it is in the folder `examples`.
 
 use super::examples::TWO_COPIES;
-use super::fails;
-use crate::command::command;
+use super::{ends, fails};
 
 /// `two_copies.svg`.
 ///
@@ -76,13 +75,8 @@ font-family="DejaVu Sans Mono, Menlo, Consolas, monospace" font-size="13" fill="
 
 #[test]
 fn two_copies_drawn(rt: HostRuntime) {
-    let alloc = rt.alloc();
-    let mut out = Vec::new(alloc);
-    let mut err = Vec::new(alloc);
-    let mut reader = TWO_COPIES.as_bytes();
-    let status = command(alloc, &["ptpm", "draw"], &mut reader, &mut out, &mut err);
-    assert_eq!(rt; out.as_slice(), TWO_COPIES_PICTURE.as_bytes());
-    assert!(rt; status == 0 && err.is_empty());
+    let (script, picture) = (TWO_COPIES.as_bytes(), TWO_COPIES_PICTURE.as_bytes());
+    assert!(rt; ends(rt.alloc(), &["ptpm", "draw"], script, 0, picture, b""));
 }
 
 #[test]

@@ -1,5 +1,6 @@
 //! `ptpm run` over a reader or a writer that fails, at any place. What was written by then is the trace so far.
 
+use super::ends;
 use super::running::{FIRST_DID, FIRST_EVENTS, ONE_CLOCK};
 use crate::command::command;
 use std::alloc::Global;
@@ -66,23 +67,36 @@ fn line_feeds(octets: &[u8]) -> usize {
 /// The lines before the first event.
 const LINES_BEFORE: usize = 16;
 
+/// Whether this is the trace of this many of the events, each in a whole line.
+fn is_trace_of(events: usize, trace: &[u8]) -> bool {
+    FIRST_DID.as_bytes().starts_with(trace)
+        && (trace.is_empty() || trace.ends_with(b"\n"))
+        && line_feeds(trace) == events
+}
+
+/// Whether the program, if reading fails after these octets, ends with that fault, and has printed the lines of the events before.
+fn stops_after(alloc: Global, given: &[u8]) -> bool {
+    let mut out = Vec::new(alloc);
+    let mut err = Vec::new(alloc);
+    let mut reader = FailingReader {
+        octets: given,
+        left: given.len(),
+    };
+    let status = command(alloc, &["ptpm", "run"], &mut reader, &mut out, &mut err);
+    let events = line_feeds(given).saturating_sub(LINES_BEFORE);
+    status == 1
+        && err.as_slice() == b"ptpm: ReadFault\n".as_slice()
+        && is_trace_of(events, out.as_slice())
+}
+
 /// After each event's line feed its line of the trace is there, and nothing else. The reports and data sets are never printed,
 /// even if reading fails instead of coming to the end.
 #[test]
 fn failing_reader(rt: HostRuntime) -> Result<(), Fail> {
-    let alloc = rt.alloc();
-    let script = first_script(alloc)?;
-    let octets = script.as_bytes();
-    for left in 0..=octets.len() {
-        let mut out = Vec::new(alloc);
-        let mut err = Vec::new(alloc);
-        let mut reader = FailingReader { octets, left };
-        let status = command(alloc, &["ptpm", "run"], &mut reader, &mut out, &mut err);
-        assert!(rt; status == 1 && err.as_slice() == b"ptpm: ReadFault\n".as_slice());
-        assert!(rt; FIRST_DID.as_bytes().starts_with(out.as_slice()));
-        assert!(rt; out.is_empty() || out.as_slice().ends_with(b"\n"));
-        let events = line_feeds(&octets[..left]).saturating_sub(LINES_BEFORE);
-        assert_eq!(rt; line_feeds(out.as_slice()), events);
+    let script = first_script(rt.alloc())?;
+    for left in 0..=script.len() {
+        let (given, _) = script.as_bytes().split_at(left);
+        assert!(rt; stops_after(rt.alloc(), given), "{left}");
     }
     Ok(())
 }
@@ -97,20 +111,27 @@ fn whole_trace(rt: &impl Abort, alloc: Global, script: &str) -> Vec<u8> {
     out
 }
 
+/// Whether the program, if the writer takes this beginning of the trace, ends with that fault, and the writer has all of it.
+fn is_full_after(alloc: Global, script: &str, begun: &[u8]) -> bool {
+    let room = begun.len();
+    let taken = Vec::new(alloc);
+    let mut out = FailingWriter { taken, room };
+    let mut err = Vec::new(alloc);
+    let mut reader = script.as_bytes();
+    let status = command(alloc, &["ptpm", "run"], &mut reader, &mut out, &mut err);
+    status == 1
+        && err.as_slice() == b"ptpm: WriteFault\n".as_slice()
+        && out.taken.as_slice() == begun
+}
+
 /// All that the writer takes is the trace's beginning.
 #[test]
 fn failing_writer(rt: HostRuntime) -> Result<(), Fail> {
-    let alloc = rt.alloc();
-    let script = first_script(alloc)?;
-    let trace = whole_trace(&rt, alloc, script.as_str());
+    let script = first_script(rt.alloc())?;
+    let trace = whole_trace(&rt, rt.alloc(), script.as_str());
     for room in 0..trace.len() {
-        let taken = Vec::new(alloc);
-        let mut out = FailingWriter { taken, room };
-        let mut err = Vec::new(alloc);
-        let mut reader = script.as_bytes();
-        let status = command(alloc, &["ptpm", "run"], &mut reader, &mut out, &mut err);
-        assert!(rt; status == 1 && err.as_slice() == b"ptpm: WriteFault\n".as_slice());
-        assert!(rt; out.taken.as_slice() == &trace[..room]);
+        let (begun, _) = trace.as_slice().split_at(room);
+        assert!(rt; is_full_after(rt.alloc(), script.as_str(), begun), "{room}");
     }
     Ok(())
 }
@@ -146,16 +167,15 @@ fn full_output_at_a_fault(rt: HostRuntime) -> Result<(), Fail> {
 /// A reader without end is stopped.
 #[test]
 fn reader_without_end(rt: HostRuntime) {
-    let alloc = rt.alloc();
-    is_stopped(&rt, alloc, b'#', b"ptpm: LineTooLong 1\n");
-}
-
-/// A reader that gives this octet for ever is stopped, with this fault.
-fn is_stopped(rt: &impl Abort, alloc: Global, octet: u8, fault: &[u8]) {
-    let mut out = Vec::new(alloc);
-    let mut err = Vec::new(alloc);
-    let mut reader = io::repeat(octet);
-    let status = command(alloc, &["ptpm", "run"], &mut reader, &mut out, &mut err);
-    assert!(rt; status == 1 && out.is_empty());
-    assert!(rt; err.as_slice() == fault);
+    let fault = b"ptpm: LineTooLong 1\n";
+    assert!(rt;
+        ends(
+            rt.alloc(),
+            &["ptpm", "run"],
+            io::repeat(b'#'),
+            1,
+            b"",
+            fault
+        )
+    );
 }

@@ -3,50 +3,31 @@
 use super::failing::FailingReader;
 use super::{
     PASSED_ON, REFUSAL, REPLY, REQUEST, SHOWN_REFUSAL, SHOWN_REPLY, TO_EVERY_CLOCK, UNNAMED,
-    edited, prints,
+    edited, ends, prints,
 };
-use crate::command::command;
-use std::alloc::Global;
+use std::alloc::{AllocError, Global};
 use std::io::Read;
-use std::process::Abort;
 use std::test::Fail;
 
-/// The subcommand reads this, ends with status 1 if it reports a fault, and writes this on its two outputs.
-fn reads<R: Read + Drop>(
-    rt: &impl Abort,
-    alloc: Global,
-    name: &str,
-    reader: R,
-    printed: &[u8],
-    told: &str,
-) {
+/// Whether the subcommand reads this, ends with status 1 if it reports a fault, and writes this on its two outputs.
+fn reads<R: Read + Drop>(alloc: Global, name: &str, reader: R, printed: &[u8], told: &str) -> bool {
     let status = if told.is_empty() { 0 } else { 1 };
     let words = ["ptpm", name, "--lines"];
-    ends(rt, alloc, &words, reader, status, printed, told);
+    ends(alloc, &words, reader, status, printed, told.as_bytes())
 }
 
-/// The program reads this, ends with this status, and writes this on its two outputs.
-fn ends<R: Read + Drop>(
-    rt: &impl Abort,
-    alloc: Global,
-    words: &[&str],
-    reader: R,
-    wanted: u8,
-    printed: &[u8],
-    told: &str,
-) {
-    let mut out = Vec::new(alloc);
-    let mut err = Vec::new(alloc);
-    let mut reader = reader;
-    let status = command(alloc, words, &mut reader, &mut out, &mut err);
-    assert!(rt; out.as_slice() == printed, "{words:?}");
-    assert_eq!(rt; err.as_slice(), told.as_bytes());
-    assert!(rt; status == wanted);
+/// Whether `answer` reads these lines and prints those.
+fn answers(alloc: Global, input: &str, output: &str) -> bool {
+    reads(alloc, "answer", input.as_bytes(), output.as_bytes(), "")
 }
 
-/// `answer` reads these lines and prints those.
-fn answers(rt: &impl Abort, alloc: Global, input: &str, output: &str) {
-    reads(rt, alloc, "answer", input.as_bytes(), output.as_bytes(), "");
+/// One text after another.
+fn joined(alloc: Global, texts: &[&[u8]]) -> Result<Vec<u8>, AllocError> {
+    let mut all = Vec::new(alloc);
+    for text in texts {
+        all.extend_from_slice(*text)?;
+    }
+    Ok(all)
 }
 
 /// SET PRIORITY1 to 100, number 8, of the manager; and its GET, number 9.
@@ -71,8 +52,8 @@ fn one_clock_for_all_lines(rt: HostRuntime) -> Result<(), Fail> {
     let alloc = rt.alloc();
     let input = format!(in alloc; "{SET}\r\n\n3 {GET}\nnothing\n{GET}")?;
     let output = format!(in alloc; "{CHANGED}nothing\n{READ}{READ}")?;
-    answers(&rt, alloc, input.as_str(), output.as_str());
-    answers(&rt, alloc, "", "");
+    assert!(rt; answers(alloc, input.as_str(), output.as_str()));
+    assert!(rt; answers(alloc, "", ""));
     Ok(())
 }
 
@@ -81,13 +62,11 @@ fn one_clock_for_all_lines(rt: HostRuntime) -> Result<(), Fail> {
 fn printed_lines_are_read(rt: HostRuntime) -> Result<(), Fail> {
     let alloc = rt.alloc();
     let input = format!(in alloc; "1 {REPLY}\nnothing\n65535 {REFUSAL}\n")?;
-    let mut output = Vec::new(alloc);
-    output.extend_from_slice(SHOWN_REPLY)?;
-    output.extend_from_slice(SHOWN_REFUSAL)?;
-    reads(&rt, alloc, "show", input.as_bytes(), output.as_slice(), "");
+    let output = joined(alloc, &[SHOWN_REPLY, SHOWN_REFUSAL])?;
+    assert!(rt; reads(alloc, "show", input.as_bytes(), output.as_slice(), ""));
     let input = format!(in alloc; "{TO_EVERY_CLOCK}\n1 {REQUEST}\n")?;
     let output = format!(in alloc; "2 {PASSED_ON}\n1 {REPLY}\n1 {REPLY}\n")?;
-    answers(&rt, alloc, input.as_str(), output.as_str());
+    assert!(rt; answers(alloc, input.as_str(), output.as_str()));
     Ok(())
 }
 
@@ -190,8 +169,8 @@ fn members(rt: HostRuntime) -> Result<(), Fail> {
     let input = format!(in alloc; "{REQUEST}\n{REFUSAL}\n{unknown}\n{FOLLOWER}")?;
     let words = ["ptpm", "show", "--members", "--lines", "--skip"];
     let (lines, shown) = (input.as_bytes(), SHOWN_MEMBERS.as_bytes());
-    ends(&rt, alloc, &words[..4], lines, 0, shown, "");
-    ends(&rt, alloc, &words, lines, 0, shown, "");
+    assert!(rt; ends(alloc, &words[..4], lines, 0, shown, b""));
+    assert!(rt; ends(alloc, &words, lines, 0, shown, b""));
     let words = ["ptpm", "show", REPLY, "--members"];
     prints(&rt, alloc, &words, REPLY_MEMBERS.as_bytes());
     Ok(())
@@ -220,9 +199,9 @@ fn objects(rt: HostRuntime) -> Result<(), Fail> {
     let unknown = edited(alloc, &edits, &[1, 2])?;
     let input = format!(in alloc; "{REQUEST}\n{REFUSAL}\n{UNNAMED}\n{unknown}\n{FOLLOWER}00\n")?;
     let words = ["ptpm", "show", "--json", "--lines", "--skip"];
-    let (lines, fault) = (input.as_bytes(), "ptpm: BadLine 7 TooShort\n");
-    ends(&rt, alloc, &words[..4], lines, 1, OBJECTS.as_bytes(), fault);
-    ends(&rt, alloc, &words, lines, 0, OBJECTS.as_bytes(), fault);
+    let (lines, fault) = (input.as_bytes(), b"ptpm: BadLine 7 TooShort\n");
+    assert!(rt; ends(alloc, &words[..4], lines, 1, OBJECTS.as_bytes(), fault));
+    assert!(rt; ends(alloc, &words, lines, 0, OBJECTS.as_bytes(), fault));
     let words = ["ptpm", "show", "--json", REPLY];
     prints(&rt, alloc, &words, REPLY_OBJECT.as_bytes());
     Ok(())
@@ -234,17 +213,15 @@ fn objects(rt: HostRuntime) -> Result<(), Fail> {
 fn columns(rt: HostRuntime) -> Result<(), Fail> {
     let alloc = rt.alloc();
     let input = format!(in alloc; "7 s\t\t1 {REPLY}\n{REPLY}\n7 s\tnothing\n{REPLY}\t\n")?;
-    let fault = "ptpm: BadLine 4 TooShort\n";
-    let mut shown = Vec::new(alloc);
-    shown.extend_from_slice(b"column 7 s\ncolumn \n")?;
-    shown.extend_from_slice(SHOWN_REPLY)?;
-    shown.extend_from_slice(SHOWN_REPLY)?;
+    let fault = b"ptpm: BadLine 4 TooShort\n";
+    let first = b"column 7 s\ncolumn \n".as_slice();
+    let shown = joined(alloc, &[first, SHOWN_REPLY, SHOWN_REPLY])?;
     let words = ["ptpm", "show", "--lines", "--json"];
     let lines = input.as_bytes();
-    ends(&rt, alloc, &words[..3], lines, 1, shown.as_slice(), fault);
+    assert!(rt; ends(alloc, &words[..3], lines, 1, shown.as_slice(), fault));
     let object = REPLY_OBJECT.replace(alloc, "\"domain", "\"columns\":[\"7 s\",\"\"],\"domain")?;
     let objects = format!(in alloc; "{object}{REPLY_OBJECT}")?;
-    ends(&rt, alloc, &words, lines, 1, objects.as_bytes(), fault);
+    assert!(rt; ends(alloc, &words, lines, 1, objects.as_bytes(), fault));
     Ok(())
 }
 
@@ -253,11 +230,11 @@ fn columns(rt: HostRuntime) -> Result<(), Fail> {
 fn site(rt: HostRuntime) {
     let words = ["ptpm", "site", "--max-delay", "9", "--max-offset", "19"];
     let lines = FOLLOWER.as_bytes();
-    ends(&rt, rt.alloc(), &words, lines, 1, FOLLOWER_FINDINGS, "");
+    assert!(rt; ends(rt.alloc(), &words, lines, 1, FOLLOWER_FINDINGS, b""));
     let words = ["ptpm", "site", "--json"];
     let nobody = b"{\"domains\":[],\n\"findings\":[],\n\"leftOut\":{\"clocks\":0,\"ports\":0}}\n";
     let lines = b"nothing\n".as_slice();
-    ends(&rt, rt.alloc(), &words, lines, 3, nobody, "");
+    assert!(rt; ends(rt.alloc(), &words, lines, 3, nobody, b""));
 }
 
 /// A bad line ends the run with its number and what is wrong with it; what was printed before stays.
@@ -268,23 +245,17 @@ fn bad_lines(rt: HostRuntime) -> Result<(), Fail> {
     for bad in ["0g", "0d1", "1  00", "65536 00", "x 00", "nothing ", "-"] {
         let input = format!(in alloc; "{REQUEST}\n{bad}\n{REQUEST}\n")?;
         let fault = "ptpm: BadLine 2 BadHex\n";
-        reads(
-            &rt,
-            alloc,
-            "answer",
-            input.as_bytes(),
-            answered.as_bytes(),
-            fault,
-        );
+        let (lines, printed) = (input.as_bytes(), answered.as_bytes());
+        assert!(rt; reads(alloc, "answer", lines, printed, fault), "{bad}");
     }
     let bad = b"nothing\n\xff\n".as_slice();
-    reads(&rt, alloc, "show", bad, b"", "ptpm: BadLine 2 BadHex\n");
+    assert!(rt; reads(alloc, "show", bad, b"", "ptpm: BadLine 2 BadHex\n"));
     let short = format!(in alloc; "{REPLY}\n\n{REPLY}\n")?;
     let fault = "ptpm: BadLine 2 TooShort\n";
-    reads(&rt, alloc, "show", short.as_bytes(), SHOWN_REPLY, fault);
+    assert!(rt; reads(alloc, "show", short.as_bytes(), SHOWN_REPLY, fault));
     let unknown = edited(alloc, &[(46, 5)], &[])?;
     let fault = "ptpm: BadLine 1 BadAction\n";
-    reads(&rt, alloc, "show", unknown.as_bytes(), b"", fault);
+    assert!(rt; reads(alloc, "show", unknown.as_bytes(), b"", fault));
     Ok(())
 }
 
@@ -295,12 +266,12 @@ fn long_lines(rt: HostRuntime) -> Result<(), Fail> {
     let long = "0".repeat(alloc, 4094)?;
     let input = format!(in alloc; "{long}00\n{long}\r\n{long}00")?;
     let nothing = "nothing\nnothing\nnothing\n";
-    answers(&rt, alloc, input.as_str(), nothing);
+    assert!(rt; answers(alloc, input.as_str(), nothing));
     let input = format!(in alloc; "00\n{long}00\r\n")?;
     let fault = "ptpm: LineTooLong 2\n";
-    reads(&rt, alloc, "answer", input.as_bytes(), b"nothing\n", fault);
+    assert!(rt; reads(alloc, "answer", input.as_bytes(), b"nothing\n", fault));
     let endless = std::io::repeat(b'0');
-    reads(&rt, alloc, "show", endless, b"", "ptpm: LineTooLong 1\n");
+    assert!(rt; reads(alloc, "show", endless, b"", "ptpm: LineTooLong 1\n"));
     Ok(())
 }
 
@@ -318,7 +289,7 @@ fn failing_lines(rt: HostRuntime) -> Result<(), Fail> {
         } else {
             b""
         };
-        reads(&rt, alloc, "answer", reader, printed, "ptpm: ReadFault\n");
+        assert!(rt; reads(alloc, "answer", reader, printed, "ptpm: ReadFault\n"));
     }
     Ok(())
 }
@@ -329,7 +300,7 @@ const ANNOUNCE: &str = "0b02004000000000000000000000000000000000\
     00000000000000000000002500\
     80f821ffff80aabbccfffeddee01000020";
 
-const SKIPPED: &str = "ptpm: BadLine 2 NotManagement\n\
+const SKIPPED: &[u8] = b"ptpm: BadLine 2 NotManagement\n\
     ptpm: BadLine 3 TooShort\n\
     ptpm: BadLine 4 BadHex\n\
     ptpm: LineTooLong 5\n\
@@ -343,15 +314,13 @@ fn skipped_lines(rt: HostRuntime) -> Result<(), Fail> {
     let words = ["ptpm", "show", "--lines", "--skip"];
     let long = "0".repeat(alloc, 5_000)?;
     let input = format!(in alloc; "{REPLY}\n{ANNOUNCE}\n\nx\n{long}\nnothing\n1 {REFUSAL}\r\n00")?;
-    let mut shown = Vec::new(alloc);
-    shown.extend_from_slice(SHOWN_REPLY)?;
-    shown.extend_from_slice(SHOWN_REFUSAL)?;
+    let shown = joined(alloc, &[SHOWN_REPLY, SHOWN_REFUSAL])?;
     let lines = input.as_bytes();
-    ends(&rt, alloc, &words, lines, 0, shown.as_slice(), SKIPPED);
+    assert!(rt; ends(alloc, &words, lines, 0, shown.as_slice(), SKIPPED));
     let octets = b"00\n";
     let left = octets.len();
     let reader = FailingReader { octets, left };
-    let told = "ptpm: BadLine 1 TooShort\nptpm: ReadFault\n";
-    ends(&rt, alloc, &words, reader, 1, b"", told);
+    let told = b"ptpm: BadLine 1 TooShort\nptpm: ReadFault\n";
+    assert!(rt; ends(alloc, &words, reader, 1, b"", told));
     Ok(())
 }

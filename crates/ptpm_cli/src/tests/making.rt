@@ -120,22 +120,27 @@ fn faults_in_order(rt: HostRuntime) {
     }
 }
 
+/// Texts that are no identity.
+const MISSPELT: &str = "\
+-
+/1
+0011223344556677
+0011223344556677/
+0011223344556677/1/1
+0011223344556677/+1
+0011223344556677/ 1
+0011223344556677/1f
+0011223344556677/65536
+0011223344556677/00000000001
+001122334455667/1
+00112233445566770/1
+001122334455667g/1";
+
 #[test]
 fn misspelt_identities(rt: HostRuntime) {
-    let alloc = rt.alloc();
-    is_no_identity(&rt, alloc, "-");
-    is_no_identity(&rt, alloc, "/1");
-    is_no_identity(&rt, alloc, "0011223344556677");
-    is_no_identity(&rt, alloc, "0011223344556677/");
-    is_no_identity(&rt, alloc, "0011223344556677/1/1");
-    is_no_identity(&rt, alloc, "0011223344556677/+1");
-    is_no_identity(&rt, alloc, "0011223344556677/ 1");
-    is_no_identity(&rt, alloc, "0011223344556677/1f");
-    is_no_identity(&rt, alloc, "0011223344556677/65536");
-    is_no_identity(&rt, alloc, "0011223344556677/00000000001");
-    is_no_identity(&rt, alloc, "001122334455667/1");
-    is_no_identity(&rt, alloc, "00112233445566770/1");
-    is_no_identity(&rt, alloc, "001122334455667g/1");
+    for text in MISSPELT.split('\n') {
+        is_no_identity(&rt, rt.alloc(), text);
+    }
 }
 
 /// A number out of its range ends with status 2, whatever else is wrong.

@@ -1,6 +1,6 @@
 //! `ptpm run`: a script on standard input, and how it ends early.
 
-use crate::command::command;
+use super::ends;
 use std::alloc::Global;
 use std::process::Abort;
 use std::test::Fail;
@@ -34,20 +34,18 @@ data K.1 2004 aabbccfffeddee01000106000000000000000000010300010002
 data K.2 2004 aabbccfffeddee01000206000000000000000000010300010002
 ";
 
-/// The program reads this, ends with this status, and writes this on its two outputs.
+/// `run` reads this, ends with this status, and writes this on its two outputs.
 pub fn runs(rt: &impl Abort, alloc: Global, input: &str, wanted: u8, printed: &str, told: &str) {
-    ends(rt, alloc, input.as_bytes(), wanted, printed, told);
-}
-
-/// The same for octets that may be no text.
-fn ends(rt: &impl Abort, alloc: Global, input: &[u8], wanted: u8, printed: &str, told: &str) {
-    let mut out = Vec::new(alloc);
-    let mut err = Vec::new(alloc);
-    let mut reader = input;
-    let status = command(alloc, &["ptpm", "run"], &mut reader, &mut out, &mut err);
-    assert_eq!(rt; out.as_slice(), printed.as_bytes());
-    assert_eq!(rt; err.as_slice(), told.as_bytes());
-    assert!(rt; status == wanted);
+    let (printed, told) = (printed.as_bytes(), told.as_bytes());
+    let is_right = ends(
+        alloc,
+        &["ptpm", "run"],
+        input.as_bytes(),
+        wanted,
+        printed,
+        told,
+    );
+    assert!(rt; is_right, "{input}");
 }
 
 /// The program runs these events in the network, and prints what they do and then the final state.
@@ -155,24 +153,15 @@ fn scripts_that_end_early(rt: HostRuntime) {
     let script = "version = 1\r\n%%\r\n\nsend m\ndeliver 1\r";
     let fault = "ptpm: BadLine 3 BadNumber\n";
     runs(&rt, alloc, script, 1, "2 send refused NoSuchName\n", fault);
-    ends(
-        &rt,
-        alloc,
-        b"version = 1\n#\xff\n",
-        1,
-        "",
-        "ptpm: NotText 2\n",
-    );
+    let no_text = b"version = 1\n#\xff\n".as_slice();
+    let fault = b"ptpm: NotText 2\n";
+    assert!(rt; ends(alloc, &["ptpm", "run"], no_text, 1, b"", fault));
 }
 
-/// `check` ends with this status, prints this, and says nothing on standard error.
-fn checks(rt: &impl Abort, alloc: Global, input: &str, wanted: u8, printed: &str) {
-    let mut out = Vec::new(alloc);
-    let mut err = Vec::new(alloc);
-    let mut reader = input.as_bytes();
-    let status = command(alloc, &["ptpm", "check"], &mut reader, &mut out, &mut err);
-    assert_eq!(rt; out.as_slice(), printed.as_bytes());
-    assert!(rt; status == wanted && err.is_empty());
+/// Whether `check` ends with this status, prints this, and says nothing on standard error.
+fn checks(alloc: Global, input: &str, wanted: u8, printed: &str) -> bool {
+    let (input, printed) = (input.as_bytes(), printed.as_bytes());
+    ends(alloc, &["ptpm", "check"], input, wanted, printed, b"")
 }
 
 /// `check` prints each fault, and `run` names the first on its one line.
@@ -180,7 +169,7 @@ fn checks(rt: &impl Abort, alloc: Global, input: &str, wanted: u8, printed: &str
 fn checked_scripts(rt: HostRuntime) -> Result<(), Fail> {
     let alloc = rt.alloc();
     let script = format!(in alloc; "{ONE_CLOCK}%%\n{FIRST_EVENTS}")?;
-    checks(&rt, alloc, script.as_str(), 0, "");
+    assert!(rt; checks(alloc, script.as_str(), 0, ""));
     let script = script
         .as_str()
         .replace(alloc, "attempts = 2", "attempts = 300")?;
@@ -189,7 +178,7 @@ fn checked_scripts(rt: HostRuntime) -> Result<(), Fail> {
 session 1 \"m\": attempts = 300: a whole number from 0 to 255
 line 18: \"snd\": begin, send, resume, retune, deliver or stranger; the nearest is send
 ";
-    checks(&rt, alloc, script.as_str(), 1, printed);
+    assert!(rt; checks(alloc, script.as_str(), 1, printed));
     runs(
         &rt,
         alloc,

@@ -1,31 +1,27 @@
 //! `ptpm schedule`: its options, and what it prints.
 
 use super::running::ONE_CLOCK;
-use super::{fails, prints};
-use crate::command::command;
-use std::alloc::Global;
-use std::process::Abort;
+use super::{ends, fails, prints};
+use std::alloc::{AllocError, Global};
 use std::test::Fail;
 
-/// With these words the program schedules these events of one clock's manager, writes this script, and reports this.
+/// The network of one clock and its manager, with these lines after it.
+fn with_network(alloc: Global, lines: &str) -> Result<String, AllocError> {
+    format!(in alloc; "{ONE_CLOCK}%%\n{lines}")
+}
+
+/// Whether with these words the program schedules these events of one clock's manager, writes this script, and reports this.
 fn schedules(
-    rt: &impl Abort,
     alloc: Global,
     words: &[&str],
     events: &str,
     wanted: &str,
     told: &str,
-) -> Result<(), Fail> {
-    let script = format!(in alloc; "{ONE_CLOCK}%%\n{events}")?;
-    let mut out = Vec::new(alloc);
-    let mut err = Vec::new(alloc);
-    let mut reader = script.as_bytes();
-    let status = command(alloc, words, &mut reader, &mut out, &mut err);
-    let text = format!(in alloc; "{ONE_CLOCK}%%\n{wanted}")?;
-    assert_eq!(rt; out.as_slice(), text.as_bytes());
-    assert_eq!(rt; err.as_slice(), told.as_bytes());
-    assert!(rt; status == 0);
-    Ok(())
+) -> Result<bool, AllocError> {
+    let script = with_network(alloc, events)?;
+    let text = with_network(alloc, wanted)?;
+    let (input, printed) = (script.as_bytes(), text.as_bytes());
+    Ok(ends(alloc, words, input, 0, printed, told.as_bytes()))
 }
 
 /// Without options nothing is lost or repeated; with all lost, the attempts of the network file run out.
@@ -43,7 +39,7 @@ send m
 deliver 3
 deliver 4
 ";
-    schedules(&rt, alloc, &["ptpm", "schedule"], events, answered, "")?;
+    assert!(rt; schedules(alloc, &["ptpm", "schedule"], events, answered, "")?);
     let lost = "begin m set PRIORITY1 - 6400\nsend m\nsend m\n";
     let words = [
         "ptpm",
@@ -55,7 +51,8 @@ deliver 4
         "--seed",
         "18446744073709551615",
     ];
-    schedules(&rt, alloc, &words, events, lost, "ptpm: LeftOut 2 Busy\n")
+    assert!(rt; schedules(alloc, &words, events, lost, "ptpm: LeftOut 2 Busy\n")?);
+    Ok(())
 }
 
 #[test]

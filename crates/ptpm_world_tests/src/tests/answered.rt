@@ -1,7 +1,7 @@
 //! What a report is worth, and what suffices for one, by scripts.
 
+use super::long_scripts::trace_of;
 use super::networks::{ONE_CLOCK, RING};
-use ptpm_world::run_script;
 use std::alloc::Global;
 use std::process::Abort;
 use std::test::Fail;
@@ -15,8 +15,7 @@ fn begins(
     wanted: &str,
 ) -> Result<(), Fail> {
     let script = format!(in alloc; "{network}%%\n{events}")?;
-    let mut trace = Vec::new(alloc);
-    run_script(alloc, script.as_bytes(), &mut trace)?;
+    let trace = trace_of(alloc, script.as_str())?;
     let found = std::str::from_utf8(trace.as_slice())?;
     assert!(rt; found.starts_with(wanted), "{found}");
     Ok(())

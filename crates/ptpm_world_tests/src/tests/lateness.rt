@@ -2,7 +2,8 @@
 //! these.
 
 use super::networks::{
-    ONE_CLOCK, numbered_from_one, step, tell, tell_reports, tell_sets, world_of,
+    ONE_CLOCK, frame, frames, happen, is_late, numbered_from_one, sets, step, tell, tell_reports,
+    tell_sets, world_of,
 };
 use ptpm_agent::Verdict;
 use ptpm_script::{Event, Hexadecimal, read_event};
@@ -13,11 +14,6 @@ use std::io::Write;
 use std::process::Abort;
 use std::test::Fail;
 
-/// What an event does. It takes no clause along, so that the tests stay quick to prove.
-fn happen(world: &mut World, event: &Event) -> Result<Took, StepError> {
-    world.step(event)
-}
-
 /// What a frame does when it is delivered.
 fn deliver(world: &mut World, frame: u32) -> Result<Took, StepError> {
     happen(world, &Event::Deliver(frame))
@@ -27,26 +23,26 @@ fn deliver(world: &mut World, frame: u32) -> Result<Took, StepError> {
 fn exchange(world: &mut World, begin: &Event, send: &Event) -> Result<(), StepError> {
     happen(world, begin)?;
     happen(world, send)?;
-    let request = world.frames();
+    let request = frames(world);
     deliver(world, request)?;
-    let reply = world.frames();
+    let reply = frames(world);
     deliver(world, reply)?;
     Ok(())
 }
 
-/// The session asks by this line `count` times, one after another.
-fn asks(world: &mut World, alloc: Global, line: &str, count: u32) -> Result<(), Fail> {
-    let begin = read_event(alloc, line)?;
-    let send = read_event(alloc, "send m")?;
-    for _ in 0..count {
-        exchange(world, &begin, &send)?;
-    }
-    Ok(())
+/// The same by the lines of both events.
+fn asks_once(world: &mut World, alloc: Global, begin: &str, send: &str) -> Result<(), Fail> {
+    let begin = read_event(alloc, begin)?;
+    let send = read_event(alloc, send)?;
+    Ok(exchange(world, &begin, &send)?)
 }
 
-/// Whether a delivery of a frame would be late.
-fn is_late(world: &World, frame: u32) -> bool {
-    world.is_late(frame)
+/// The session asks by this line `count` times, one after another.
+fn asks(world: &mut World, alloc: Global, line: &str, count: u32) -> Result<(), Fail> {
+    for _ in 0..count {
+        asks_once(world, alloc, line, "send m")?;
+    }
+    Ok(())
 }
 
 /// Whether the clock decides this on a frame that is delivered.
@@ -89,7 +85,7 @@ const HUNDRED: &[u8] = b"data K 0002 0000\ndata K 2000 0100000264f8";
 /// Whether the lines of the clock's data sets begin so.
 fn shows(alloc: Global, world: &World, first: &[u8]) -> Result<bool, Fail> {
     let mut lines = Vec::new(alloc);
-    if let Some(sets) = world.sets("K") {
+    if let Some(sets) = sets(world, "K") {
         tell_sets(sets, &mut lines)?;
     }
     Ok(lines.starts_with(first))
@@ -117,27 +113,30 @@ fn only_what_is_answered_new_changes_a_clock(rt: HostRuntime) -> Result<(), Fail
     Ok(())
 }
 
-/// The session asks 65,600 times: to set priority1 to 100, to set it to 50, and for its value, by turns. If copies come again,
-/// that of each request does so 100 requests later, and is dropped. Writes all reports and data sets.
+/// What the session asks by turns: to set priority1 to 100, to set it to 50, and for its value.
+const ASKS: [&str; 3] = [
+    "begin m set PRIORITY1 - 6400",
+    "begin m set PRIORITY1 - 3200",
+    "begin m get PRIORITY1 - -",
+];
+
+/// Whether a copy that comes again is in time, and is dropped.
+fn is_dropped(world: &mut World, copy: u32) -> bool {
+    !is_late(world, copy) && is_decided(world, copy, Verdict::DroppedOld)
+}
+
+/// The session asks 65,600 times, by turns. If copies come again, that of each request does so 100 requests later, and is dropped.
+/// Writes all reports and data sets.
 fn past_the_wrap(rt: &impl Abort, alloc: Global, come_again: bool) -> Result<Vec<u8>, Fail> {
     let mut world = world_of(alloc, ONE_CLOCK)?;
-    let asks = [
-        read_event(alloc, "begin m set PRIORITY1 - 6400")?,
-        read_event(alloc, "begin m set PRIORITY1 - 3200")?,
-        read_event(alloc, "begin m get PRIORITY1 - -")?,
-    ];
-    let send = read_event(alloc, "send m")?;
     for later in 0..65_600_u32 {
-        exchange(&mut world, &asks[(later % 3) as usize], &send)?;
+        asks_once(&mut world, alloc, ASKS[(later % 3) as usize], "send m")?;
         if come_again && later >= 100 {
             let copy = (later - 100) * 2 + 1;
-            assert!(rt;
-                !is_late(&world, copy) && is_decided(&mut world, copy, Verdict::DroppedOld),
-                "{copy}"
-            );
+            assert!(rt; is_dropped(&mut world, copy), "{copy}");
         }
     }
-    assert!(rt; world.frames() == 131_200);
+    assert!(rt; frames(&world) == 131_200);
     let mut lines = Vec::new(alloc);
     tell(&world, &mut lines)?;
     Ok(lines)
@@ -178,17 +177,17 @@ ends = ["K.2", "n"]
 /// The copy of a manager's request comes late at the clock, which carries it out again. The manager then begins a further
 /// request, with the same sequenceId. It takes the late reply to the first one for the answer, before it has sent anything.
 fn come_late(rt: &impl Abort, world: &mut World, copy: u32, begin: &Event) {
-    assert!(rt; world.is_late(copy));
-    assert!(rt; deliver(world, copy) == Ok(Took::AtClock(Verdict::AnsweredNew)));
+    assert!(rt; is_late(world, copy));
+    assert!(rt; is_decided(world, copy, Verdict::AnsweredNew));
     assert!(rt; happen(world, begin) == Ok(Took::Fine));
     assert!(rt; deliver(world, copy.saturating_add(1)) == Ok(Took::Answered));
 }
 
 /// The last request comes again, and gets the reply that is kept for it. Writes its octets.
 fn tell_kept(rt: &impl Abort, world: &mut World, lines: &mut Vec<u8>) -> io::Result<()> {
-    let last = world.frames().saturating_sub(1);
-    assert!(rt; deliver(world, last) == Ok(Took::AtClock(Verdict::AnsweredRepeat)));
-    let Some(reply) = world.frame(world.frames()) else {
+    let last = frames(world).saturating_sub(1);
+    assert!(rt; is_decided(world, last, Verdict::AnsweredRepeat));
+    let Some(reply) = frame(world, frames(world)) else {
         return Err(io::Error::from(io::ErrorKind::NotFound));
     };
     tell_octets(reply.octets(), lines)
@@ -198,36 +197,38 @@ fn tell_octets(octets: &[u8], lines: &mut Vec<u8>) -> io::Result<()> {
     writeln!(lines, "kept {}", Hexadecimal(octets))
 }
 
-/// The session m asks as above, with copies, and n beside it: to set priority2 to 100, and from its 32,769th request on to 50.
-/// If n is late, its last 64 requests all come late. Writes the reports of m and the reply that is kept for it.
+/// What n asks for its request of this number, counted from 0: to set priority2 to 100, and from its 32,769th request on to 50.
+fn asked_by_n(later: u32) -> &'static str {
+    if later < 32_768 {
+        "begin n set PRIORITY2 - 6400"
+    } else {
+        "begin n set PRIORITY2 - 3200"
+    }
+}
+
+/// The session m asks as above, with copies, and n beside it. If n is late, its last 64 requests all come late.
+fn ask_by_turns(rt: &impl Abort, alloc: Global, world: &mut World, late: bool) -> Result<(), Fail> {
+    for later in 0..65_600_u32 {
+        if late && later >= 65_536 {
+            let begin = read_event(alloc, asked_by_n(later))?;
+            come_late(rt, world, (later - 65_536) * 4 + 1, &begin);
+        } else {
+            asks_once(world, alloc, asked_by_n(later), "send n")?;
+        }
+        asks_once(world, alloc, ASKS[(later % 3) as usize], "send m")?;
+        if later >= 100 {
+            let copy = (later - 100) * 4 + 3;
+            assert!(rt; is_decided(world, copy, Verdict::DroppedOld), "{later}");
+        }
+    }
+    Ok(())
+}
+
+/// Writes the reports of m and the reply that is kept for it, after both have asked.
 fn beside_another(rt: &impl Abort, alloc: Global, late: bool) -> Result<Vec<u8>, Fail> {
     let network = format!(in alloc; "{ONE_CLOCK}{ANOTHER}")?;
     let mut world = world_of(alloc, network.as_str())?;
-    let asks = [
-        read_event(alloc, "begin m set PRIORITY1 - 6400")?,
-        read_event(alloc, "begin m set PRIORITY1 - 3200")?,
-        read_event(alloc, "begin m get PRIORITY1 - -")?,
-    ];
-    let send = read_event(alloc, "send m")?;
-    let hundred = read_event(alloc, "begin n set PRIORITY2 - 6400")?;
-    let fifty = read_event(alloc, "begin n set PRIORITY2 - 3200")?;
-    let send_other = read_event(alloc, "send n")?;
-    for later in 0..65_600_u32 {
-        let other = if later < 32_768 { &hundred } else { &fifty };
-        if late && later >= 65_536 {
-            come_late(rt, &mut world, (later - 65_536) * 4 + 1, other);
-        } else {
-            exchange(&mut world, other, &send_other)?;
-        }
-        exchange(&mut world, &asks[(later % 3) as usize], &send)?;
-        if later >= 100 {
-            let dropped = deliver(&mut world, (later - 100) * 4 + 3);
-            assert!(rt;
-                dropped == Ok(Took::AtClock(Verdict::DroppedOld)),
-                "{later}"
-            );
-        }
-    }
+    ask_by_turns(rt, alloc, &mut world, late)?;
     assert!(rt; shows(alloc, &world, if late { SET_AGAIN } else { AS_SET_LAST })?);
     let mut lines = Vec::new(alloc);
     tell_reports(&world, &mut lines)?;

@@ -227,7 +227,7 @@ fn run_empty_lines(alloc: Global, lines: u64) -> Result<(), ScriptError> {
 /// A script has 2,000,000 lines at most.
 #[test]
 fn lines_at_maximum(rt: HostRuntime) {
-    assert!(rt; run_empty_lines(rt.alloc(), 1_999_998) == Ok(()));
+    assert!(rt; run_empty_lines(rt.alloc(), 1_999_998).is_ok());
     let one_more = run_empty_lines(rt.alloc(), 1_999_999);
     assert!(rt; one_more == Err(ScriptError::TooManyLines));
 }

@@ -2,7 +2,8 @@
 //! `tools/refuse_memory` runs these tests with each request refused in turn. Whatever else they need is asked for again.
 
 use super::networks::{
-    FIRST_EVENTS, ONE_CLOCK, RING, fresh_world, is_trace_so_far, network_of, tell,
+    FIRST_EVENTS, ONE_CLOCK, RING, frames, fresh_world, happen, is_trace_so_far, network_of,
+    reports, run, runs, tell,
 };
 use super::steps::is_only_report;
 use super::worlds::is_fresh_ring;
@@ -50,34 +51,49 @@ fn told(alloc: Global, world: &World) -> Result<Vec<u8>, Fail> {
     Ok(lines)
 }
 
-/// What a step answers. If memory is refused once, nothing may have changed, and the step is asked for again.
+/// Whether a network has this many frames, and shows this.
+fn is_as_before(alloc: Global, world: &World, count: u32, before: &[u8]) -> Result<bool, Fail> {
+    Ok(frames(world) == count && told(alloc, world)?.as_slice() == before)
+}
+
+/// What an event does. If memory is refused once, nothing may have changed, and the event happens again.
 fn step(
     rt: &impl Abort,
     alloc: Global,
     world: &mut World,
-    line: &str,
+    event: &Event,
 ) -> Result<Result<Took, StepError>, Fail> {
-    let event = event_of(alloc, line)?;
-    let frames = world.frames();
+    let count = frames(world);
     let before = told(alloc, world)?;
-    let took = world.step(&event);
+    let took = happen(world, event);
     if took != Err(StepError::OutOfMemory) {
         return Ok(took);
     }
-    assert!(rt; world.frames() == frames, "{line}");
-    assert!(rt; told(alloc, world)? == before, "{line}");
-    Ok(world.step(&event))
+    assert!(rt; is_as_before(alloc, world, count, before.as_slice())?);
+    Ok(happen(world, event))
+}
+
+/// Whether the event of a line, in its turn, does this.
+fn does(
+    rt: &impl Abort,
+    alloc: Global,
+    world: &mut World,
+    line: &str,
+    wanted: Took,
+) -> Result<bool, Fail> {
+    let event = event_of(alloc, line)?;
+    Ok(step(rt, alloc, world, &event)? == Ok(wanted))
 }
 
 /// Each of these lines, in its turn, does this.
-fn happen(
+fn play(
     rt: &impl Abort,
     alloc: Global,
     world: &mut World,
     rows: &[(&str, Took)],
 ) -> Result<(), Fail> {
-    for row in rows {
-        assert!(rt; step(rt, alloc, world, row.0)? == Ok(row.1), "{}", row.0);
+    for (line, wanted) in rows {
+        assert!(rt; does(rt, alloc, world, *line, *wanted)?, "{line}");
     }
     Ok(())
 }
@@ -92,16 +108,21 @@ fn step_after_refused_memory(rt: HostRuntime) -> Result<(), Fail> {
         ("send m", Took::Fine),
         ("deliver 1", Took::AtClock(Verdict::AnsweredNew)),
     ];
-    happen(&rt, alloc, &mut world, &request)?;
-    assert!(rt; world.frames() == 2);
-    happen(&rt, alloc, &mut world, &[("deliver 2", Took::Answered)])?;
+    play(&rt, alloc, &mut world, &request)?;
+    assert!(rt; frames(&world) == 2);
+    play(&rt, alloc, &mut world, &[("deliver 2", Took::Answered)])?;
     assert!(rt; is_only_report(&world, &[0x64, 0]));
     let repeat = [("deliver 1", Took::AtClock(Verdict::AnsweredRepeat))];
-    happen(&rt, alloc, &mut world, &repeat)
+    play(&rt, alloc, &mut world, &repeat)
 }
 
 /// The frames before each of four events.
 const FRAMES: [u32; 4] = [0, 0, 1, 2];
+
+/// Whether a network is as it is before the event at this place: with no report, since the last event alone brings one.
+fn is_begun(world: &World, place: usize) -> bool {
+    FRAMES.get(place) == Some(&frames(world)) && matches!(reports(world, "m"), Some([]))
+}
 
 /// The events before the one that is refused stay done, and the others can follow.
 #[test]
@@ -114,14 +135,12 @@ fn run_after_refused_memory(rt: HostRuntime) -> Result<(), Fail> {
         event_of(alloc, "deliver 1")?,
         event_of(alloc, "deliver 2")?,
     ];
-    if let Err((place, refused)) = world.run(&schedule) {
-        assert!(rt; refused == StepError::OutOfMemory);
-        assert!(rt; FRAMES.get(place) == Some(&world.frames()));
-        assert!(rt; matches!(world.reports("m"), Some([])));
+    if let Err((place, refused)) = run(&mut world, &schedule) {
+        assert!(rt; refused == StepError::OutOfMemory && is_begun(&world, place));
         let rest = schedule.get(place..).unwrap_or(&[]);
-        assert!(rt; world.run(rest) == Ok(()));
+        assert!(rt; runs(&mut world, rest));
     }
-    assert!(rt; world.frames() == 2);
+    assert!(rt; frames(&world) == 2);
     assert!(rt; is_only_report(&world, &[0x64, 0]));
     Ok(())
 }

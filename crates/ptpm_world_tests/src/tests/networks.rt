@@ -3,8 +3,8 @@
 use ptpm_codec::OutOfMemory;
 use ptpm_data::{DataSets, Value};
 use ptpm_manager::{Outcome, Report};
-use ptpm_script::{Hexadecimal, NetError, Network, read_event};
-use ptpm_world::{StepError, Took, World};
+use ptpm_script::{Event, Hexadecimal, NetError, Network, read_event};
+use ptpm_world::{Frame, StepError, Took, World};
 use std::alloc::Global;
 use std::io;
 use std::io::Write;
@@ -77,14 +77,56 @@ ends = ["A.3", "C.1"]
 ends = ["B.2", "C.2"]
 "#;
 
-/// The network of a text, and one before anything has happened. These promise nothing, so that a test that calls them takes no
-/// clause along and stays quick to prove.
+/// The network of a text, and one before anything has happened. These and the next promise nothing, so that a test that calls
+/// them takes no clause along and stays quick to prove.
 pub fn network_of(alloc: Global, text: &str) -> Result<Network, NetError> {
     Network::from_toml(alloc, text)
 }
 
 pub fn fresh_world(alloc: Global, network: &Network) -> Result<World, OutOfMemory> {
     World::new(alloc, network)
+}
+
+/// What the methods of a world answer.
+pub fn happen(world: &mut World, event: &Event) -> Result<Took, StepError> {
+    world.step(event)
+}
+
+pub fn run(world: &mut World, events: &[Event]) -> Result<(), (usize, StepError)> {
+    world.run(events)
+}
+
+pub fn frames(world: &World) -> u32 {
+    world.frames()
+}
+
+pub fn is_late(world: &World, frame: u32) -> bool {
+    world.is_late(frame)
+}
+
+pub fn frame(world: &World, number: u32) -> Option<Frame<'_>> {
+    world.frame(number)
+}
+
+pub fn reports<'a>(world: &'a World, session: &str) -> Option<&'a [Report]> {
+    world.reports(session)
+}
+
+pub fn sets<'a>(world: &'a World, clock: &str) -> Option<&'a DataSets> {
+    world.sets(clock)
+}
+
+/// Whether all events of a list happen.
+pub fn runs(world: &mut World, events: &[Event]) -> bool {
+    run(world, events).is_ok()
+}
+
+/// Whether a list of events stops at this place for this reason.
+pub fn stops(world: &mut World, events: &[Event], place: usize, reason: StepError) -> bool {
+    match run(world, events) {
+        Err((stopped, refused)) => stopped == place && refused == reason,
+        Ok(()) => false,
+    }
 }
 
 /// The network of a text before anything has happened.
@@ -96,7 +138,7 @@ pub fn world_of(alloc: Global, text: &str) -> Result<World, Fail> {
 /// Lets the event of a line happen.
 pub fn step(alloc: Global, world: &mut World, line: &str) -> Result<Result<Took, StepError>, Fail> {
     let event = read_event(alloc, line)?;
-    Ok(world.step(&event))
+    Ok(happen(world, &event))
 }
 
 /// What a step answers, as a trace has it.
@@ -120,7 +162,7 @@ pub fn plays(rt: &impl Abort, alloc: Global, world: &mut World, rows: &str) -> R
 /// Writes what a network shows: the reports of the session m, and the data sets of the clock K, which have to be there.
 pub fn tell(world: &World, lines: &mut Vec<u8>) -> io::Result<()> {
     tell_reports(world, lines)?;
-    let Some(sets) = world.sets("K") else {
+    let Some(sets) = sets(world, "K") else {
         return Err(io::Error::from(io::ErrorKind::NotFound));
     };
     tell_sets(sets, lines)
@@ -128,7 +170,7 @@ pub fn tell(world: &World, lines: &mut Vec<u8>) -> io::Result<()> {
 
 /// Its reports alone.
 pub fn tell_reports(world: &World, lines: &mut Vec<u8>) -> io::Result<()> {
-    let Some(reports) = world.reports("m") else {
+    let Some(reports) = reports(world, "m") else {
         return Err(io::Error::from(io::ErrorKind::NotFound));
     };
     for report in reports {

@@ -1,6 +1,6 @@
 //! Why a step is refused.
 
-use super::networks::{ONE_CLOCK, plays, world_of};
+use super::networks::{ONE_CLOCK, frames, happen, plays, world_of};
 use ptpm_codec::{Action, Octets};
 use ptpm_manager::{Ask, BeginError};
 use ptpm_script::{Event, read_event};
@@ -55,7 +55,7 @@ send m => ok";
 fn refused_by_the_session(rt: HostRuntime) -> Result<(), Fail> {
     let mut world = world_of(rt.alloc(), ONE_CLOCK)?;
     plays(&rt, rt.alloc(), &mut world, BY_THE_SESSION)?;
-    assert!(rt; world.frames() == 3);
+    assert!(rt; frames(&world) == 3);
     Ok(())
 }
 
@@ -73,7 +73,7 @@ fn reply_is_not_permitted(rt: HostRuntime) -> Result<(), Fail> {
     let reason = StepError::Begin(BeginError::NotPermitted);
     match read_event(alloc, "send m")? {
         Event::Send(name) => {
-            assert!(rt; world.step(&Event::Begin(name, ask)) == Err(reason));
+            assert!(rt; happen(&mut world, &Event::Begin(name, ask)) == Err(reason));
         }
         _ => assert!(rt; false, "send is read as send"),
     }

@@ -1,6 +1,6 @@
 //! Events on a world, one after another, and what each of them does.
 
-use super::networks::{ONE_CLOCK, plays, world_of};
+use super::networks::{ONE_CLOCK, frames, plays, reports, runs, sets, stops, world_of};
 use ptpm_manager::{Outcome, Report, SendError};
 use ptpm_script::{Event, read_event};
 use ptpm_world::{StepError, World};
@@ -42,9 +42,9 @@ fn refused_events(rt: HostRuntime) -> Result<(), Fail> {
     let mut world = world_of(alloc, ONE_CLOCK)?;
     let all = schedule(alloc, REFUSED_EVENTS)?;
     let idle = StepError::Send(SendError::Idle);
-    assert!(rt; world.run(all.as_slice()) == Err((0, idle)));
+    assert!(rt; stops(&mut world, all.as_slice(), 0, idle));
     plays(&rt, alloc, &mut world, REFUSED_EVENTS)?;
-    assert!(rt; world.frames() == 0);
+    assert!(rt; frames(&world) == 0);
     Ok(())
 }
 
@@ -65,13 +65,17 @@ deliver 6 => AnsweredNew
 deliver 2 => Ignored OtherDomain
 deliver 7 => Answered";
 
-/// Whether both requests were answered, and the clock is in the domain that the first set.
+/// Whether both requests were answered, by seven frames, and the clock is in the domain that the first set.
 fn is_moved(world: &World) -> bool {
-    let reported = match world.reports("m") {
+    let reported = match reports(world, "m") {
         Some([first, second]) => has_value(first, 1, &[5, 0]) && has_value(second, 2, &[0x80, 0]),
         _ => false,
     };
-    reported && matches!(world.sets("K"), Some(sets) if sets.domain() == 5)
+    reported && frames(world) == 7 && is_in_domain(world, 5)
+}
+
+fn is_in_domain(world: &World, domain: u8) -> bool {
+    matches!(sets(world, "K"), Some(sets) if sets.domain() == domain)
 }
 
 /// The same by single steps, and as one list.
@@ -80,11 +84,11 @@ fn retune(rt: HostRuntime) -> Result<(), Fail> {
     let alloc = rt.alloc();
     let mut stepped = world_of(alloc, ONE_CLOCK)?;
     plays(&rt, alloc, &mut stepped, RETUNE)?;
-    assert!(rt; is_moved(&stepped) && stepped.frames() == 7);
+    assert!(rt; is_moved(&stepped));
     let mut run = world_of(alloc, ONE_CLOCK)?;
     let all = schedule(alloc, RETUNE)?;
-    assert!(rt; run.run(all.as_slice()) == Ok(()));
-    assert!(rt; is_moved(&run) && run.frames() == 7);
+    assert!(rt; runs(&mut run, all.as_slice()));
+    assert!(rt; is_moved(&run));
     Ok(())
 }
 
@@ -93,6 +97,17 @@ begin m set PRIORITY1 - 6400 => ok
 send m => ok
 deliver 1 => AnsweredNew
 deliver 2 => Answered";
+
+/// Whether the session has one report: its request was refused for this reason.
+fn is_refused(world: &World, reason: u16) -> bool {
+    match reports(world, "m") {
+        Some([report]) => match &report.outcome {
+            Outcome::Refused(number) => *number == reason,
+            _ => false,
+        },
+        _ => false,
+    }
+}
 
 /// A session with the right to change ports alone is answered NOT_SUPPORTED.
 #[test]
@@ -103,10 +118,7 @@ fn version_two_network(rt: HostRuntime) -> Result<(), Fail> {
     let text = text.as_str().replace(alloc, "version = 1", "version = 2")?;
     let mut world = world_of(alloc, text.as_str())?;
     plays(&rt, alloc, &mut world, SET_PRIORITY1)?;
-    match world.reports("m") {
-        Some([report]) => assert!(rt; matches!(report.outcome, Outcome::Refused(6))),
-        _ => assert!(rt; false, "one report"),
-    }
+    assert!(rt; is_refused(&world, 6));
     Ok(())
 }
 
@@ -119,8 +131,9 @@ stranger K 1 - => refused NoSuchName";
 fn empty_network(rt: HostRuntime) -> Result<(), Fail> {
     let alloc = rt.alloc();
     let mut world = world_of(alloc, "version = 2")?;
-    assert!(rt; world.run(&[]) == Ok(()));
+    assert!(rt; runs(&mut world, &[]));
     plays(&rt, alloc, &mut world, NOBODY_THERE)?;
-    assert!(rt; world.sets("K").is_none() && world.reports("m").is_none());
+    assert!(rt; sets(&world, "K").is_none());
+    assert!(rt; reports(&world, "m").is_none());
     Ok(())
 }

@@ -11,28 +11,35 @@ use std::test::Fail;
 /// An empty network.
 const HEAD: &[u8] = b"version = 1\n%%\n";
 
-/// How a script ends.
-fn end_of(alloc: Global, script: &[u8]) -> Result<(), ScriptError> {
-    run_script(alloc, script, &mut io::sink())
+/// Whether a script ends early for this reason. It promises nothing, so that the tests stay quick to prove.
+pub fn ends_by<R: Read + Drop>(alloc: Global, script: R, reason: ScriptError) -> bool {
+    run_script(alloc, script, &mut io::sink()) == Err(reason)
 }
 
 /// Lines are counted from the first that is read, and those of events from the divider on. All lines before the
 /// divider are read before the network is judged.
 #[test]
 fn first_fault_and_its_line(rt: HostRuntime) {
-    let alloc = rt.alloc();
-    let not_text = Err(ScriptError::NotText(2));
-    assert!(rt; end_of(alloc, b"version\n#\xff\n%%\n") == not_text);
-    let not_toml = Err(ScriptError::BadNetwork(NetError::NotToml));
-    assert!(rt; end_of(alloc, b"version\n%%\n#\xff") == not_toml);
-    let bad_shape = Err(ScriptError::BadNetwork(NetError::BadShape));
-    assert!(rt; end_of(alloc, b"%%\n") == bad_shape);
-    let not_text = Err(ScriptError::NotText(4));
-    assert!(rt; end_of(alloc, b"version = 1\n%%\n\n#\xff\nsend\n") == not_text);
-    let bad_line = Err(ScriptError::BadLine(2, EventError::WordCount));
-    assert!(rt; end_of(alloc, b"version = 1\n%%\n\nsend\n#\xff\n") == bad_line);
-    let divider = Err(ScriptError::BadLine(1, EventError::UnknownWord));
-    assert!(rt; end_of(alloc, b"version = 1\n%%\n%%\n") == divider);
+    let cases: [(&[u8], ScriptError); 6] = [
+        (b"version\n#\xff\n%%\n", ScriptError::NotText(2)),
+        (
+            b"version\n%%\n#\xff",
+            ScriptError::BadNetwork(NetError::NotToml),
+        ),
+        (b"%%\n", ScriptError::BadNetwork(NetError::BadShape)),
+        (b"version = 1\n%%\n\n#\xff\nsend\n", ScriptError::NotText(4)),
+        (
+            b"version = 1\n%%\n\nsend\n#\xff\n",
+            ScriptError::BadLine(2, EventError::WordCount),
+        ),
+        (
+            b"version = 1\n%%\n%%\n",
+            ScriptError::BadLine(1, EventError::UnknownWord),
+        ),
+    ];
+    for (script, reason) in cases {
+        assert!(rt; ends_by(rt.alloc(), script, reason), "{reason}");
+    }
 }
 
 /// An empty network, and a comment of this many octets with this end.
@@ -41,16 +48,25 @@ fn run_comment(alloc: Global, octets: u64, end: &[u8]) -> Result<(), ScriptError
     run_script(alloc, HEAD.chain(comment), &mut io::sink())
 }
 
+/// Whether it runs to its end.
+fn is_run(alloc: Global, octets: u64, end: &[u8]) -> bool {
+    run_comment(alloc, octets, end).is_ok()
+}
+
+/// Whether its line is too long.
+fn is_too_long(alloc: Global, octets: u64, end: &[u8]) -> bool {
+    run_comment(alloc, octets, end) == Err(ScriptError::LineTooLong(3))
+}
+
 /// A line has 4,096 octets at most, a carriage return among them.
 #[test]
 fn line_at_maximum(rt: HostRuntime) {
     let alloc = rt.alloc();
-    let too_long = Err(ScriptError::LineTooLong(3));
-    assert!(rt; run_comment(alloc, 4_096, b"") == Ok(()));
-    assert!(rt; run_comment(alloc, 4_096, b"\n") == Ok(()));
-    assert!(rt; run_comment(alloc, 4_095, b"\r\n") == Ok(()));
-    assert!(rt; run_comment(alloc, 4_096, b"\r\n") == too_long);
-    assert!(rt; run_comment(alloc, 4_097, b"") == too_long);
+    assert!(rt; is_run(alloc, 4_096, b""));
+    assert!(rt; is_run(alloc, 4_096, b"\n"));
+    assert!(rt; is_run(alloc, 4_095, b"\r\n"));
+    assert!(rt; is_too_long(alloc, 4_096, b"\r\n"));
+    assert!(rt; is_too_long(alloc, 4_097, b""));
 }
 
 /// Is interrupted, and would go on if it were asked again.
@@ -67,8 +83,7 @@ impl Read for InterruptedReader {
 #[test]
 fn interrupted_read(rt: HostRuntime) {
     let reader = HEAD.chain(InterruptedReader);
-    let end = run_script(rt.alloc(), reader, &mut io::sink());
-    assert!(rt; end == Err(ScriptError::ReadFault));
+    assert!(rt; ends_by(rt.alloc(), reader, ScriptError::ReadFault));
 }
 
 /// Is interrupted before each write, and takes one octet of it.
@@ -162,6 +177,5 @@ impl Read for EndlessReader {
 fn events_without_end(rt: HostRuntime) {
     let line = b"send m".as_slice();
     let events = EndlessReader { line, place: 0 };
-    let end = run_script(rt.alloc(), HEAD.chain(events), &mut io::sink());
-    assert!(rt; end == Err(ScriptError::TooManyLines));
+    assert!(rt; ends_by(rt.alloc(), HEAD.chain(events), ScriptError::TooManyLines));
 }

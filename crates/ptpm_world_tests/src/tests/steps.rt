@@ -1,6 +1,6 @@
 //! One event after another.
 
-use super::networks::{ONE_CLOCK, plays, world_of};
+use super::networks::{ONE_CLOCK, frames, plays, reports, runs, stops, world_of};
 use ptpm_manager::Outcome;
 use ptpm_script::{Event, read_event};
 use ptpm_world::{StepError, World};
@@ -33,7 +33,7 @@ fn step_succeeds_with_ample_memory(rt: HostRuntime) -> Result<(), Fail> {
 
 /// Whether the session has one report: the first request was answered by this dataField.
 pub fn is_only_report(world: &World, value: &[u8]) -> bool {
-    match world.reports("m") {
+    match reports(world, "m") {
         Some([report]) => match &report.outcome {
             Outcome::Value(octets) => report.index == 1 && octets.as_slice() == value,
             _ => false,
@@ -62,11 +62,11 @@ fn run_succeeds_with_ample_memory(rt: HostRuntime) -> Result<(), Fail> {
         "deliver 2",
     ];
     let schedule = events(alloc, &lines)?;
-    assert!(rt; world.run(schedule.as_slice()) == Ok(()));
-    assert!(rt; world.frames() == 2);
+    assert!(rt; runs(&mut world, schedule.as_slice()));
+    assert!(rt; frames(&world) == 2);
     assert!(rt; is_only_report(&world, &[0x80, 0]));
     let refused = events(alloc, &["deliver 1", "deliver 4", "deliver 1"])?;
-    assert!(rt; world.run(refused.as_slice()) == Err((1, StepError::NoSuchFrame)));
-    assert!(rt; world.frames() == 3);
+    assert!(rt; stops(&mut world, refused.as_slice(), 1, StepError::NoSuchFrame));
+    assert!(rt; frames(&world) == 3);
     Ok(())
 }

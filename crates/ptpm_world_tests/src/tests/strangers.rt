@@ -1,9 +1,9 @@
 //! Requests of strangers without end.
 
-use super::networks::{ONE_CLOCK, step, tell, world_of};
+use super::networks::{ONE_CLOCK, frames, happen, plays, tell, world_of};
 use ptpm_agent::Verdict;
 use ptpm_script::{Event, read_event};
-use ptpm_world::{StepError, Took, World};
+use ptpm_world::{Took, World};
 use std::alloc::Global;
 use std::test::Fail;
 
@@ -24,9 +24,25 @@ fn request_of(alloc: Global, stranger: u32) -> Result<Event, Fail> {
 /// Flags, correction and messageTypeSpecific.
 const ZEROS: &str = "0000000000000000000000000000";
 
-fn happen(world: &mut World, event: &Event) -> Result<Took, StepError> {
-    world.step(event)
+/// Whether a clock answers the request of a stranger, which has no number.
+fn is_unnumbered(alloc: Global, world: &mut World, stranger: u32) -> Result<bool, Fail> {
+    let request = request_of(alloc, stranger)?;
+    Ok(happen(world, &request) == Ok(Took::AtClock(Verdict::AnsweredUnnumbered)))
 }
+
+/// What a network shows.
+fn told(alloc: Global, world: &World) -> Result<Vec<u8>, Fail> {
+    let mut lines = Vec::new(alloc);
+    tell(world, &mut lines)?;
+    Ok(lines)
+}
+
+/// The manager's request is answered, and the clock keeps it.
+const EXCHANGE: &str = "\
+begin m get PRIORITY1 - - => ok
+send m => ok
+deliver 1 => AnsweredNew
+deliver 2 => Answered";
 
 /// Shows for a network that runs what the law `strangers_change_nothing` of `ptpm_network` says of the machine. After
 /// 10,000 SETs and COMMANDs of as many strangers no member, report or frame has changed. The manager's request, which the
@@ -35,29 +51,12 @@ fn happen(world: &mut World, event: &Event) -> Result<Took, StepError> {
 fn strangers_change_nothing(rt: HostRuntime) -> Result<(), Fail> {
     let alloc = rt.alloc();
     let mut world = world_of(alloc, ONE_CLOCK)?;
-    for line in [
-        "begin m get PRIORITY1 - -",
-        "send m",
-        "deliver 1",
-        "deliver 2",
-    ] {
-        assert!(rt; step(alloc, &mut world, line)?.is_ok());
-    }
-    let mut before = Vec::new(alloc);
-    tell(&world, &mut before)?;
+    plays(&rt, alloc, &mut world, EXCHANGE)?;
+    let before = told(alloc, &world)?;
     for stranger in 0..10_000_u32 {
-        let request = request_of(alloc, stranger)?;
-        let took = happen(&mut world, &request);
-        assert!(rt;
-            took == Ok(Took::AtClock(Verdict::AnsweredUnnumbered)),
-            "{stranger}"
-        );
+        assert!(rt; is_unnumbered(alloc, &mut world, stranger)?, "{stranger}");
     }
-    let mut after = Vec::new(alloc);
-    tell(&world, &mut after)?;
-    assert!(rt; after == before);
-    assert_eq!(rt; world.frames(), 2);
-    let repeated = step(alloc, &mut world, "deliver 1")?;
-    assert!(rt; repeated == Ok(Took::AtClock(Verdict::AnsweredRepeat)));
-    Ok(())
+    assert!(rt; told(alloc, &world)? == before);
+    assert!(rt; frames(&world) == 2);
+    plays(&rt, alloc, &mut world, "deliver 1 => AnsweredRepeat")
 }

@@ -1,28 +1,31 @@
 //! Worlds as they start.
 
-use super::networks::{RING, fresh_world, network_of};
+use super::networks::{RING, frame, frames, fresh_world, is_late, network_of, reports, sets};
 use ptpm_world::World;
 use std::process::Abort;
 use std::test::Fail;
 
 /// How many ports a clock has, if it is there.
 fn port_count(world: &World, clock: &str) -> Option<u16> {
-    match world.sets(clock) {
+    match sets(world, clock) {
         Some(sets) => Some(sets.port_count()),
         None => None,
     }
 }
 
+/// Whether no frame was sent.
+fn is_silent(world: &World) -> bool {
+    frames(world) == 0 && frame(world, 1).is_none() && !is_late(world, 1)
+}
+
 /// Each clock has its ports, the session has no reports, and no frame was sent.
 pub fn is_fresh_ring(rt: &impl Abort, world: &World) {
-    assert_eq!(rt; port_count(world, "A"), Some(3));
-    assert_eq!(rt; port_count(world, "C"), Some(2));
-    assert_eq!(rt; port_count(world, "m"), None);
-    assert!(rt; matches!(world.reports("m"), Some([])));
-    assert!(rt; world.reports("A").is_none());
-    assert_eq!(rt; world.frames(), 0);
-    assert!(rt; world.frame(1).is_none());
-    assert!(rt; !world.is_late(1));
+    assert!(rt; port_count(world, "A") == Some(3));
+    assert!(rt; port_count(world, "C") == Some(2));
+    assert!(rt; port_count(world, "m").is_none());
+    assert!(rt; matches!(reports(world, "m"), Some([])));
+    assert!(rt; reports(world, "A").is_none());
+    assert!(rt; is_silent(world));
 }
 
 #[test]
