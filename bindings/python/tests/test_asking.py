@@ -172,6 +172,23 @@ class Asking(Folder):
                 self.assertEqual(str(session.ask(self.way, ptpm.Action.GET, "PRIORITY1", timeout=1)), "priority1 22")
                 self.assertIsNone(session.earlier)
 
+    def test_a_request_of_an_earlier_run_goes_on(self) -> None:
+        settings = ptpm.SessionSettings(MANAGER, CLOCK)
+        with ptpm.UnixTransport(self.start_clock("-d", "4", "-m", MANAGER, CLOCK, name="beside")) as beside:
+            self.leave(27, 4)
+            with ptpm.SessionFile(MANAGER, CLOCK) as file, ptpm.Session(settings, file) as session:
+                with self.assertRaises(ptpm.NoAnswer) as caught:
+                    session.go_on(self.way, 1, timeout=0.05)
+                self.assertEqual((caught.exception.was_sent, session.is_under_way), (True, True))
+                self.assertEqual(str(session.go_on(beside)), "priority1 27")
+                self.assertEqual((str(session.earlier), session.is_under_way), ("priority1 27", False))
+                self.assertEqual(str(session.ask(self.way, ptpm.Action.SET, "PRIORITY1", 28, timeout=1)), "priority1 28")
+        self.leave(29, 4)
+        with ptpm.SessionFile(MANAGER, CLOCK) as file, ptpm.Session(settings, file) as session:
+            session.give_up()
+            self.assertFalse(session.is_under_way)
+            self.assertEqual(str(session.ask(self.way, ptpm.Action.GET, "PRIORITY1", timeout=1)), "priority1 28")
+
     def goes_on(self, way: ptpm.Transport) -> "tuple[str, str]":
         """What came of the request of an earlier run, and of a GET in domain 0 after it."""
         with ptpm.SessionFile(MANAGER, CLOCK) as file:
