@@ -75,7 +75,7 @@ class Transport:
         except OSError as error:
             if error.errno == 105:  # ENOBUFS
                 return False
-            raise
+            raise OSError(error.errno, error.strerror, self._to if isinstance(self._to, str) else self._to[0]) from None
         return True
 
     def receive(self, until: float) -> Optional[bytes]:
@@ -184,9 +184,9 @@ def _opened(interface: str, family: socket.AddressFamily) -> socket.socket:
             opened.setsockopt(socket.IPPROTO_IP, socket.IP_ADD_MEMBERSHIP, join)
             opened.setsockopt(socket.IPPROTO_IP, socket.IP_MULTICAST_IF, join)
             opened.setsockopt(socket.IPPROTO_IP, socket.IP_MULTICAST_LOOP, 0)
-    except BaseException:
+    except OSError as error:
         opened.close()
-        raise
+        raise OSError(error.errno, error.strerror, f"UDP port {GENERAL_PORT} at {interface}") from None
     return opened
 
 
@@ -222,7 +222,7 @@ def _bound_beside(opened: socket.socket, clock: str) -> str:
             opened.bind(own)
         except OSError as error:
             if error.errno != 98 or number == 99:  # EADDRINUSE
-                raise
+                raise OSError(error.errno, error.strerror, own) from None
             continue
         try:
             os.chown(own, -1, os.stat(clock).st_gid)

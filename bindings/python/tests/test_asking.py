@@ -317,10 +317,29 @@ class Asking(Folder):
             said = run("-m", MANAGER, "set", "USER_DESCRIPTION", "--text", "Köln", "--target", CLOCK)
         self.assertEqual(said, (0, "userDescription K\\xc3\\xb6ln\n"))
 
+    @staticmethod
+    def run_with(streams: str, *words: str) -> int:
+        """The status of a run with these streams."""
+        command = ["sh", "-c", f'exec "$0" -m ptpm "$@" {streams}', sys.executable, *words]
+        return subprocess.run(command, stdout=subprocess.DEVNULL, stderr=subprocess.DEVNULL, check=False).returncode
+
+    def test_a_command_line_whose_help_is_not_read(self) -> None:
+        for streams, words, status in (
+            (">&-", ["--version"], 4), ("> /dev/full", ["--help"], 4), (">&-", ["site", "--help"], 4), (">&-", ["get"], 2),
+            ("2>&-", ["get"], 2), ("2> /dev/full", ["site", "-x"], 2), ("2>&-", ["--version"], 0),
+        ):
+            self.assertEqual((streams, words, self.run_with(streams, *words)), (streams, words, status))
+
+    def test_what_is_wrong_is_named(self) -> None:
+        words = [sys.executable, "-m", "ptpm", "get", "PRIORITY1", "-T", CLOCK, "-u"]
+        for path, why in ((f"{self.folder}/nobody", "No such file or directory"), ("/dev/null", "")):
+            ran = subprocess.run([*words, path], capture_output=True, text=True, check=False)
+            self.assertEqual((ran.returncode, ran.stdout), (2, ""))
+            self.assertRegex(ran.stderr, f"^ptpm: {path}.*: {why}")
+
     def test_what_could_not_be_reported_stays_in_the_file(self) -> None:
         def run(streams: str, *words: str) -> int:
-            command = ["sh", "-c", f'exec "$0" -m ptpm -u "$@" {streams}', sys.executable, self.path, "--target", CLOCK, *words]
-            return subprocess.run(command, stdout=subprocess.DEVNULL, stderr=subprocess.DEVNULL, check=False).returncode
+            return self.run_with(streams, "-u", self.path, "--target", CLOCK, *words)
 
         settings = ptpm.SessionSettings(MANAGER, CLOCK)
         for streams in (">&-", "> /dev/full"):
