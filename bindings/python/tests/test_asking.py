@@ -336,6 +336,11 @@ class Asking(Folder):
             ran = subprocess.run([*words, path], capture_output=True, text=True, check=False)
             self.assertEqual((ran.returncode, ran.stdout), (2, ""))
             self.assertRegex(ran.stderr, f"^ptpm: {path}.*: {why}")
+        words = [sys.executable, "-m", "ptpm", "set", "PRIORITY1", "1", "-T", CLOCK, "-u", self.path, "-m", MANAGER]
+        words = ["sh", "-c", 'ulimit -f 0; exec "$@"', "sh", *words, "-k", f"{self.folder}/session"]
+        ran = subprocess.run(words, capture_output=True, text=True, check=False)
+        self.assertEqual((ran.returncode, ran.stdout), (2, ""))
+        self.assertEqual(ran.stderr, f"ptpm: {self.folder}/session: File too large\n")
 
     def test_what_could_not_be_reported_stays_in_the_file(self) -> None:
         def run(streams: str, *words: str) -> int:
