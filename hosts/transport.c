@@ -199,12 +199,19 @@ void widen_transport(void) {
     }
 }
 
+/* An address of a link has the index of its interface in it. */
+static void renew_scope(unsigned before, unsigned now) {
+    struct sockaddr_in6 *six = (struct sockaddr_in6 *)&clock_address;
+    if (is_six && six->sin6_scope_id == before) six->sin6_scope_id = now;
+}
+
 void renew_transport(void) {
     for (size_t i = 0; i < end_count; i++) {
         struct end other = ends[i];
         const char *what;
         unsigned index = other.interface == NULL ? 0 : if_nametoindex(other.interface);
         if (index == 0 || index == other.index || !open_end(&other, &what)) continue;
+        renew_scope(ends[i].index, other.index);
         close(ends[i].socket);
         ends[i] = other;
         complain("%s: the interface was made anew", other.interface);
