@@ -8,6 +8,7 @@
 #include "seen.h"
 #include "stopping.h"
 #include "transport.h"
+#include "unanswered.h"
 #include <errno.h>
 #include <stdbool.h>
 #include <stdlib.h>
@@ -244,6 +245,7 @@ static int end_of_collection(const struct task *task, const struct domains *doma
     complain("no answer at %s in %s to %ld message%s", transport_name(), domains_text(domains), sent, sent == 1 ? "" : "s");
     tell_missing_addresses();
     if (!task->site.is_every_domain) complain("--domain all asks in each domain in which a clock is heard");
+    advise_on_time(task);
     return NOT_ANSWERED;
 }
 

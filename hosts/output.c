@@ -130,7 +130,7 @@ unsigned long lines_lost(void) { return standard_output.lost + standard_error.lo
 static void end_stream(struct stream *stream, const struct timespec *end) {
     if (!stream->is_started) return;
     pthread_mutex_lock(&stream->lock);
-    while (stream->size > 0 && pthread_cond_timedwait(&stream->is_empty, &stream->lock, end) == 0) continue;
+    while (stream->size > 0 && pthread_cond_clockwait(&stream->is_empty, &stream->lock, CLOCK_MONOTONIC, end) == 0) continue;
     bool is_written = stream->size == 0;
     stream->is_ended = true;
     pthread_cond_signal(&stream->has_more);
@@ -140,7 +140,7 @@ static void end_stream(struct stream *stream, const struct timespec *end) {
 
 void end_output(void) {
     struct timespec end;
-    clock_gettime(CLOCK_REALTIME, &end);        /* the clock of pthread_cond_timedwait */
+    clock_gettime(CLOCK_MONOTONIC, &end);       /* which nobody sets, as the date may be while it ends */
     end.tv_sec++;
     end_stream(&standard_output, &end);
     end_stream(&standard_error, &end);

@@ -656,7 +656,8 @@ void ptpm_clock_defaults(struct ptpm_clock_settings *settings);
 void ptpm_port_defaults(struct ptpm_port_settings *settings);
 
 /* Starts a clock in place of what the handle holds, which is freed first.
-   Takes:   one to eight ports, and at most sixteen managers. The first port is port 1.
+   Takes:   one to eight ports, and at most sixteen managers. The first port is port 1. All port_count settings are read, also if
+            they are too many.
    Answers: PTPM_STARTED; or why not, and then the handle holds nothing.
    Memory:  the clock, 472 octets and 2,136 for each manager, until it is stopped, and a copy of the ports until the call returns.
    Owed:    the caller stops the clock. */

@@ -227,14 +227,15 @@ size_t findings_left(const struct report *report) {
     return left;
 }
 
-static void print_piece(FILE *to, const struct piece *piece) {
-    if (piece->size > 0) fwrite(piece->at, 1, piece->size, to);
+/* Prints a piece of a report, in which no description moves anything on a terminal. */
+static void print_piece(FILE *to, const struct report *report, const struct piece *piece) {
+    if (report->is_json) print_json(to, piece->at, piece->size);
+    else print_lines(to, piece->at, piece->size);
 }
 
 void print_report_text(FILE *to, const struct report *report, bool is_coloured) {
     const char *between = "\n";
-    if (report->is_json) print_piece(to, &report->head);
-    else print_lines(to, report->head.at, report->head.size);
+    print_piece(to, report, &report->head);
     if (!report->has_findings) return;
     size_t left = findings_left(report);
     if (!report->is_json && left == 0) fprintf(to, "findings: none\n");
@@ -244,17 +245,18 @@ void print_report_text(FILE *to, const struct report *report, bool is_coloured) 
         if (finding->is_left_out) continue;
         if (report->is_json) fputs(between, to);
         if (is_coloured && !report->is_json) fputs(red, to);
-        print_piece(to, &finding->whole);
+        print_piece(to, report, &finding->whole);
         if (is_coloured && !report->is_json) fputs(plain, to);
         if (!report->is_json) fputc('\n', to);
         between = ",\n";
     }
-    print_piece(to, &report->tail);
+    print_piece(to, report, &report->tail);
 }
 
 static void print_change(FILE *to, const char *lead, char sign, const struct finding *finding, const char *colour) {
-    fprintf(to, "%s%s%c %.*s%s\n", lead, colour == NULL ? "" : colour, sign, (int)finding->whole.size, finding->whole.at,
-            colour == NULL ? "" : plain);
+    fprintf(to, "%s%s%c ", lead, colour == NULL ? "" : colour, sign);
+    print_lines(to, finding->whole.at, finding->whole.size);
+    fprintf(to, "%s\n", colour == NULL ? "" : plain);
 }
 
 /* Prints the findings of a report that another lacks. A finding with other values counts as another, unless its values are

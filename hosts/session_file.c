@@ -28,7 +28,7 @@ _Noreturn void refuse_session_file(const char *why) {
 }
 
 _Noreturn void refuse_place(void) {
-    if (path_is_named) refuse_session_file(strerror(errno));
+    if (path_is_named) refuse("the request was not sent: --numbers %s: %s", path, strerror(errno));
     refuse("the request was not sent: %s: %s; --numbers FILE keeps the session elsewhere", path, strerror(errno));
 }
 

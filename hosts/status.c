@@ -188,6 +188,7 @@ static int watch(struct look *earlier, const struct task *task, struct domains *
         show_progress("%zu clocks; the next look comes %ld s after this one", count_before, task->site.watch / 1000);
         listen_for_domains(domains, task, task->site.watch);
         if (stopped) break;
+        renew_transport();
         look_twice(&look, task, domains, earlier);
         if (stopped || !is_whole(&look)) {
             free_look(&look);

@@ -90,15 +90,31 @@ static void print_json_number(FILE *to, uint32_t number) {
     else fprintf(to, "\\u%04x\\u%04x", 0xd800 + ((number - 0x10000) >> 10), 0xdc00 + ((number - 0x10000) & 0x3ff));
 }
 
+/* Prints the character at the head. It has `count` octets, 0 if it is none. */
+static void print_json_character(FILE *to, const uint8_t *octets, size_t count, uint32_t number) {
+    if (count == 0) print_json_number(to, 0xfffd);
+    else if (is_plain_character(octets, count, number)) fwrite(octets, 1, count, to);
+    else print_json_number(to, number);
+}
+
+void print_json(FILE *to, const char *text, size_t size) {
+    const uint8_t *octets = (const uint8_t *)text;
+    for (size_t i = 0; i < size;) {
+        uint32_t number = 0;
+        size_t count = character(octets + i, size - i, &number);
+        if (octets[i] < 0x7f) putc(octets[i], to);
+        else print_json_character(to, octets + i, count, number);
+        i += count > 0 ? count : 1;
+    }
+}
+
 void print_json_text(FILE *to, const uint8_t *octets, size_t size) {
     putc('"', to);
     for (size_t i = 0; i < size;) {
         uint32_t number = 0;
         size_t count = character(octets + i, size - i, &number);
-        if (count == 0) print_json_number(to, 0xfffd);
-        else if (number == '"' || number == '\\') fprintf(to, "\\%c", (int)number);
-        else if (is_plain_character(octets + i, count, number)) fwrite(octets + i, 1, count, to);
-        else print_json_number(to, number);
+        if (count > 0 && (number == '"' || number == '\\')) fprintf(to, "\\%c", (int)number);
+        else print_json_character(to, octets + i, count, number);
         i += count > 0 ? count : 1;
     }
     putc('"', to);

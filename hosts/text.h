@@ -15,6 +15,10 @@ void print_text(FILE *to, const uint8_t *octets, size_t size);
    could be taken for one are printed as above. */
 void print_lines(FILE *to, const char *text, size_t size);
 
+/* Prints JSON of `ptpm site`, which has characters that are no ASCII in its strings alone. Those that a terminal does not show as
+   they are come as \u and their number. */
+void print_json(FILE *to, const char *text, size_t size);
+
 /* Prints a text as a string of JSON, in quotes. Characters that a terminal does not show as they are come as \u and their number,
    and an octet that is no UTF-8 as U+FFFD. */
 void print_json_text(FILE *to, const uint8_t *octets, size_t size);

@@ -20,8 +20,8 @@
 #include <sys/un.h>
 #include <unistd.h>
 
-/* A socket, and over UDP or Ethernet its interface, with that one's address on Ethernet. */
-struct end { int socket; const char *interface; uint8_t station[STATION]; };
+/* A socket, and over UDP or Ethernet its interface, with the index of that one, and its address on Ethernet. */
+struct end { int socket; const char *interface; unsigned index; uint8_t station[STATION]; };
 
 static struct sockaddr_storage clock_address;
 static socklen_t clock_size;
@@ -143,10 +143,16 @@ void find_transport(struct task *task) {
     if (!task->has_manager && is_nobodys) task->settings.port = port_of_nobody(task->settings.port);
 }
 
+/* Whether it can be opened; otherwise errno says why not, and `what` of what. */
+static bool open_end(struct end *end, const char **what) {
+    end->index = if_nametoindex(end->interface);
+    end->socket = is_ethernet ? open_ethernet(end->interface, end->station, what) : open_udp(end->interface, is_six, what);
+    return end->socket >= 0;
+}
+
 static void open_at_interface(struct end *end) {
     const char *what;
-    end->socket = is_ethernet ? open_ethernet(end->interface, end->station, &what) : open_udp(end->interface, is_six, &what);
-    if (end->socket < 0) refuse("nothing was sent: %s: %s%s", what, strerror(errno), right_needed(is_ethernet));
+    if (!open_end(end, &what)) refuse("nothing was sent: %s: %s%s", what, strerror(errno), right_needed(is_ethernet));
 }
 
 /* If the kernel can't be asked, each interface is taken to have one. */
@@ -191,6 +197,26 @@ void widen_transport(void) {
         if (setsockopt(ends[i].socket, SOL_SOCKET, SO_RCVBUFFORCE, &wanted, sizeof wanted) == 0) continue;
         setsockopt(ends[i].socket, SOL_SOCKET, SO_RCVBUF, &wanted, sizeof wanted);
     }
+}
+
+/* An address of a link has the index of its interface in it. */
+static void renew_scope(unsigned before, unsigned now) {
+    struct sockaddr_in6 *six = (struct sockaddr_in6 *)&clock_address;
+    if (is_six && six->sin6_scope_id == before) six->sin6_scope_id = now;
+}
+
+void renew_transport(void) {
+    for (size_t i = 0; i < end_count; i++) {
+        struct end other = ends[i];
+        const char *what;
+        unsigned index = other.interface == NULL ? 0 : if_nametoindex(other.interface);
+        if (index == 0 || index == other.index || !open_end(&other, &what)) continue;
+        renew_scope(ends[i].index, other.index);
+        close(ends[i].socket);
+        ends[i] = other;
+        complain("%s: the interface was made anew", other.interface);
+    }
+    widen_transport();
 }
 
 void receive_every_type(bool is_every) {

@@ -19,6 +19,9 @@ void open_transport(const struct task *task);
 /* Gives its socket room for the answers of many clocks, 4 MiB as far as the system allows. */
 void widen_transport(void);
 
+/* Opens it anew at each interface that was removed and made again under its name. What is sent at one that is gone says so. */
+void renew_transport(void);
+
 /* Over UDP and Ethernet, has messages of every type come in, or, as at first, management messages alone. */
 void receive_every_type(bool is_every);
 

@@ -48,6 +48,11 @@ static void tell_reason(const struct task *task, enum unanswered what, uint16_t 
     }
 }
 
+/* Who asks every clock or every port waits for a few answers' time. An answer that takes longer is not heard. */
+void advise_on_time(const struct task *task) {
+    if (task->path == NULL) complain("over a slow link --timeout waits longer for each answer, %ld ms here", task->timeout);
+}
+
 /* What may be wrong if the clock answers nobody. */
 static void advise(const struct task *task, enum unanswered what) {
     const char *end = what == EARLIER_REQUEST || what == EARLIER_ELSEWHERE ? "" : "; --domain names another";
@@ -55,6 +60,7 @@ static void advise(const struct task *task, enum unanswered what) {
     if (task->path != NULL) return;
     if (task->port == 0) complain("a clock that answers only if its port is named, such as a ptpd, is asked with --port 1");
     complain("survey DEFAULT_DATA_SET shows which clocks are in that domain%s", end);
+    if (task->is_survey) advise_on_time(task);
 }
 
 /* What becomes of a request that stays in the session's file. */
@@ -92,7 +98,10 @@ int no_answer(const struct task *task, enum unanswered what, uint16_t number, lo
     tell_rest(task, what, number);
     if (stopped) return BY_SIGNAL + stopped;
     tell_missing_addresses();
-    if (task->is_survey && !task->is_of_clock) return NOT_ANSWERED;
+    if (task->is_survey && !task->is_of_clock) {
+        advise_on_time(task);
+        return NOT_ANSWERED;
+    }
     bool is_answered = (task->is_kept || task->action != PTPM_GET) && tell_value(task);
     if (stopped) return BY_SIGNAL + stopped;
     if (!is_answered) advise(task, what);

@@ -13,4 +13,7 @@ enum unanswered { REQUEST, EARLIER_REQUEST, EARLIER_ELSEWHERE, NUMBER, FIRST_NUM
    clock may have dropped them, nobody reads its value, and what it has is said. The program's status. */
 int no_answer(const struct task *task, enum unanswered what, uint16_t number, long sent);
 
+/* Says how a survey, or a collection, hears answers that take longer. */
+void advise_on_time(const struct task *task);
+
 #endif

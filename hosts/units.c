@@ -212,6 +212,12 @@ static void intervals(void) {
     check(reads_interval("-0.1", -6554) && reads_interval("0.9999999999999999", 65536), "the nearest unit");
 }
 
+static bool prints_lines_of_json(const char *lines, const char *json) {
+    FILE *to = open_printed();
+    print_json(to, lines, strlen(lines));
+    return fclose(to) == 0 && strcmp(printed, json) == 0;
+}
+
 static bool prints_json(const char *text, const char *json) {
     FILE *to = open_printed();
     print_json_text(to, (const uint8_t *)text, strlen(text));
@@ -226,6 +232,8 @@ static void json(void) {
     check(prints_json("\xe2\x80\xae\xf3\xa0\x80\x81", "\"\\u202e\\udb40\\udc01\""), "characters that turn and fill in JSON");
     check(prints_json("a\xff\xc3", "\"a\\ufffd\\ufffd\""), "octets that are no UTF-8 in JSON");
     check(prints_json("K\xc3\xb6ln \xc3\x9b", "\"K\xc3\xb6ln \\u00db\""), "a character that may control in another locale in JSON");
+    check(prints_lines_of_json("[\"\\\"\xc2\x9b\xe2\x80\xae\x7f\xc3\xb6\xff\"]\n", "[\"\\\"\\u009b\\u202e\\u007f\xc3\xb6\\ufffd\"]\n"),
+          "characters that control in lines of JSON");
 }
 
 int main(void) {

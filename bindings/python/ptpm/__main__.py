@@ -20,7 +20,7 @@ from .requests import EVERY_PORT, Requests, SessionSettings, begin_request
 from .session import Session
 from .session_file import SessionFile, SessionFileError
 from .site_command import main as show_site
-from .streams import NOT_WRITTEN, NotWritten, complain, flush, hold_streams
+from .streams import NOT_WRITTEN, NotWritten, complain, flush, hold_streams, parsed
 from .survey import survey
 from .transport import Transport, UdpTransport, UnixTransport
 
@@ -231,16 +231,16 @@ def _print(reports: List[Report], is_hexadecimal: bool) -> int:
     return REFUSED if len(reports) == 1 and reports[0].source is None and reports[0].error is not None else ANSWERED
 
 
-def main(arguments: Optional[List[str]] = None) -> int:
-    """Asks what a command line says; its status."""
-    hold_streams()
-    given = sys.argv[1:] if arguments is None else arguments
-    if given[:1] == ["site"]:
-        try:
-            return show_site(given[1:])
-        except KeyboardInterrupt:
-            return BY_SIGNAL + signal.SIGINT
-    words = _parser().parse_intermixed_args(given)
+def _why(error: Exception) -> str:
+    """What is wrong. Of a file, a socket or an interface it is said which one."""
+    if not isinstance(error, OSError) or error.strerror is None:
+        return str(error)
+    return error.strerror if error.filename is None else f"{error.filename}: {error.strerror}"
+
+
+def _run(given: List[str]) -> int:
+    """Asks one clock, or every clock for one id."""
+    words = parsed(_parser().parse_intermixed_args, given)
     try:
         task = Task(words)
         return task.ask()
@@ -257,12 +257,22 @@ def main(arguments: Optional[List[str]] = None) -> int:
     except Error as error:
         complain(f"nothing was asked: {error}")
         return NOT_ASKED
+    except (ValueError, OSError, SessionFileError) as error:
+        complain(_why(error))
+        return NOT_ASKED
+
+
+def main(arguments: Optional[List[str]] = None) -> int:
+    """Asks what a command line says; its status."""
+    hold_streams()
+    given = sys.argv[1:] if arguments is None else arguments
+    try:
+        return show_site(given[1:]) if given[:1] == ["site"] else _run(given)
+    except KeyboardInterrupt:
+        return BY_SIGNAL + signal.SIGINT
     except NotWritten as error:
         complain(error)
         return NOT_WRITTEN
-    except (ValueError, OSError, SessionFileError) as error:
-        complain(error)
-        return NOT_ASKED
 
 
 if __name__ == "__main__":

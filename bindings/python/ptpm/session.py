@@ -9,7 +9,7 @@ from typing import Optional, Type
 
 from . import _header as header
 from . import fresh_number
-from .answers import Error
+from .answers import Error, SessionAnswer
 from .asking import NoAnswer, carry_out
 from .identity import Identity, PortIdentity
 from .ids import IdLike, id_of
@@ -101,17 +101,27 @@ class Session(Requests):
             return False
         return True
 
+    def give_up(self) -> None:
+        super().give_up()
+        self._come_back()
+
     def let_go(self) -> None:
         """Goes on at the next number, without the request that has no answer. Once the clock has answered a later one, it was
         carried out, or never will be. It is refused if 32,767 one after the other had no answer (OUT_OF_REACH)."""
-        self.give_up()
-        if self.is_under_way:
+        with self._asking:
+            self.give_up()
+
+    def receive(self, octets: bytes) -> SessionAnswer:
+        answer = super().receive(octets)
+        if answer == SessionAnswer.ANSWERED:
             self._come_back()
+        return answer
 
     def _come_back(self) -> None:
-        """Asks in its own domain, once the request of an earlier run is settled."""
-        self.is_under_way = False
-        self.retune(self.settings.domain)
+        """Asks in its own domain, once the request of an earlier run is settled, whichever call has settled it."""
+        if self.is_under_way:
+            self.is_under_way = False
+            self.retune(self.settings.domain)
 
     def _judge(self, action: int, number: int, data: bytes, port: int) -> None:
         """Refuses what the library refuses to begin, before anything is sent."""
@@ -132,7 +142,6 @@ class Session(Requests):
                 where = "" if self.earlier_domain == self.settings.domain else f" in domain {self.earlier_domain}"
                 why = f"{error} of an earlier request{where}: the request itself was not sent"
                 raise NoAnswer(why, was_sent=False) from None
-            self._come_back()
             return self.earlier
 
     def _keep_number(self, number: int) -> None:
@@ -184,7 +193,12 @@ class Session(Requests):
             return carry_out(self, way, timeout)
 
     def go_on(self, way: Transport, attempts: int = 30, *, timeout: float = 0.2) -> Report:
-        """Asks the unanswered request again. The clock carries it out once all the same."""
+        """Asks the unanswered request again. The clock carries it out once all the same. If it is one of an earlier run, what
+        came of it is in `earlier` too."""
         with self._asking:
+            is_earlier = self.is_under_way
             self.resume(attempts)
-            return carry_out(self, way, timeout)
+            report = carry_out(self, way, timeout)
+            if is_earlier:
+                self.earlier = report
+            return report

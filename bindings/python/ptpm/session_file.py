@@ -150,8 +150,10 @@ class SessionFile:
                 file.write(octets)
                 file.flush()
                 os.fsync(opened)
-        except BaseException:
+        except BaseException as error:
             os.unlink(path)
+            if isinstance(error, OSError):  # for example since the disk is full
+                raise OSError(error.errno, error.strerror, self.path) from None
             raise
         return path
 

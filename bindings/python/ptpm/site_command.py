@@ -8,7 +8,7 @@ from typing import List, Optional, TextIO
 
 from .site import SiteError, site
 from .site_tree import Site
-from .streams import NOT_WRITTEN, NotWritten, complain, flush, say
+from .streams import complain, flush, parsed, say
 
 NOTHING_FOUND, FOUND, NOT_ASKED, NO_CLOCK = range(4)
 
@@ -54,7 +54,7 @@ def _shown(words: argparse.Namespace) -> Site:
 
 def main(arguments: List[str]) -> int:
     """Shows what a command line says; its status."""
-    words = _parser().parse_args(arguments)
+    words = parsed(_parser().parse_args, arguments)
     try:
         found = _shown(words)
     except (SiteError, ValueError, OSError) as error:
@@ -63,10 +63,6 @@ def main(arguments: List[str]) -> int:
         return NO_CLOCK if is_silent else NOT_ASKED
     for note in found.notes:
         say(note)
-    try:
-        with flush():
-            print(found)
-    except NotWritten as error:
-        complain(error)
-        return NOT_WRITTEN
+    with flush():
+        print(found)
     return FOUND if found.findings else NOTHING_FOUND

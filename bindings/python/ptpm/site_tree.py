@@ -27,8 +27,13 @@ class Finding:
     name: str
     values: Mapping[str, Any]
 
+    def _value_text(self, name: str) -> str:
+        """A value as a line has it. A description is in quotes, as it is in a clock's line."""
+        is_description = name in _OF_MEMBER and self.values.get("member") == "userDescription"
+        return json.dumps(self.values[name]) if is_description else _text(self.values[name])
+
     def __str__(self) -> str:
-        return " ".join([f"{self.domain} {self.clock} {self.name}", *(f"{name}={_text(value)}" for name, value in self.values.items())])
+        return " ".join([f"{self.domain} {self.clock} {self.name}", *(f"{name}={self._value_text(name)}" for name in self.values)])
 
 
 @dataclass(frozen=True)

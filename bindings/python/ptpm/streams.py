@@ -2,13 +2,14 @@
 
 from __future__ import annotations
 
+import argparse
 import codecs
 import fcntl
 import io
 import os
 import sys
-from contextlib import contextmanager
-from typing import Iterator, Tuple
+from contextlib import contextmanager, redirect_stderr, redirect_stdout
+from typing import Callable, Iterator, List, Tuple
 
 NOT_WRITTEN = 4
 
@@ -42,10 +43,10 @@ def hold_streams() -> None:
             stream.reconfigure(errors="ptpm")
 
 
-def say(what: object) -> bool:
+def say(what: object, end: str = "\n") -> bool:
     """Writes it on standard error; whether it could be written."""
     try:
-        print(what, file=sys.stderr, flush=True)
+        print(what, file=sys.stderr, end=end, flush=True)
     except OSError:
         return False
     return True
@@ -64,3 +65,18 @@ def flush() -> Iterator[None]:
         sys.stdout.flush()
     except OSError as error:
         raise NotWritten(f"standard output could not be written: {error.strerror}") from error
+
+
+def parsed(parse: Callable[[List[str]], argparse.Namespace], words: List[str]) -> argparse.Namespace:
+    """What argparse makes of a command line. It may print by itself and end the program, for example at --help. That is written
+    like all else: it may be that it can't be."""
+    printed, said = io.StringIO(), io.StringIO()
+    try:
+        with redirect_stdout(printed), redirect_stderr(said):
+            return parse(words)
+    except SystemExit:
+        say(said.getvalue(), end="")
+        if printed.getvalue():
+            with flush():
+                print(printed.getvalue(), end="")
+        raise

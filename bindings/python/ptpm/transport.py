@@ -51,9 +51,11 @@ class Transport:
     is_local = False
     """Whether it leads to clocks of this machine only."""
 
-    def __init__(self, opened: socket.socket, to: Address) -> None:
+    def __init__(self, opened: socket.socket, to: Address, name: Optional[str] = None) -> None:
+        """`name` is what an error calls it: the address, if there is no name."""
         self._socket = opened
         self._to = to
+        self._name = name or (to if isinstance(to, str) else to[0])
         opened.setblocking(False)
 
     def __enter__(self) -> Transport:
@@ -75,7 +77,7 @@ class Transport:
         except OSError as error:
             if error.errno == 105:  # ENOBUFS
                 return False
-            raise
+            raise OSError(error.errno, error.strerror, self._name) from None
         return True
 
     def receive(self, until: float) -> Optional[bytes]:
@@ -149,7 +151,7 @@ class UdpTransport(Transport):
     def __init__(self, interface: Optional[str] = None, address: Optional[str] = None, *, ipv6: bool = False) -> None:
         self.interface, family, to = _destination(interface, address, ipv6)
         self.identity = Identity.of_mac(_mac_of(self.interface))
-        super().__init__(_opened(self.interface, family), to)
+        super().__init__(_opened(self.interface, family), to, address or self.interface)
 
     @staticmethod
     def identity_at(interface: Optional[str] = None, address: Optional[str] = None, *, ipv6: bool = False) -> Identity:
@@ -184,9 +186,9 @@ def _opened(interface: str, family: socket.AddressFamily) -> socket.socket:
             opened.setsockopt(socket.IPPROTO_IP, socket.IP_ADD_MEMBERSHIP, join)
             opened.setsockopt(socket.IPPROTO_IP, socket.IP_MULTICAST_IF, join)
             opened.setsockopt(socket.IPPROTO_IP, socket.IP_MULTICAST_LOOP, 0)
-    except BaseException:
+    except OSError as error:
         opened.close()
-        raise
+        raise OSError(error.errno, error.strerror, f"UDP port {GENERAL_PORT} at {interface}") from None
     return opened
 
 
@@ -222,7 +224,7 @@ def _bound_beside(opened: socket.socket, clock: str) -> str:
             opened.bind(own)
         except OSError as error:
             if error.errno != 98 or number == 99:  # EADDRINUSE
-                raise
+                raise OSError(error.errno, error.strerror, own) from None
             continue
         try:
             os.chown(own, -1, os.stat(clock).st_gid)

@@ -172,6 +172,23 @@ class Asking(Folder):
                 self.assertEqual(str(session.ask(self.way, ptpm.Action.GET, "PRIORITY1", timeout=1)), "priority1 22")
                 self.assertIsNone(session.earlier)
 
+    def test_a_request_of_an_earlier_run_goes_on(self) -> None:
+        settings = ptpm.SessionSettings(MANAGER, CLOCK)
+        with ptpm.UnixTransport(self.start_clock("-d", "4", "-m", MANAGER, CLOCK, name="beside")) as beside:
+            self.leave(27, 4)
+            with ptpm.SessionFile(MANAGER, CLOCK) as file, ptpm.Session(settings, file) as session:
+                with self.assertRaises(ptpm.NoAnswer) as caught:
+                    session.go_on(self.way, 1, timeout=0.05)
+                self.assertEqual((caught.exception.was_sent, session.is_under_way), (True, True))
+                self.assertEqual(str(session.go_on(beside)), "priority1 27")
+                self.assertEqual((str(session.earlier), session.is_under_way), ("priority1 27", False))
+                self.assertEqual(str(session.ask(self.way, ptpm.Action.SET, "PRIORITY1", 28, timeout=1)), "priority1 28")
+        self.leave(29, 4)
+        with ptpm.SessionFile(MANAGER, CLOCK) as file, ptpm.Session(settings, file) as session:
+            session.give_up()
+            self.assertFalse(session.is_under_way)
+            self.assertEqual(str(session.ask(self.way, ptpm.Action.GET, "PRIORITY1", timeout=1)), "priority1 28")
+
     def goes_on(self, way: ptpm.Transport) -> "tuple[str, str]":
         """What came of the request of an earlier run, and of a GET in domain 0 after it."""
         with ptpm.SessionFile(MANAGER, CLOCK) as file:
@@ -300,10 +317,34 @@ class Asking(Folder):
             said = run("-m", MANAGER, "set", "USER_DESCRIPTION", "--text", "Köln", "--target", CLOCK)
         self.assertEqual(said, (0, "userDescription K\\xc3\\xb6ln\n"))
 
+    @staticmethod
+    def run_with(streams: str, *words: str) -> int:
+        """The status of a run with these streams."""
+        command = ["sh", "-c", f'exec "$0" -m ptpm "$@" {streams}', sys.executable, *words]
+        return subprocess.run(command, stdout=subprocess.DEVNULL, stderr=subprocess.DEVNULL, check=False).returncode
+
+    def test_a_command_line_whose_help_is_not_read(self) -> None:
+        for streams, words, status in (
+            (">&-", ["--version"], 4), ("> /dev/full", ["--help"], 4), (">&-", ["site", "--help"], 4), (">&-", ["get"], 2),
+            ("2>&-", ["get"], 2), ("2> /dev/full", ["site", "-x"], 2), ("2>&-", ["--version"], 0),
+        ):
+            self.assertEqual((streams, words, self.run_with(streams, *words)), (streams, words, status))
+
+    def test_what_is_wrong_is_named(self) -> None:
+        words = [sys.executable, "-m", "ptpm", "get", "PRIORITY1", "-T", CLOCK, "-u"]
+        for path, why in ((f"{self.folder}/nobody", "No such file or directory"), ("/dev/null", "")):
+            ran = subprocess.run([*words, path], capture_output=True, text=True, check=False)
+            self.assertEqual((ran.returncode, ran.stdout), (2, ""))
+            self.assertRegex(ran.stderr, f"^ptpm: {path}.*: {why}")
+        words = [sys.executable, "-m", "ptpm", "set", "PRIORITY1", "1", "-T", CLOCK, "-u", self.path, "-m", MANAGER]
+        words = ["sh", "-c", 'ulimit -f 0; exec "$@"', "sh", *words, "-k", f"{self.folder}/session"]
+        ran = subprocess.run(words, capture_output=True, text=True, check=False)
+        self.assertEqual((ran.returncode, ran.stdout), (2, ""))
+        self.assertEqual(ran.stderr, f"ptpm: {self.folder}/session: File too large\n")
+
     def test_what_could_not_be_reported_stays_in_the_file(self) -> None:
         def run(streams: str, *words: str) -> int:
-            command = ["sh", "-c", f'exec "$0" -m ptpm -u "$@" {streams}', sys.executable, self.path, "--target", CLOCK, *words]
-            return subprocess.run(command, stdout=subprocess.DEVNULL, stderr=subprocess.DEVNULL, check=False).returncode
+            return self.run_with(streams, "-u", self.path, "--target", CLOCK, *words)
 
         settings = ptpm.SessionSettings(MANAGER, CLOCK)
         for streams in (">&-", "> /dev/full"):

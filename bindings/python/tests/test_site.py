@@ -81,6 +81,19 @@ class Recorded(unittest.TestCase):
         absent = found["parent_not_master", "020091fffe000801"].values
         self.assertEqual(absent, {"parentPortIdentity": ptpm.PortIdentity.of("020091fffe000101/7"), "portState": None})
 
+    def test_a_description_controls_no_terminal(self) -> None:
+        def answer(number: int, text: str) -> str:
+            """USER_DESCRIPTION of a clock, to the request of this number (15.5.3.1.2)."""
+            field = bytes([len(text.encode())]) + text.encode()
+            field += bytes(len(field) % 2)
+            tlv = (1).to_bytes(2, "big") + (2 + len(field)).to_bytes(2, "big") + b"\0\2" + field
+            head = bytes((0x0D, 0x12)) + (48 + len(tlv)).to_bytes(2, "big") + bytes(16) + bytes.fromhex("aabbccfffeddee010001")
+            return (head + number.to_bytes(2, "big") + b"\4\x7f" + bytes(8) + b"\0\1\1\1\2\0" + tlv).hex()
+
+        site = ptpm.site(lines=[answer(7, "rack 1"), answer(8, "\x1b[2J\n\x9b")])
+        self.assertIn("changed after=\"\\u001b[2J\\n\\u009b\" before=\"rack 1\" member=userDescription", str(site))
+        self.assertTrue(str(site).replace("\n", "").isprintable())
+
     def test_the_command_line(self) -> None:
         for name, status in (("a_chain", 0), ("b_two", 1)):
             words = [sys.executable, "-m", "ptpm", "site", "--lines", str(SITES / f"sites/{name}.lines")]

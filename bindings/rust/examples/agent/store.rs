@@ -31,6 +31,11 @@ fn beside(path: &Path, more: &str) -> PathBuf {
     name.into()
 }
 
+/// Has an error name the file that it is of.
+fn of(path: &Path) -> impl Fn(io::Error) -> io::Error + '_ {
+    move |error| io::Error::new(error.kind(), format!("{}: {error}", path.display()))
+}
+
 fn locked(path: &Path) -> io::Result<File> {
     let lock = OpenOptions::new().create(true).truncate(false).write(true).open(beside(path, ".lock"))?;
     // SAFETY: the file is open.
@@ -43,9 +48,9 @@ fn locked(path: &Path) -> io::Result<File> {
 impl Store {
     /// The file at a path, which no other process may have until this one ends. It need not be there yet.
     pub fn open(path: &Path) -> io::Result<Self> {
-        let lock = locked(path)?;
+        let lock = locked(path).map_err(of(path))?;
         let folder = match path.parent() {
-            Some(folder) if !folder.as_os_str().is_empty() => File::open(folder)?,
+            Some(folder) if !folder.as_os_str().is_empty() => File::open(folder).map_err(of(folder))?,
             _ => File::open(".")?,
         };
         Ok(Self { path: path.into(), folder, room: Box::new([0; CLOCK_IMAGE_OCTETS]), _lock: lock })
@@ -56,7 +61,7 @@ impl Store {
         match fs::read(&self.path) {
             Ok(image) => Ok(Some(image)),
             Err(error) if error.kind() == ErrorKind::NotFound => Ok(None),
-            Err(error) => Err(error),
+            Err(error) => Err(of(&self.path)(error)),
         }
     }
 
@@ -64,11 +69,16 @@ impl Store {
     /// before. After an error it may have either.
     pub fn save(&mut self, clock: &Clock) -> io::Result<()> {
         let image = clock.image(&mut self.room).map_err(|error: Error| io::Error::other(error.to_string()))?;
-        let new = beside(&self.path, ".new");
-        let mut file = File::create(&new)?;
-        file.write_all(image)?;
-        file.sync_all()?;
-        fs::rename(&new, &self.path)?;
-        self.folder.sync_all()
+        replace(&self.path, &self.folder, image).map_err(of(&self.path))
     }
+}
+
+/// Has the file at a path, in this folder, have these octets.
+fn replace(path: &Path, folder: &File, octets: &[u8]) -> io::Result<()> {
+    let new = beside(path, ".new");
+    let mut file = File::create(&new)?;
+    file.write_all(octets)?;
+    file.sync_all()?;
+    fs::rename(&new, path)?;
+    folder.sync_all()
 }
