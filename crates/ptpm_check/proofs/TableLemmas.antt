@@ -5,6 +5,7 @@ use Rattle.std.specs.Ordering.{match_ordering}
 use Rattle.std.proofs.lemmas.Bool.{and_parts, or_cases, false≢true}
 use Rattle.std.proofs.lemmas.Bool.Decides.{nat_tests}
 use Rattle.std.proofs.lemmas.Cmp.{same_from_slice_cmp}
+use Rattle.std.proofs.lemmas.Option.{cond_some}
 use Rattle.std.proofs.lemmas.Slice.Eq.{bytes_eq-Decides}
 use Rattle.toml.specs.Data.{Data, as_array, as_integer, as_str, as_table, Items, no_items, item, Members, no_members, member, get_member}
 use Rattle.ptpm_codec.specs.declared.identity.ClockIdentity.{ClockIdentity}
@@ -168,6 +169,22 @@ whole_given least most bound key ms d small there is =
     let z = passes_some (λ z. int_le (pos least) z && int_le z (pos most)) (as_integer d) is in
     let n = number_up_to least most bound z.0 small z.2 in
     (n.0, n.2, n.3, ap (λ o. option_and_then (natural_up_to bound) (option_and_then as_integer o)) there ∙ ap (option_and_then (natural_up_to bound)) z.1 ∙ n.4)
+
+widened : (few most n : ℕ) (z : ℤ) → nat_le few most ≡ true → natural_up_to few z ≡ Some n → natural_up_to most z ≡ Some n
+widened few most n (negsuc m) small h = cc
+widened few most n (pos m) small h =
+    let is = cond_some (nat_le m few) m n h in
+    ap (λ b. if b then Some m else None) (within_bound m few most is.0 small) ∙ ap Some is.1
+
+widen : (few most n : ℕ) (o : Option ℤ) → nat_le few most ≡ true → option_and_then (natural_up_to few) o ≡ Some n
+    → option_and_then (natural_up_to most) o ≡ Some n
+widen few most n None small h = cc
+widen few most n (Some z) small h = widened few most n z small h
+
+-- a number up to a limit is one up to a greater one
+pub wider : (few most n : ℕ) (key : List ℕ) (ms : Members) → nat_le few most ≡ true → natural_at few key ms ≡ Some n → natural_at most key ms ≡ Some n
+unfolding natural_at
+wider few most n key ms small h = widen few most n (integer_at key ms) small h
 
 pub array_given : (key : List ℕ) (ms : Members) (d : Data)
     → get_member key ms ≡ Some d
