@@ -33,6 +33,10 @@ pub or_false : (a : Bool) → (a || false) ≡ a
 or_false true = refl
 or_false false = refl
 
+pub or_assoc : (a b c : Bool) → ((a || b) || c) ≡ (a || (b || c))
+or_assoc true b c = refl
+or_assoc false b c = refl
+
 pub or_true : (a : Bool) → (a || true) ≡ true
 or_true true = refl
 or_true false = refl
@@ -149,6 +153,23 @@ after_more like before e (x ∷ xs) =
         (list_any-append (λ b. like b x) before (e ∷ []) ∙ ap (λ t. list_any (λ b. like b x) before || t) (or_false (like e x)))
         (after_more like before e xs)
     ∙ or_both (list_any (λ b. like b x) before) (like e x) (list_any (λ y. list_any (λ b. like b y) before) xs) (list_any (like e) xs)
+
+pub any-none : {A : Type 0} (xs : List A) → list_any (λ x. false) xs ≡ false
+any-none [] = refl
+any-none (x ∷ xs) = any-none xs
+
+pub any-or : {A : Type 0} (p q : A → Bool) (xs : List A) → (list_any p xs || list_any q xs) ≡ list_any (λ x. p x || q x) xs
+any-or p q [] = refl
+any-or p q (x ∷ xs) =
+    or_both (p x) (list_any p xs) (q x) (list_any q xs) ∙ ap (λ b. (p x || q x) || b) (any-or p q xs)
+
+pub any-same : {A : Type 0} (p q : A → Bool) → ((x : A) → p x ≡ q x) → (xs : List A) → list_any p xs ≡ list_any q xs
+any-same p q h [] = refl
+any-same p q h (x ∷ xs) = or_same _ _ _ _ (h x) (any-same p q h xs)
+
+pub any-map : {A B : Type 0} (f : A → B) (p : B → Bool) (xs : List A) → list_any p (map f xs) ≡ list_any (λ x. p (f x)) xs
+any-map f p [] = refl
+any-map f p (x ∷ xs) = ap (λ b. p (f x) || b) (any-map f p xs)
 
 after_none : {A : Type 0} (like : A → A → Bool) (xs : List A) → list_any (λ x. list_any (λ b. like b x) []) xs ≡ false
 after_none like [] = refl

@@ -2,3 +2,11 @@ pub mod SameRefusal
 pub mod ItemLemmas
 pub mod KeyLemmas
 pub mod LedLemmas
+pub mod FoundLemmas
+pub mod TableLemmas
+pub mod MarkLemmas
+pub mod ShapeLemmas
+pub mod SessionShapeLemmas
+pub mod FileShapeLemmas
+pub mod HeadLemmas
+pub mod RepeatLemmas

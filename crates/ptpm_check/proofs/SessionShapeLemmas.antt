@@ -16,15 +16,12 @@ use Rattle.ptpm_script.specs.Values.{natural_at, port_at}
 use Rattle.ptpm_check.specs.declared.place.Array.TheVariants as arrays
 use Rattle.ptpm_check.specs.Heads.{items_at, list_of, list_or_none}
 use Rattle.ptpm_check.specs.KeyFaults.{table_marks}
-use Rattle.ptpm_check.specs.Marks.{Mark, Part, Spot, at_item, each, each_after, in_table, mark_if}
+use Rattle.ptpm_check.specs.Marks.{Mark, Spot, at_item, each, each_after, in_table, mark_if}
 use Rattle.ptpm_check.specs.ShapeFaults.{is_bad_right, right_in, right_marks, rights_marks, session_marks, version_marks}
 use Rattle.ptpm_check.proofs.FoundLemmas.{found, found-append, found-each, not_both, or_false, or_same, or_true}
+use Rattle.ptpm_check.proofs.MarkLemmas.{mark-found}
 use Rattle.ptpm_check.proofs.ShapeLemmas.{IsTable, table-case, table-found}
 use Rattle.ptpm_check.proofs.TableLemmas.{array_given, fitting, given, port_given, whole_given}
-
-pub mark-found : (test : Bool) (class : NetError) (spot : Spot) (part : Part) → found (mark_if test class spot part) ≡ test
-mark-found true class spot part = refl
-mark-found false class spot part = refl
 
 -- ---- rights, each once
 

@@ -103,6 +103,13 @@ required_there (r ∷ rs) key ms is there =
     required_either r rs key ms (or_cases (r.is_required && bytes_eq r.key key) (requires rs key) is) both.0
         (λ later. required_there rs key ms later both.1)
 
+pub key-there : (rules : List KeyRule) (ms : Members) (key : List ℕ)
+    → is_shaped rules ms ≡ true
+    → requires rules key ≡ true
+    → is_some (get_member key ms) ≡ true
+unfolding is_shaped
+key-there rules ms key is needs = required_there rules key ms needs (and_parts (has_required rules ms) (has_only rules ms) is).0
+
 -- what is at a required key
 pub given : (rules : List KeyRule) (ms : Members) (key : List ℕ) (kind : Kind)
     → is_shaped rules ms ≡ true

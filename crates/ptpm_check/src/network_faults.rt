@@ -156,7 +156,7 @@ fn add_file_faults<'a>(
     let heads = Heads::of(alloc, file)?;
     add_shape_faults(alloc, faults, file)?;
     add_limit_faults(faults, file, heads.sessions.as_slice())?;
-    add_repeat_faults(faults, &heads)?;
+    add_repeat_faults(alloc, faults, &heads)?;
     add_name_faults(alloc, faults, &heads)?;
     add_start_faults(faults, heads.clocks.as_slice())
 }
