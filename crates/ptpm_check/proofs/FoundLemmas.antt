@@ -2,6 +2,7 @@
 use Rattle.std.proofs.Common.{◌≡◌, ℕ, ◌+◌, arith, Bool, true, false, not, ◌&&◌, ◌||◌, List, [], ◌∷◌, ◌++◌, map, refl, ap, sym, ◌∙◌, cond, ne_eqb}
 use Rattle.std.specs.Prelude.{flat_map, ◌==◌}
 use Rattle.std.specs.List.{list_any, count_by}
+use Rattle.std.proofs.lemmas.Bool.{or_parts}
 use Rattle.std.proofs.lemmas.List.Folds.{list_any-append}
 use Rattle.std.proofs.lemmas.List.Recursion.{is_count_by}
 use Rattle.ptpm_script.specs.NetworkText.{has_like}
@@ -95,6 +96,26 @@ pairs-any R p q h [] [] r = refl
 pairs-any R p q h [] (y ∷ ys) r = absurd r
 pairs-any R p q h (x ∷ xs) [] r = absurd r
 pairs-any R p q h (x ∷ xs) (y ∷ ys) r = or_same _ _ _ _ (h x y r.0) (pairs-any R p q h xs ys r.1)
+
+pub pairs-each : {A B C : Type 0} (R : A → B → Type 0) (of : ℕ → B → List C) (p : A → Bool)
+    → ((n : ℕ) (x : A) (y : B) → R x y → found (of n y) ≡ p x)
+    → (n : ℕ) (xs : List A) (ys : List B) → Pairs R xs ys → found (each of n ys) ≡ list_any p xs
+pairs-each R of p h n [] [] r = refl
+pairs-each R of p h n [] (y ∷ ys) r = absurd r
+pairs-each R of p h n (x ∷ xs) [] r = absurd r
+pairs-each R of p h n (x ∷ xs) (y ∷ ys) r =
+    found-append (of n y) (each of (n + 1) ys) ∙ or_same _ _ _ _ (h n x y r.0) (pairs-each R of p h (n + 1) xs ys r.1)
+
+-- the same elements, of which the first pass no test
+pub pairs-with : {A B : Type 0} (R : A → B → Type 0) (p : A → Bool) (xs : List A) (ys : List B)
+    → Pairs R xs ys
+    → list_any p xs ≡ false
+    → Pairs (λ x y. R x y × (p x ≡ false)) xs ys
+pairs-with R p [] [] r h = tt
+pairs-with R p [] (y ∷ ys) r h = absurd r
+pairs-with R p (x ∷ xs) [] r h = absurd r
+pairs-with R p (x ∷ xs) (y ∷ ys) r h =
+    let parts = or_parts (p x) (list_any p xs) h in ((r.0, parts.0), pairs-with R p xs ys r.1 parts.1)
 
 pub pairs-found : {A B C : Type 0} (R : A → B → Type 0) (of : B → List C) (p : A → Bool)
     → ((x : A) (y : B) → R x y → found (of y) ≡ p x)

@@ -107,6 +107,7 @@ pub record IsClock (c : ClockEntryValue) (h : ClockHeadValue) : Type 0 where
   pub shape : is_shaped clock_rules h.table ≡ true
   pub name : h.name ≡ Some c.name
   pub identity : h.identity ≡ Some c.start.identity
+  pub identity_at : clock_at (codes "identity") h.table ≡ Some c.start.identity
   pub count : h.count ≡ Some c.count
   pub domain : ℕ
   pub start : c.start ≡ clock_start c.start.identity domain h.table
@@ -168,6 +169,7 @@ clock_made n c d ms t k =
       shape = t.shape;
       name = named clock_rules ms (codes "name") c.name name.0 name.1 name.2 k.name;
       identity = k.identity;
+      identity_at = k.identity;
       count = k.count;
       domain = k.domain;
       start = k.start;

@@ -10,3 +10,4 @@ pub mod SessionShapeLemmas
 pub mod FileShapeLemmas
 pub mod HeadLemmas
 pub mod RepeatLemmas
+pub mod LimitLemmas
