@@ -11,3 +11,4 @@ pub mod FileShapeLemmas
 pub mod HeadLemmas
 pub mod RepeatLemmas
 pub mod LimitLemmas
+pub mod NameLemmas

@@ -66,7 +66,7 @@ ports_found clock c h k =
 
 -- ---- clocks
 
-named_before : (cs : List ClockEntryValue) (hs : List ClockHeadValue) (name : List ℕ) → Pairs IsClock cs hs
+pub named_before : (cs : List ClockEntryValue) (hs : List ClockHeadValue) (name : List ℕ) → Pairs IsClock cs hs
     → is_clock_name hs name ≡ list_any (λ c. bytes_eq c.name name) cs
 named_before cs hs name beside =
     pairs-any IsClock (λ c. bytes_eq c.name name) (λ h. passes (λ other. bytes_eq other name) h.name)
