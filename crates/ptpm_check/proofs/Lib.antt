@@ -12,3 +12,5 @@ pub mod HeadLemmas
 pub mod RepeatLemmas
 pub mod LimitLemmas
 pub mod NameLemmas
+pub mod TellLemmas
+pub mod PortStartLemmas

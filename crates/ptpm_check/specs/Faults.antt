@@ -62,6 +62,11 @@ text_marks text = if nat_lt 262144 (length text) then long_marks else marks_of_d
 
 -- ---- what is reported of it
 
+-- some mark is of a refusal
+abbrev pub IsAmong : NetError → List Mark → Type 0
+IsAmong refusal [] = ⊥
+IsAmong refusal (m ∷ ms) = (m.class ≡ refusal) ⊎ IsAmong refusal ms
+
 abbrev pub IsOther : NetError → Mark → Type 0
 IsOther refusal m = m.class ≢ refusal
 
