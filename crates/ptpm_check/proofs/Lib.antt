@@ -14,3 +14,4 @@ pub mod LimitLemmas
 pub mod NameLemmas
 pub mod TellLemmas
 pub mod PortStartLemmas
+pub mod ClockStartLemmas

@@ -33,15 +33,15 @@ use Rattle.ptpm_check.proofs.TellLemmas.{Tells, among-left, among-right, or_none
 
 -- ---- a port that has all others as this profile has them
 
-err_unless : {A : Type 0} (o : Option StartError) (a : A) → is_err (unless o a) ≡ is_some o
+pub err_unless : {A : Type 0} (o : Option StartError) (a : A) → is_err (unless o a) ≡ is_some o
 err_unless None a = refl
 err_unless (Some e) a = refl
 
-count_one : count_fault 1 ≡ None
+pub count_one : count_fault 1 ≡ None
 unfolding count_fault
 count_one = refl
 
-some_if : (b : Bool) (e : StartError) → is_some (if b then Some e else None) ≡ b
+pub some_if : (b : Bool) (e : StartError) → is_some (if b then Some e else None) ≡ b
 some_if true e = refl
 some_if false e = refl
 
@@ -53,7 +53,7 @@ grandmaster_starts : grandmaster_fault (default_data_set (default_clock some_clo
 unfolding grandmaster_fault
 grandmaster_starts = refl
 
-ports_one : (p : PortStart) → ports_fault (p ∷ []) ≡ port_fault p
+pub ports_one : (p : PortStart) → ports_fault (p ∷ []) ≡ port_fault p
 unfolding ports_fault
 ports_one p = or_none (port_fault p)
 
@@ -165,7 +165,7 @@ port_here clock n p d k =
 
 -- ---- the ports of a clock
 
-default_starts : port_fault default_port ≡ None
+pub default_starts : port_fault default_port ≡ None
 unfolding port_fault
 default_starts = settings_start
 
