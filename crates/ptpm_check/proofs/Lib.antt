@@ -15,3 +15,4 @@ pub mod NameLemmas
 pub mod TellLemmas
 pub mod PortStartLemmas
 pub mod ClockStartLemmas
+pub mod ClassLemmas

@@ -11,7 +11,7 @@ use Rattle.ptpm_check.specs.declared.network_faults.Document.{Document}
 use Rattle.ptpm_script.specs.declared.event.Event.{Event}
 use Rattle.ptpm_script.specs.declared.event.EventError.{EventError}
 use Rattle.ptpm_script.specs.declared.net_error.NetError.{NetError}
-use Rattle.ptpm_script.specs.declared.net_error.NetError.TheVariants.{TooLong, NotToml}
+use Rattle.ptpm_script.specs.declared.net_error.NetError.TheVariants.{BadClock, TooLong, NotToml}
 use Rattle.ptpm_script.specs.NetworkValue.{NetworkValue}
 use Rattle.ptpm_check.specs.Heads.{clocks_of, ends_of, sessions_of}
 use Rattle.ptpm_check.specs.LimitFaults.{limit_marks}
@@ -60,12 +60,26 @@ marks_of_document (Some ms) = file_marks ms
 unfoldable pub text_marks : List ℕ → List Mark
 text_marks text = if nat_lt 262144 (length text) then long_marks else marks_of_document (parse_document text)
 
--- ---- what is reported of it
+-- ---- how it answers to the refusal
 
 -- some mark is of a refusal
 abbrev pub IsAmong : NetError → List Mark → Type 0
 IsAmong refusal [] = ⊥
 IsAmong refusal (m ∷ ms) = (m.class ≡ refusal) ⊎ IsAmong refusal ms
+
+-- the first mark is of a refusal
+abbrev pub IsFirst : NetError → List Mark → Type 0
+IsFirst refusal [] = ⊥
+IsFirst refusal (m ∷ ms) = m.class ≡ refusal
+
+-- Nothing is found in a network, and in a text that is refused first something of its refusal. Of a clock that can't start something
+-- is found that says why, but maybe not first: a start judges ports by their numbers, and marks are in the order of the tables.
+abbrev pub Answers : Option NetError → List Mark → Type 0
+Answers None found = found ≡ []
+Answers (Some (BadClock fault)) found = IsAmong (BadClock fault) found
+Answers (Some refusal) found = IsFirst refusal found
+
+-- ---- what is reported of it
 
 abbrev pub IsOther : NetError → Mark → Type 0
 IsOther refusal m = m.class ≢ refusal
