@@ -2,14 +2,12 @@
 use Rattle.std.proofs.Common.{arith, ◌≡◌, ℕ, ◌+◌, ◌<◌, ◌≤◌, ◌==◌, nat_le, nat_lt, min, Bool, true, false, not, ◌&&◌, ◌||◌, ◌⊎◌, inl, inr, if◌then◌else◌, List, [], ◌∷◌, ◌++◌, Option, Some, None, Result, Ok, Err, refl, ap, sym, subst, ◌∙◌, is_some, is_err, bytes_eq, le-leb, le_refl, pos, codes, eq-eqb, flat_map, length, map, option_and_then, take, unwrap_or}
 use Rattle.std.specs.List.{list_all, list_any, range_with_len}
 use Rattle.std.specs.Option.{option_or}
-use Rattle.std.specs.Result.{result_ok}
 use Rattle.std.specs.Str.{chars, is_utf8}
 use Rattle.std.proofs.lemmas.Bool.{and_parts, eqb-true, or_from, or_parts}
 use Rattle.std.proofs.lemmas.Bool.Decides.{nat_tests}
 use Rattle.std.proofs.lemmas.List.FromFn.{length-map-range_with_len}
 use Rattle.std.proofs.lemmas.Slice.Eq.{bytes_eq-Decides}
 use Rattle.std.proofs.lemmas.Option.{none-some}
-use Rattle.hex.specs.Hex.{decode_sized}
 use Rattle.toml.specs.Data.{Data, Items, Members, as_bool, as_str, get_member}
 use Rattle.ptpm_codec.specs.declared.identity.ClockIdentity.{ClockIdentity}
 use Rattle.ptpm_codec.specs.Identity.{every_clock, same_clock}
@@ -272,13 +270,13 @@ digits_one : (o : Option (List ℕ)) (c : ClockIdentity) → option_and_then if_
 digits_one None c h = cc
 digits_one (Some octets) c h = octets_one octets c (same_clock (record { 0 = octets }) every_clock) refl h
 
-digits_of : (text : List ℕ) (c : ClockIdentity) → clock_identity text ≡ Some c → option_and_then if_one_clock (result_ok (decode_sized text 8)) ≡ Some c
+one_clock : (text : List ℕ) (c : ClockIdentity) → clock_identity text ≡ Some c → same_clock c every_clock ≡ false
 unfolding clock_identity
-digits_of text c h = h
+one_clock text c h = search digits_one
 
 text_one : (o : Option (List ℕ)) (c : ClockIdentity) → option_and_then clock_identity o ≡ Some c → same_clock c every_clock ≡ false
 text_one None c h = cc
-text_one (Some text) c h = digits_one (result_ok (decode_sized text 8)) c (digits_of text c h)
+text_one (Some text) c h = one_clock text c h
 
 clock_one : (c : ClockEntryValue) (h : ClockHeadValue) → IsClock c h → bytes_eq c.start.identity.0 all_ones ≡ false
 clock_one c h k = text_one (text_at (codes "identity") h.table) c.start.identity k.identity_at

@@ -3,8 +3,6 @@ use Rattle.std.proofs.Common.{arith, ◌≡◌, ℕ, pos, nat_le, Bool, true, fa
 use Rattle.std.proofs.lemmas.Bool.Decides.{nat_tests}
 use Rattle.std.proofs.lemmas.Option.{cond_some}
 use Rattle.toml.specs.Data.{Items, Members}
-use Rattle.ptpm_script.specs.declared.link_entries.EndEntry.{EndEntry}
-use Rattle.ptpm_script.specs.declared.session_entries.SessionEntry.{SessionEntry}
 use Rattle.ptpm_script.specs.declared.shapes.Kind.TheVariants as kinds
 use Rattle.ptpm_script.specs.Document.{is_shaped, shaped}
 use Rattle.ptpm_script.specs.Entries.{ClockEntryValue, entries_at, read_all}
@@ -14,6 +12,7 @@ use Rattle.ptpm_check.specs.Heads.{items_at, list_of}
 use Rattle.ptpm_check.specs.KeyFaults.{key_marks}
 use Rattle.ptpm_check.specs.Marks.{each, in_file}
 use Rattle.ptpm_check.specs.ShapeFaults.{clock_marks, link_marks, session_marks, shape_marks}
+use Rattle.ptpm_check.proofs.EntryTypes.{EndEntry, SessionEntry}
 use Rattle.ptpm_check.proofs.FoundLemmas.{found, found-append, not_both, or_same}
 use Rattle.ptpm_check.proofs.SessionShapeLemmas.{IsVersion, sessions-found, sessions_ok}
 use Rattle.ptpm_check.proofs.ShapeLemmas.{clock-found, items-found, keys-found, link-found}

@@ -6,9 +6,6 @@ use Rattle.ptpm_codec.specs.declared.identity.ClockIdentity.{ClockIdentity}
 use Rattle.ptpm_codec.specs.declared.identity.PortIdentity.{PortIdentity}
 use Rattle.ptpm_data.specs.declared.rights.Rights.{Rights}
 use Rattle.ptpm_data.specs.declared.start.ClockStart.{ClockStart}
-use Rattle.ptpm_script.specs.declared.clock_entries.PortEntry.{PortEntry}
-use Rattle.ptpm_script.specs.declared.link_entries.EndEntry.{EndEntry}
-use Rattle.ptpm_script.specs.declared.session_entries.SessionEntry.{SessionEntry}
 use Rattle.ptpm_script.specs.declared.shapes.Kind.TheVariants as kinds
 use Rattle.ptpm_script.specs.Document.{KeyRule, end_of, fits, is_name, is_shaped, table_of}
 use Rattle.ptpm_script.specs.Entries.{ClockEntryValue, entries_at, read_all}
@@ -17,6 +14,7 @@ use Rattle.ptpm_script.specs.Values.{clock_at, natural_at, port_at, text_at}
 use Rattle.ptpm_check.specs.Heads.{ClockHeadValue, EndHeadValue, SessionHeadValue, clock_head, clock_in, end_head, ends_in, if_name, items_at, items_in, list_of, name_at, session_head, session_in}
 use Rattle.ptpm_check.specs.Marks.{Spot, each, if_any, in_table}
 use Rattle.ptpm_check.specs.declared.place.Array.TheVariants as arrays
+use Rattle.ptpm_check.proofs.EntryTypes.{EndEntry, PortEntry, SessionEntry}
 use Rattle.ptpm_check.proofs.FoundLemmas.{Pairs, pairs-append}
 use Rattle.ptpm_check.proofs.ShapeLemmas.{IsTable, items-in, table-case}
 use Rattle.ptpm_check.proofs.TableLemmas.{array-at, given, name_given}

@@ -2,6 +2,7 @@ pub mod SameRefusal
 pub mod ItemLemmas
 pub mod KeyLemmas
 pub mod LedLemmas
+pub mod EntryTypes
 pub mod FoundLemmas
 pub mod TableLemmas
 pub mod MarkLemmas
@@ -16,3 +17,4 @@ pub mod TellLemmas
 pub mod PortStartLemmas
 pub mod ClockStartLemmas
 pub mod ClassLemmas
+pub mod AnswerLemmas

@@ -6,9 +6,7 @@ use Rattle.std.proofs.lemmas.Bool.Decides.{nat_tests}
 use Rattle.std.proofs.lemmas.List.{take_all}
 use Rattle.std.proofs.lemmas.List.Folds.{list_any-append}
 use Rattle.toml.specs.Data.{Data, Items, Members, as_array, as_table, get_member}
-use Rattle.ptpm_script.specs.declared.link_entries.EndEntry.{EndEntry}
 use Rattle.ptpm_script.specs.declared.net_error.NetError.TheVariants.{TooMany}
-use Rattle.ptpm_script.specs.declared.session_entries.SessionEntry.{SessionEntry}
 use Rattle.ptpm_script.specs.declared.shapes.Kind.TheVariants as kinds
 use Rattle.ptpm_script.specs.Document.{passes}
 use Rattle.ptpm_script.specs.Entries.{ClockEntryValue}
@@ -20,6 +18,7 @@ use Rattle.ptpm_check.specs.Heads.{SessionHeadValue, clock_in, clocks_of, ends_i
 use Rattle.ptpm_check.specs.LimitFaults.{count_marks, has_target, is_crowded, limit_marks, link_size_marks, manager_marks, managers_of, size_marks}
 use Rattle.ptpm_check.specs.LimitFaults.{has_bad_size as bad_size}
 use Rattle.ptpm_check.specs.Marks.{each, each_after, in_file, in_table, many}
+use Rattle.ptpm_check.proofs.EntryTypes.{EndEntry, SessionEntry}
 use Rattle.ptpm_check.proofs.FileShapeLemmas.{IsFile}
 use Rattle.ptpm_check.proofs.FoundLemmas.{Pairs, count-any, found, found-append, or_same, pairs-append, pairs-count, pairs-each, pairs-with}
 use Rattle.ptpm_check.proofs.HeadLemmas.{IsClock, IsEnd, IsLink, IsSession, clock-is, ends-are, link-is, pairs-flat, pairs-length, pairs-made, pairs-read, session-is}

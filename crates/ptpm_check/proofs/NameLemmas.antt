@@ -3,12 +3,9 @@ use Rattle.std.proofs.Common.{arith, ◌≡◌, ℕ, ◌+◌, zero, suc, ◌==�
 use Rattle.std.specs.List.{list_all, list_any, position_from}
 use Rattle.std.proofs.lemmas.Bool.Decides.{nat_tests}
 use Rattle.toml.specs.Data.{Data, Members, as_table, get_member}
-use Rattle.ptpm_script.specs.declared.clock_entries.PortEntry.{PortEntry}
-use Rattle.ptpm_script.specs.declared.link_entries.EndEntry.{EndEntry}
 use Rattle.ptpm_script.specs.declared.net_error.NetError.TheVariants.{NoSuchName}
 use Rattle.ptpm_script.specs.declared.network.End.{End}
 use Rattle.ptpm_script.specs.declared.network.End.TheVariants as ends
-use Rattle.ptpm_script.specs.declared.session_entries.SessionEntry.{SessionEntry}
 use Rattle.ptpm_script.specs.Document.{passes}
 use Rattle.ptpm_script.specs.Entries.{ClockEntryValue}
 use Rattle.ptpm_script.specs.NetworkFile.{port_entry, port_rules, session_rules}
@@ -18,6 +15,7 @@ use Rattle.ptpm_check.specs.Heads.{ClockHeadValue, EndHeadValue, SessionHeadValu
 use Rattle.ptpm_check.specs.Marks.{at_item, each, in_port}
 use Rattle.ptpm_check.specs.NameFaults.{clock_named, clock_past_ports, end_name_marks, if_ports, is_no_clock, is_no_end, is_past, lacks, name_marks, past_members, past_port, past_ports, ports_of, target_marks}
 use Rattle.ptpm_check.specs.RepeatFaults.{is_clock_name, is_session_name}
+use Rattle.ptpm_check.proofs.EntryTypes.{EndEntry, PortEntry, SessionEntry}
 use Rattle.ptpm_check.proofs.FoundLemmas.{Pairs, any-same, found, found-append, not_both, or_same, pairs-any, pairs-each, pairs-found}
 use Rattle.ptpm_check.proofs.HeadLemmas.{IsClock, IsEnd, IsPort, IsSession, pairs-read, port-is}
 use Rattle.ptpm_check.proofs.MarkLemmas.{mark-found, value-found}

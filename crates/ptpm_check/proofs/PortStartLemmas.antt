@@ -19,7 +19,6 @@ use Rattle.ptpm_data.specs.declared.port_setting.PortSetting.TheVariants as sett
 use Rattle.ptpm_data.specs.declared.start.PortStart.{PortStart}
 use Rattle.ptpm_data.specs.declared.start.StartError.{StartError}
 use Rattle.ptpm_data.specs.declared.start.StartError.TheVariants.{BadValue}
-use Rattle.ptpm_script.specs.declared.clock_entries.PortEntry.{PortEntry}
 use Rattle.ptpm_script.specs.declared.net_error.NetError.TheVariants.{BadClock}
 use Rattle.ptpm_script.specs.NetworkFile.{port_over, port_start}
 use Rattle.ptpm_script.specs.NetworkText.{has_like, same_number, start_of_port}
@@ -27,6 +26,7 @@ use Rattle.ptpm_script.specs.Values.{integer_at, natural_at, natural_up_to, sign
 use Rattle.ptpm_check.specs.Faults.{IsAmong}
 use Rattle.ptpm_check.specs.Marks.{Mark, Spot, each, in_port}
 use Rattle.ptpm_check.specs.StartFaults.{fails, member_mark_if, port_fails, port_member_marks, port_ranges, port_start_marks, port_start_members, some_clock}
+use Rattle.ptpm_check.proofs.EntryTypes.{PortEntry}
 use Rattle.ptpm_check.proofs.FoundLemmas.{Pairs, found, or_same, pairs-each}
 use Rattle.ptpm_check.proofs.HeadLemmas.{IsPort}
 use Rattle.ptpm_check.proofs.TellLemmas.{Tells, among-left, among-right, or_none, told_found, tells-append, tells-value}

@@ -6,10 +6,7 @@ use Rattle.toml.specs.Data.{Data, as_table, Members, get_member}
 use Rattle.ptpm_codec.specs.Identity.{same_clock, same_identity}
 use Rattle.ptpm_codec.specs.declared.identity.ClockIdentity.{ClockIdentity}
 use Rattle.ptpm_codec.specs.declared.identity.PortIdentity.{PortIdentity}
-use Rattle.ptpm_script.specs.declared.clock_entries.PortEntry.{PortEntry}
-use Rattle.ptpm_script.specs.declared.link_entries.EndEntry.{EndEntry}
 use Rattle.ptpm_script.specs.declared.net_error.NetError.TheVariants.{Twice}
-use Rattle.ptpm_script.specs.declared.session_entries.SessionEntry.{SessionEntry}
 use Rattle.ptpm_script.specs.Document.{passes}
 use Rattle.ptpm_script.specs.Entries.{ClockEntryValue}
 use Rattle.ptpm_script.specs.NetworkFile.{clock_rules, port_entry, port_rules, session_rules}
@@ -17,6 +14,7 @@ use Rattle.ptpm_script.specs.NetworkText.{has_like, is_clock, same_end, same_nam
 use Rattle.ptpm_check.specs.Heads.{ClockHeadValue, EndHeadValue, SessionHeadValue, items_at, list_of}
 use Rattle.ptpm_check.specs.Marks.{Mark, at_item, each_after, in_port}
 use Rattle.ptpm_check.specs.RepeatFaults.{clock_repeats, end_repeats, is_clock_identity, is_clock_name, is_number_of, is_same_end, is_session_identity, is_session_name, members_number, number_in, port_members_repeats, port_repeats, repeat_marks, session_repeats, twice_if}
+use Rattle.ptpm_check.proofs.EntryTypes.{EndEntry, PortEntry, SessionEntry}
 use Rattle.ptpm_check.proofs.FoundLemmas.{Pairs, any-map, any-none, any-or, any-same, found, found-after, found-append, or_assoc, or_both, or_same, pairs-any}
 use Rattle.ptpm_check.proofs.HeadLemmas.{IsClock, IsEnd, IsPort, IsSession, pairs-read, port-is}
 use Rattle.ptpm_check.proofs.MarkLemmas.{mark-found, value-found}

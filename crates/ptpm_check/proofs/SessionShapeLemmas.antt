@@ -7,7 +7,6 @@ use Rattle.ptpm_codec.specs.declared.identity.PortIdentity.{PortIdentity}
 use Rattle.ptpm_data.specs.declared.rights.Rights.{Rights}
 use Rattle.ptpm_script.specs.declared.net_error.NetError.{NetError}
 use Rattle.ptpm_script.specs.declared.net_error.NetError.TheVariants.{BadShape}
-use Rattle.ptpm_script.specs.declared.session_entries.SessionEntry.{SessionEntry}
 use Rattle.ptpm_script.specs.declared.shapes.Kind.TheVariants as kinds
 use Rattle.ptpm_script.specs.Document.{is_shaped, passes, table_of}
 use Rattle.ptpm_script.specs.Entries.{read_all}
@@ -18,6 +17,7 @@ use Rattle.ptpm_check.specs.Heads.{items_at, list_of, list_or_none}
 use Rattle.ptpm_check.specs.KeyFaults.{table_marks}
 use Rattle.ptpm_check.specs.Marks.{Mark, Spot, at_item, each, each_after, in_table, mark_if}
 use Rattle.ptpm_check.specs.ShapeFaults.{is_bad_right, right_in, right_marks, rights_marks, session_marks, version_marks}
+use Rattle.ptpm_check.proofs.EntryTypes.{SessionEntry}
 use Rattle.ptpm_check.proofs.FoundLemmas.{found, found-append, found-each, not_both, or_false, or_same, or_true}
 use Rattle.ptpm_check.proofs.MarkLemmas.{mark-found}
 use Rattle.ptpm_check.proofs.ShapeLemmas.{IsTable, table-case, table-found}

@@ -3,10 +3,7 @@ use Rattle.std.proofs.Common.{arith, ◌≡◌, ℕ, pos, nat_le, Bool, true, fa
 use Rattle.std.specs.List.{list_any}
 use Rattle.toml.specs.Data.{Data, as_array, as_str, as_table, Items, no_items, item, Members, get_member}
 use Rattle.ptpm_codec.specs.declared.identity.ClockIdentity.{ClockIdentity}
-use Rattle.ptpm_script.specs.declared.clock_entries.PortEntry.{PortEntry}
-use Rattle.ptpm_script.specs.declared.link_entries.EndEntry.{EndEntry}
 use Rattle.ptpm_script.specs.declared.net_error.NetError.TheVariants.{BadShape}
-use Rattle.ptpm_script.specs.declared.session_entries.SessionEntry.{SessionEntry}
 use Rattle.ptpm_script.specs.declared.shapes.Kind.TheVariants as kinds
 use Rattle.ptpm_script.specs.Document.{KeyRule, end_of, is_shaped, shaped, table_of}
 use Rattle.ptpm_script.specs.Entries.{ClockEntryValue, entries_at, read_all}
@@ -17,6 +14,7 @@ use Rattle.ptpm_check.specs.Heads.{items_at, items_in, list_of, members_items}
 use Rattle.ptpm_check.specs.KeyFaults.{has_none, key_marks, members_marks, missing_keys, shape_mark, table_marks, wrong_keys}
 use Rattle.ptpm_check.specs.Marks.{Mark, Spot, absent, at_item, at_key, each, in_table, mark_if}
 use Rattle.ptpm_check.specs.ShapeFaults.{clock_marks, end_marks, link_marks, port_marks, ports_marks}
+use Rattle.ptpm_check.proofs.EntryTypes.{EndEntry, PortEntry, SessionEntry}
 use Rattle.ptpm_check.proofs.FoundLemmas.{found, found-append, found-each, found-map, or_same}
 use Rattle.ptpm_check.proofs.KeyLemmas.{keys-told}
 use Rattle.ptpm_check.proofs.TableLemmas.{array-at, clock_given, given, port_given, whole_given}
