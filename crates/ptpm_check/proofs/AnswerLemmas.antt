@@ -1,5 +1,5 @@
 -- What is found in a text answers to what the text is: nothing in a network, and something of its refusal in a text that is refused.
-use Rattle.std.proofs.Common.{◌≡◌, ℕ, nat_lt, Bool, true, false, not, ◌&&◌, ◌||◌, ◌⊎◌, inl, inr, if◌then◌else◌, List, [], ◌∷◌, ◌++◌, Option, Some, None, Result, Ok, Err, IsOk, ◌↔◌, refl, ap, sym, subst, ◌∙◌, is_some, flat_map, length, option_map}
+use Rattle.std.proofs.Common.{◌≡◌, ℕ, nat_lt, Bool, true, false, not, ◌||◌, ◌⊎◌, inl, inr, if◌then◌else◌, List, [], ◌∷◌, ◌++◌, Option, Some, None, Result, Ok, Err, IsOk, ◌↔◌, refl, ap, sym, subst, ◌∙◌, is_some, flat_map, length, option_map}
 use Rattle.std.specs.List.{list_all, list_any}
 use Rattle.std.proofs.lemmas.Bool.{and_parts, or_from, or_left, or_parts, or_right}
 use Rattle.std.proofs.lemmas.List.Folds.{list_any-append}
@@ -52,13 +52,20 @@ made_next : {A B : Type 0} (make : A → Result B NetError) (x : A) (xs : List A
 made_next make x xs bad later e (inl h) k =
     inl (or_left bad later h.0, ap (λ r. and_then r (λ b. and_then (map_all make xs) (λ found. Ok (b ∷ found)))) h.1)
 made_next make x xs bad later e (inr h) (inl k) =
-    inl (or_right bad later k.0,
-        ap (λ r. and_then r (λ b. and_then (map_all make xs) (λ found. Ok (b ∷ found)))) h.1.1
-        ∙ ap (λ r. and_then r (λ found. Ok (h.1.0 ∷ found))) k.1)
+    inl (
+      or_right bad later k.0,
+      ap (λ r. and_then r (λ b. and_then (map_all make xs) (λ found. Ok (b ∷ found)))) h.1.1
+          ∙ ap (λ r. and_then r (λ found. Ok (h.1.0 ∷ found))) k.1,
+    )
 made_next make x xs bad later e (inr h) (inr k) =
-    inr (or_from bad later h.0 k.0, (h.1.0 ∷ k.1.0,
+    inr (
+      or_from bad later h.0 k.0,
+      (
+        h.1.0 ∷ k.1.0,
         ap (λ r. and_then r (λ b. and_then (map_all make xs) (λ found. Ok (b ∷ found)))) h.1.1
-        ∙ ap (λ r. and_then r (λ found. Ok (h.1.0 ∷ found))) k.1.1))
+            ∙ ap (λ r. and_then r (λ found. Ok (h.1.0 ∷ found))) k.1.1,
+      ),
+    )
 
 all_made : {A B : Type 0} (make : A → Result B NetError) (bad : A → Bool) (e : NetError)
     → ((x : A) → Made (bad x) e (make x))
@@ -73,7 +80,7 @@ link_made : (cs : List ClockEntryValue) (ss : List SessionEntry) (link : List En
 unfolding link_of
 link_made cs ss link =
     all_made (λ e. given (end_by_place cs ss e) NoSuchName) (λ e. not (is_some (end_by_place cs ss e))) NoSuchName
-        (λ e. given_made (end_by_place cs ss e) NoSuchName) link
+    (λ e. given_made (end_by_place cs ss e) NoSuchName) link
 
 any_flat : {A : Type 0} (bad : A → Bool) (xs : List (List A)) → list_any (λ l. list_any bad l) xs ≡ list_any bad (flat_map (λ l. l) xs)
 any_flat bad [] = refl
@@ -83,7 +90,7 @@ links_made : (cs : List ClockEntryValue) (ss : List SessionEntry) (links : List 
     → Made (list_any (λ e. not (is_some (end_by_place cs ss e))) (all_ends links)) NoSuchName (map_all (link_of cs ss) links)
 links_made cs ss links =
     subst (λ b. Made b NoSuchName (map_all (link_of cs ss) links)) (any_flat (λ e. not (is_some (end_by_place cs ss e))) links)
-        (all_made (link_of cs ss) (λ link. list_any (λ e. not (is_some (end_by_place cs ss e))) link) NoSuchName (link_made cs ss) links)
+    (all_made (link_of cs ss) (λ link. list_any (λ e. not (is_some (end_by_place cs ss e))) link) NoSuchName (link_made cs ss) links)
 
 mapped_some : {A B : Type 0} (f : A → B) (o : Option A) → is_some (option_map f o) ≡ is_some o
 mapped_some f None = refl
@@ -93,8 +100,8 @@ session_made : (cs : List ClockEntryValue) (s : SessionEntry) → Made (not (is_
 unfolding session_of
 session_made cs s =
     subst (λ b. Made (not b) NoSuchName (given (option_map (session_at s) (clock_place cs s.target)) NoSuchName))
-        (mapped_some (session_at s) (clock_place cs s.target))
-        (given_made (option_map (session_at s) (clock_place cs s.target)) NoSuchName)
+    (mapped_some (session_at s) (clock_place cs s.target))
+    (given_made (option_map (session_at s) (clock_place cs s.target)) NoSuchName)
 
 -- ---- clocks
 
@@ -120,18 +127,27 @@ clock_next : (c : ClockEntryValue) (cs : List ClockEntryValue) (h : ClockHeadVal
     → Started (map_all clock_of cs) (flat_map clock_start_marks hs)
     → Started (map_all clock_of (c ∷ cs)) (clock_start_marks h ++ flat_map clock_start_marks hs)
 clock_next c cs h hs (Some e) is told later =
-    inr (e, ap (λ r. and_then r (λ b. and_then (map_all clock_of cs) (λ found. Ok (b ∷ found)))) (clock_some c e is),
-        among-left (BadClock e) (clock_start_marks h) (flat_map clock_start_marks hs) told)
+    inr (
+      e,
+      ap (λ r. and_then r (λ b. and_then (map_all clock_of cs) (λ found. Ok (b ∷ found)))) (clock_some c e is),
+      among-left (BadClock e) (clock_start_marks h) (flat_map clock_start_marks hs) told,
+    )
 clock_next c cs h hs None is told (inl later) =
-    inl (found-append (clock_start_marks h) (flat_map clock_start_marks hs) ∙ or_from (found (clock_start_marks h)) (found (flat_map clock_start_marks hs)) told later.0,
-        (record { name = c.name; start = c.start; ports = all_ports c } ∷ later.1.0,
-            ap (λ r. and_then r (λ b. and_then (map_all clock_of cs) (λ found. Ok (b ∷ found)))) (clock_none c is)
-            ∙ ap (λ r. and_then r (λ found. Ok (record { name = c.name; start = c.start; ports = all_ports c } ∷ found))) later.1.1))
-clock_next c cs h hs None is told (inr later) =
-    inr (later.0,
+    inl (
+      found-append (clock_start_marks h) (flat_map clock_start_marks hs) ∙ or_from (found (clock_start_marks h)) (found (flat_map clock_start_marks hs)) told later.0,
+      (
+        record { name = c.name; start = c.start; ports = all_ports c } ∷ later.1.0,
         ap (λ r. and_then r (λ b. and_then (map_all clock_of cs) (λ found. Ok (b ∷ found)))) (clock_none c is)
-        ∙ ap (λ r. and_then r (λ found. Ok (record { name = c.name; start = c.start; ports = all_ports c } ∷ found))) later.1,
-        among-right (BadClock later.0) (clock_start_marks h) (flat_map clock_start_marks hs) later.2)
+            ∙ ap (λ r. and_then r (λ found. Ok (record { name = c.name; start = c.start; ports = all_ports c } ∷ found))) later.1.1,
+      ),
+    )
+clock_next c cs h hs None is told (inr later) =
+    inr (
+      later.0,
+      ap (λ r. and_then r (λ b. and_then (map_all clock_of cs) (λ found. Ok (b ∷ found)))) (clock_none c is)
+          ∙ ap (λ r. and_then r (λ found. Ok (record { name = c.name; start = c.start; ports = all_ports c } ∷ found))) later.1,
+      among-right (BadClock later.0) (clock_start_marks h) (flat_map clock_start_marks hs) later.2,
+    )
 
 clocks_start : (cs : List ClockEntryValue) (hs : List ClockHeadValue) → Pairs IsClock cs hs
     → list_any (λ c. has_like same_number c.ports) cs ≡ false
@@ -144,7 +160,7 @@ clocks_start (c ∷ cs) (h ∷ hs) beside once own =
     let single = or_parts (has_like same_number c.ports) (list_any (λ k. has_like same_number k.ports) cs) once in
     let there = and_parts (has_own_ports c) (list_all has_own_ports cs) own in
     clock_next c cs h hs (start_fault c.start (all_ports c)) refl (clock-tells c h beside.0 single.0 there.0)
-        (clocks_start cs hs beside.1 single.1 there.1)
+    (clocks_start cs hs beside.1 single.1 there.1)
 
 -- ---- a document that has a meaning
 
@@ -216,13 +232,12 @@ file_started : (f : FileValue) (hs : List ClockHeadValue) (s l r n : List Mark) 
 unfolding placed
 file_started f hs s l r n links sessions clear no_n at_links at_sessions (inl k) =
     subst (λ o. Answers (refusal_of o) (Five s l r n (flat_map clock_start_marks hs)))
-        (sym (placed_by f (Ok links) (Ok sessions) (Ok k.1.0) at_links at_sessions k.1.1))
-        (five_none s l r n (flat_map clock_start_marks hs) clear.no_shape clear.no_limits clear.no_repeats no_n k.0)
+    (sym (placed_by f (Ok links) (Ok sessions) (Ok k.1.0) at_links at_sessions k.1.1))
+    (five_none s l r n (flat_map clock_start_marks hs) clear.no_shape clear.no_limits clear.no_repeats no_n k.0)
 file_started f hs s l r n links sessions clear no_n at_links at_sessions (inr k) =
     subst (λ o. Answers (refusal_of o) (Five s l r n (flat_map clock_start_marks hs)))
-        (sym (placed_by f (Ok links) (Ok sessions) (Err (BadClock k.0)) at_links at_sessions k.1))
-        (among-right (BadClock k.0) (s ++ l ++ r ++ n) (flat_map clock_start_marks hs) k.2)
-
+    (sym (placed_by f (Ok links) (Ok sessions) (Err (BadClock k.0)) at_links at_sessions k.1))
+    (among-right (BadClock k.0) (s ++ l ++ r ++ n) (flat_map clock_start_marks hs) k.2)
 
 file_sessions : (f : FileValue) (hs : List ClockHeadValue) (s l r n : List Mark) (links : List (List End))
     → Clear f s l r
@@ -234,8 +249,8 @@ file_sessions : (f : FileValue) (hs : List ClockHeadValue) (s l r n : List Mark)
     → Answers (refusal_of (placed f)) (Five s l r n (flat_map clock_start_marks hs))
 file_sessions f hs s l r n links clear first names at_links (inl k) start =
     subst (λ o. Answers (refusal_of o) (Five s l r n (flat_map clock_start_marks hs)))
-        (sym (placed_by f (Ok links) (Err NoSuchName) (map_all clock_of f.clocks) at_links k.1 refl))
-        (five_names NoSuchName s l r n (flat_map clock_start_marks hs) clear.no_shape clear.no_limits clear.no_repeats (first (names ∙ k.0)))
+    (sym (placed_by f (Ok links) (Err NoSuchName) (map_all clock_of f.clocks) at_links k.1 refl))
+    (five_names NoSuchName s l r n (flat_map clock_start_marks hs) clear.no_shape clear.no_limits clear.no_repeats (first (names ∙ k.0)))
 file_sessions f hs s l r n links clear first names at_links (inr k) start =
     file_started f hs s l r n links k.1.0 clear (names ∙ k.0) at_links k.1.1 start
 
@@ -249,12 +264,12 @@ file_links : (f : FileValue) (hs : List ClockHeadValue) (s l r n : List Mark)
     → Answers (refusal_of (placed f)) (Five s l r n (flat_map clock_start_marks hs))
 file_links f hs s l r n clear first names (inl k) sessions start =
     subst (λ o. Answers (refusal_of o) (Five s l r n (flat_map clock_start_marks hs)))
-        (sym (placed_by f (Err NoSuchName) (map_all (session_of f.clocks) f.sessions) (map_all clock_of f.clocks) k.1 refl refl))
-        (five_names NoSuchName s l r n (flat_map clock_start_marks hs) clear.no_shape clear.no_limits clear.no_repeats
-            (first (names ∙ or_right (list_any (no_target f.clocks) f.sessions) (list_any (no_end f.clocks f.sessions) (all_ends f.links)) k.0)))
+    (sym (placed_by f (Err NoSuchName) (map_all (session_of f.clocks) f.sessions) (map_all clock_of f.clocks) k.1 refl refl))
+    (five_names NoSuchName s l r n (flat_map clock_start_marks hs) clear.no_shape clear.no_limits clear.no_repeats
+    (first (names ∙ or_right (list_any (no_target f.clocks) f.sessions) (list_any (no_end f.clocks f.sessions) (all_ends f.links)) k.0)))
 file_links f hs s l r n clear first names (inr k) sessions start =
     file_sessions f hs s l r n k.1.0 clear first
-        (names ∙ ap (λ b. list_any (no_target f.clocks) f.sessions || b) k.0 ∙ or_false (list_any (no_target f.clocks) f.sessions)) k.1.1 sessions start
+    (names ∙ ap (λ b. list_any (no_target f.clocks) f.sessions || b) k.0 ∙ or_false (list_any (no_target f.clocks) f.sessions)) k.1.1 sessions start
 
 abbrev network_if : FileValue → Bool → Bool → Bool → Result NetworkValue NetError
 network_if f many twice own = if many then Err TooMany else if twice then Err Twice else if own then placed f else Err NoSuchName
@@ -328,18 +343,18 @@ file_there : (ms : Members) (f : FileValue) (own : Bool)
     → AnswersTo ms f
 file_there ms f false clear few once there h first names =
     subst (λ o. Answers (refusal_of o) (Five (shape_marks ms) (limit_part ms) (repeat_part ms) (name_part ms) (flat_map clock_start_marks (clocks_of ms))))
-        (sym (network_by f false false false few once there))
-        (five_names NoSuchName (shape_marks ms) (limit_part ms) (repeat_part ms) (name_part ms) (flat_map clock_start_marks (clocks_of ms))
-            clear.no_shape clear.no_limits clear.no_repeats
-            (first (names ∙ ap (λ b. not b || list_any (no_target f.clocks) f.sessions || list_any (no_end f.clocks f.sessions) (all_ends f.links)) there)))
+    (sym (network_by f false false false few once there))
+    (five_names NoSuchName (shape_marks ms) (limit_part ms) (repeat_part ms) (name_part ms) (flat_map clock_start_marks (clocks_of ms))
+    clear.no_shape clear.no_limits clear.no_repeats
+    (first (names ∙ ap (λ b. not b || list_any (no_target f.clocks) f.sessions || list_any (no_end f.clocks f.sessions) (all_ends f.links)) there)))
 file_there ms f true clear few once there h first names =
     subst (λ o. Answers (refusal_of o) (Five (shape_marks ms) (limit_part ms) (repeat_part ms) (name_part ms) (flat_map clock_start_marks (clocks_of ms))))
-        (sym (network_by f false false true few once there))
-        (file_links f (clocks_of ms) (shape_marks ms) (limit_part ms) (repeat_part ms) (name_part ms) clear first
-            (names ∙ ap (λ b. not b || list_any (no_target f.clocks) f.sessions || list_any (no_end f.clocks f.sessions) (all_ends f.links)) there)
-            (links_made f.clocks f.sessions f.links)
-            (all_made (session_of f.clocks) (no_target f.clocks) NoSuchName (session_made f.clocks) f.sessions)
-            (clocks_start f.clocks (clocks_of ms) h.clocks clear.once there))
+    (sym (network_by f false false true few once there))
+    (file_links f (clocks_of ms) (shape_marks ms) (limit_part ms) (repeat_part ms) (name_part ms) clear first
+    (names ∙ ap (λ b. not b || list_any (no_target f.clocks) f.sessions || list_any (no_end f.clocks f.sessions) (all_ends f.links)) there)
+    (links_made f.clocks f.sessions f.links)
+    (all_made (session_of f.clocks) (no_target f.clocks) NoSuchName (session_made f.clocks) f.sessions)
+    (clocks_start f.clocks (clocks_of ms) h.clocks clear.once there))
 
 file_own : (ms : Members) (f : FileValue) (own : Bool) → IsFile ms f
     → found (shape_marks ms) ≡ false
@@ -370,9 +385,9 @@ file_twice ms f false k no_shape few is h = file_own ms f (list_all has_own_port
 file_twice ms f true k no_shape few is h =
     let some = repeats-found f.clocks (clocks_of ms) f.sessions (sessions_of ms) (all_ends f.links) (ends_of ms) h.clocks h.sessions h.ends ∙ twice_is f ∙ is in
     subst (λ o. Answers (refusal_of o) (Five (shape_marks ms) (limit_part ms) (repeat_part ms) (name_part ms) (flat_map clock_start_marks (clocks_of ms))))
-        (sym (network_by f false true (list_all has_own_ports f.clocks) few is refl))
-        (five_repeats Twice (shape_marks ms) (limit_part ms) (repeat_part ms) (name_part ms) (flat_map clock_start_marks (clocks_of ms)) no_shape (limits-found ms f k ∙ few)
-            (first-of Twice (repeat_part ms) some (repeats-of (clocks_of ms) (sessions_of ms) (ends_of ms))))
+    (sym (network_by f false true (list_all has_own_ports f.clocks) few is refl))
+    (five_repeats Twice (shape_marks ms) (limit_part ms) (repeat_part ms) (name_part ms) (flat_map clock_start_marks (clocks_of ms)) no_shape (limits-found ms f k ∙ few)
+    (first-of Twice (repeat_part ms) some (repeats-of (clocks_of ms) (sessions_of ms) (ends_of ms))))
 
 file_many : (ms : Members) (f : FileValue) (many : Bool) → IsFile ms f
     → found (shape_marks ms) ≡ false
@@ -381,9 +396,9 @@ file_many : (ms : Members) (f : FileValue) (many : Bool) → IsFile ms f
 file_many ms f false k no_shape is = file_twice ms f (has_twice f) k no_shape is refl (held ms f k is)
 file_many ms f true k no_shape is =
     subst (λ o. Answers (refusal_of o) (Five (shape_marks ms) (limit_part ms) (repeat_part ms) (name_part ms) (flat_map clock_start_marks (clocks_of ms))))
-        (sym (network_by f true (has_twice f) (list_all has_own_ports f.clocks) is refl refl))
-        (five_limits TooMany (shape_marks ms) (limit_part ms) (repeat_part ms) (name_part ms) (flat_map clock_start_marks (clocks_of ms)) no_shape
-            (first-of TooMany (limit_part ms) (limits-found ms f k ∙ is) (limits-of ms (sessions_of ms))))
+    (sym (network_by f true (has_twice f) (list_all has_own_ports f.clocks) is refl refl))
+    (five_limits TooMany (shape_marks ms) (limit_part ms) (repeat_part ms) (name_part ms) (flat_map clock_start_marks (clocks_of ms)) no_shape
+    (first-of TooMany (limit_part ms) (limits-found ms f k ∙ is) (limits-of ms (sessions_of ms))))
 
 -- ---- a document
 
@@ -395,11 +410,11 @@ file_case : (ms : Members) (o : Option FileValue) → file_of ms ≡ o
     → Answers (refusal_of (and_then (given o BadShape) network_of_file)) (file_marks ms)
 file_case ms None is =
     subst (IsFirst BadShape) (parts_of ms)
-        (five_shape BadShape (shape_marks ms) (limit_part ms) (repeat_part ms) (name_part ms) (flat_map clock_start_marks (clocks_of ms))
-            (first-of BadShape (shape_marks ms) (shape-found ms ∙ ap (λ o. not (is_some o)) is) (shape-of ms)))
+    (five_shape BadShape (shape_marks ms) (limit_part ms) (repeat_part ms) (name_part ms) (flat_map clock_start_marks (clocks_of ms))
+    (first-of BadShape (shape_marks ms) (shape-found ms ∙ ap (λ o. not (is_some o)) is) (shape-of ms)))
 file_case ms (Some f) is =
     subst (Answers (refusal_of (network_of_file f))) (parts_of ms)
-        (file_many ms f (has_too_many f) (file-parts ms f is) (shape-found ms ∙ ap (λ o. not (is_some o)) is) refl)
+    (file_many ms f (has_too_many f) (file-parts ms f is) (shape-found ms ∙ ap (λ o. not (is_some o)) is) refl)
 
 -- ---- a text
 
@@ -410,7 +425,7 @@ text_case (Some ms) = file_case ms (file_of ms) refl
 
 long_case : (text : List ℕ) (long : Bool)
     → Answers (refusal_of (if long then Err TooLong else and_then (given (parse_document text) NotToml) (λ ms. and_then (given (file_of ms) BadShape) network_of_file)))
-        (if long then long_marks else marks_of_document (parse_document text))
+    (if long then long_marks else marks_of_document (parse_document text))
 long_case text true = refl
 long_case text false = text_case (parse_document text)
 
@@ -431,3 +446,11 @@ network_clear (Err refusal) marks h is = cc
 pub none-found : (text : List ℕ) → IsOk (network_of text) ↔ (text_marks text ≡ [])
 none-found text =
     (network_clear (network_of text) (text_marks text) (faults-answer text), clear_network (network_of text) (text_marks text) (faults-answer text))
+
+-- of what a text was judged to be
+pub judged-answers : (text : List ℕ) (refusal : Option NetError) (marks : List Mark)
+    → refusal ≡ refusal_of (network_of text)
+    → marks ≡ text_marks text
+    → Answers refusal marks
+judged-answers text refusal marks why what =
+    subst (λ r. Answers r marks) (sym why) (subst (Answers (refusal_of (network_of text))) (sym what) (faults-answer text))

@@ -1,5 +1,5 @@
 -- Which refusal the marks of each part are of.
-use Rattle.std.proofs.Common.{◌≡◌, ℕ, ◌+◌, ◌==◌, nat_lt, Bool, true, false, ◌&&◌, if◌then◌else◌, List, [], ◌∷◌, ◌++◌, Option, Some, None, refl, codes, is_none, is_some, length, map, option_map, option_and_then}
+use Rattle.std.proofs.Common.{ℕ, ◌+◌, ◌==◌, nat_lt, Bool, true, false, ◌&&◌, if◌then◌else◌, List, [], ◌∷◌, Option, Some, None, refl, codes, is_none, is_some, length, map, option_map, option_and_then}
 use Rattle.std.specs.List.{list_any}
 use Rattle.toml.specs.Data.{Data, Members, as_array, as_str, as_table, get_member}
 use Rattle.ptpm_script.specs.declared.net_error.NetError.TheVariants.{BadShape, NoSuchName, TooMany, Twice}
@@ -10,9 +10,9 @@ use Rattle.ptpm_check.specs.declared.place.Array.TheVariants as arrays
 use Rattle.ptpm_check.specs.Heads.{ClockHeadValue, EndHeadValue, SessionHeadValue, items_at, items_in}
 use Rattle.ptpm_check.specs.KeyFaults.{key_marks, members_marks, missing_keys, missing_marks, shape_mark, table_marks, wrong_keys, wrong_marks}
 use Rattle.ptpm_check.specs.LimitFaults.{count_marks, has_bad_size, is_crowded, limit_marks, link_size_marks, manager_marks, size_marks}
-use Rattle.ptpm_check.specs.Marks.{Mark, Spot, absent, at_item, at_key, each, each_after, in_file, in_port, in_table, many, whole}
+use Rattle.ptpm_check.specs.Marks.{Spot, absent, at_item, at_key, each, each_after, in_file, in_port, in_table, many}
 use Rattle.ptpm_check.specs.NameFaults.{clock_past_ports, end_name_marks, is_no_clock, is_no_end, is_past, name_marks, past_members, past_port, past_ports, ports_of, target_marks}
-use Rattle.ptpm_check.specs.RepeatFaults.{clock_repeats, end_repeats, is_clock_identity, is_clock_name, is_number_of, is_same_end, is_session_identity, is_session_name, number_in, port_members_repeats, port_repeats, repeat_marks, session_repeats, twice_if}
+use Rattle.ptpm_check.specs.RepeatFaults.{clock_repeats, end_repeats, is_clock_identity, is_clock_name, is_number_of, is_same_end, is_session_identity, is_session_name, number_in, port_members_repeats, port_repeats, repeat_marks, session_repeats}
 use Rattle.ptpm_check.specs.ShapeFaults.{clock_marks, end_marks, is_bad_right, link_marks, port_marks, ports_marks, right_in, right_marks, rights_marks, session_marks, shape_marks, version_marks}
 use Rattle.ptpm_check.proofs.MarkLemmas.{Of, of-after, of-append, of-each, of-flat, of-map, of-mark, of-value}
 
@@ -22,8 +22,8 @@ keys_of : (spot : Spot) (rules : List KeyRule) (ms : Members) → Of BadShape (k
 unfolding key_marks
 keys_of spot rules ms =
     of-append BadShape (missing_marks spot rules ms) (wrong_marks spot rules ms)
-        (of-map BadShape (λ key. shape_mark spot (absent key)) (missing_keys rules ms) (λ key. refl))
-        (of-map BadShape (λ key. shape_mark spot (at_key key)) (wrong_keys rules ms) (λ key. refl))
+    (of-map BadShape (λ key. shape_mark spot (absent key)) (missing_keys rules ms) (λ key. refl))
+    (of-map BadShape (λ key. shape_mark spot (at_key key)) (wrong_keys rules ms) (λ key. refl))
 
 members_of : (spot : Spot) (rules : List KeyRule) (o : Option Members) → Of BadShape (members_marks spot rules o)
 members_of spot rules None = refl
@@ -37,7 +37,7 @@ clock_of : (n : ℕ) (d : Data) → Of BadShape (clock_marks n d)
 unfolding clock_marks
 clock_of n d =
     of-append BadShape (table_marks (in_table arrays.Clock n) clock_rules d) (ports_marks n d) (table_of (in_table arrays.Clock n) clock_rules d)
-        (of-each BadShape (port_marks n) 1 (items_in (codes "port") d) (λ k e. table_of (in_port n k) port_rules e))
+    (of-each BadShape (port_marks n) 1 (items_in (codes "port") d) (λ k e. table_of (in_port n k) port_rules e))
 
 version_if : (spot : Spot) (a b : Bool)
     → Of BadShape (if a then shape_mark spot (absent (codes "rights")) ∷ [] else if b then shape_mark spot (at_key (codes "rights")) ∷ [] else [])
@@ -50,32 +50,32 @@ unfolding version_marks right_marks
 rights_of spot version None = tt
 rights_of spot version (Some ms) =
     of-append BadShape (version_marks spot version (get_member (codes "rights") ms)) (each_after (right_marks spot) [] (items_at (codes "rights") ms))
-        (version_if spot (passes (λ v. v == 2) version && is_none (get_member (codes "rights") ms)) (passes (λ v. v == 1) version && is_some (get_member (codes "rights") ms)))
-        (of-after BadShape (right_marks spot) [] (items_at (codes "rights") ms)
-            (λ before d. of-mark (is_bad_right before (right_in d)) BadShape spot (at_item (codes "rights") (length before + 1))))
+    (version_if spot (passes (λ v. v == 2) version && is_none (get_member (codes "rights") ms)) (passes (λ v. v == 1) version && is_some (get_member (codes "rights") ms)))
+    (of-after BadShape (right_marks spot) [] (items_at (codes "rights") ms)
+    (λ before d. of-mark (is_bad_right before (right_in d)) BadShape spot (at_item (codes "rights") (length before + 1))))
 
 session_of : (version : Option ℕ) (n : ℕ) (d : Data) → Of BadShape (session_marks version n d)
 unfolding session_marks
 session_of version n d =
     of-append BadShape (table_marks (in_table arrays.Session n) session_rules d) (rights_marks (in_table arrays.Session n) version (as_table d))
-        (table_of (in_table arrays.Session n) session_rules d) (rights_of (in_table arrays.Session n) version (as_table d))
+    (table_of (in_table arrays.Session n) session_rules d) (rights_of (in_table arrays.Session n) version (as_table d))
 
 link_of : (n : ℕ) (d : Data) → Of BadShape (link_marks n d)
 unfolding link_marks
 link_of n d =
     of-append BadShape (table_marks (in_table arrays.Link n) link_rules d) (each (end_marks (in_table arrays.Link n)) 1 (items_in (codes "ends") d))
-        (table_of (in_table arrays.Link n) link_rules d)
-        (of-each BadShape (end_marks (in_table arrays.Link n)) 1 (items_in (codes "ends") d)
-            (λ k e. of-mark (is_none (option_and_then end_of (as_str e))) BadShape (in_table arrays.Link n) (at_item (codes "ends") k)))
+    (table_of (in_table arrays.Link n) link_rules d)
+    (of-each BadShape (end_marks (in_table arrays.Link n)) 1 (items_in (codes "ends") d)
+    (λ k e. of-mark (is_none (option_and_then end_of (as_str e))) BadShape (in_table arrays.Link n) (at_item (codes "ends") k)))
 
 pub shape-of : (ms : Members) → Of BadShape (shape_marks ms)
 unfolding shape_marks
 shape-of ms =
     let version = natural_at 65535 (codes "version") ms in
     of-append BadShape _ _ (of-append BadShape _ _ (of-append BadShape _ _ (keys_of in_file file_rules ms)
-        (of-each BadShape clock_marks 1 (items_at (codes "clock") ms) clock_of))
-        (of-each BadShape (session_marks version) 1 (items_at (codes "session") ms) (session_of version)))
-        (of-each BadShape link_marks 1 (items_at (codes "link") ms) link_of)
+    (of-each BadShape clock_marks 1 (items_at (codes "clock") ms) clock_of))
+    (of-each BadShape (session_marks version) 1 (items_at (codes "session") ms) (session_of version)))
+    (of-each BadShape link_marks 1 (items_at (codes "link") ms) link_of)
 
 -- ---- limits
 
@@ -98,11 +98,11 @@ pub limits-of : (ms : Members) (ss : List SessionHeadValue) → Of TooMany (limi
 unfolding limit_marks
 limits-of ms ss =
     of-append TooMany _ _ (of-append TooMany _ _ (of-append TooMany _ _ (of-append TooMany _ _
-        (count_of (codes "clocks") 64 (items_at (codes "clock") ms))
-        (count_of (codes "sessions") 256 (items_at (codes "session") ms)))
-        (count_of (codes "links") 256 (items_at (codes "link") ms)))
-        (of-each TooMany link_size_marks 1 (items_at (codes "link") ms) link_size_of))
-        (of-after TooMany (manager_marks ss) [] ss (manager_of ss))
+    (count_of (codes "clocks") 64 (items_at (codes "clock") ms))
+    (count_of (codes "sessions") 256 (items_at (codes "session") ms)))
+    (count_of (codes "links") 256 (items_at (codes "link") ms)))
+    (of-each TooMany link_size_marks 1 (items_at (codes "link") ms) link_size_of))
+    (of-after TooMany (manager_marks ss) [] ss (manager_of ss))
 
 -- ---- what is given twice
 
@@ -118,18 +118,18 @@ clock_repeats_of : (before : List ClockHeadValue) (c : ClockHeadValue) → Of Tw
 unfolding clock_repeats
 clock_repeats_of before c =
     of-append Twice _ _ (of-append Twice _ _
-        (of-after Twice (port_repeats c.number) [] (items_at (codes "port") c.table) (port_repeats_of c.number))
-        (of-value (passes (is_clock_name before) c.name) Twice c.spot (codes "name") c.table))
-        (of-value (passes (is_clock_identity before) c.identity) Twice c.spot (codes "identity") c.table)
+    (of-after Twice (port_repeats c.number) [] (items_at (codes "port") c.table) (port_repeats_of c.number))
+    (of-value (passes (is_clock_name before) c.name) Twice c.spot (codes "name") c.table))
+    (of-value (passes (is_clock_identity before) c.identity) Twice c.spot (codes "identity") c.table)
 
 session_repeats_of : (cs : List ClockHeadValue) (before : List SessionHeadValue) (s : SessionHeadValue) → Of Twice (session_repeats cs before s)
 unfolding session_repeats
 session_repeats_of cs before s =
     of-append Twice _ _ (of-append Twice _ _ (of-append Twice _ _
-        (of-value (passes (is_clock_name cs) s.name) Twice s.spot (codes "name") s.table)
-        (of-value (passes (is_session_name before) s.name) Twice s.spot (codes "name") s.table))
-        (of-value (passes (is_clock_identity cs) (option_map (λ i. i.clock) s.identity)) Twice s.spot (codes "identity") s.table))
-        (of-value (passes (is_session_identity before) s.identity) Twice s.spot (codes "identity") s.table)
+    (of-value (passes (is_clock_name cs) s.name) Twice s.spot (codes "name") s.table)
+    (of-value (passes (is_session_name before) s.name) Twice s.spot (codes "name") s.table))
+    (of-value (passes (is_clock_identity cs) (option_map (λ i. i.clock) s.identity)) Twice s.spot (codes "identity") s.table))
+    (of-value (passes (is_session_identity before) s.identity) Twice s.spot (codes "identity") s.table)
 
 end_repeats_of : (before : List EndHeadValue) (e : EndHeadValue) → Of Twice (end_repeats before e)
 unfolding end_repeats
@@ -139,9 +139,9 @@ pub repeats-of : (cs : List ClockHeadValue) (ss : List SessionHeadValue) (es : L
 unfolding repeat_marks
 repeats-of cs ss es =
     of-append Twice _ _ (of-append Twice _ _
-        (of-after Twice clock_repeats [] cs clock_repeats_of)
-        (of-after Twice (session_repeats cs) [] ss (session_repeats_of cs)))
-        (of-after Twice end_repeats [] es end_repeats_of)
+    (of-after Twice clock_repeats [] cs clock_repeats_of)
+    (of-after Twice (session_repeats cs) [] ss (session_repeats_of cs)))
+    (of-after Twice end_repeats [] es end_repeats_of)
 
 -- ---- names
 
@@ -170,6 +170,6 @@ pub names-of : (cs : List ClockHeadValue) (ss : List SessionHeadValue) (es : Lis
 unfolding name_marks
 names-of cs ss es =
     of-append NoSuchName _ _ (of-append NoSuchName _ _
-        (of-flat NoSuchName clock_past_ports cs clock_past_of)
-        (of-flat NoSuchName (target_marks cs) ss (target_of cs)))
-        (of-flat NoSuchName (end_name_marks cs ss) es (end_name_of cs ss))
+    (of-flat NoSuchName clock_past_ports cs clock_past_of)
+    (of-flat NoSuchName (target_marks cs) ss (target_of cs)))
+    (of-flat NoSuchName (end_name_marks cs ss) es (end_name_of cs ss))

@@ -1,20 +1,19 @@
 -- What is found of the start of a clock tells why the clock can't start.
-use Rattle.std.proofs.Common.{arith, ◌≡◌, ℕ, ◌+◌, ◌<◌, ◌≤◌, ◌==◌, nat_le, nat_lt, min, Bool, true, false, not, ◌&&◌, ◌||◌, ◌⊎◌, inl, inr, if◌then◌else◌, List, [], ◌∷◌, ◌++◌, Option, Some, None, Result, Ok, Err, refl, ap, sym, subst, ◌∙◌, is_some, is_err, bytes_eq, le-leb, le_refl, pos, codes, eq-eqb, flat_map, length, map, option_and_then, take, unwrap_or}
-use Rattle.std.specs.List.{list_all, list_any, range_with_len}
+use Rattle.std.proofs.Common.{arith, ◌≡◌, ℕ, ◌==◌, nat_le, nat_lt, min, Bool, true, false, not, ◌&&◌, ◌||◌, if◌then◌else◌, List, [], ◌∷◌, ◌++◌, Option, Some, None, refl, ap, sym, subst, ◌∙◌, is_some, bytes_eq, le-leb, le_refl, pos, codes, eq-eqb, length, map, option_and_then, take, unwrap_or}
+use Rattle.std.specs.List.{list_all, range_with_len}
 use Rattle.std.specs.Option.{option_or}
 use Rattle.std.specs.Str.{chars, is_utf8}
-use Rattle.std.proofs.lemmas.Bool.{and_parts, eqb-true, or_from, or_parts}
 use Rattle.std.proofs.lemmas.Bool.Decides.{nat_tests}
 use Rattle.std.proofs.lemmas.List.FromFn.{length-map-range_with_len}
 use Rattle.std.proofs.lemmas.Slice.Eq.{bytes_eq-Decides}
 use Rattle.std.proofs.lemmas.Option.{none-some}
-use Rattle.toml.specs.Data.{Data, Items, Members, as_bool, as_str, get_member}
+use Rattle.toml.specs.Data.{Data, Members, as_bool, as_str, get_member}
 use Rattle.ptpm_codec.specs.declared.identity.ClockIdentity.{ClockIdentity}
 use Rattle.ptpm_codec.specs.Identity.{every_clock, same_clock}
 use Rattle.ptpm_data.specs.ManagementId.{set_of}
 use Rattle.ptpm_data.specs.Members.{is_same_precedence}
 use Rattle.ptpm_data.specs.Ranges.{all_ones, is_clock_accuracy, is_description}
-use Rattle.ptpm_data.specs.Start.{clock_fault, count_fault, default_clock, default_data_set, default_port, grandmaster_fault, parent_data_set, port_fault, ports_fault, start_fault, start_of, started, unless}
+use Rattle.ptpm_data.specs.Start.{clock_fault, count_fault, default_data_set, default_port, grandmaster_fault, parent_data_set, ports_fault, start_fault, start_of, started}
 use Rattle.ptpm_data.specs.declared.members.Member.TheVariants as members
 use Rattle.ptpm_data.specs.declared.start.ClockStart.{ClockStart}
 use Rattle.ptpm_data.specs.declared.start.StartError.{StartError}
@@ -29,12 +28,12 @@ use Rattle.ptpm_script.specs.Values.{clock_at, description_at, flag_at, natural_
 use Rattle.ptpm_check.specs.Faults.{IsAmong}
 use Rattle.ptpm_check.specs.Heads.{ClockHeadValue, items_at, list_of}
 use Rattle.ptpm_check.specs.Marks.{Mark, Spot, at_key, each, mark_if, value_mark}
-use Rattle.ptpm_check.specs.StartFaults.{clock_fails, clock_ranges, clock_start_marks, count_start_marks, fails, grandmaster_marks, has_octet, is_own_grandmaster, member_marks, only_accuracy, only_description, only_leaps, own_marks, own_marks_if, own_mark_if, port_start_marks, some_clock, start_mark_if}
+use Rattle.ptpm_check.specs.StartFaults.{clock_fails, clock_ranges, clock_start_marks, count_start_marks, fails, grandmaster_marks, has_octet, is_own_grandmaster, member_marks, only_accuracy, only_description, only_leaps, own_marks, own_marks_if, own_mark_if, port_start_marks, some_clock}
 use Rattle.ptpm_check.proofs.FoundLemmas.{found}
 use Rattle.ptpm_check.proofs.HeadLemmas.{IsClock, IsPort, pairs-read, port-is}
 use Rattle.ptpm_check.proofs.PortStartLemmas.{count_one, default_starts, err_unless, natural_absent, ports-tell, ports_one, some_if}
 use Rattle.ptpm_check.proofs.TableLemmas.{fitting, key-there, whole_given}
-use Rattle.ptpm_check.proofs.TellLemmas.{Tells, among-left, among-right, or_none, or_or, tells-append, tells-value}
+use Rattle.ptpm_check.proofs.TellLemmas.{Tells, among-left, or_none, or_or, tells-append, tells-value}
 
 -- ---- the number of ports
 
@@ -68,11 +67,11 @@ unfolding count_start_marks
 count_tells c h k =
     let there = key-there clock_rules h.table (codes "ports") k.shape refl in
     let none = tells-value (c.count == 0) (passes (λ n. n == 0) h.count) NoPorts h.spot (codes "ports") h.table
-            (ap (passes (λ n. n == 0)) k.count) (never_absent (get_member (codes "ports") h.table) (c.count == 0) there) in
+    (ap (passes (λ n. n == 0)) k.count) (never_absent (get_member (codes "ports") h.table) (c.count == 0) there) in
     let many = tells-value (nat_lt 8 c.count) (passes (λ n. nat_lt 8 n) h.count) TooManyPorts h.spot (codes "ports") h.table
-            (ap (passes (λ n. nat_lt 8 n)) k.count) (never_absent (get_member (codes "ports") h.table) (nat_lt 8 c.count) there) in
+    (ap (passes (λ n. nat_lt 8 n)) k.count) (never_absent (get_member (codes "ports") h.table) (nat_lt 8 c.count) there) in
     subst (λ o. Tells o (count_start_marks h)) (two_ifs (c.count == 0) (nat_lt 8 c.count) NoPorts TooManyPorts ∙ sym (ap count_fault (ports_long c) ∙ count_is c.count))
-        (tells-append _ _ _ _ none many)
+    (tells-append _ _ _ _ none many)
 
 -- ---- a clock that has all others as this profile has them
 
@@ -157,9 +156,9 @@ members_tell spot identity domain ms one =
     let b = tells-value accuracy (clock_fails (only_accuracy c)) (BadValue members.ClockAccuracy) spot (codes "clock_accuracy") ms (accuracy_alone c) (accuracy_absent ms) in
     let d = tells-value leaps (clock_fails (only_leaps c)) (BadValue members.Leap59) spot (codes "leap59") ms (leaps_alone c) (leaps_absent ms (unwrap_or (flag_at (codes "leap61") ms) false)) in
     subst (λ o. Tells o (clock_ranges spot ms c))
-        (three_ifs text accuracy leaps (BadValue members.UserDescription) (BadValue members.ClockAccuracy) (BadValue members.Leap59)
-        ∙ sym (ap (λ t. if t then Some (BadValue members.Identity) else if text then Some (BadValue members.UserDescription) else if accuracy then Some (BadValue members.ClockAccuracy) else if leaps then Some (BadValue members.Leap59) else None) one))
-        (tells-append _ _ _ _ (tells-append _ _ _ _ a b) d)
+    (three_ifs text accuracy leaps (BadValue members.UserDescription) (BadValue members.ClockAccuracy) (BadValue members.Leap59)
+    ∙ sym (ap (λ t. if t then Some (BadValue members.Identity) else if text then Some (BadValue members.UserDescription) else if accuracy then Some (BadValue members.ClockAccuracy) else if leaps then Some (BadValue members.Leap59) else None) one))
+    (tells-append _ _ _ _ (tells-append _ _ _ _ a b) d)
 
 -- ---- a clock that is its own grandmaster
 
@@ -167,31 +166,31 @@ own_absent : (own most : ℕ) (spot : Spot) (key : List ℕ) (ms : Members)
     → get_member key ms ≡ None
     → natural_at most key ms ≡ None
     → Tells (if not (unwrap_or (natural_at most key ms) own == own) then Some GrandmasterDiffers else None)
-        (own_mark_if (has_octet own (natural_at most key ms)) spot key ms)
+    (own_mark_if (has_octet own (natural_at most key ms)) spot key ms)
 unfolding value_mark
 own_absent own most spot key ms none no_number =
     subst (λ n. Tells (if not (unwrap_or n own == own) then Some GrandmasterDiffers else None) (own_mark_if (has_octet own n) spot key ms)) (sym no_number)
-        (subst (λ b. Tells (if not b then Some GrandmasterDiffers else None) (mark_if (is_some (get_member key ms)) (BadClock GrandmasterDiffers) spot (at_key key))) (sym (same_accuracy own))
-            (ap (λ o. found (mark_if (is_some o) (BadClock GrandmasterDiffers) spot (at_key key))) none))
+    (subst (λ b. Tells (if not b then Some GrandmasterDiffers else None) (mark_if (is_some (get_member key ms)) (BadClock GrandmasterDiffers) spot (at_key key))) (sym (same_accuracy own))
+    (ap (λ o. found (mark_if (is_some o) (BadClock GrandmasterDiffers) spot (at_key key))) none))
 
 own_case : (own most : ℕ) (spot : Spot) (key : List ℕ) (ms : Members) (o : Option Data)
     → is_shaped clock_rules ms ≡ true
     → kind_of clock_rules key ≡ Some (kinds.Whole (pos 0) (pos most))
     → get_member key ms ≡ o
     → Tells (if not (unwrap_or (natural_at most key ms) own == own) then Some GrandmasterDiffers else None)
-        (own_mark_if (has_octet own (natural_at most key ms)) spot key ms)
+    (own_mark_if (has_octet own (natural_at most key ms)) spot key ms)
 own_case own most spot key ms None is kind at = own_absent own most spot key ms at (natural_absent most key ms at)
 own_case own most spot key ms (Some d) is kind at =
     let n = whole_given 0 most most key ms d (le-leb most most (le_refl most)) at (fitting clock_rules ms key (kinds.Whole (pos 0) (pos most)) d is kind at) in
     tells-value (not (unwrap_or (natural_at most key ms) own == own)) (not (has_octet own (natural_at most key ms))) GrandmasterDiffers spot key ms
-        (ap (λ o. not (has_octet own o)) n.3 ∙ sym (ap (λ o. not (unwrap_or o own == own)) n.3))
-        (λ none. absurd (none-some d (sym none ∙ at)))
+    (ap (λ o. not (has_octet own o)) n.3 ∙ sym (ap (λ o. not (unwrap_or o own == own)) n.3))
+    (λ none. absurd (none-some d (sym none ∙ at)))
 
 own_tells : (own most : ℕ) (spot : Spot) (key : List ℕ) (ms : Members)
     → is_shaped clock_rules ms ≡ true
     → kind_of clock_rules key ≡ Some (kinds.Whole (pos 0) (pos most))
     → Tells (if not (unwrap_or (natural_at most key ms) own == own) then Some GrandmasterDiffers else None)
-        (own_mark_if (has_octet own (natural_at most key ms)) spot key ms)
+    (own_mark_if (has_octet own (natural_at most key ms)) spot key ms)
 own_tells own most spot key ms is kind = own_case own most spot key ms (get_member key ms) is kind refl
 
 or_ifs : (a b : Bool) (x : StartError) → option_or (if a then Some x else None) (if b then Some x else None) ≡ (if a || b then Some x else None)
@@ -225,15 +224,15 @@ own_marks_tell spot identity domain ms is =
     let variance = unwrap_or (natural_at 65535 (codes "variance") ms) 65535 in
     let p2 = unwrap_or (natural_at 255 (codes "priority2") ms) 128 in
     subst (λ t. Tells (if t then Some GrandmasterDiffers else None) (own_marks spot ms (clock_start identity 0 ms)))
-        (five_nots (unwrap_or (natural_at 255 (codes "grandmaster_priority1") ms) p1 == p1) (unwrap_or (natural_at 255 (codes "grandmaster_class") ms) class == class)
-            (unwrap_or (natural_at 255 (codes "grandmaster_accuracy") ms) accuracy == accuracy) (unwrap_or (natural_at 65535 (codes "grandmaster_variance") ms) variance == variance)
-            (unwrap_or (natural_at 255 (codes "grandmaster_priority2") ms) p2 == p2))
-        (tells_or _ _ _ _ _ (tells_or _ _ _ _ _ (tells_or _ _ _ _ _ (tells_or _ _ _ _ _
-            (own_tells p1 255 spot (codes "grandmaster_priority1") ms is refl)
-            (own_tells class 255 spot (codes "grandmaster_class") ms is refl))
-            (own_tells accuracy 255 spot (codes "grandmaster_accuracy") ms is refl))
-            (own_tells variance 65535 spot (codes "grandmaster_variance") ms is refl))
-            (own_tells p2 255 spot (codes "grandmaster_priority2") ms is refl))
+    (five_nots (unwrap_or (natural_at 255 (codes "grandmaster_priority1") ms) p1 == p1) (unwrap_or (natural_at 255 (codes "grandmaster_class") ms) class == class)
+    (unwrap_or (natural_at 255 (codes "grandmaster_accuracy") ms) accuracy == accuracy) (unwrap_or (natural_at 65535 (codes "grandmaster_variance") ms) variance == variance)
+    (unwrap_or (natural_at 255 (codes "grandmaster_priority2") ms) p2 == p2))
+    (tells_or _ _ _ _ _ (tells_or _ _ _ _ _ (tells_or _ _ _ _ _ (tells_or _ _ _ _ _
+    (own_tells p1 255 spot (codes "grandmaster_priority1") ms is refl)
+    (own_tells class 255 spot (codes "grandmaster_class") ms is refl))
+    (own_tells accuracy 255 spot (codes "grandmaster_accuracy") ms is refl))
+    (own_tells variance 65535 spot (codes "grandmaster_variance") ms is refl))
+    (own_tells p2 255 spot (codes "grandmaster_priority2") ms is refl))
 
 own_if : (same is : Bool) (marks : List Mark) → Tells (if not same then Some GrandmasterDiffers else None) marks
     → Tells (if is && not same then Some GrandmasterDiffers else None) (if is then marks else [])
@@ -254,9 +253,9 @@ grandmaster_tells c h k =
     let g = clock_at (codes "grandmaster") ms in
     let marks = own_marks h.spot ms (clock_start identity 0 ms) in
     subst (λ o. Tells (grandmaster_fault (default_data_set c.start) (parent_data_set c.start)) (own_marks_if h.spot ms o)) (sym k.identity)
-        (subst (λ t. Tells (grandmaster_fault (default_data_set t) (parent_data_set t)) (own_marks_if h.spot ms (Some identity))) (sym k.start)
-            (subst (λ b. Tells (if b && not (is_own s) then Some GrandmasterDiffers else None) (if is_own_grandmaster identity g then marks else [])) (own_identity identity g)
-                (own_if (is_own s) (is_own_grandmaster identity g) marks (own_marks_tell h.spot identity k.domain ms k.shape))))
+    (subst (λ t. Tells (grandmaster_fault (default_data_set t) (parent_data_set t)) (own_marks_if h.spot ms (Some identity))) (sym k.start)
+    (subst (λ b. Tells (if b && not (is_own s) then Some GrandmasterDiffers else None) (if is_own_grandmaster identity g then marks else [])) (own_identity identity g)
+    (own_if (is_own s) (is_own_grandmaster identity g) marks (own_marks_tell h.spot identity k.domain ms k.shape))))
 
 -- ---- a clock
 
@@ -310,8 +309,8 @@ clock_case c h k once own (Some e) is =
     let rest = option_or (clock_fault c.start) (option_or (ports_fault (all_ports c)) (grandmaster_fault (default_data_set c.start) (parent_data_set c.start))) in
     let told : IsAmong (BadClock e) count = subst (λ o. Tells o count) is (count_tells c h k) in
     subst (λ o. Tells (option_or o rest) (count ++ member ++ ports ++ grandmaster_marks h)) (sym is)
-        (among-left (BadClock e) (count ++ member ++ ports) (grandmaster_marks h)
-            (among-left (BadClock e) (count ++ member) ports (among-left (BadClock e) count member told)))
+    (among-left (BadClock e) (count ++ member ++ ports) (grandmaster_marks h)
+    (among-left (BadClock e) (count ++ member) ports (among-left (BadClock e) count member told)))
 clock_case c h k once own None is =
     let some = count_within c.count (sym (ap count_fault (ports_long c)) ∙ is) in
     let cf = count_fault (length (all_ports c)) in
@@ -319,13 +318,13 @@ clock_case c h k once own None is =
     let pf = ports_fault (all_ports c) in
     let gf = grandmaster_fault (default_data_set c.start) (parent_data_set c.start) in
     let ports : Tells pf (each (port_start_marks h.number) 1 (items_at (codes "port") h.table)) =
-            subst (λ xs. Tells pf (each (port_start_marks h.number) 1 xs)) (sym k.ports_at)
-                (subst (λ n. Tells (ports_fault (map (start_of_port c.ports) (range_with_len 1 n))) (each (port_start_marks h.number) 1 (list_of k.ports))) (sym (count_all c.count some))
-                    (ports-tell h.number c.count c.ports (list_of k.ports) (pairs-read port_entry IsPort port-is k.ports c.ports k.ports_read) once (own_ports c some own))) in
+    subst (λ xs. Tells pf (each (port_start_marks h.number) 1 xs)) (sym k.ports_at)
+    (subst (λ n. Tells (ports_fault (map (start_of_port c.ports) (range_with_len 1 n))) (each (port_start_marks h.number) 1 (list_of k.ports))) (sym (count_all c.count some))
+    (ports-tell h.number c.count c.ports (list_of k.ports) (pairs-read port_entry IsPort port-is k.ports c.ports k.ports_read) once (own_ports c some own))) in
     let member : Tells kf (member_marks h.spot h.table) =
-            subst (λ s. Tells (clock_fault s) (member_marks h.spot h.table)) (sym k.start) (members_tell h.spot c.start.identity k.domain h.table (clock_one c h k)) in
+    subst (λ s. Tells (clock_fault s) (member_marks h.spot h.table)) (sym k.start) (members_tell h.spot c.start.identity k.domain h.table (clock_one c h k)) in
     subst (λ o. Tells o (clock_start_marks h)) (or_or (option_or cf kf) pf gf ∙ or_or cf kf (option_or pf gf))
-        (tells-append (option_or (option_or cf kf) pf) gf _ _ (tells-append (option_or cf kf) pf _ _ (tells-append cf kf _ _ (count_tells c h k) member) ports) (grandmaster_tells c h k))
+    (tells-append (option_or (option_or cf kf) pf) gf _ _ (tells-append (option_or cf kf) pf _ _ (tells-append cf kf _ _ (count_tells c h k) member) ports) (grandmaster_tells c h k))
 
 pub clock-tells : (c : ClockEntryValue) (h : ClockHeadValue) → IsClock c h
     → has_like same_number c.ports ≡ false

@@ -1,10 +1,10 @@
 -- A document has faults of its shape exactly if it has no meaning; and what a document that has one is made of.
-use Rattle.std.proofs.Common.{arith, ◌≡◌, ℕ, pos, nat_le, Bool, true, false, not, ◌&&◌, ◌||◌, ◌⊎◌, inl, inr, if◌then◌else◌, List, ◌++◌, Option, Some, None, refl, ap, sym, ◌∙◌, is_some, codes, option_and_then}
+use Rattle.std.proofs.Common.{arith, ◌≡◌, ℕ, pos, nat_le, Bool, true, false, not, ◌&&◌, ◌||◌, if◌then◌else◌, List, ◌++◌, Option, Some, None, refl, ap, sym, ◌∙◌, is_some, codes, option_and_then}
 use Rattle.std.proofs.lemmas.Bool.Decides.{nat_tests}
 use Rattle.std.proofs.lemmas.Option.{cond_some}
 use Rattle.toml.specs.Data.{Items, Members}
 use Rattle.ptpm_script.specs.declared.shapes.Kind.TheVariants as kinds
-use Rattle.ptpm_script.specs.Document.{is_shaped, shaped}
+use Rattle.ptpm_script.specs.Document.{is_shaped}
 use Rattle.ptpm_script.specs.Entries.{ClockEntryValue, entries_at, read_all}
 use Rattle.ptpm_script.specs.NetworkFile.{FileValue, clock_entry, file_of, file_of_table, file_rules, file_with, give_rights, link_entry, session_entry}
 use Rattle.ptpm_script.specs.Values.{natural_at}
@@ -76,8 +76,8 @@ unfolding file_of
 shape_case ms false is =
     shape_parts ms
     ∙ ap (λ b. ((not b || found (each clock_marks 1 (items_at (codes "clock") ms)))
-        || found (each (session_marks (natural_at 65535 (codes "version") ms)) 1 (items_at (codes "session") ms)))
-        || found (each link_marks 1 (items_at (codes "link") ms))) is
+    || found (each (session_marks (natural_at 65535 (codes "version") ms)) 1 (items_at (codes "session") ms)))
+    || found (each link_marks 1 (items_at (codes "link") ms))) is
     ∙ sym (ap (λ b. not (is_some (option_and_then file_of_table (if b then Some ms else None)))) is)
 shape_case ms true is =
     let clocks = array-at clock_entry file_rules ms (codes "clock") is refl in
@@ -87,15 +87,15 @@ shape_case ms true is =
     let v = version.0 in
     shape_parts ms
     ∙ ap (λ b. ((not b || found (each clock_marks 1 (items_at (codes "clock") ms)))
-        || found (each (session_marks (natural_at 65535 (codes "version") ms)) 1 (items_at (codes "session") ms)))
-        || found (each link_marks 1 (items_at (codes "link") ms))) is
+    || found (each (session_marks (natural_at 65535 (codes "version") ms)) 1 (items_at (codes "session") ms)))
+    || found (each link_marks 1 (items_at (codes "link") ms))) is
     ∙ or_same _ _ _ _
-        (or_same _ _ _ _ (items-found clock_entry clock_marks (codes "clock") ms clocks.0 clock-found clocks.1 clocks.2)
-            (ap (λ o. found (each (session_marks o) 1 (items_at (codes "session") ms))) version.2
-            ∙ ap (λ xs. found (each (session_marks (Some v)) 1 xs)) sessions.2
-            ∙ sessions-found v sessions.0 version.1
-            ∙ ap (λ o. not (sessions_ok v o)) (sym sessions.1)))
-        (items-found link_entry link_marks (codes "link") ms links.0 link-found links.1 links.2)
+    (or_same _ _ _ _ (items-found clock_entry clock_marks (codes "clock") ms clocks.0 clock-found clocks.1 clocks.2)
+    (ap (λ o. found (each (session_marks o) 1 (items_at (codes "session") ms))) version.2
+    ∙ ap (λ xs. found (each (session_marks (Some v)) 1 xs)) sessions.2
+    ∙ sessions-found v sessions.0 version.1
+    ∙ ap (λ o. not (sessions_ok v o)) (sym sessions.1)))
+    (items-found link_entry link_marks (codes "link") ms links.0 link-found links.1 links.2)
     ∙ three_nots (is_some (entries_at clock_entry (codes "clock") ms)) (sessions_ok v (entries_at session_entry (codes "session") ms)) (is_some (entries_at link_entry (codes "link") ms))
     ∙ ap not (sym (file_some v (entries_at clock_entry (codes "clock") ms) (entries_at session_entry (codes "session") ms) (entries_at link_entry (codes "link") ms)))
     ∙ ap (λ o. not (is_some (file_with o (entries_at clock_entry (codes "clock") ms) (entries_at session_entry (codes "session") ms) (entries_at link_entry (codes "link") ms)))) (sym version.3)
@@ -149,4 +149,3 @@ file_case ms f true is h =
 pub file-parts : (ms : Members) (f : FileValue) → file_of ms ≡ Some f → IsFile ms f
 unfolding file_of
 file-parts ms f h = file_case ms f (is_shaped file_rules ms) refl h
-

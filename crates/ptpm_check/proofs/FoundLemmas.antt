@@ -171,8 +171,8 @@ after_more : {A : Type 0} (like : A → A → Bool) (before : List A) (e : A) (x
 after_more like before e [] = refl
 after_more like before e (x ∷ xs) =
     or_same _ _ _ _
-        (list_any-append (λ b. like b x) before (e ∷ []) ∙ ap (λ t. list_any (λ b. like b x) before || t) (or_false (like e x)))
-        (after_more like before e xs)
+    (list_any-append (λ b. like b x) before (e ∷ []) ∙ ap (λ t. list_any (λ b. like b x) before || t) (or_false (like e x)))
+    (after_more like before e xs)
     ∙ or_both (list_any (λ b. like b x) before) (like e x) (list_any (λ y. list_any (λ b. like b y) before) xs) (list_any (like e) xs)
 
 pub any-none : {A : Type 0} (xs : List A) → list_any (λ x. false) xs ≡ false
@@ -212,11 +212,11 @@ found_on R of p like here before done (e ∷ es) [] d r = absurd r
 found_on R of p like here before done (e ∷ es) (h ∷ hs) d r =
     found-append (of done h) (each_after of (done ++ h ∷ []) hs)
     ∙ or_same _ _ _ _ (here before done e h d r.0)
-        (found_on R of p like here (before ++ e ∷ []) (done ++ h ∷ []) es hs
-            (pairs-append R before done (e ∷ []) (h ∷ []) d (r.0, tt)) r.1
-        ∙ ap (λ t. list_any p es || (t || has_like like es)) (after_more like before e es))
+    (found_on R of p like here (before ++ e ∷ []) (done ++ h ∷ []) es hs
+    (pairs-append R before done (e ∷ []) (h ∷ []) d (r.0, tt)) r.1
+    ∙ ap (λ t. list_any p es || (t || has_like like es)) (after_more like before e es))
     ∙ or_after (p e) (list_any (λ b. like b e) before) (list_any p es) (list_any (λ x. list_any (λ b. like b x) before) es)
-        (list_any (like e) es) (has_like like es)
+    (list_any (like e) es) (has_like like es)
 
 -- what each brings by itself, or by an element before it
 pub found-after : {E H M : Type 0} (R : E → H → Type 0) (of : List H → H → List M) (p : E → Bool) (like : E → E → Bool)

@@ -1,13 +1,12 @@
 -- The entries of a document that has a meaning, beside what its tables are known by.
-use Rattle.std.proofs.Common.{arith, ◌≡◌, ℕ, ◌+◌, ◌≤◌, pos, Bool, true, false, ◌⊎◌, inl, inr, if◌then◌else◌, List, [], ◌∷◌, ◌++◌, Option, Some, None, refl, ap, suc, sym, subst, ◌∙◌, codes, flat_map, length, option_map, option_and_then, take, unwrap_or}
+use Rattle.std.proofs.Common.{◌≡◌, ℕ, ◌+◌, ◌≤◌, true, ◌⊎◌, inl, inr, if◌then◌else◌, List, [], ◌∷◌, ◌++◌, Option, Some, None, refl, ap, suc, sym, subst, ◌∙◌, codes, flat_map, length, option_map, option_and_then, take, unwrap_or}
 use Rattle.std.proofs.lemmas.List.{take_all}
 use Rattle.toml.specs.Data.{Data, as_str, as_table, Items, no_items, item, Members, get_member}
 use Rattle.ptpm_codec.specs.declared.identity.ClockIdentity.{ClockIdentity}
 use Rattle.ptpm_codec.specs.declared.identity.PortIdentity.{PortIdentity}
 use Rattle.ptpm_data.specs.declared.rights.Rights.{Rights}
-use Rattle.ptpm_data.specs.declared.start.ClockStart.{ClockStart}
 use Rattle.ptpm_script.specs.declared.shapes.Kind.TheVariants as kinds
-use Rattle.ptpm_script.specs.Document.{KeyRule, end_of, fits, is_name, is_shaped, table_of}
+use Rattle.ptpm_script.specs.Document.{KeyRule, end_of, fits, is_shaped, table_of}
 use Rattle.ptpm_script.specs.Entries.{ClockEntryValue, entries_at, read_all}
 use Rattle.ptpm_script.specs.NetworkFile.{clock_entry, clock_of_table, clock_over, clock_rules, clock_start, clock_with, end_entry, link_entry, link_rules, port_entry, port_of_table, port_rules, port_start, rights_of, session_entry, session_of_table, session_rules, session_with}
 use Rattle.ptpm_script.specs.Values.{clock_at, natural_at, port_at, text_at}
@@ -162,19 +161,22 @@ clock_made : (n : ℕ) (c : ClockEntryValue) (d : Data) (ms : Members) → IsTab
 unfolding clock_head
 clock_made n c d ms t k =
     let name = given clock_rules ms (codes "name") kinds.Name t.shape refl refl in
-    let ports = array-at port_entry clock_rules ms (codes "port") t.shape refl in
-    (clock_head n ms, ap (λ o. if_any (option_map (clock_head n) o)) t.is, record {
-      shape = t.shape;
-      name = named clock_rules ms (codes "name") c.name name.0 name.1 name.2 k.name;
-      identity = k.identity;
-      identity_at = k.identity;
-      count = k.count;
-      domain = k.domain;
-      start = k.start;
-      ports = ports.0;
-      ports_at = ports.2;
-      ports_read = sym ports.1 ∙ k.ports;
-    })
+    let ports = array-at port_entry clock_rules ms (codes "port") t.shape refl in (
+      clock_head n ms,
+      ap (λ o. if_any (option_map (clock_head n) o)) t.is,
+      record {
+        shape = t.shape;
+        name = named clock_rules ms (codes "name") c.name name.0 name.1 name.2 k.name;
+        identity = k.identity;
+        identity_at = k.identity;
+        count = k.count;
+        domain = k.domain;
+        start = k.start;
+        ports = ports.0;
+        ports_at = ports.2;
+        ports_read = sym ports.1 ∙ k.ports;
+      },
+    )
 
 clock_case : (n : ℕ) (c : ClockEntryValue) (d : Data) → (table_of clock_rules d ≡ None) ⊎ ((ms : Members) × IsTable clock_rules d ms)
     → option_and_then clock_of_table (table_of clock_rules d) ≡ Some c
@@ -221,7 +223,7 @@ session_parts ms _ _ _ _ _ s e = cc
 session_table : (ms : Members) (s : SessionEntry) → session_of_table ms ≡ Some s → IsSessionTable s ms
 session_table ms s h =
     let p = session_parts ms (port_at (codes "identity") ms) (natural_at 65535 (codes "first") ms) (natural_at 255 (codes "hops") ms)
-            (natural_at 255 (codes "attempts") ms) (rights_of (get_member (codes "rights") ms)) s h in
+    (natural_at 255 (codes "attempts") ms) (rights_of (get_member (codes "rights") ms)) s h in
     record { identity = p.0; name = p.1; target = p.2 }
 
 session_made : (n : ℕ) (s : SessionEntry) (d : Data) (ms : Members) → IsTable session_rules d ms → IsSessionTable s ms
@@ -229,13 +231,16 @@ session_made : (n : ℕ) (s : SessionEntry) (d : Data) (ms : Members) → IsTabl
 unfolding session_head
 session_made n s d ms t k =
     let name = given session_rules ms (codes "name") kinds.Name t.shape refl refl in
-    let target = given session_rules ms (codes "target") kinds.Name t.shape refl refl in
-    (session_head n ms, ap (λ o. if_any (option_map (session_head n) o)) t.is, record {
-      shape = t.shape;
-      name = named session_rules ms (codes "name") s.name name.0 name.1 name.2 k.name;
-      identity = k.identity;
-      target = named session_rules ms (codes "target") s.target target.0 target.1 target.2 k.target;
-    })
+    let target = given session_rules ms (codes "target") kinds.Name t.shape refl refl in (
+      session_head n ms,
+      ap (λ o. if_any (option_map (session_head n) o)) t.is,
+      record {
+        shape = t.shape;
+        name = named session_rules ms (codes "name") s.name name.0 name.1 name.2 k.name;
+        identity = k.identity;
+        target = named session_rules ms (codes "target") s.target target.0 target.1 target.2 k.target;
+      },
+    )
 
 session_case : (n : ℕ) (s : SessionEntry) (d : Data) → (table_of session_rules d ≡ None) ⊎ ((ms : Members) × IsTable session_rules d ms)
     → option_and_then session_of_table (table_of session_rules d) ≡ Some s
@@ -288,10 +293,11 @@ link-is d link h = link_case link d (table-case link_rules d) h
 end_made : (spot : Spot) (n : ℕ) (e : EndEntry) (d : Data) → end_entry d ≡ Some e
     → (h : EndHeadValue) × (end_head spot n d ≡ h ∷ []) × IsEnd e h
 end_made spot n e d h =
-    let o = map_inv (λ p. record { name = p.0; port = p.1 }) (option_and_then end_of (as_str d)) e h in
-    (record { spot = spot; number = n; name = o.0.0; port = o.0.1 },
-        ap (λ q. if_any (option_map (λ p. record { spot = spot; number = n; name = p.0; port = p.1 }) q)) o.1,
-        record { name = ap (λ q. q.name) o.2; port = ap (λ q. q.port) o.2 })
+    let o = map_inv (λ p. record { name = p.0; port = p.1 }) (option_and_then end_of (as_str d)) e h in (
+      record { spot = spot; number = n; name = o.0.0; port = o.0.1 },
+      ap (λ q. if_any (option_map (λ p. record { spot = spot; number = n; name = p.0; port = p.1 }) q)) o.1,
+      record { name = ap (λ q. q.name) o.2; port = ap (λ q. q.port) o.2 },
+    )
 
 -- a link with no more ends than a link may have
 pub ends-are : (n : ℕ) (link : List EndEntry) (d : Data) → IsLink link d → length link ≤ 16 → Pairs IsEnd link (ends_in n d)
@@ -301,4 +307,4 @@ ends-are n link d l few =
     let long = pairs-length (λ e i. end_entry i ≡ Some e) link (list_of l.ends) beside in
     let at : items_in (codes "ends") d ≡ list_of l.ends = items-in (codes "ends") d l.table l.is ∙ l.ends_at in
     subst (λ xs. Pairs IsEnd link (each (end_head (in_table arrays.Link n)) 1 xs))
-        (sym (ap (take 16) at ∙ take_all 16 (list_of l.ends) (subst (λ k. k ≤ 16) (sym long) few))) all
+    (sym (ap (take 16) at ∙ take_all 16 (list_of l.ends) (subst (λ k. k ≤ 16) (sym long) few))) all

@@ -1,5 +1,5 @@
 -- Marks that are there if a test holds, and which refusal the first of some marks is of.
-use Rattle.std.proofs.Common.{◌≡◌, ℕ, ◌+◌, Bool, true, false, if◌then◌else◌, List, [], ◌∷◌, ◌++◌, Option, refl, ap, ◌∙◌, is_some, flat_map, map}
+use Rattle.std.proofs.Common.{◌≡◌, ℕ, ◌+◌, Bool, true, false, List, [], ◌∷◌, ◌++◌, refl, ◌∙◌, is_some, flat_map, map}
 use Rattle.toml.specs.Data.{Members, get_member}
 use Rattle.ptpm_script.specs.declared.net_error.NetError.{NetError}
 use Rattle.ptpm_check.specs.Faults.{IsFirst}

@@ -1,20 +1,18 @@
 -- A name that is not there is found exactly if some target, end or port is not there.
-use Rattle.std.proofs.Common.{arith, ◌≡◌, ℕ, ◌+◌, zero, suc, ◌==◌, nat_le, nat_lt, Bool, true, false, not, ◌&&◌, ◌||◌, ◌⊎◌, inl, inr, if◌then◌else◌, List, [], ◌∷◌, ◌++◌, Option, Some, None, refl, ap, sym, subst, ◌∙◌, is_some, is_none, bytes_eq, codes, find, flat_map, option_map, option_and_then, slice_get}
+use Rattle.std.proofs.Common.{arith, ◌≡◌, ℕ, ◌+◌, zero, suc, nat_le, Bool, true, false, not, ◌&&◌, ◌||◌, ◌⊎◌, inl, inr, if◌then◌else◌, List, [], ◌∷◌, ◌++◌, Option, Some, None, refl, ap, sym, ◌∙◌, is_some, bytes_eq, codes, flat_map, option_map, option_and_then, slice_get}
 use Rattle.std.specs.List.{list_all, list_any, position_from}
 use Rattle.std.proofs.lemmas.Bool.Decides.{nat_tests}
-use Rattle.toml.specs.Data.{Data, Members, as_table, get_member}
+use Rattle.toml.specs.Data.{Data}
 use Rattle.ptpm_script.specs.declared.net_error.NetError.TheVariants.{NoSuchName}
-use Rattle.ptpm_script.specs.declared.network.End.{End}
 use Rattle.ptpm_script.specs.declared.network.End.TheVariants as ends
 use Rattle.ptpm_script.specs.Document.{passes}
 use Rattle.ptpm_script.specs.Entries.{ClockEntryValue}
 use Rattle.ptpm_script.specs.NetworkFile.{port_entry, port_rules, session_rules}
 use Rattle.ptpm_script.specs.NetworkText.{clock_place, end_by_name, end_by_place, has_own_ports, has_port, has_ports, port_at_clock, session_place}
 use Rattle.ptpm_script.specs.Values.{natural_at}
-use Rattle.ptpm_check.specs.Heads.{ClockHeadValue, EndHeadValue, SessionHeadValue, items_at, list_of}
+use Rattle.ptpm_check.specs.Heads.{ClockHeadValue, EndHeadValue, SessionHeadValue, list_of}
 use Rattle.ptpm_check.specs.Marks.{at_item, each, in_port}
 use Rattle.ptpm_check.specs.NameFaults.{clock_named, clock_past_ports, end_name_marks, if_ports, is_no_clock, is_no_end, is_past, lacks, name_marks, past_members, past_port, past_ports, ports_of, target_marks}
-use Rattle.ptpm_check.specs.RepeatFaults.{is_clock_name, is_session_name}
 use Rattle.ptpm_check.proofs.EntryTypes.{EndEntry, PortEntry, SessionEntry}
 use Rattle.ptpm_check.proofs.FoundLemmas.{Pairs, any-same, found, found-append, not_both, or_same, pairs-any, pairs-each, pairs-found}
 use Rattle.ptpm_check.proofs.HeadLemmas.{IsClock, IsEnd, IsPort, IsSession, pairs-read, port-is}
@@ -49,7 +47,7 @@ past_here : (clock count n : ℕ) (p : PortEntry) (d : Data) → IsPort p d → 
 past_here clock count n p d k =
     ap (λ o. found (past_members (in_port clock n) count o)) k.is
     ∙ value-found (passes (is_past count) (natural_at 65535 (codes "number") k.table)) NoSuchName (in_port clock n) (codes "number") k.table
-        (key-there port_rules k.table (codes "number") k.shape refl)
+    (key-there port_rules k.table (codes "number") k.shape refl)
     ∙ ap (passes (is_past count)) k.number
 
 own_none : (ps : List PortEntry) → false ≡ not (list_all (λ p. true) ps)
@@ -62,7 +60,7 @@ own_by c h false k is = own_none c.ports
 own_by c h true k is =
     ap (λ xs. found (each (past_port h.number c.count) 1 xs)) k.ports_at
     ∙ pairs-each IsPort (past_port h.number c.count) (λ p. is_past c.count p.number) (λ n p d r. past_here h.number c.count n p d r) 1 c.ports (list_of k.ports)
-        (pairs-read port_entry IsPort port-is k.ports c.ports k.ports_read)
+    (pairs-read port_entry IsPort port-is k.ports c.ports k.ports_read)
     ∙ any-same (λ p. is_past c.count p.number) (λ p. not (nat_le 1 p.number && nat_le p.number c.count)) (λ p. past_test c.count p.number) c.ports
     ∙ all_not (λ p. nat_le 1 p.number && nat_le p.number c.count) c.ports
 
@@ -157,7 +155,7 @@ end_at_clock cs hs ss name port (inl k) =
     ∙ past_is k.clock k.head port k.is
     ∙ port_there k.clock k.place port (has_port k.clock port) refl
     ∙ sym (ap (λ o. not (is_some (option_and_then (λ place. port_at_clock (slice_get cs place) place port) o))) (k.at ∙ ap Some (omega arith))
-        ∙ ap (λ o. not (is_some (port_at_clock o k.place port))) k.there)
+    ∙ ap (λ o. not (is_some (port_at_clock o k.place port))) k.there)
 end_at_clock cs hs ss name port (inr k) =
     ap (λ o. lacks o port) k.1
     ∙ sym (ap (λ o. not (is_some (option_and_then (λ place. port_at_clock (slice_get cs place) place port) o))) k.0)
@@ -172,9 +170,9 @@ end_by : (cs : List ClockEntryValue) (hs : List ClockHeadValue) (ss : List Sessi
     → is_no_end hs ts name port ≡ not (is_some (end_by_name cs ss name port))
 end_by cs hs ss ts name None clocks sessions =
     ap not (pairs-any IsSession (λ s. bytes_eq s.name name) (λ h. passes (λ other. bytes_eq other name) h.name)
-            (λ s h r. ap (passes (λ other. bytes_eq other name)) r.name) ss ts sessions
-        ∙ placed_if (λ s. bytes_eq s.name name) 0 ss
-        ∙ session_placed (session_place ss name))
+    (λ s h r. ap (passes (λ other. bytes_eq other name)) r.name) ss ts sessions
+    ∙ placed_if (λ s. bytes_eq s.name name) 0 ss
+    ∙ session_placed (session_place ss name))
 end_by cs hs ss ts name (Some port) clocks sessions = end_at_clock cs hs ss name port (name_case cs hs name 0 clocks)
 
 end_here : (cs : List ClockEntryValue) (hs : List ClockHeadValue) (ss : List SessionEntry) (ts : List SessionHeadValue) (e : EndEntry) (g : EndHeadValue)
@@ -207,8 +205,8 @@ names-found cs hs ss ts es gs clocks sessions beside =
     let c = flat_map (end_name_marks hs ts) gs in
     found-append (a ++ b) c
     ∙ or_same _ _ _ _
-        (found-append a b
-        ∙ or_same _ _ _ _
-            (pairs-found IsClock clock_past_ports (λ k. not (has_own_ports k)) own_here cs hs clocks ∙ all_not has_own_ports cs)
-            (pairs-found IsSession (target_marks hs) (λ s. not (is_some (clock_place cs s.target))) (λ s t r. target_here cs hs s t clocks r) ss ts sessions))
-        (pairs-found IsEnd (end_name_marks hs ts) (λ e. not (is_some (end_by_place cs ss e))) (λ e g r. end_here cs hs ss ts e g clocks sessions r) es gs beside)
+    (found-append a b
+    ∙ or_same _ _ _ _
+    (pairs-found IsClock clock_past_ports (λ k. not (has_own_ports k)) own_here cs hs clocks ∙ all_not has_own_ports cs)
+    (pairs-found IsSession (target_marks hs) (λ s. not (is_some (clock_place cs s.target))) (λ s t r. target_here cs hs s t clocks r) ss ts sessions))
+    (pairs-found IsEnd (end_name_marks hs ts) (λ e. not (is_some (end_by_place cs ss e))) (λ e g r. end_here cs hs ss ts e g clocks sessions r) es gs beside)

@@ -1,14 +1,11 @@
 -- What is found of the start of ports tells why some port can't start.
-use Rattle.std.proofs.Common.{arith, ◌≡◌, ℕ, ◌+◌, ◌<◌, ◌≤◌, zero, suc, ℤ, pos, ◌==◌, nat_le, min, Bool, true, false, not, ◌&&◌, ◌||◌, ◌⊎◌, inl, inr, if◌then◌else◌, List, [], ◌∷◌, ◌++◌, Option, Some, None, refl, ap, sym, subst, ◌∙◌, is_some, is_none, is_err, codes, eq-eqb, map, option_and_then, unwrap_or, Result}
+use Rattle.std.proofs.Common.{arith, ◌≡◌, ℕ, ◌+◌, ◌<◌, ◌≤◌, zero, suc, ℤ, pos, ◌==◌, nat_le, Bool, true, false, not, ◌&&◌, ◌||◌, if◌then◌else◌, List, [], ◌∷◌, ◌++◌, Option, Some, None, refl, ap, sym, subst, ◌∙◌, is_some, is_none, is_err, codes, eq-eqb, map, option_and_then, unwrap_or}
 use Rattle.std.specs.List.{list_all, list_any, range_with_len}
 use Rattle.std.specs.Option.{option_or}
 use Rattle.std.specs.Str.{chars, is_utf8}
 use Rattle.std.proofs.lemmas.Bool.{and_parts, both_ways, eqb-false, eqb-true, leb-true, false_from_ne_true, or_from, or_left, or_parts, or_right}
-use Rattle.std.proofs.lemmas.Bool.Decides.{nat_tests}
 use Rattle.std.proofs.lemmas.Cmp.{nat_eq_equiv}
-use Rattle.toml.specs.Data.{Data, Items, Members, as_integer, as_table, get_member}
-use Rattle.ptpm_data.specs.Members.{DataSetsValue}
-use Rattle.ptpm_data.specs.PortSetting.{port_settings}
+use Rattle.toml.specs.Data.{Data, Members, as_integer, get_member}
 use Rattle.ptpm_data.specs.PortState.{state_of}
 use Rattle.ptpm_data.specs.Ranges.{is_description, is_in_range}
 use Rattle.ptpm_data.specs.ManagementId.{set_of}
@@ -22,10 +19,10 @@ use Rattle.ptpm_data.specs.declared.start.StartError.TheVariants.{BadValue}
 use Rattle.ptpm_script.specs.declared.net_error.NetError.TheVariants.{BadClock}
 use Rattle.ptpm_script.specs.NetworkFile.{port_over, port_start}
 use Rattle.ptpm_script.specs.NetworkText.{has_like, same_number, start_of_port}
-use Rattle.ptpm_script.specs.Values.{integer_at, natural_at, natural_up_to, signed_at, signed_up_to}
+use Rattle.ptpm_script.specs.Values.{natural_at, natural_up_to, signed_at, signed_up_to}
 use Rattle.ptpm_check.specs.Faults.{IsAmong}
-use Rattle.ptpm_check.specs.Marks.{Mark, Spot, each, in_port}
-use Rattle.ptpm_check.specs.StartFaults.{fails, member_mark_if, port_fails, port_member_marks, port_ranges, port_start_marks, port_start_members, some_clock}
+use Rattle.ptpm_check.specs.Marks.{Spot, each, in_port}
+use Rattle.ptpm_check.specs.StartFaults.{fails, port_fails, port_member_marks, port_ranges, port_start_marks, port_start_members, some_clock}
 use Rattle.ptpm_check.proofs.EntryTypes.{PortEntry}
 use Rattle.ptpm_check.proofs.FoundLemmas.{Pairs, found, or_same, pairs-each}
 use Rattle.ptpm_check.proofs.HeadLemmas.{IsPort}
@@ -140,28 +137,28 @@ unfolding port_member_marks port_fault settings_fault port_over
 port_tells spot ms =
     let p = port_start ms in
     let a = tells-value (is_none (state_of p.state)) (port_fails (record default_port { state = p.state })) (BadValue members.State) spot (codes "state") ms (state_alone p.state)
-            (λ none. ap (λ o. is_none (state_of (unwrap_or o 6))) (natural_absent 255 (codes "state") ms none)) in
+    (λ none. ap (λ o. is_none (state_of (unwrap_or o 6))) (natural_absent 255 (codes "state") ms none)) in
     let b = tells-value (bad_setting settings.LogAnnounceInterval p.log_announce) (port_fails (record default_port { log_announce = p.log_announce })) (BadValue (members.Setting settings.LogAnnounceInterval)) spot (codes "log_announce") ms (announce_alone p.log_announce)
-            (λ none. ap (λ o. bad_setting settings.LogAnnounceInterval (unwrap_or o (pos 1))) (signed_absent 128 (codes "log_announce") ms none)) in
+    (λ none. ap (λ o. bad_setting settings.LogAnnounceInterval (unwrap_or o (pos 1))) (signed_absent 128 (codes "log_announce") ms none)) in
     let c = tells-value (bad_setting settings.AnnounceReceiptTimeout (pos p.receipt_timeout)) (port_fails (record default_port { receipt_timeout = p.receipt_timeout })) (BadValue (members.Setting settings.AnnounceReceiptTimeout)) spot (codes "receipt_timeout") ms (receipt_alone p.receipt_timeout)
-            (λ none. ap (λ o. bad_setting settings.AnnounceReceiptTimeout (pos (unwrap_or o 3))) (natural_absent 255 (codes "receipt_timeout") ms none)) in
+    (λ none. ap (λ o. bad_setting settings.AnnounceReceiptTimeout (pos (unwrap_or o 3))) (natural_absent 255 (codes "receipt_timeout") ms none)) in
     let d = tells-value (bad_setting settings.LogSyncInterval p.log_sync) (port_fails (record default_port { log_sync = p.log_sync })) (BadValue (members.Setting settings.LogSyncInterval)) spot (codes "log_sync") ms (sync_alone p.log_sync)
-            (λ none. ap (λ o. bad_setting settings.LogSyncInterval (unwrap_or o (pos 0))) (signed_absent 128 (codes "log_sync") ms none)) in
+    (λ none. ap (λ o. bad_setting settings.LogSyncInterval (unwrap_or o (pos 0))) (signed_absent 128 (codes "log_sync") ms none)) in
     let e = tells-value (bad_setting settings.DelayMechanism (pos p.delay_mechanism)) (port_fails (record default_port { delay_mechanism = p.delay_mechanism })) (BadValue (members.Setting settings.DelayMechanism)) spot (codes "delay_mechanism") ms (delay_alone p.delay_mechanism)
-            (λ none. ap (λ o. bad_setting settings.DelayMechanism (pos (unwrap_or o 1))) (natural_absent 255 (codes "delay_mechanism") ms none)) in
+    (λ none. ap (λ o. bad_setting settings.DelayMechanism (pos (unwrap_or o 1))) (natural_absent 255 (codes "delay_mechanism") ms none)) in
     let f = tells-value (bad_setting settings.LogMinPdelayReqInterval p.log_min_pdelay) (port_fails (record default_port { log_min_pdelay = p.log_min_pdelay })) (BadValue (members.Setting settings.LogMinPdelayReqInterval)) spot (codes "log_min_pdelay") ms (pdelay_alone p.log_min_pdelay)
-            (λ none. ap (λ o. bad_setting settings.LogMinPdelayReqInterval (unwrap_or o (pos 0))) (signed_absent 128 (codes "log_min_pdelay") ms none)) in
+    (λ none. ap (λ o. bad_setting settings.LogMinPdelayReqInterval (unwrap_or o (pos 0))) (signed_absent 128 (codes "log_min_pdelay") ms none)) in
     subst (λ o. Tells o (port_ranges spot ms p))
-        (six_ifs (is_none (state_of p.state)) (bad_setting settings.LogAnnounceInterval p.log_announce) (bad_setting settings.AnnounceReceiptTimeout (pos p.receipt_timeout))
-            (bad_setting settings.LogSyncInterval p.log_sync) (bad_setting settings.DelayMechanism (pos p.delay_mechanism)) (bad_setting settings.LogMinPdelayReqInterval p.log_min_pdelay)
-            (BadValue members.State) (BadValue (members.Setting settings.LogAnnounceInterval)) (BadValue (members.Setting settings.AnnounceReceiptTimeout))
-            (BadValue (members.Setting settings.LogSyncInterval)) (BadValue (members.Setting settings.DelayMechanism)) (BadValue (members.Setting settings.LogMinPdelayReqInterval)))
-        (tells-append _ _ _ _ (tells-append _ _ _ _ (tells-append _ _ _ _ (tells-append _ _ _ _ (tells-append _ _ _ _ a b) c) d) e) f)
+    (six_ifs (is_none (state_of p.state)) (bad_setting settings.LogAnnounceInterval p.log_announce) (bad_setting settings.AnnounceReceiptTimeout (pos p.receipt_timeout))
+    (bad_setting settings.LogSyncInterval p.log_sync) (bad_setting settings.DelayMechanism (pos p.delay_mechanism)) (bad_setting settings.LogMinPdelayReqInterval p.log_min_pdelay)
+    (BadValue members.State) (BadValue (members.Setting settings.LogAnnounceInterval)) (BadValue (members.Setting settings.AnnounceReceiptTimeout))
+    (BadValue (members.Setting settings.LogSyncInterval)) (BadValue (members.Setting settings.DelayMechanism)) (BadValue (members.Setting settings.LogMinPdelayReqInterval)))
+    (tells-append _ _ _ _ (tells-append _ _ _ _ (tells-append _ _ _ _ (tells-append _ _ _ _ (tells-append _ _ _ _ a b) c) d) e) f)
 
 port_here : (clock n : ℕ) (p : PortEntry) (d : Data) → IsPort p d → Tells (port_fault p.start) (port_start_marks clock n d)
 port_here clock n p d k =
     subst (λ o. Tells (port_fault p.start) (port_start_members (in_port clock n) o)) (sym k.is)
-        (subst (λ q. Tells (port_fault q) (port_member_marks (in_port clock n) k.table)) (sym k.start) (port_tells (in_port clock n) k.table))
+    (subst (λ q. Tells (port_fault q) (port_member_marks (in_port clock n) k.table)) (sym k.start) (port_tells (in_port clock n) k.table))
 
 -- ---- the ports of a clock
 
@@ -177,7 +174,7 @@ port_or_later : (clock n number : ℕ) (e : StartError) (p : PortEntry) (ps : Li
     → IsAmong (BadClock e) (port_start_marks clock n d ++ each (port_start_marks clock) (n + 1) ds)
 port_or_later clock n number e p ps d ds true k h later =
     among-left (BadClock e) (port_start_marks clock n d) (each (port_start_marks clock) (n + 1) ds)
-        (subst (λ o. Tells o (port_start_marks clock n d)) h (port_here clock n p d k))
+    (subst (λ o. Tells o (port_start_marks clock n d)) h (port_here clock n p d k))
 port_or_later clock n number e p ps d ds false k h later =
     among-right (BadClock e) (port_start_marks clock n d) (each (port_start_marks clock) (n + 1) ds) (later h)
 
@@ -254,8 +251,8 @@ none_within test count [] none within = refl
 none_within test count (p ∷ ps) none within =
     let parts = and_parts (nat_le 1 p.number && nat_le p.number count) (list_all (λ q. nat_le 1 q.number && nat_le q.number count) ps) within in
     or_from (test p.number) (list_any (λ q. test q.number) ps)
-        (false_from_ne_true (test p.number) (λ is. both_ways (list_any test (range_with_len 1 count)) none (within_range test count p.number parts.0 is)))
-        (none_within test count ps none parts.1)
+    (false_from_ne_true (test p.number) (λ is. both_ways (list_any test (range_with_len 1 count)) none (within_range test count p.number parts.0 is)))
+    (none_within test count ps none parts.1)
 
 later_start : (test : PortStart → Bool) (p : PortEntry) (all ps : List PortEntry) → list_any (same_number p) ps ≡ false
     → list_any (λ q. test (start_of_port all q.number)) ps ≡ list_any (λ q. test (start_of_port (p ∷ all) q.number)) ps
@@ -263,7 +260,7 @@ later_start test p all [] apart = refl
 later_start test p all (q ∷ qs) apart =
     let parts = or_parts (same_number p q) (list_any (same_number p) qs) apart in
     or_same _ _ _ _ (sym (ap (λ b. test (if b then p.start else start_of_port all q.number)) (nat_eq_equiv.symm p.number q.number ∙ parts.0)))
-        (later_start test p all qs parts.1)
+    (later_start test p all qs parts.1)
 
 -- the start of a port is that of its table
 own_start : (test : PortStart → Bool) (ps : List PortEntry) → has_like same_number ps ≡ false
@@ -272,13 +269,13 @@ own_start test [] once = refl
 own_start test (p ∷ ps) once =
     let parts = or_parts (list_any (same_number p) ps) (has_like same_number ps) once in
     or_same _ _ _ _ (sym (ap (λ b. test (if b then p.start else start_of_port ps p.number)) (eq-eqb p.number p.number refl)))
-        (own_start test ps parts.1 ∙ later_start test p ps ps parts.0)
+    (own_start test ps parts.1 ∙ later_start test p ps ps parts.0)
 
 tables_found : (clock : ℕ) (ps : List PortEntry) (ds : List Data) → Pairs IsPort ps ds
     → found (each (port_start_marks clock) 1 ds) ≡ list_any (λ p. is_some (port_fault p.start)) ps
 tables_found clock ps ds beside =
     pairs-each IsPort (port_start_marks clock) (λ p. is_some (port_fault p.start))
-        (λ n p d k. told_found (port_fault p.start) (port_start_marks clock n d) (port_here clock n p d k)) 1 ps ds beside
+    (λ n p d k. told_found (port_fault p.start) (port_start_marks clock n d) (port_here clock n p d k)) 1 ps ds beside
 
 ports_case : (clock count : ℕ) (ps : List PortEntry) (ds : List Data)
     → Pairs IsPort ps ds

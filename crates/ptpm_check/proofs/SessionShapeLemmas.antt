@@ -1,21 +1,20 @@
 -- A session has faults of its shape exactly if it has no meaning in the file's version.
-use Rattle.std.proofs.Common.{◌≡◌, ℕ, ◌+◌, pos, Bool, true, false, not, ◌&&◌, ◌||◌, ◌⊎◌, inl, inr, ◌==◌, cond, if◌then◌else◌, List, [], ◌∷◌, ◌++◌, Option, Some, None, refl, ap, sym, ◌∙◌, is_some, is_none, bit_and, bit_or, bytes_eq, codes, length, option_map, option_and_then}
+use Rattle.std.proofs.Common.{◌≡◌, ℕ, ◌+◌, pos, Bool, true, false, not, ◌||◌, ◌⊎◌, inl, inr, ◌==◌, if◌then◌else◌, List, [], ◌∷◌, ◌++◌, Option, Some, None, refl, ap, sym, ◌∙◌, is_some, is_none, bit_and, bit_or, bytes_eq, codes, length, option_map, option_and_then}
 use Rattle.std.specs.List.{list_any}
 use Rattle.std.proofs.lemmas.List.Folds.{list_any-append}
 use Rattle.toml.specs.Data.{Data, as_array, as_str, as_table, Items, no_items, item, Members, get_member}
 use Rattle.ptpm_codec.specs.declared.identity.PortIdentity.{PortIdentity}
 use Rattle.ptpm_data.specs.declared.rights.Rights.{Rights}
-use Rattle.ptpm_script.specs.declared.net_error.NetError.{NetError}
 use Rattle.ptpm_script.specs.declared.net_error.NetError.TheVariants.{BadShape}
 use Rattle.ptpm_script.specs.declared.shapes.Kind.TheVariants as kinds
 use Rattle.ptpm_script.specs.Document.{is_shaped, passes, table_of}
 use Rattle.ptpm_script.specs.Entries.{read_all}
 use Rattle.ptpm_script.specs.NetworkFile.{fits_version, give_rights, right_of, rights_from, rights_of, session_entry, session_of_table, session_rules, session_with}
-use Rattle.ptpm_script.specs.Values.{natural_at, port_at}
+use Rattle.ptpm_script.specs.Values.{natural_at}
 use Rattle.ptpm_check.specs.declared.place.Array.TheVariants as arrays
 use Rattle.ptpm_check.specs.Heads.{items_at, list_of, list_or_none}
 use Rattle.ptpm_check.specs.KeyFaults.{table_marks}
-use Rattle.ptpm_check.specs.Marks.{Mark, Spot, at_item, each, each_after, in_table, mark_if}
+use Rattle.ptpm_check.specs.Marks.{Spot, at_item, each, each_after, in_table, mark_if}
 use Rattle.ptpm_check.specs.ShapeFaults.{is_bad_right, right_in, right_marks, rights_marks, session_marks, version_marks}
 use Rattle.ptpm_check.proofs.EntryTypes.{SessionEntry}
 use Rattle.ptpm_check.proofs.FoundLemmas.{found, found-append, found-each, not_both, or_false, or_same, or_true}
@@ -171,7 +170,7 @@ right_step before d ds rest None is later = refl
 right_step before d ds rest (Some r) is later =
     let right = right_is d r is in
     right_given (given_right r before) (bit_and (set_at before) r == r) rest (rights_from (bit_or (set_at before) r) ds)
-        (set_has before r right) (later ∙ ap (λ set. not (is_some (rights_from set ds))) (sym (set_next before d r right is)))
+    (set_has before r right) (later ∙ ap (λ set. not (is_some (rights_from set ds))) (sym (set_next before d r right is)))
 
 rights_found : (spot : Spot) (before : List Data) (ds : Items)
     → found (each_after (right_marks spot) before (list_of ds)) ≡ not (is_some (rights_from (set_at before) ds))
@@ -180,9 +179,9 @@ rights_found spot before no_items = refl
 rights_found spot before (item d ds) =
     found-append (mark_if (is_bad_right before (right_in d)) BadShape spot (at_item (codes "rights") (length before + 1))) (each_after (right_marks spot) (before ++ d ∷ []) (list_of ds))
     ∙ ap (λ b. b || found (each_after (right_marks spot) (before ++ d ∷ []) (list_of ds)))
-        (mark-found (is_bad_right before (right_in d)) BadShape spot (at_item (codes "rights") (length before + 1)))
+    (mark-found (is_bad_right before (right_in d)) BadShape spot (at_item (codes "rights") (length before + 1)))
     ∙ right_step before d ds (found (each_after (right_marks spot) (before ++ d ∷ []) (list_of ds))) (right_in d) refl
-        (rights_found spot (before ++ d ∷ []) ds)
+    (rights_found spot (before ++ d ∷ []) ds)
 
 -- ---- the rights of a session
 
@@ -259,12 +258,16 @@ session_read ms is =
     let hops = whole_given 0 255 255 (codes "hops") ms h.0 refl h.1 h.2 in
     let a = given session_rules ms (codes "attempts") (kinds.Whole (pos 0) (pos 255)) is refl refl in
     let attempts = whole_given 0 255 255 (codes "attempts") ms a.0 refl a.1 a.2 in
-    let rights = rights_of (get_member (codes "rights") ms) in
-    (identity.0, first.0, hops.0, attempts.0,
-        ap (λ o. session_with ms o (natural_at 65535 (codes "first") ms) (natural_at 255 (codes "hops") ms) (natural_at 255 (codes "attempts") ms) rights) identity.1
-        ∙ ap (λ o. session_with ms (Some identity.0) o (natural_at 255 (codes "hops") ms) (natural_at 255 (codes "attempts") ms) rights) first.3
-        ∙ ap (λ o. session_with ms (Some identity.0) (Some first.0) o (natural_at 255 (codes "attempts") ms) rights) hops.3
-        ∙ ap (λ o. session_with ms (Some identity.0) (Some first.0) (Some hops.0) o rights) attempts.3)
+    let rights = rights_of (get_member (codes "rights") ms) in (
+      identity.0,
+      first.0,
+      hops.0,
+      attempts.0,
+      ap (λ o. session_with ms o (natural_at 65535 (codes "first") ms) (natural_at 255 (codes "hops") ms) (natural_at 255 (codes "attempts") ms) rights) identity.1
+          ∙ ap (λ o. session_with ms (Some identity.0) o (natural_at 255 (codes "hops") ms) (natural_at 255 (codes "attempts") ms) rights) first.3
+          ∙ ap (λ o. session_with ms (Some identity.0) (Some first.0) o (natural_at 255 (codes "attempts") ms) rights) hops.3
+          ∙ ap (λ o. session_with ms (Some identity.0) (Some first.0) (Some hops.0) o rights) attempts.3,
+    )
 
 session_case : (v n : ℕ) (d : Data) → IsVersion v → (table_of session_rules d ≡ None) ⊎ ((ms : Members) × IsTable session_rules d ms)
     → (not (is_some (table_of session_rules d)) || found (rights_marks (in_table arrays.Session n) (Some v) (as_table d)))
@@ -282,7 +285,7 @@ session_case v n d version (inr t) =
     ∙ ap (λ o. found (rights_marks spot (Some v) o)) t.1.is
     ∙ found-append (version_marks spot (Some v) rights) (each_after (right_marks spot) [] (items_at (codes "rights") ms))
     ∙ or_same _ _ _ _ (version_found spot v rights version)
-        (rights_there spot rights (λ e there. array_given (codes "rights") ms e there (fitting session_rules ms (codes "rights") kinds.Array e t.1.shape refl there)))
+    (rights_there spot rights (λ e there. array_given (codes "rights") ms e there (fitting session_rules ms (codes "rights") kinds.Array e t.1.shape refl there)))
     ∙ session_rights v ms read.0 read.1 read.2 read.3 rights
     ∙ ap (λ o. not (session_ok v o)) (sym read.4)
     ∙ sym (ap (λ o. not (session_ok v (option_and_then session_of_table o))) t.1.read)

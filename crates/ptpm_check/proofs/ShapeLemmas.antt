@@ -1,23 +1,23 @@
 -- A document has faults of its shape exactly if it has no meaning.
-use Rattle.std.proofs.Common.{arith, ◌≡◌, ℕ, pos, nat_le, Bool, true, false, not, ◌&&◌, ◌||◌, ◌⊎◌, inl, inr, ◌==◌, cond, if◌then◌else◌, List, [], ◌∷◌, ◌++◌, Option, Some, None, refl, ap, sym, subst, ◌∙◌, is_some, is_none, codes, map, option_map, option_and_then}
+use Rattle.std.proofs.Common.{◌≡◌, ℕ, pos, Bool, true, false, not, ◌||◌, ◌⊎◌, inl, inr, if◌then◌else◌, List, [], ◌∷◌, ◌++◌, Option, Some, None, refl, ap, sym, ◌∙◌, is_some, is_none, codes, map, option_map, option_and_then}
 use Rattle.std.specs.List.{list_any}
-use Rattle.toml.specs.Data.{Data, as_array, as_str, as_table, Items, no_items, item, Members, get_member}
+use Rattle.toml.specs.Data.{Data, as_str, as_table, Items, no_items, item, Members}
 use Rattle.ptpm_codec.specs.declared.identity.ClockIdentity.{ClockIdentity}
 use Rattle.ptpm_script.specs.declared.net_error.NetError.TheVariants.{BadShape}
 use Rattle.ptpm_script.specs.declared.shapes.Kind.TheVariants as kinds
 use Rattle.ptpm_script.specs.Document.{KeyRule, end_of, is_shaped, shaped, table_of}
-use Rattle.ptpm_script.specs.Entries.{ClockEntryValue, entries_at, read_all}
+use Rattle.ptpm_script.specs.Entries.{entries_at, read_all}
 use Rattle.ptpm_script.specs.NetworkFile.{clock_entry, clock_of_table, clock_rules, clock_with, end_entry, link_entry, link_rules, port_entry, port_of_table, port_rules, port_start}
-use Rattle.ptpm_script.specs.Values.{clock_at, natural_at}
+use Rattle.ptpm_script.specs.Values.{natural_at}
 use Rattle.ptpm_check.specs.declared.place.Array.TheVariants as arrays
 use Rattle.ptpm_check.specs.Heads.{items_at, items_in, list_of, members_items}
 use Rattle.ptpm_check.specs.KeyFaults.{has_none, key_marks, members_marks, missing_keys, shape_mark, table_marks, wrong_keys}
 use Rattle.ptpm_check.specs.Marks.{Mark, Spot, absent, at_item, at_key, each, in_table, mark_if}
 use Rattle.ptpm_check.specs.ShapeFaults.{clock_marks, end_marks, link_marks, port_marks, ports_marks}
-use Rattle.ptpm_check.proofs.EntryTypes.{EndEntry, PortEntry, SessionEntry}
+use Rattle.ptpm_check.proofs.EntryTypes.{EndEntry, PortEntry}
 use Rattle.ptpm_check.proofs.FoundLemmas.{found, found-append, found-each, found-map, or_same}
 use Rattle.ptpm_check.proofs.KeyLemmas.{keys-told}
-use Rattle.ptpm_check.proofs.TableLemmas.{array-at, clock_given, given, port_given, whole_given}
+use Rattle.ptpm_check.proofs.TableLemmas.{array-at, clock_given, given, whole_given}
 
 -- ---- keys
 

@@ -1,18 +1,18 @@
 -- What is at a key of a table that keeps to its rules.
-use Rattle.std.proofs.Common.{arith, ◌≡◌, ℕ, ℤ, pos, negsuc, nat_le, int_le, Bool, true, false, not, ◌&&◌, ◌||◌, ◌⊎◌, inl, inr, cond, if◌then◌else◌, List, [], ◌∷◌, Option, Some, None, refl, ap, sym, subst, ◌∙◌, is_some, bytes_eq, option_and_then, Ordering, Less, Equal, Greater, nat_cmp, is_eq}
+use Rattle.std.proofs.Common.{arith, ◌≡◌, ℕ, ℤ, pos, negsuc, nat_le, int_le, Bool, true, false, not, ◌&&◌, ◌||◌, ◌⊎◌, inl, inr, if◌then◌else◌, List, [], ◌∷◌, Option, Some, None, refl, ap, sym, subst, ◌∙◌, is_some, bytes_eq, option_and_then, Ordering, Less, Equal, Greater, nat_cmp, is_eq}
 use Rattle.std.specs.Cmp.Lexicographic.{slice_cmp}
 use Rattle.std.specs.Ordering.{match_ordering}
-use Rattle.std.proofs.lemmas.Bool.{and_parts, or_cases, false≢true}
+use Rattle.std.proofs.lemmas.Bool.{and_parts, or_cases}
 use Rattle.std.proofs.lemmas.Bool.Decides.{nat_tests}
 use Rattle.std.proofs.lemmas.Cmp.{same_from_slice_cmp}
 use Rattle.std.proofs.lemmas.Option.{cond_some}
 use Rattle.std.proofs.lemmas.Slice.Eq.{bytes_eq-Decides}
-use Rattle.toml.specs.Data.{Data, as_array, as_integer, as_str, as_table, Items, no_items, item, Members, no_members, member, get_member}
+use Rattle.toml.specs.Data.{Data, as_array, as_integer, as_str, Items, no_items, Members, no_members, member, get_member}
 use Rattle.ptpm_codec.specs.declared.identity.ClockIdentity.{ClockIdentity}
 use Rattle.ptpm_codec.specs.declared.identity.PortIdentity.{PortIdentity}
 use Rattle.ptpm_script.specs.declared.shapes.Kind.{Kind}
 use Rattle.ptpm_script.specs.declared.shapes.Kind.TheVariants as kinds
-use Rattle.ptpm_script.specs.Document.{KeyRule, clock_identity, fits, has_only, has_required, is_name, is_shaped, kind_of, passes, port_identity, shaped, table_of}
+use Rattle.ptpm_script.specs.Document.{KeyRule, clock_identity, fits, has_only, has_required, is_name, is_shaped, kind_of, passes, port_identity}
 use Rattle.ptpm_script.specs.Entries.{array_of, entries_at, read_all}
 use Rattle.ptpm_script.specs.Values.{clock_at, integer_at, natural_at, natural_up_to, port_at, text_at}
 use Rattle.ptpm_check.specs.Heads.{items_at, list_of, list_or_none}
@@ -101,7 +101,7 @@ required_there [] key ms is there = cc
 required_there (r ∷ rs) key ms is there =
     let both = and_parts (not r.is_required || is_some (get_member r.key ms)) (has_required rs ms) there in
     required_either r rs key ms (or_cases (r.is_required && bytes_eq r.key key) (requires rs key) is) both.0
-        (λ later. required_there rs key ms later both.1)
+    (λ later. required_there rs key ms later both.1)
 
 pub key-there : (rules : List KeyRule) (ms : Members) (key : List ℕ)
     → is_shaped rules ms ≡ true
@@ -119,7 +119,7 @@ pub given : (rules : List KeyRule) (ms : Members) (key : List ℕ) (kind : Kind)
 unfolding is_shaped
 given rules ms key kind is needs of =
     let there = some_of (get_member key ms)
-            (required_there rules key ms needs (and_parts (has_required rules ms) (has_only rules ms) is).0) in
+    (required_there rules key ms needs (and_parts (has_required rules ms) (has_only rules ms) is).0) in
     (there.0, there.1, fitting rules ms key kind there.0 is of there.1)
 
 -- ---- values of each kind

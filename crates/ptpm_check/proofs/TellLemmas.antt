@@ -1,5 +1,5 @@
 -- Which start's fault some marks tell of: none if there is none, and one of that fault if there is one.
-use Rattle.std.proofs.Common.{◌≡◌, ℕ, Bool, true, false, ◌||◌, ◌⊎◌, inl, inr, if◌then◌else◌, List, [], ◌∷◌, ◌++◌, Option, Some, None, refl, ap, sym, subst, ◌∙◌, is_some}
+use Rattle.std.proofs.Common.{◌≡◌, ℕ, Bool, true, false, inl, inr, if◌then◌else◌, List, [], ◌∷◌, ◌++◌, Option, Some, None, refl, sym, subst, ◌∙◌, is_some}
 use Rattle.std.specs.Option.{option_or}
 use Rattle.std.proofs.lemmas.Bool.{or_from}
 use Rattle.toml.specs.Data.{Data, Members, get_member}
@@ -9,7 +9,6 @@ use Rattle.ptpm_script.specs.declared.net_error.NetError.TheVariants.{BadClock}
 use Rattle.ptpm_check.specs.Faults.{IsAmong}
 use Rattle.ptpm_check.specs.Marks.{Mark, Spot, at_key, mark_if, value_mark, value_mark_if}
 use Rattle.ptpm_check.proofs.FoundLemmas.{found, found-append}
-use Rattle.ptpm_check.proofs.MarkLemmas.{value-found}
 
 pub among-left : (class : NetError) (xs ys : List Mark) → IsAmong class xs → IsAmong class (xs ++ ys)
 among-left class [] ys h = absurd h
@@ -67,7 +66,7 @@ pub tells-value : (test marked : Bool) (fault : StartError) (spot : Spot) (key :
     → Tells (if test then Some fault else None) (value_mark_if marked (BadClock fault) spot key ms)
 tells-value test marked fault spot key ms same never =
     subst (λ b. Tells (if test then Some fault else None) (value_mark_if b (BadClock fault) spot key ms)) (sym same)
-        (tells_at test fault spot key ms (get_member key ms) refl never)
+    (tells_at test fault spot key ms (get_member key ms) refl never)
 
 pub or_or : (o p q : Option StartError) → option_or (option_or o p) q ≡ option_or o (option_or p q)
 or_or None p q = refl

@@ -1,5 +1,5 @@
 -- What a network file gives twice: each from its second time on (this project's profile).
-use Rattle.std.specs.Prelude.{ℕ, ◌+◌, ◌==◌, Bool, ◌&&◌, List, [], ◌∷◌, ◌++◌, bytes_eq, codes, length, map, Option, Some, None, option_map}
+use Rattle.std.specs.Prelude.{ℕ, ◌+◌, ◌==◌, Bool, ◌&&◌, List, [], ◌++◌, bytes_eq, codes, length, map, Option, Some, None, option_map}
 use Rattle.std.specs.List.{list_any}
 use Rattle.toml.specs.Data.{Data, as_table, Members}
 use Rattle.ptpm_codec.specs.Identity.{same_clock, same_identity}

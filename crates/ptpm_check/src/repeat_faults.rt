@@ -109,7 +109,14 @@ fn add_ports<'a>(
 {
     let numbers = numbers_of(alloc, ports)?;
     for index in 0..ports.len() {
-        add_port(faults, clock, name, &ports[..index], &numbers[..index], &ports[index])?;
+        add_port(
+            faults,
+            clock,
+            name,
+            &ports[..index],
+            &numbers[..index],
+            &ports[index],
+        )?;
     }
     Ok(())
 }
