@@ -71,8 +71,8 @@ abbrev pub IsFirst : NetError → List Mark → Type 0
 IsFirst refusal [] = ⊥
 IsFirst refusal (m ∷ ms) = m.class ≡ refusal
 
--- Nothing is found in a network, and in a text that is refused first something of its refusal. Of a clock that can't start something
--- is found that says why, but maybe not first: a start judges ports by their numbers, and marks are in the order of the tables.
+-- Nothing is found in a network, and in a text that is refused first something of its refusal. If that is a clock that can't start,
+-- what says why may not be first. A start judges ports by their numbers, and marks are in the order of the tables.
 abbrev pub Answers : Option NetError → List Mark → Type 0
 Answers None found = found ≡ []
 Answers (Some (BadClock fault)) found = IsAmong (BadClock fault) found
