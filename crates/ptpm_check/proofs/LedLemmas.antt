@@ -1,16 +1,19 @@
 -- Some faults with one of a refusal first.
-use Rattle.std.proofs.Common.{arith, ◌≡◌, ℕ, ◌<◌, All, List, ◌∷◌, ◌++◌, Option, Some, None, Result, Ok, Err, IfOk, IfSome, Global, Vec, refl, ap, sym, subst, ◌∙◌, drop, inl, inr, length, map, option_map, suc, take, slice_get}
+use Rattle.std.proofs.Common.{arith, ◌≡◌, ℕ, ◌<◌, All, List, [], ◌∷◌, ◌++◌, Option, Some, None, Result, Ok, Err, IfOk, IfSome, Global, Vec, refl, ap, sym, subst, ◌∙◌, drop, inl, inr, length, map, option_map, suc, take, slice_get}
 use Rattle.std.specs.List.{remove}
+use mathlib.Core.HLevel.{⊥_prop}
+use mathlib.Core.Logic.{∥∥₁_elim}
 use Rattle.std.specs.declared.alloc.AllocError.{AllocError}
 use Rattle.std.proofs.lemmas.List.{drop-map, map-append, take-map}
-use Rattle.std.proofs.lemmas.List.Elements.{All-map, All-same}
+use Rattle.std.proofs.lemmas.List.Elements.{All-head, All-map, All-same, All-tail}
 use Rattle.std.proofs.lemmas.Option.{slice_get-map}
 use Rattle.std.proofs.lemmas.Grind.{common_steps}
 use Rattle.std.proofs.lemmas.Option.{gets}
 use Rattle.ptpm_check.specs.declared.fault.Fault.{Fault}
-use Rattle.ptpm_check.specs.Faults.{IsFirstOf, IsLedBy, IsMoved, IsOther, IsOtherFault, Leads, LeadsAlone, first_class}
-use Rattle.ptpm_check.specs.Marks.{in_file, mark_of, marked, marks_in, whole}
+use Rattle.ptpm_check.specs.Faults.{Answers, HasSome, HasSomeFault, IsAmong, IsFirst, IsFirstOf, IsMoved, IsOther, IsOtherFault, Leads, first_class}
+use Rattle.ptpm_check.specs.Marks.{Mark, mark_of, marks_in}
 use Rattle.ptpm_script.specs.declared.net_error.NetError.{NetError}
+use Rattle.ptpm_script.specs.declared.net_error.NetError.TheVariants.{BadClock}
 
 marks-remove : (fs : List Fault) (n : ℕ) → marks_in (remove fs n) ≡ remove (marks_in fs) n
 marks-remove fs n =
@@ -60,19 +63,6 @@ pub led-moved : (r : NetError) (fs led : List Fault) (n : ℕ)
     → (first_class led ≡ Some r) × Leads r (marks_in fs) (marks_in led)
 led-moved r fs led n h m = at_place r fs led n (slice_get fs n) refl (there_is fs n h.inside) h.class h.first m
 
-pub led-alone : (r : NetError) (fs led : List Fault) (f : Fault)
-    → All (IsOtherFault r) fs
-    → mark_of f ≡ marked r in_file whole
-    → led ≡ f ∷ fs
-    → (first_class led ≡ Some r) × LeadsAlone r (marks_in fs) (marks_in led)
-led-alone r fs led f lacks is moved = (
-  ap first_class moved ∙ ap (λ m. Some m.class) is,
-  record {
-    lacks = All-map (IsOther r) mark_of fs lacks;
-    added = ap marks_in moved ∙ ap (λ m. m ∷ marks_in fs) is;
-  },
-)
-
 -- ---- as a call answers it
 
 pub moved-first : (r : NetError) (ss fs : List Fault) (n : ℕ) (res : Result (Vec Fault Global) AllocError)
@@ -87,23 +77,30 @@ pub moved-all : (r : NetError) (ss fs : List Fault) (n : ℕ) (res : Result (Vec
     → ss ≡ fs
     → IsFirstOf r ss n
     → IfOk res (λ led. IsMoved fs n led.items)
-    → IfOk res (λ led. IsLedBy r (marks_in fs) (marks_in led.items))
-moved-all r ss fs n (Ok led) e h m = inl ((led-moved r fs led.items n (subst (λ xs. IsFirstOf r xs n) e h) m).1)
+    → IfOk res (λ led. Leads r (marks_in fs) (marks_in led.items))
+moved-all r ss fs n (Ok led) e h m = (led-moved r fs led.items n (subst (λ xs. IsFirstOf r xs n) e h) m).1
 moved-all r ss fs n (Err out) e h m = tt
 
-pub alone-first : (r : NetError) (f : Fault) (fs : List Fault) (res : Result (Vec Fault Global) AllocError)
-    → mark_of f ≡ marked r in_file whole
-    → IfOk res (λ led. led.items ≡ f ∷ fs)
-    → IfOk res (λ led. first_class led.items ≡ Some r)
-alone-first r f fs (Ok led) is m = ap first_class m ∙ ap (λ mark. Some mark.class) is
-alone-first r f fs (Err out) is m = tt
+-- ---- some fault is of the refusal
 
-pub alone-all : (r : NetError) (f : Fault) (ss fs : List Fault) (res : Result (Vec Fault Global) AllocError)
-    → ss ≡ fs
-    → All (IsOtherFault r) ss
-    → mark_of f ≡ marked r in_file whole
-    → IfOk res (λ led. led.items ≡ f ∷ fs)
-    → IfOk res (λ led. IsLedBy r (marks_in fs) (marks_in led.items))
-alone-all r f ss fs (Ok led) e lacks is m =
-    inr ((led-alone r fs led.items f (subst (All (IsOtherFault r)) e lacks) is m).1)
-alone-all r f ss fs (Err out) e lacks is m = tt
+among_some : (r : NetError) (found : List Mark) → IsAmong r found → HasSome r found
+among_some r [] h others = h
+among_some r (m ∷ ms) (inl here) others = All-head (IsOther r) m ms others here
+among_some r (m ∷ ms) (inr later) others = among_some r ms later (All-tail (IsOther r) m ms others)
+
+first_some : (r : NetError) (found : List Mark) → IsFirst r found → HasSome r found
+first_some r [] h others = h
+first_some r (m ∷ ms) h others = All-head (IsOther r) m ms others h
+
+answered : (r : NetError) (found : List Mark) → Answers (Some r) found → HasSome r found
+answered (BadClock fault) found h = among_some (BadClock fault) found h
+answered r found h = first_some r found h
+
+-- what is found in a document that is refused has something of its refusal
+pub some-answers : (r : NetError) (o : Option NetError) (found : List Mark) → o ≡ Some r → ∥ Answers o found ∥₁ → HasSome r found
+some-answers r o found is t others =
+    ∥∥₁_elim t ⊥_prop (λ h. answered r found (subst (λ p. Answers p found) is h) others)
+
+-- and so have the faults
+pub some-fault : (r : NetError) (ss fs : List Fault) → ss ≡ fs → HasSome r (marks_in fs) → HasSomeFault r ss
+some-fault r ss fs same some others = some (All-map (IsOther r) mark_of fs (subst (All (IsOtherFault r)) same others))

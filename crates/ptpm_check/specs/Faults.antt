@@ -7,11 +7,10 @@ use Rattle.toml.specs.View.{table_view}
 use Rattle.ptpm_check.specs.declared.fault.Fault.{Fault}
 use Rattle.ptpm_check.specs.declared.network_faults.Content.{Content}
 use Rattle.ptpm_check.specs.declared.network_faults.Content.TheVariants as contents
-use Rattle.ptpm_check.specs.declared.network_faults.Document.{Document}
 use Rattle.ptpm_script.specs.declared.event.Event.{Event}
 use Rattle.ptpm_script.specs.declared.event.EventError.{EventError}
 use Rattle.ptpm_script.specs.declared.net_error.NetError.{NetError}
-use Rattle.ptpm_script.specs.declared.net_error.NetError.TheVariants.{TooLong, NotToml}
+use Rattle.ptpm_script.specs.declared.net_error.NetError.TheVariants.{BadClock, TooLong, NotToml}
 use Rattle.ptpm_script.specs.NetworkValue.{NetworkValue}
 use Rattle.ptpm_check.specs.Heads.{clocks_of, ends_of, sessions_of}
 use Rattle.ptpm_check.specs.LimitFaults.{limit_marks}
@@ -60,10 +59,33 @@ marks_of_document (Some ms) = file_marks ms
 unfoldable pub text_marks : List ℕ → List Mark
 text_marks text = if nat_lt 262144 (length text) then long_marks else marks_of_document (parse_document text)
 
+-- ---- how it answers to the refusal
+
+-- some mark is of a refusal
+abbrev pub IsAmong : NetError → List Mark → Type 0
+IsAmong refusal [] = ⊥
+IsAmong refusal (m ∷ ms) = (m.class ≡ refusal) ⊎ IsAmong refusal ms
+
+-- the first mark is of a refusal
+abbrev pub IsFirst : NetError → List Mark → Type 0
+IsFirst refusal [] = ⊥
+IsFirst refusal (m ∷ ms) = m.class ≡ refusal
+
+-- Nothing is found in a network, and in a text that is refused first something of its refusal. If that is a clock that can't start,
+-- what says why may not be first. A start judges ports by their numbers, and marks are in the order of the tables.
+abbrev pub Answers : Option NetError → List Mark → Type 0
+Answers None found = found ≡ []
+Answers (Some (BadClock fault)) found = IsAmong (BadClock fault) found
+Answers (Some refusal) found = IsFirst refusal found
+
 -- ---- what is reported of it
 
 abbrev pub IsOther : NetError → Mark → Type 0
 IsOther refusal m = m.class ≢ refusal
+
+-- some mark is of the refusal: not all are of others
+abbrev pub HasSome : NetError → List Mark → Type 0
+HasSome refusal found = All (IsOther refusal) found → ⊥
 
 -- one of a refusal is first, the first of those that are found, and the others are in their order
 pub record Leads (refusal : NetError) (found reported : List Mark) : Type 0 where
@@ -74,23 +96,18 @@ pub record Leads (refusal : NetError) (found reported : List Mark) : Type 0 wher
   pub first : All (IsOther refusal) (take place found)
   pub moved : reported ≡ mark ∷ remove found place
 
--- none of those that are found is of the refusal, and one that gives the refusal alone is first
-pub record LeadsAlone (refusal : NetError) (found reported : List Mark) : Type 0 where
-  pub lacks : All (IsOther refusal) found
-  pub added : reported ≡ marked refusal in_file whole ∷ found
-
-abbrev pub IsLedBy : NetError → List Mark → List Mark → Type 0
-IsLedBy refusal found reported = Leads refusal found reported ⊎ LeadsAlone refusal found reported
-
 -- nothing, if there is no refusal
 abbrev pub AreReported : Option NetError → List Mark → List Mark → Type 0
 AreReported None found reported = reported ≡ []
-AreReported (Some refusal) found reported = IsLedBy refusal found reported
+AreReported (Some refusal) found reported = Leads refusal found reported
 
 -- ---- as the program has them
 
 abbrev pub IsOtherFault : NetError → Fault → Type 0
 IsOtherFault refusal f = f.class ≢ refusal
+
+abbrev pub HasSomeFault : NetError → List Fault → Type 0
+HasSomeFault refusal faults = All (IsOtherFault refusal) faults → ⊥
 
 -- the first fault of a refusal is at this index
 pub record IsFirstOf (refusal : NetError) (faults : List Fault) (index : ℕ) : Type 0 where
@@ -106,7 +123,3 @@ abbrev pub content_marks : Content → List Mark
 content_marks contents.Long = long_marks
 content_marks (contents.Broken line error) = broken_marks
 content_marks (contents.Table t) = file_marks (table_view t)
-
--- what is to be found in the text that was judged
-abbrev pub document_marks : Document → List Mark
-document_marks d = content_marks d.content

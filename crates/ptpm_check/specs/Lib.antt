@@ -1,3 +1,4 @@
+pub mod DocumentView
 pub mod Faults
 pub mod Heads
 pub mod KeyFaults

@@ -1,5 +1,5 @@
 -- Targets, ends and ports that are not there (this project's profile).
-use Rattle.std.specs.Prelude.{ℕ, ◌==◌, nat_lt, Bool, true, false, not, ◌||◌, if◌then◌else◌, List, [], ◌∷◌, ◌++◌, bytes_eq, codes, find, flat_map, Option, Some, None, option_and_then}
+use Rattle.std.specs.Prelude.{ℕ, ◌==◌, nat_lt, Bool, true, not, ◌||◌, if◌then◌else◌, List, [], ◌++◌, bytes_eq, codes, find, flat_map, Option, Some, None, option_and_then}
 use Rattle.toml.specs.Data.{Data, as_table, Members}
 use Rattle.ptpm_script.specs.Document.{is_between, passes}
 use Rattle.ptpm_script.specs.Values.{natural_at}

@@ -1,5 +1,5 @@
 -- What a network file gives twice: each from its second time on (this project's profile).
-use Rattle.std.specs.Prelude.{ℕ, ◌+◌, ◌==◌, Bool, ◌&&◌, List, [], ◌∷◌, ◌++◌, bytes_eq, codes, length, take, Option, Some, None, option_map}
+use Rattle.std.specs.Prelude.{ℕ, ◌+◌, ◌==◌, Bool, ◌&&◌, List, [], ◌++◌, bytes_eq, codes, length, map, Option, Some, None, option_map}
 use Rattle.std.specs.List.{list_any}
 use Rattle.toml.specs.Data.{Data, as_table, Members}
 use Rattle.ptpm_codec.specs.Identity.{same_clock, same_identity}
@@ -16,28 +16,26 @@ use Rattle.ptpm_check.specs.Marks.{Mark, Spot, at_item, each_after, in_port, mar
 abbrev pub twice_if : Bool → Spot → List ℕ → Members → List Mark
 twice_if test spot key ms = value_mark_if test Twice spot key ms
 
--- ---- ports' tables; of those of one clock the first 64 are held beside each other
+-- ---- ports' tables
 
 abbrev pub members_number : Option Members → Option ℕ
 members_number None = None
 members_number (Some ms) = natural_at 65535 (codes "number") ms
 
-abbrev pub has_number : ℕ → Data → Bool
-has_number n d = passes (λ m. m == n) (members_number (as_table d))
+-- the number of a port's table
+abbrev pub number_in : Data → Option ℕ
+number_in d = members_number (as_table d)
 
-abbrev pub is_number_of : List Data → ℕ → Bool
-is_number_of ds n = list_any (has_number n) ds
+abbrev pub is_number_of : List (Option ℕ) → ℕ → Bool
+is_number_of numbers n = list_any (passes (λ m. m == n)) numbers
 
-abbrev pub port_members_repeats : Spot → List Data → Option Members → List Mark
+abbrev pub port_members_repeats : Spot → List (Option ℕ) → Option Members → List Mark
 port_members_repeats spot before None = []
 port_members_repeats spot before (Some ms) =
     twice_if (passes (is_number_of before) (natural_at 65535 (codes "number") ms)) spot (codes "number") ms
 
 unfoldable pub port_repeats : ℕ → List Data → Data → List Mark
-port_repeats clock before d = port_members_repeats (in_port clock (length before + 1)) before (as_table d)
-
-unfoldable pub first_ports : ClockHeadValue → List Data
-first_ports c = take 64 (items_at (codes "port") c.table)
+port_repeats clock before d = port_members_repeats (in_port clock (length before + 1)) (map number_in before) (as_table d)
 
 -- ---- clocks
 
@@ -49,7 +47,7 @@ is_clock_identity cs identity = list_any (λ c. passes (λ other. same_clock oth
 
 unfoldable pub clock_repeats : List ClockHeadValue → ClockHeadValue → List Mark
 clock_repeats before c =
-    each_after (port_repeats c.number) [] (first_ports c)
+    each_after (port_repeats c.number) [] (items_at (codes "port") c.table)
     ++ twice_if (passes (is_clock_name before) c.name) c.spot (codes "name") c.table
     ++ twice_if (passes (is_clock_identity before) c.identity) c.spot (codes "identity") c.table
 

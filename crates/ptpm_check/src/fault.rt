@@ -63,8 +63,6 @@ pub enum Names {
 /// What is asked of a place, whatever else is in the file.
 #[derive(Clone, Copy)]
 pub enum Need {
-    /// Not what the refusal says.
-    Accepted(NetError),
     /// At most 262,144 octets; there are more.
     Size,
     /// TOML, which ends here for this reason.
@@ -247,7 +245,6 @@ impl Names {
 impl fmt::Display for Need {
     fn fmt<W: fmt::Write>(&self, f: &mut fmt::Formatter<W>) -> fmt::Result {
         match *self {
-            Need::Accepted(refusal) => write!(f, "{refusal}"),
             Need::Size => write!(f, "over {TEXT_OCTETS} octets"),
             Need::Toml(error) => f.write_str(error.message()),
             Need::Kind(kind) => write!(f, "{}", KindText(kind)),

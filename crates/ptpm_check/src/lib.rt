@@ -19,6 +19,6 @@ mod values;
 
 pub use event_faults::{EventFault, Expected, event_fault};
 pub use fault::{Fault, Found, Names, Need, Wanted};
-pub use laws::told_keys;
+pub use laws::{faults_found, told_keys};
 pub use network_faults::Document;
 pub use place::{Array, Place};

@@ -1,10 +1,10 @@
 //! Every fault of a network file.
 
-ghost use Rattle.std.specs.Prelude.{◌≡◌, ◌++◌, ◌∷◌, ◌<◌, All, IfOk, MatchBool, MatchOption, OnOk, Some, [], vec_len};
+ghost use Rattle.std.specs.Prelude.{◌≡◌, ◌++◌, ◌∷◌, ◌<◌, IfOk, MatchBool, OnOk, Some, [], vec_len};
 ghost use Rattle.toml.specs.View.{table_view};
 ghost use Rattle.ptpm_script.specs.NetworkText.{network_of};
-ghost use Rattle.ptpm_check.specs.Faults.{AreReported, IsFirstOf, IsLedBy, IsMoved, IsOtherFault, content_marks, document_marks, file_marks, first_class, refusal_of, text_marks};
-ghost use Rattle.ptpm_check.specs.Marks.{in_file, marked, mark_of, marks_in, spot_of, whole};
+ghost use Rattle.ptpm_check.specs.Faults.{Answers, AreReported, HasSome, HasSomeFault, IsFirstOf, IsMoved, IsOtherFault, Leads, content_marks, file_marks, first_class, refusal_of, text_marks};
+ghost use Rattle.ptpm_check.specs.Marks.{marked, marks_in, spot_of, whole};
 
 use crate::fault::{Fault, Found, Need, Wanted, add_fault};
 use crate::heads::Heads;
@@ -19,11 +19,12 @@ use ptpm_script::{NetError, Network, TEXT_OCTETS};
 use std::alloc::{AllocError, Global};
 use toml::Table;
 
-/// A text, judged as a network file. It keeps what its faults point to.
+/// A text, judged as a network file. It keeps what its faults point to. What is found in it answers to its refusal.
 #[derive(Drop)]
 pub struct Document {
     refusal: Option<NetError>,
     content: Content,
+    ghost answers: { ∥ Answers refusal (content_marks content) ∥₁ },
 }
 
 /// What a text is.
@@ -37,16 +38,14 @@ enum Content {
 }
 
 impl Document {
+    ghost use Rattle.ptpm_check.specs.DocumentView.{document_marks};
+
     /// Judges a text. Nothing is made if memory is refused.
     pub fn of(alloc: Global, text: &str) -> Result<Document, OutOfMemory>
         ensures refusal { IfOk result (λ d. d.refusal ≡ refusal_of (network_of text.now)) }
         ensures found { IfOk result (λ d. document_marks d ≡ text_marks text.now) }
     {
-        let refusal = match Network::from_toml(alloc, text) {
-            Ok(_) => None,
-            Err(NetError::OutOfMemory) => return Err(OutOfMemory),
-            Err(refusal) => Some(refusal),
-        };
+        let refusal = refusal_in(alloc, text)?;
         let content = content_of(alloc, text)?;
         Ok(Document { refusal, content })
     }
@@ -66,6 +65,17 @@ impl Document {
             Ok(faults) => Ok(faults),
             Err(_) => Err(OutOfMemory),
         }
+    }
+}
+
+/// Why a text is no network file; none if it is one.
+fn refusal_in(alloc: Global, text: &str) -> Result<Option<NetError>, OutOfMemory>
+    ensures { IfOk result (λ refusal. refusal ≡ refusal_of (network_of text.now)) }
+{
+    match Network::from_toml(alloc, text) {
+        Ok(_) => Ok(None),
+        Err(NetError::OutOfMemory) => Err(OutOfMemory),
+        Err(refusal) => Ok(Some(refusal)),
     }
 }
 
@@ -106,11 +116,13 @@ fn reported_of<'a>(
     content: &'a Content,
     refusal: NetError,
 ) -> Result<Vec<Fault<'a>>, AllocError>
+    requires { HasSome refusal (content_marks content.now) }
     ensures first { IfOk result (λ faults. first_class faults.items ≡ Some refusal) }
     ensures all { IfOk result
-        (λ faults. IsLedBy refusal (content_marks content.now) (marks_in faults.items)) }
+        (λ faults. Leads refusal (content_marks content.now) (marks_in faults.items)) }
 {
-    with_first(found_in(alloc, content)?, refusal)
+    let faults = found_in(alloc, content)?;
+    with_first(faults, refusal)
 }
 
 /// The faults that are found in a text, in the order of the refusals.
@@ -156,34 +168,32 @@ fn add_file_faults<'a>(
     let heads = Heads::of(alloc, file)?;
     add_shape_faults(alloc, faults, file)?;
     add_limit_faults(faults, file, heads.sessions.as_slice())?;
-    add_repeat_faults(faults, &heads)?;
+    add_repeat_faults(alloc, faults, &heads)?;
     add_name_faults(alloc, faults, &heads)?;
     add_start_faults(faults, heads.clocks.as_slice())
 }
 
-/// The faults with one of this refusal first: the first of them that is, or one that gives the refusal alone.
+/// The faults with the first one of this refusal first.
 fn with_first<'a>(faults: Vec<Fault<'a>>, refusal: NetError) -> Result<Vec<Fault<'a>>, AllocError>
+    requires { HasSome refusal (marks_in faults.items) }
     ensures first { IfOk result (λ led. first_class led.items ≡ Some refusal) }
-    ensures all { IfOk result (λ led. IsLedBy refusal (marks_in faults.entry.items) (marks_in led.items)) }
+    ensures all { IfOk result (λ led. Leads refusal (marks_in faults.entry.items) (marks_in led.items)) }
 {
-    match index_of(faults.as_slice(), refusal) {
-        Some(index) => moved(faults, index),
-        None => led_by(faults, alone(refusal)),
-    }
+    let index = index_of(faults.as_slice(), refusal);
+    moved(faults, index)
 }
 
-/// The index of the first fault of a refusal.
-fn index_of(faults: &[Fault<'_>], refusal: NetError) -> Option<usize>
-    ensures { MatchOption result
-        (All (IsOtherFault refusal) faults.now)
-        (IsFirstOf refusal faults.now) }
+/// The index of the first fault of a refusal that some fault is of.
+fn index_of(faults: &[Fault<'_>], refusal: NetError) -> usize
+    requires { HasSomeFault refusal faults.now }
+    ensures { IsFirstOf refusal faults.now result }
 {
     for index in 0..faults.len() {
         if is_of(&faults[index], refusal) {
-            return Some(index);
+            return index;
         }
     }
-    None
+    faults.len()
 }
 
 fn is_of(fault: &Fault<'_>, refusal: NetError) -> bool
@@ -209,16 +219,4 @@ fn led_by<'a>(mut faults: Vec<Fault<'a>>, first: Fault<'a>) -> Result<Vec<Fault<
 {
     faults.insert(0, first)?;
     Ok(faults)
-}
-
-/// A fault that gives a refusal alone.
-fn alone<'a>(refusal: NetError) -> Fault<'a>
-    ensures { mark_of result ≡ marked refusal in_file whole }
-{
-    Fault {
-        class: refusal,
-        place: Place::File,
-        found: Found::Untold,
-        wanted: Wanted::Need(Need::Accepted(refusal)),
-    }
 }

@@ -1,6 +1,6 @@
 //! What may be given only once in a network file.
 
-ghost use Rattle.std.specs.Prelude.{◌≡◌, ◌++◌, OnOk, [], codes, is_some, map, option_map};
+ghost use Rattle.std.specs.Prelude.{◌≡◌, ◌++◌, IfOk, OnOk, [], codes, is_some, map, option_map};
 ghost use Rattle.std.specs.List.{list_any};
 ghost use Rattle.toml.specs.View.{view, table_view};
 ghost use Rattle.ptpm_script.specs.Document.{passes};
@@ -8,23 +8,21 @@ ghost use Rattle.ptpm_script.specs.NetworkText.{same_port};
 ghost use Rattle.ptpm_codec.specs.Identity.{same_identity};
 ghost use Rattle.ptpm_check.specs.Heads.{clock_value, end_value, session_value};
 ghost use Rattle.ptpm_check.specs.Marks.{each_after, marks_in, spot_of};
-ghost use Rattle.ptpm_check.specs.RepeatFaults.{clock_repeats, end_repeats, first_ports, has_number, is_clock_identity, is_clock_name, is_number_of, is_same_end, is_session_identity, is_session_name, port_repeats, repeat_marks, session_repeats, twice_if};
+ghost use Rattle.ptpm_check.specs.RepeatFaults.{clock_repeats, end_repeats, is_clock_identity, is_clock_name, is_number_of, is_same_end, is_session_identity, is_session_name, number_in, port_repeats, repeat_marks, session_repeats, twice_if};
 
 use crate::fault::{Fault, Found, Wanted, add_at_key, add_fault};
 use crate::heads::{ClockHead, EndHead, Heads, SessionHead};
 use crate::place::Place;
-use crate::values::{first_values, is_clock, is_name_of, is_number, items_at, table_of, whole_at};
+use crate::values::{is_clock, is_name_of, is_number, items_at, table_of, whole_at};
 use ptpm_codec::{ClockIdentity, PortIdentity};
 use ptpm_script::NetError;
-use std::alloc::AllocError;
+use std::alloc::{AllocError, Global};
 use toml::{Table, Value};
-
-/// How many tables of ports of a clock are held beside each other.
-const PORT_TABLES: usize = 64;
 
 /// Adds a fault for each port's number, name, identity and end that was given before it.
 #[tactic(auto, unfolding(crate::specs::RepeatFaults::repeat_marks))]
 pub(crate) fn add_repeat_faults<'a>(
+    alloc: Global,
     faults: &mut Vec<Fault<'a>>,
     heads: &Heads<'a>,
 ) -> Result<(), AllocError>
@@ -34,7 +32,7 @@ pub(crate) fn add_repeat_faults<'a>(
         ++ repeat_marks (map clock_value heads.now.clocks.items) (map session_value heads.now.sessions.items) (map end_value heads.now.ends.items)) }
 {
     let clocks = heads.clocks.as_slice();
-    add_clocks(faults, clocks)?;
+    add_clocks(alloc, faults, clocks)?;
     add_sessions(faults, clocks, heads.sessions.as_slice())?;
     add_ends(faults, heads.ends.as_slice())
 }
@@ -61,19 +59,24 @@ fn add_once<'a>(
     }
 }
 
-fn add_clocks<'a>(faults: &mut Vec<Fault<'a>>, clocks: &[ClockHead<'a>]) -> Result<(), AllocError>
+fn add_clocks<'a>(
+    alloc: Global,
+    faults: &mut Vec<Fault<'a>>,
+    clocks: &[ClockHead<'a>],
+) -> Result<(), AllocError>
     ensures { OnOk result
         (marks_in faults.new.items
         ≡ marks_in faults.old.items ++ each_after clock_repeats [] (map clock_value clocks.now)) }
 {
     for index in 0..clocks.len() {
-        add_clock(faults, &clocks[..index], &clocks[index])?;
+        add_clock(alloc, faults, &clocks[..index], &clocks[index])?;
     }
     Ok(())
 }
 
 #[tactic(auto, unfolding(crate::specs::RepeatFaults::clock_repeats))]
 fn add_clock<'a>(
+    alloc: Global,
     faults: &mut Vec<Fault<'a>>,
     before: &[ClockHead<'a>],
     clock: &ClockHead<'a>,
@@ -84,22 +87,17 @@ fn add_clock<'a>(
         ++ clock_repeats (map clock_value before.now) (clock_value clock.now)) }
 {
     let (place, table) = (clock.place, clock.table);
-    add_ports(faults, clock.number, clock.name, first_ports(clock))?;
+    let ports = items_at(table, "port");
+    add_ports(alloc, faults, clock.number, clock.name, ports)?;
     let named = clock_named(before, clock.name);
     add_once(faults, place, table, "name", named)?;
     let same = clock_of(before, clock.identity);
     add_once(faults, place, table, "identity", same)
 }
 
-/// The tables of a clock's ports that are held beside each other.
-fn first_ports<'a>(clock: &ClockHead<'a>) -> &'a [Value]
-    ensures { map view result.now ≡ first_ports (clock_value clock.now) }
-{
-    first_values(items_at(clock.table, "port"), PORT_TABLES)
-}
-
 /// Adds a fault for each table of a port of this clock whose number is that of one before.
 fn add_ports<'a>(
+    alloc: Global,
     faults: &mut Vec<Fault<'a>>,
     clock: usize,
     name: Option<&'a str>,
@@ -109,10 +107,35 @@ fn add_ports<'a>(
         (marks_in faults.new.items
         ≡ marks_in faults.old.items ++ each_after (port_repeats clock) [] (map view ports.now)) }
 {
+    let numbers = numbers_of(alloc, ports)?;
     for index in 0..ports.len() {
-        add_port(faults, clock, name, &ports[..index], &ports[index])?;
+        add_port(
+            faults,
+            clock,
+            name,
+            &ports[..index],
+            &numbers[..index],
+            &ports[index],
+        )?;
     }
     Ok(())
+}
+
+/// The numbers of ports' tables. A file may have some ten thousand of these, so each is looked up once.
+fn numbers_of(alloc: Global, ports: &[Value]) -> Result<Vec<Option<u16>>, AllocError>
+    ensures { IfOk result (λ numbers. numbers.items ≡ map number_in (map view ports.now)) }
+{
+    let mut numbers = Vec::with_capacity(alloc, ports.len())?;
+    for port in ports {
+        numbers.push(number_in(port))?;
+    }
+    Ok(numbers)
+}
+
+fn number_in(port: &Value) -> Option<u16>
+    ensures { result ≡ number_in (view port.now) }
+{
+    whole_at(table_of(port)?, "number")
 }
 
 #[tactic(auto, unfolding(crate::specs::RepeatFaults::port_repeats))]
@@ -121,8 +144,10 @@ fn add_port<'a>(
     clock: usize,
     name: Option<&'a str>,
     before: &[Value],
+    numbers: &[Option<u16>],
     port: &'a Value,
 ) -> Result<(), AllocError>
+    requires { numbers.now ≡ map number_in (map view before.now) }
     ensures { OnOk result
         (marks_in faults.new.items
         ≡ marks_in faults.old.items ++ port_repeats clock (map view before.now) (view port.now)) }
@@ -131,7 +156,7 @@ fn add_port<'a>(
         return Ok(());
     };
     let place = Place::Port(clock, name, before.len() + 1);
-    let other = match port_before(before, whole_at(table, "number")) {
+    let other = match port_before(numbers, whole_at(table, "number")) {
         Some(number) => Some(Place::Port(clock, name, number)),
         None => None,
     };
@@ -139,25 +164,16 @@ fn add_port<'a>(
 }
 
 /// The first table of a port's number, from 1.
-fn port_before(ports: &[Value], number: Option<u16>) -> Option<usize>
-    ensures { is_some result ≡ passes (is_number_of (map view ports.now)) number }
+fn port_before(numbers: &[Option<u16>], number: Option<u16>) -> Option<usize>
+    ensures { is_some result ≡ passes (is_number_of numbers.now) number }
 {
     let wanted = number?;
-    for index in 0..ports.len() {
-        if has_number(&ports[index], wanted) {
+    for index in 0..numbers.len() {
+        if is_number(numbers[index], wanted) {
             return Some(index + 1);
         }
     }
     None
-}
-
-fn has_number(port: &Value, number: u16) -> bool
-    ensures { result ≡ has_number number (view port.now) }
-{
-    match table_of(port) {
-        Some(table) => is_number(whole_at(table, "number"), number),
-        None => false,
-    }
 }
 
 /// The place of the first clock of a name.

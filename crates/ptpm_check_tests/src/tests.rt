@@ -173,6 +173,22 @@ fn too_long(rt: HostRuntime) -> Result<(), Fail> {
     is_told(&rt, alloc, text.as_bytes(), told)
 }
 
+/// A port's number that is given again after 64 others.
+#[test]
+fn port_given_again(rt: HostRuntime) -> Result<(), Fail> {
+    let alloc = rt.alloc();
+    let mut ports = String::from_str(alloc, "ports = 9")?;
+    for number in 1..65 {
+        let table = format!(in alloc; "\n[[clock.port]]\nnumber = {number}")?;
+        ports.push_str(table.as_str())?;
+    }
+    ports.push_str("\n[[clock.port]]\nnumber = 1")?;
+    let input = FIRST.replace(alloc, "ports = 2", ports.as_str())?;
+    let told = "clock 1 \"K\", port table 65: number = 1: stands at clock 1 \"K\", port table 1 too\n\
+        clock 1 \"K\": ports = 9: 1 to 8 ports\n";
+    is_told(&rt, alloc, input.as_bytes(), told)
+}
+
 /// `tools/refuse_memory` refuses each request for memory in turn. What was written by then is the beginning of the whole.
 #[test]
 fn check_after_refused_memory(rt: HostRuntime) -> Result<(), Fail> {

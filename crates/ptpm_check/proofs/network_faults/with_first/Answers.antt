@@ -1,21 +1,16 @@
-use Rattle.ptpm_check.proofs.LedLemmas.{alone-all, alone-first, moved-all, moved-first}
+use Rattle.ptpm_check.proofs.LedLemmas.{moved-all, moved-first, some-fault}
 use Rattle.ptpm_check.proofs.network_faults.with_first.Goals as goal
 
-pub returns-in-Some-clause-first : goal.returns-in-Some-clause-first
-returns-in-Some-clause-first c =
-    moved-first c.args.refusal c.as_slice.result.now c.args.faults.items c.in-Some.index c.moved.result c.as_slice.ensures.value
-    c.in-Some.ensures c.moved.ensures
+pub index_of-index-requires : goal.index_of-index-requires
+index_of-index-requires c =
+    some-fault c.args.refusal c.as_slice.result.now c.args.faults.items c.as_slice.ensures.value c.requires
 
-pub returns-in-Some-clause-all : goal.returns-in-Some-clause-all
-returns-in-Some-clause-all c =
-    moved-all c.args.refusal c.as_slice.result.now c.args.faults.items c.in-Some.index c.moved.result c.as_slice.ensures.value
-    c.in-Some.ensures c.moved.ensures
+pub returns-clause-first : goal.returns-clause-first
+returns-clause-first c =
+    moved-first c.args.refusal c.as_slice.result.now c.args.faults.items c.index_of-index.result c.moved.result c.as_slice.ensures.value
+    c.index_of-index.ensures c.moved.ensures
 
-pub returns-in-None-clause-first : goal.returns-in-None-clause-first
-returns-in-None-clause-first c =
-    alone-first c.args.refusal c.alone.result c.args.faults.items c.led_by.result c.alone.ensures c.led_by.ensures
-
-pub returns-in-None-clause-all : goal.returns-in-None-clause-all
-returns-in-None-clause-all c =
-    alone-all c.args.refusal c.alone.result c.as_slice.result.now c.args.faults.items c.led_by.result c.as_slice.ensures.value
-    c.in-None.ensures c.alone.ensures c.led_by.ensures
+pub returns-clause-all : goal.returns-clause-all
+returns-clause-all c =
+    moved-all c.args.refusal c.as_slice.result.now c.args.faults.items c.index_of-index.result c.moved.result c.as_slice.ensures.value
+    c.index_of-index.ensures c.moved.ensures

@@ -1,0 +1,70 @@
+-- Marks that are there if a test holds, and which refusal the first of some marks is of.
+use Rattle.std.proofs.Common.{◌≡◌, ℕ, ◌+◌, Bool, true, false, List, [], ◌∷◌, ◌++◌, refl, ◌∙◌, is_some, flat_map, map}
+use Rattle.toml.specs.Data.{Members, get_member}
+use Rattle.ptpm_script.specs.declared.net_error.NetError.{NetError}
+use Rattle.ptpm_check.specs.Faults.{IsFirst}
+use Rattle.ptpm_check.specs.Marks.{Mark, Part, Spot, at_key, each, each_after, mark_if, value_mark, value_mark_if}
+use Rattle.ptpm_check.proofs.FoundLemmas.{found}
+
+pub mark-found : (test : Bool) (class : NetError) (spot : Spot) (part : Part) → found (mark_if test class spot part) ≡ test
+mark-found true class spot part = refl
+mark-found false class spot part = refl
+
+pub value-found : (test : Bool) (class : NetError) (spot : Spot) (key : List ℕ) (ms : Members)
+    → is_some (get_member key ms) ≡ true
+    → found (value_mark_if test class spot key ms) ≡ test
+unfolding value_mark
+value-found true class spot key ms there = mark-found (is_some (get_member key ms)) class spot (at_key key) ∙ there
+value-found false class spot key ms there = refl
+
+-- ---- the first mark, if there is one, is of this refusal
+
+abbrev pub Of : NetError → List Mark → Type 0
+Of class [] = Unit {0}
+Of class (m ∷ ms) = m.class ≡ class
+
+pub of-append : (class : NetError) (xs ys : List Mark) → Of class xs → Of class ys → Of class (xs ++ ys)
+of-append class [] ys h k = k
+of-append class (x ∷ xs) ys h k = h
+
+pub of-mark : (test : Bool) (class : NetError) (spot : Spot) (part : Part) → Of class (mark_if test class spot part)
+of-mark true class spot part = refl
+of-mark false class spot part = tt
+
+pub of-value : (test : Bool) (class : NetError) (spot : Spot) (key : List ℕ) (ms : Members) → Of class (value_mark_if test class spot key ms)
+unfolding value_mark
+of-value true class spot key ms = of-mark (is_some (get_member key ms)) class spot (at_key key)
+of-value false class spot key ms = tt
+
+pub of-map : {A : Type 0} (class : NetError) (of : A → Mark) (xs : List A) → ((x : A) → (of x).class ≡ class) → Of class (map of xs)
+of-map class of [] h = tt
+of-map class of (x ∷ xs) h = h x
+
+pub of-each : {A : Type 0} (class : NetError) (of : ℕ → A → List Mark) (n : ℕ) (xs : List A)
+    → ((k : ℕ) (x : A) → Of class (of k x))
+    → Of class (each of n xs)
+of-each class of n [] h = tt
+of-each class of n (x ∷ xs) h = of-append class (of n x) (each of (n + 1) xs) (h n x) (of-each class of (n + 1) xs h)
+
+pub of-after : {A : Type 0} (class : NetError) (of : List A → A → List Mark) (before xs : List A)
+    → ((done : List A) (x : A) → Of class (of done x))
+    → Of class (each_after of before xs)
+of-after class of before [] h = tt
+of-after class of before (x ∷ xs) h =
+    of-append class (of before x) (each_after of (before ++ x ∷ []) xs) (h before x) (of-after class of (before ++ x ∷ []) xs h)
+
+pub of-flat : {A : Type 0} (class : NetError) (of : A → List Mark) (xs : List A) → ((x : A) → Of class (of x)) → Of class (flat_map of xs)
+of-flat class of [] h = tt
+of-flat class of (x ∷ xs) h = of-append class (of x) (flat_map of xs) (h x) (of-flat class of xs h)
+
+pub first-of : (class : NetError) (xs : List Mark) → found xs ≡ true → Of class xs → IsFirst class xs
+first-of class [] some h = cc
+first-of class (x ∷ xs) some h = h
+
+pub first-left : (class : NetError) (xs ys : List Mark) → IsFirst class xs → IsFirst class (xs ++ ys)
+first-left class [] ys h = absurd h
+first-left class (x ∷ xs) ys h = h
+
+pub first-after : (class : NetError) (xs ys : List Mark) → found xs ≡ false → IsFirst class ys → IsFirst class (xs ++ ys)
+first-after class [] ys none h = h
+first-after class (x ∷ xs) ys none h = cc

@@ -1,0 +1,12 @@
+use Rattle.std.proofs.Common.{map, ap, ◌∙◌, take}
+use Rattle.std.proofs.lemmas.List.{take-map}
+use Rattle.toml.specs.View.{view}
+use Rattle.ptpm_check.specs.RepeatFaults.{number_in}
+use Rattle.ptpm_check.proofs.repeat_faults.add_ports.Goals as goal
+
+pub add_port-requires : goal.add_port-requires
+add_port-requires c =
+    let index = c.loop-index.index in
+    ap (take index) (c.deref.ensures.value ∙ c.in_ok-numbers.ensures)
+    ∙ take-map number_in index (map view c.args.ports.now)
+    ∙ ap (map number_in) (take-map view index c.args.ports.now)
