@@ -25,7 +25,7 @@ use Rattle.ptpm_script.specs.declared.event.Event.TheVariants as events
 use Rattle.ptpm_script.specs.NetworkText.{network_of}
 use Rattle.ptpm_script.specs.NetworkValue.{NetworkValue}
 use Rattle.ptpm_world.proofs.FaultLemmas.{outside}
-use Rattle.ptpm_world.proofs.Playing.{kept-appended}
+use Rattle.std.proofs.KnownBytes.{Appends-kept}
 use Rattle.ptpm_world.specs.Described.{described}
 use Rattle.ptpm_world.specs.declared.script_error.ScriptError.{ScriptError}
 use Rattle.ptpm_world.specs.declared.script_error.ScriptError.TheVariants as faults
@@ -496,6 +496,6 @@ scheduled text n asked start last a b c d had has of is at names head went kept 
       network = n;
       of_text = of;
       events = it.wrote.events;
-      written = kept-appended a c d ((text ++ codes "%%" ++ 10 ∷ []) ++ event_lines it.wrote.events) whole kept;
+      written = Appends-kept a c d ((text ++ codes "%%" ++ 10 ∷ []) ++ event_lines it.wrote.events) whole kept;
       happen = record { taken = it.wrote.happened; in_time = it.stands.promised.in_time };
     }

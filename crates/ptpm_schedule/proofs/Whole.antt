@@ -12,7 +12,8 @@ use Rattle.ptpm_script.specs.declared.event.EventError.TheVariants as words
 use Rattle.ptpm_script.specs.NetworkValue.{NetworkValue}
 use Rattle.ptpm_script.specs.NetworkView.{network_value}
 use Rattle.ptpm_world.proofs.FaultLemmas.{outside}
-use Rattle.ptpm_world.proofs.Playing.{err-is, kept-appended, some-is}
+use Rattle.ptpm_world.proofs.Playing.{err-is, some-is}
+use Rattle.std.proofs.KnownBytes.{Appends-kept}
 use Rattle.ptpm_world.specs.declared.script_error.ScriptError.{ScriptError}
 use Rattle.ptpm_world.specs.declared.script_error.ScriptError.TheVariants as faults
 use Rattle.ptpm_world.specs.declared.whole_script.EventLine.{EventLine}
@@ -61,7 +62,7 @@ begun input s a b c d had has is head wrote kept = record {
   of_file = is.network;
   events = wrote.events;
   happen = wrote.happened;
-  written = kept-appended a c d ((network_text (whole_lines input) ++ codes "%%" ++ 10 ∷ []) ++ event_lines wrote.events)
+  written = Appends-kept a c d ((network_text (whole_lines input) ++ codes "%%" ++ 10 ∷ []) ++ event_lines wrote.events)
       (Appends-trans a b c (network_text (whole_lines input) ++ codes "%%" ++ 10 ∷ []) (event_lines wrote.events)
       (subst (λ (t : List ℕ). Appends a b (t ++ codes "%%" ++ 10 ∷ [])) is.text head) wrote.written)
       kept;
