@@ -184,7 +184,8 @@ fn port_given_again(rt: HostRuntime) -> Result<(), Fail> {
     }
     ports.push_str("\n[[clock.port]]\nnumber = 1")?;
     let input = FIRST.replace(alloc, "ports = 2", ports.as_str())?;
-    let told = "clock 1 \"K\", port table 65: number = 1: stands at clock 1 \"K\", port table 1 too\n\
+    let told =
+        "clock 1 \"K\", port table 65: number = 1: stands at clock 1 \"K\", port table 1 too\n\
         clock 1 \"K\": ports = 9: 1 to 8 ports\n";
     is_told(&rt, alloc, input.as_bytes(), told)
 }
