@@ -9,6 +9,7 @@
 #include "peers.h"
 #include "saving.h"
 #include "twin.h"
+#include "unicast.h"
 #include <stdbool.h>
 #include <stdio.h>
 #include <stdlib.h>
@@ -155,13 +156,17 @@ static unsigned long take_turn(struct heard *heard, const struct port *port) {
     return hand_on(heard, port, ingress, answer, places, count, &left);
 }
 
-void take_round(const struct port *port, int socket) {
-    static struct heard heard[ROUND];
+static struct heard heard_now[ROUND];
+
+static void take_all(size_t count) {
     unsigned long lost = 0;
-    size_t count = hear_round(port, socket, heard);
-    for (size_t i = 0; i < count; i++) lost += take_turn(&heard[i], port);
+    for (size_t i = 0; i < count; i++) lost += take_turn(&heard_now[i], heard_now[i].port);
     count_dropped(lost + send_saved());
 }
+
+void take_round(const struct port *port, int socket) { take_all(hear_round(port, socket, heard_now)); }
+
+void take_unicast_round(void) { take_all(hear_unicast(heard_now)); }
 
 static void tell_left(uint8_t left) {
     for (int i = 0; i < OBSERVED_PORTS; i++) {

@@ -22,6 +22,9 @@ void say_started(void);
    passed on. */
 void take_round(const struct port *port, int socket);
 
+/* The same of datagrams that were sent over UDP to this host alone. */
+void take_unicast_round(void);
+
 /* The clock observes what a text says, all of it or nothing. */
 void observe(char *text);
 

@@ -20,6 +20,7 @@
 #include "signals.h"
 #include "source.h"
 #include "timer.h"
+#include "unicast.h"
 #include <errno.h>
 #include <stdbool.h>
 #include <sys/epoll.h>
@@ -37,7 +38,7 @@ static void observe_all(void) {
 }
 
 /* What is polled. The ports come first. */
-enum { UNIX_SOCKET = PORTS, SOURCE, SIGNALS, LINKS, TIMER, WAITS };
+enum { UNIX_SOCKET = PORTS, UNICAST, SOURCE, SIGNALS, LINKS, TIMER, WAITS };
 
 static int polled = -1;
 static unsigned long polled_openings[PORTS];    /* which socket of each port is polled */
@@ -51,6 +52,7 @@ static void wait_at_all(void) {
     polled = epoll_create1(EPOLL_CLOEXEC);
     if (polled < 0) give_up("epoll_create1");
     wait_at(unix_socket, UNIX_SOCKET);
+    wait_at(unicast_socket(), UNICAST);
     wait_at(source, SOURCE);
     wait_at(signals, SIGNALS);
     wait_at(links, LINKS);
@@ -71,6 +73,7 @@ static bool take_event(uint32_t what) {
     enum asked asked = NOTHING_ASKED;
     switch (what) {
     case UNIX_SOCKET: take_round(NULL, unix_socket); break;
+    case UNICAST: take_unicast_round(); break;
     case SOURCE:
         observe_all();
         wait_at(source, SOURCE);
@@ -85,13 +88,15 @@ static bool take_event(uint32_t what) {
     return asked != END_ASKED;
 }
 
-/* Once a second: what came in at a socket that was at the path for a moment, and the source, if it moved. */
+/* Once a second: what came in at a socket that was at the path for a moment, the source, if it moved, and who has UDP port 320. */
 static void look_around(long now) {
     static long next;
     if (now < next) return;
     next = now + SECOND;
     for (size_t i = 0; unix_socket >= 0 && i < WAYS_BACK; i++) take_round(NULL, way_back_socket(i));
     if (source >= 0 && follow_source()) observe_all();
+    renew_unicast();
+    wait_at(unicast_socket(), UNICAST);
 }
 
 /* Runs until a signal asks for the end, or until that time comes, if it is not 0. */
@@ -123,6 +128,7 @@ static void open_all(void) {
     links = open_netlink();
     timer = open_timer();
     for (size_t i = 0; i < options.interface_count; i++) open_port(options.interfaces[i]);
+    open_unicast();
     if (options.meeting.path != NULL) unix_socket = open_peers(&options.meeting);
     open_service();
 }
@@ -135,6 +141,7 @@ static void end_in_order(void) {
     tell_stopping();
     stop_clock();
     close_ports();
+    close_unicast();
     close_peers();
     print_counts();
     end_output();

@@ -5,7 +5,6 @@
 #include "udp.h"
 #include <errno.h>
 #include <net/if.h>
-#include <netinet/in.h>
 #include <stdbool.h>
 #include <stdlib.h>
 #include <string.h>
@@ -20,14 +19,9 @@ enum transport transport;
 
 static bool is_hurried;         /* the kernel reported a change */
 
-/* With UDP the kernel is to report of each datagram the address that it was sent to. */
 static int open_socket(struct port *port, const char **what) {
-    int one = 1;
     if (transport == ETHERNET) return open_ethernet(port->name, port->station, what);
-    int opened = open_udp(port->name, transport == UDP_IPV6, what);
-    if (opened >= 0 && transport == UDP_IPV4) setsockopt(opened, IPPROTO_IP, IP_PKTINFO, &one, sizeof one);
-    if (opened >= 0 && transport == UDP_IPV6) setsockopt(opened, IPPROTO_IPV6, IPV6_RECVPKTINFO, &one, sizeof one);
-    return opened;
+    return open_udp(port->name, transport == UDP_IPV6, what);
 }
 
 /* The MTU of the interface as its port is opened: a leave and a join that nobody needs may cost messages if a switch listens. */
@@ -58,6 +52,8 @@ static const struct port *other_at(unsigned index, const struct port *port) {
     }
     return NULL;
 }
+
+const struct port *port_at(unsigned index) { return index == 0 ? NULL : other_at(index, NULL); }
 
 static void close_port(struct port *port) {
     if (port->socket >= 0) close(port->socket);

@@ -30,6 +30,9 @@ extern enum transport transport;
 /* Opens the next port. If it can't be opened the program ends with status 2. */
 void open_port(const char *interface);
 
+/* The port at the interface of that index; NULL if there is none. */
+const struct port *port_at(unsigned index);
+
 /* Once a second, and when the kernel reports a change, sees which interface has the name of each port. If it is another one, it
    opens the port anew. What can't be opened is said once, and tried again each second. */
 void renew_ports(long now);

@@ -1,5 +1,6 @@
 #define _GNU_SOURCE
 #include "rounds.h"
+#include "general_port.h"
 #include "peers.h"
 #include "udp.h"
 #include <arpa/inet.h>
@@ -44,39 +45,90 @@ static bool take_frame(struct heard *heard, const struct port *port) {
     return true;
 }
 
-static bool take_heard(struct heard *heard, const struct port *port, struct mmsghdr *message) {
+/* What the kernel reports of a datagram. */
+static void take_head(struct heard *heard, const struct port *port, struct mmsghdr *message) {
     heard->whole = message->msg_len;
     heard->size = heard->whole < MOST_HEARD ? heard->whole : MOST_HEARD;
     heard->sender_size = message->msg_hdr.msg_namelen;
     if (heard->sender_size > sizeof heard->sender.peer) heard->sender_size = sizeof heard->sender.peer;     /* a path has no end */
     heard->station = NULL;
+    heard->port = port;
     heard->is_unicast = port == NULL;
-    if (port == NULL) return true;
-    if (transport == ETHERNET) return take_frame(heard, port);
-    take_control(heard, &message->msg_hdr);
+}
+
+static bool take_heard(struct heard *heard, const struct port *port, struct mmsghdr *message) {
+    take_head(heard, port, message);
+    return port == NULL || transport != ETHERNET || take_frame(heard, port);
+}
+
+/* A socket of IPv6 that hears IPv4 reports the sender's address inside one of IPv6. */
+static void take_inner_address(struct heard *heard) {
+    const struct sockaddr_in6 six = heard->sender.six;
+    if (heard->sender.any.sa_family != AF_INET6 || !IN6_IS_ADDR_V4MAPPED(&six.sin6_addr)) return;
+    heard->sender.four = (struct sockaddr_in){ .sin_family = AF_INET, .sin_port = six.sin6_port };
+    memcpy(&heard->sender.four.sin_addr, six.sin6_addr.s6_addr + 12, sizeof heard->sender.four.sin_addr);
+    heard->sender_size = sizeof heard->sender.four;
+}
+
+static bool take_copy(struct heard *heard) {
+    size_t size = heard->size, place = message_in_copy(heard->octets, &size, &heard->sender.any);
+    if (place == 0) return false;
+    heard->octets += place;
+    heard->size = heard->whole = size;
     return true;
 }
 
-size_t hear_round(const struct port *port, int socket, struct heard heard[ROUND]) {
-    static uint8_t octets[ROUND][MOST_HEARD];
-    static struct control controls[ROUND];
-    static struct mmsghdr messages[ROUND];
-    static struct iovec parts[ROUND];
+static bool take_of_host(struct heard *heard, bool is_copied, struct mmsghdr *message) {
+    take_head(heard, NULL, message);
+    heard->own_four = (struct in_pktinfo){ 0 };
+    heard->own_six = (struct in6_pktinfo){ 0 };
+    take_control(heard, &message->msg_hdr);
+    take_inner_address(heard);
+    if (heard->sender.any.sa_family != (transport == UDP_IPV6 ? AF_INET6 : AF_INET)) return false;
+    heard->port = port_at(transport == UDP_IPV6 ? heard->own_six.ipi6_ifindex : (unsigned)heard->own_four.ipi_ifindex);
+    return heard->port != NULL && (!is_copied || take_copy(heard));
+}
+
+/* What one call of the kernel takes from a socket. */
+struct round {
+    uint8_t octets[ROUND][MOST_HEARD];
+    struct control controls[ROUND];
+    struct mmsghdr messages[ROUND];
+    struct iovec parts[ROUND];
+};
+
+static size_t receive_round(struct round *round, int socket, struct heard heard[ROUND]) {
     static int used_before = ROUND;
     for (int i = 0; i < used_before; i++) {
-        parts[i] = (struct iovec){ octets[i], MOST_HEARD };
-        messages[i].msg_hdr = (struct msghdr){
-            .msg_name = &heard[i].sender, .msg_namelen = sizeof heard[i].sender, .msg_iov = &parts[i], .msg_iovlen = 1,
-            .msg_control = &controls[i], .msg_controllen = sizeof controls[i],
+        round->parts[i] = (struct iovec){ round->octets[i], MOST_HEARD };
+        round->messages[i].msg_hdr = (struct msghdr){
+            .msg_name = &heard[i].sender, .msg_namelen = sizeof heard[i].sender, .msg_iov = &round->parts[i], .msg_iovlen = 1,
+            .msg_control = &round->controls[i], .msg_controllen = sizeof round->controls[i],
         };
     }
-    int found = recvmmsg(socket, messages, ROUND, MSG_DONTWAIT | MSG_TRUNC, NULL);
+    int found = recvmmsg(socket, round->messages, ROUND, MSG_DONTWAIT | MSG_TRUNC, NULL);
     used_before = found > 0 ? found : 0;
-    size_t count = 0;
-    for (int i = 0; i < found; i++) {
-        heard[i].octets = octets[i];
-        if (!take_heard(&heard[i], port, &messages[i])) continue;
-        if (count != (size_t)i) heard[count] = heard[i];
+    for (int i = 0; i < used_before; i++) heard[i].octets = round->octets[i];
+    return (size_t)used_before;
+}
+
+static struct round received;
+
+size_t hear_round(const struct port *port, int socket, struct heard heard[ROUND]) {
+    size_t count = 0, found = receive_round(&received, socket, heard);
+    for (size_t i = 0; i < found; i++) {
+        if (!take_heard(&heard[i], port, &received.messages[i])) continue;
+        if (count != i) heard[count] = heard[i];
+        count++;
+    }
+    return count;
+}
+
+size_t hear_host(int socket, bool is_copied, struct heard heard[ROUND]) {
+    size_t count = 0, found = receive_round(&received, socket, heard);
+    for (size_t i = 0; i < found; i++) {
+        if (!take_of_host(&heard[i], is_copied, &received.messages[i])) continue;
+        if (count != i) heard[count] = heard[i];
         count++;
     }
     return count;
@@ -101,6 +153,11 @@ static void put_control(struct cmsghdr *at, int level, int type, const void *val
     memcpy(CMSG_DATA(at), value, size);
 }
 
+/* An answer to who asked this host alone goes to the port that the request came from (annexes C and D). */
+static void answer_port(in_port_t *port) {
+    if (*port == 0) *port = htons(GENERAL_PORT);        /* it named none */
+}
+
 /* The address that a datagram goes to, and, if it answers one that came to this host alone, the address that it comes from. */
 static void address_datagram(struct msghdr *head, const struct heard *answered, union sender *to, struct control *control) {
     head->msg_name = to;
@@ -114,11 +171,11 @@ static void address_datagram(struct msghdr *head, const struct heard *answered, 
     head->msg_controllen = transport == UDP_IPV6 ? CMSG_SPACE(sizeof(struct in6_pktinfo)) : CMSG_SPACE(sizeof(struct in_pktinfo));
     struct cmsghdr *own = CMSG_FIRSTHDR(head);
     if (transport == UDP_IPV6) {
-        to->six.sin6_port = htons(GENERAL_PORT);
+        answer_port(&to->six.sin6_port);
         put_control(own, IPPROTO_IPV6, IPV6_PKTINFO, &answered->own_six, sizeof answered->own_six);
     } else {
         struct in_pktinfo from = { .ipi_spec_dst = answered->own_four.ipi_addr };
-        to->four.sin_port = htons(GENERAL_PORT);
+        answer_port(&to->four.sin_port);
         put_control(own, IPPROTO_IP, IP_PKTINFO, &from, sizeof from);
     }
 }

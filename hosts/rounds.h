@@ -29,6 +29,7 @@ struct heard {
     union sender sender;
     socklen_t sender_size;
     const uint8_t *station;             /* who sent it over Ethernet */
+    const struct port *port;            /* where it came in; NULL at the Unix socket */
     bool is_unicast;                    /* it was sent to this host alone, and so is what is answered */
     struct in_pktinfo own_four;         /* the address that it was sent to */
     struct in6_pktinfo own_six;
@@ -37,6 +38,10 @@ struct heard {
 /* Takes what has come in at a port, or, if there is none, at the Unix socket; how many datagrams. They stay until the next
    round. */
 size_t hear_round(const struct port *port, int socket, struct heard heard[ROUND]);
+
+/* The same at a socket of what is sent to this host alone, which may hear copies of it (general_port.h). What comes in at no
+   interface of a port is left out. */
+size_t hear_host(int socket, bool is_copied, struct heard heard[ROUND]);
 
 /* The places of a turn's messages, PTPM_MOST_SENT of them. NULL if there are fewer: then what is to go out has to go first. */
 struct ptpm_sent *places_to_send(void);

@@ -42,52 +42,80 @@ bool filter_udp(int socket, bool is_management_alone) {
                                : setsockopt(socket, SOL_SOCKET, SO_DETACH_FILTER, &none, sizeof none) == 0;
 }
 
-static bool join_four(int socket, const struct sockaddr_in *address, unsigned interface, const char **what) {
+/* From here on what is sent goes out at the interface, and doesn't come back to this host. */
+static bool send_at_four(int socket, unsigned interface, const char **what) {
     int none = 0;
-    struct sockaddr_in any = { .sin_family = AF_INET, .sin_port = htons(GENERAL_PORT) };
-    struct ip_mreqn join = { .imr_multiaddr = address->sin_addr, .imr_ifindex = (int)interface };
-    *what = "UDP port 320";
-    return bind(socket, (struct sockaddr *)&any, sizeof any) == 0
-           && set_option(socket, IPPROTO_IP, IP_ADD_MEMBERSHIP, &join, sizeof join, what, "IP_ADD_MEMBERSHIP")
-           && set_option(socket, IPPROTO_IP, IP_MULTICAST_IF, &join, sizeof join, what, "IP_MULTICAST_IF")
+    struct ip_mreqn at = { .imr_ifindex = (int)interface };
+    return set_option(socket, IPPROTO_IP, IP_MULTICAST_IF, &at, sizeof at, what, "IP_MULTICAST_IF")
            && set_option(socket, IPPROTO_IP, IP_MULTICAST_LOOP, &none, sizeof none, what, "IP_MULTICAST_LOOP");
 }
 
-static bool join_six(int socket, const struct sockaddr_in6 *address, unsigned interface, const char **what) {
+static bool send_at_six(int socket, unsigned interface, const char **what) {
     int one = 1, none = 0;
-    struct sockaddr_in6 any = { .sin6_family = AF_INET6, .sin6_port = htons(GENERAL_PORT) };
-    struct ipv6_mreq join = { .ipv6mr_multiaddr = address->sin6_addr, .ipv6mr_interface = interface };
-    if (!set_option(socket, IPPROTO_IPV6, IPV6_V6ONLY, &one, sizeof one, what, "IPV6_V6ONLY")) return false;
-    *what = "UDP port 320";
-    return bind(socket, (struct sockaddr *)&any, sizeof any) == 0
-           && set_option(socket, IPPROTO_IPV6, IPV6_ADD_MEMBERSHIP, &join, sizeof join, what, "IPV6_ADD_MEMBERSHIP")
+    return set_option(socket, IPPROTO_IPV6, IPV6_V6ONLY, &one, sizeof one, what, "IPV6_V6ONLY")
            && set_option(socket, IPPROTO_IPV6, IPV6_MULTICAST_IF, &interface, sizeof interface, what, "IPV6_MULTICAST_IF")
            && set_option(socket, IPPROTO_IPV6, IPV6_MULTICAST_LOOP, &none, sizeof none, what, "IPV6_MULTICAST_LOOP");
 }
 
-/* The socket hears nothing until it is bound, and by then it has its filter. */
-static bool join_group(int socket, const char *interface, bool is_six, const char **what) {
-    int one = 1;
+/* Management messages alone come in at the socket, which hears nothing until it is bound. */
+static bool stay_at(int socket, const char *interface, bool is_six, const char **what) {
     unsigned index = if_nametoindex(interface);
-    struct sockaddr_storage to;
-    group(&to, is_six);
     if (index == 0) return false;
     *what = "SO_ATTACH_FILTER";
     return filter_udp(socket, true)
-           && set_option(socket, SOL_SOCKET, SO_REUSEADDR, &one, sizeof one, what, "SO_REUSEADDR")
            && set_option(socket, SOL_SOCKET, SO_BINDTODEVICE, interface, strlen(interface) + 1, what, "SO_BINDTODEVICE")
-           && (is_six ? join_six(socket, (struct sockaddr_in6 *)&to, index, what)
-                      : join_four(socket, (struct sockaddr_in *)&to, index, what));
+           && (is_six ? send_at_six(socket, index, what) : send_at_four(socket, index, what));
 }
 
-int open_udp(const char *interface, bool is_six, const char **what) {
+/* The address of the group takes nothing that is sent to this host alone: Linux hands that to one socket, the latest of those
+   that may have it, which may be a servo's. */
+static bool bind_to_group(int socket, const struct sockaddr_storage *to, socklen_t size, const char **what) {
+    int one = 1;
+    if (!set_option(socket, SOL_SOCKET, SO_REUSEADDR, &one, sizeof one, what, "SO_REUSEADDR")) return false;
+    *what = "UDP port 320";
+    return bind(socket, (const struct sockaddr *)to, size) == 0;
+}
+
+static bool join(int socket, const struct sockaddr_storage *to, unsigned interface) {
+    if (to->ss_family == AF_INET6) {
+        struct ipv6_mreq six = { .ipv6mr_multiaddr = ((const struct sockaddr_in6 *)to)->sin6_addr, .ipv6mr_interface = interface };
+        return setsockopt(socket, IPPROTO_IPV6, IPV6_ADD_MEMBERSHIP, &six, sizeof six) == 0;
+    }
+    struct ip_mreqn four = { .imr_multiaddr = ((const struct sockaddr_in *)to)->sin_addr, .imr_ifindex = (int)interface };
+    return setsockopt(socket, IPPROTO_IP, IP_ADD_MEMBERSHIP, &four, sizeof four) == 0;
+}
+
+static bool join_group(int socket, const char *interface, bool is_six, const char **what) {
+    struct sockaddr_storage to;
+    socklen_t size = group(&to, is_six);
+    if (!stay_at(socket, interface, is_six, what) || !bind_to_group(socket, &to, size, what)) return false;
+    *what = is_six ? "IPV6_ADD_MEMBERSHIP" : "IP_ADD_MEMBERSHIP";
+    return join(socket, &to, if_nametoindex(interface));
+}
+
+/* At a port of its own, which the kernel chooses. */
+static bool bind_alone(int socket, const char *interface, bool is_six, const char **what) {
+    struct sockaddr_storage any = { .ss_family = is_six ? AF_INET6 : AF_INET };
+    if (!stay_at(socket, interface, is_six, what)) return false;
+    *what = "a UDP port";
+    return bind(socket, (const struct sockaddr *)&any, is_six ? sizeof(struct sockaddr_in6) : sizeof(struct sockaddr_in)) == 0;
+}
+
+/* A socket that a step makes ready. */
+static int opened_by(bool (*step)(int, const char *, bool, const char **), const char *interface, bool is_six, const char **what) {
     *what = interface;
     int opened = socket(is_six ? AF_INET6 : AF_INET, SOCK_DGRAM | SOCK_CLOEXEC, 0);
-    if (opened < 0 || join_group(opened, interface, is_six, what)) return opened;
+    if (opened < 0 || step(opened, interface, is_six, what)) return opened;
     int failure = errno;
     close(opened);
     errno = failure;
     return -1;
+}
+
+int open_udp(const char *interface, bool is_six, const char **what) { return opened_by(join_group, interface, is_six, what); }
+
+int open_asking_udp(const char *interface, bool is_six, const char **what) {
+    return opened_by(bind_alone, interface, is_six, what);
 }
 
 const char *right_needed(bool is_ethernet) {
@@ -99,11 +127,11 @@ bool join_again(int socket, unsigned interface, bool is_six) {
     struct sockaddr_storage to;
     group(&to, is_six);
     if (is_six) {
-        struct ipv6_mreq join = { .ipv6mr_multiaddr = ((struct sockaddr_in6 *)&to)->sin6_addr, .ipv6mr_interface = interface };
-        setsockopt(socket, IPPROTO_IPV6, IPV6_DROP_MEMBERSHIP, &join, sizeof join);
-        return setsockopt(socket, IPPROTO_IPV6, IPV6_ADD_MEMBERSHIP, &join, sizeof join) == 0;
+        struct ipv6_mreq six = { .ipv6mr_multiaddr = ((struct sockaddr_in6 *)&to)->sin6_addr, .ipv6mr_interface = interface };
+        setsockopt(socket, IPPROTO_IPV6, IPV6_DROP_MEMBERSHIP, &six, sizeof six);
+    } else {
+        struct ip_mreqn four = { .imr_multiaddr = ((struct sockaddr_in *)&to)->sin_addr, .imr_ifindex = (int)interface };
+        setsockopt(socket, IPPROTO_IP, IP_DROP_MEMBERSHIP, &four, sizeof four);
     }
-    struct ip_mreqn join = { .imr_multiaddr = ((struct sockaddr_in *)&to)->sin_addr, .imr_ifindex = (int)interface };
-    setsockopt(socket, IPPROTO_IP, IP_DROP_MEMBERSHIP, &join, sizeof join);
-    return setsockopt(socket, IPPROTO_IP, IP_ADD_MEMBERSHIP, &join, sizeof join) == 0;
+    return join(socket, &to, interface);
 }

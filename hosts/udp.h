@@ -1,4 +1,4 @@
-/* The socket of a port over UDP. */
+/* The sockets of a port over UDP: what comes to the group of PTP, and what is sent from here. */
 #ifndef UDP_H
 #define UDP_H
 
@@ -8,9 +8,14 @@
 /* UDP port of all messages except those of events. */
 enum { GENERAL_PORT = 320 };
 
-/* A socket at UDP port 320 of an interface, in the group of PTP there (IEEE 1588-2019, annexes C and D). Management messages alone
-   come in there, and nothing of what this host sends. -1 if it can't be made: errno says why, and *what at which step. */
+/* A socket at UDP port 320 of an interface, in the group of PTP there (IEEE 1588-2019, annexes C and D). Management messages to the
+   group alone come in there, and nothing of what this host sends. It takes nothing that is sent to this host alone. -1 if it
+   can't be made: errno says why, and *what at which step. */
 int open_udp(const char *interface, bool is_six, const char **what);
+
+/* A socket at a port of its own of an interface. What is sent from it is answered to that port if it is answered to this host
+   alone, since such an answer goes to the port of the request (annexes C and D). -1 as above. */
+int open_asking_udp(const char *interface, bool is_six, const char **what);
 
 /* Has a socket hear management messages alone, or every message; whether it does. The kernel drops the rest before the program
    wakes, and counts it as errors of UDP. */

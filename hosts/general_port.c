@@ -1,0 +1,149 @@
+#define _GNU_SOURCE
+#include "general_port.h"
+#include "message_places.h"
+#include "udp.h"
+#include <arpa/inet.h>
+#include <errno.h>
+#include <linux/filter.h>
+#include <linux/inet_diag.h>
+#include <linux/netlink.h>
+#include <linux/sock_diag.h>
+#include <net/if.h>
+#include <netinet/ip.h>
+#include <netinet/udp.h>
+#include <string.h>
+#include <sys/stat.h>
+#include <unistd.h>
+
+enum { FOUR_TO_AT = 16, SIX_TO_AT = 24, GROUPS_FOUR = 0xe0, GROUPS_SIX = 0xff, UPPER_HALF = 0xf0, PORT_AT = 2 };
+
+/* Of copies over IPv4, which begin with their IP header: those to port 320 of no group whose messageType is 0xD. */
+static const struct sock_filter wanted_of_four[] = {
+    BPF_STMT(BPF_LDX | BPF_B | BPF_MSH, 0),
+    BPF_STMT(BPF_LD | BPF_H | BPF_IND, PORT_AT),
+    BPF_JUMP(BPF_JMP | BPF_JEQ | BPF_K, GENERAL_PORT, 0, 6),
+    BPF_STMT(BPF_LD | BPF_B | BPF_ABS, FOUR_TO_AT),
+    BPF_STMT(BPF_ALU | BPF_AND | BPF_K, UPPER_HALF),
+    BPF_JUMP(BPF_JMP | BPF_JEQ | BPF_K, GROUPS_FOUR, 3, 0),
+    BPF_STMT(BPF_LD | BPF_B | BPF_IND, sizeof(struct udphdr) + TYPE_AT),
+    BPF_STMT(BPF_ALU | BPF_AND | BPF_K, LOWER_HALF),
+    BPF_JUMP(BPF_JMP | BPF_JEQ | BPF_K, MANAGEMENT_TYPE, 1, 0),
+    BPF_STMT(BPF_RET | BPF_K, 0),
+    BPF_STMT(BPF_RET | BPF_K, 65535),
+};
+
+/* The same over IPv6, where they begin with their UDP header. */
+static const struct sock_filter wanted_of_six[] = {
+    BPF_STMT(BPF_LD | BPF_H | BPF_ABS, PORT_AT),
+    BPF_JUMP(BPF_JMP | BPF_JEQ | BPF_K, GENERAL_PORT, 0, 5),
+    BPF_STMT(BPF_LD | BPF_B | BPF_ABS, (uint32_t)SKF_NET_OFF + SIX_TO_AT),
+    BPF_JUMP(BPF_JMP | BPF_JEQ | BPF_K, GROUPS_SIX, 3, 0),
+    BPF_STMT(BPF_LD | BPF_B | BPF_ABS, sizeof(struct udphdr) + TYPE_AT),
+    BPF_STMT(BPF_ALU | BPF_AND | BPF_K, LOWER_HALF),
+    BPF_JUMP(BPF_JMP | BPF_JEQ | BPF_K, MANAGEMENT_TYPE, 1, 0),
+    BPF_STMT(BPF_RET | BPF_K, 0),
+    BPF_STMT(BPF_RET | BPF_K, 65535),
+};
+
+/* Nothing at all. */
+static const struct sock_filter wanted_of_none[] = { BPF_STMT(BPF_RET | BPF_K, 0) };
+
+static bool attach(int socket, const struct sock_filter *filter, size_t size) {
+    const struct sock_fprog whole = { .len = (unsigned short)size, .filter = (struct sock_filter *)filter };
+    return setsockopt(socket, SOL_SOCKET, SO_ATTACH_FILTER, &whole, sizeof whole) == 0;
+}
+
+static bool set_number(int socket, int level, int option, int value) {
+    return setsockopt(socket, level, option, &value, sizeof value) == 0;
+}
+
+/* The kernel tells of each datagram where it came in, and which address it was sent to. */
+static bool tell_places(int socket, bool is_six) {
+    return is_six ? set_number(socket, IPPROTO_IPV6, IPV6_RECVPKTINFO, 1) : set_number(socket, IPPROTO_IP, IP_PKTINFO, 1);
+}
+
+static int closed(int socket) {
+    int failure = errno;
+    close(socket);
+    errno = failure;
+    return -1;
+}
+
+/* Of the sockets at a port, Linux prefers those of IPv4 for what comes by IPv4, those that are bound to an interface, and then the
+   latest. So this one is of IPv6, but hears IPv4, and is bound to none. Groups that other sockets have joined are not its own. */
+static bool bind_last(int socket, sa_family_t family, bool is_six) {
+    struct sockaddr_in6 six = { .sin6_family = AF_INET6, .sin6_port = htons(GENERAL_PORT) };
+    struct sockaddr_in four = { .sin_family = AF_INET, .sin_port = htons(GENERAL_PORT) };
+    if (!tell_places(socket, is_six) || !set_number(socket, SOL_SOCKET, SO_REUSEADDR, 1)) return false;
+    if (!is_six && !set_number(socket, IPPROTO_IP, IP_MULTICAST_ALL, 0)) return false;
+    if (family == AF_INET) return bind(socket, (struct sockaddr *)&four, sizeof four) == 0;
+    return set_number(socket, IPPROTO_IPV6, IPV6_V6ONLY, is_six) && set_number(socket, IPPROTO_IPV6, IPV6_MULTICAST_ALL, 0)
+           && bind(socket, (struct sockaddr *)&six, sizeof six) == 0;
+}
+
+int open_general_port(bool is_six, bool is_heard) {
+    sa_family_t family = AF_INET6;
+    int opened = socket(family, SOCK_DGRAM | SOCK_CLOEXEC, 0);
+    if (opened < 0 && !is_six) opened = socket(family = AF_INET, SOCK_DGRAM | SOCK_CLOEXEC, 0);      /* a kernel without IPv6 */
+    if (opened < 0) return -1;
+    bool is_filtered = is_heard ? filter_udp(opened, true) : attach(opened, wanted_of_none, 1);
+    return is_filtered && bind_last(opened, family, is_six) ? opened : closed(opened);
+}
+
+int open_copies(bool is_six) {
+    int opened = socket(is_six ? AF_INET6 : AF_INET, SOCK_RAW | SOCK_CLOEXEC, IPPROTO_UDP);
+    if (opened < 0) return -1;
+    bool is_filtered = is_six ? attach(opened, wanted_of_six, sizeof wanted_of_six / sizeof *wanted_of_six)
+                              : attach(opened, wanted_of_four, sizeof wanted_of_four / sizeof *wanted_of_four);
+    return is_filtered && tell_places(opened, is_six) ? opened : closed(opened);
+}
+
+size_t message_in_copy(const uint8_t *octets, size_t *size, struct sockaddr *sender) {
+    struct udphdr head;
+    size_t place = sender->sa_family == AF_INET && *size > 0 ? (octets[0] & LOWER_HALF) * sizeof(uint32_t) : 0;
+    if (*size < place + sizeof head) return 0;
+    memcpy(&head, octets + place, sizeof head);
+    size_t whole = ntohs(head.uh_ulen);
+    if (whole < sizeof head || whole > *size - place) return 0;
+    if (sender->sa_family == AF_INET) ((struct sockaddr_in *)sender)->sin_port = head.uh_sport;
+    else ((struct sockaddr_in6 *)sender)->sin6_port = head.uh_sport;
+    *size = whole - sizeof head;
+    return place + sizeof head;
+}
+
+/* A question to the kernel, which socket gets a datagram (sock_diag(7)), and its answer. */
+struct question { struct nlmsghdr head; struct inet_diag_req_v2 of; };
+struct answer { struct nlmsghdr head; struct inet_diag_msg of; uint8_t more[1024]; };
+
+static struct question question_of(unsigned interface, bool is_six) {
+    struct question question = {
+        .head = { .nlmsg_len = sizeof question, .nlmsg_type = SOCK_DIAG_BY_FAMILY, .nlmsg_flags = NLM_F_REQUEST },
+        .of = { .sdiag_family = is_six ? AF_INET6 : AF_INET, .sdiag_protocol = IPPROTO_UDP, .idiag_states = UINT32_MAX },
+    };
+    struct inet_diag_sockid *id = &question.of.id;
+    id->idiag_dport = htons(GENERAL_PORT);
+    id->idiag_if = interface;
+    memset(id->idiag_cookie, 0xff, sizeof id->idiag_cookie);       /* whichever it is */
+    if (is_six) memcpy(id->idiag_dst, &in6addr_loopback, sizeof in6addr_loopback);
+    else id->idiag_dst[0] = htonl(INADDR_LOOPBACK);
+    return question;
+}
+
+/* The number of the socket's file; 0 if none gets it, or the kernel doesn't tell. */
+static ino_t file_of_owner(unsigned interface, bool is_six) {
+    struct question question = question_of(interface, is_six);
+    struct answer answer = { .head = { 0 } };
+    int netlink = socket(AF_NETLINK, SOCK_RAW | SOCK_CLOEXEC, NETLINK_SOCK_DIAG);
+    if (netlink < 0) return 0;
+    ssize_t size = send(netlink, &question, sizeof question, 0) < 0 ? -1 : recv(netlink, &answer, sizeof answer, MSG_DONTWAIT);
+    close(netlink);
+    bool is_told = size >= (ssize_t)(sizeof answer.head + sizeof answer.of) && answer.head.nlmsg_type == SOCK_DIAG_BY_FAMILY;
+    return is_told ? answer.of.idiag_inode : 0;
+}
+
+enum general_port who_has_general_port(int ours, unsigned interface, bool is_six) {
+    struct stat file;
+    ino_t owner = file_of_owner(interface, is_six);
+    if (owner == 0) return NOBODY_HAS_IT;
+    return ours >= 0 && fstat(ours, &file) == 0 && file.st_ino == owner ? WE_HAVE_IT : ANOTHER_HAS_IT;
+}

@@ -1,0 +1,51 @@
+#define _GNU_SOURCE
+#include "unicast.h"
+#include "general_port.h"
+#include "output.h"
+#include <stdbool.h>
+#include <unistd.h>
+
+/* The port itself, from which nothing is read while copies are heard: who asks gets no ICMP that nobody is there. */
+static int general = -1, copies = -1;
+static bool is_of_another[PORTS];       /* what was said last of each port */
+
+static bool is_six(void) { return transport == UDP_IPV6; }
+
+static enum general_port owner_at(const struct port *port) {
+    return port->socket < 0 ? WE_HAVE_IT : who_has_general_port(general, port->index, is_six());
+}
+
+/* Where another program has the port there is nothing to take. */
+static bool is_free_somewhere(void) {
+    for (size_t i = 0; i < port_count; i++) {
+        if (ports[i].socket >= 0 && owner_at(&ports[i]) == NOBODY_HAS_IT) return true;
+    }
+    return false;
+}
+
+static void tell_owner(size_t place) {
+    bool was = is_of_another[place], is = owner_at(&ports[place]) == ANOTHER_HAS_IT;
+    is_of_another[place] = is;
+    if (is && !was) say("%s: another program has UDP port 320, and what is sent to this host alone: the group alone is heard", ports[place].name);
+    if (was && !is) say("%s: what is sent to this host alone is heard", ports[place].name);
+}
+
+void renew_unicast(void) {
+    if (port_count == 0 || transport == ETHERNET) return;
+    if (general < 0 && is_free_somewhere()) general = open_general_port(is_six(), copies < 0);
+    for (size_t i = 0; i < port_count && copies < 0; i++) tell_owner(i);
+}
+
+void open_unicast(void) {
+    if (port_count > 0 && transport != ETHERNET) copies = open_copies(is_six());
+    renew_unicast();
+}
+
+int unicast_socket(void) { return copies >= 0 ? copies : general; }
+
+size_t hear_unicast(struct heard heard[ROUND]) { return hear_host(unicast_socket(), copies >= 0, heard); }
+
+void close_unicast(void) {
+    if (general >= 0) close(general);
+    if (copies >= 0) close(copies);
+}
