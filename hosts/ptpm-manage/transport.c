@@ -1,6 +1,7 @@
 #define _GNU_SOURCE
 #include "transport.h"
 #include "ethernet.h"
+#include "general_port.h"
 #include "monotonic.h"
 #include "notices.h"
 #include "program.h"
@@ -20,18 +21,20 @@
 #include <sys/un.h>
 #include <unistd.h>
 
-/* A socket, and over UDP or Ethernet its interface, with the index of that one, and its address on Ethernet. */
-struct end { int socket; const char *interface; unsigned index; uint8_t station[STATION]; };
+/* A socket, and over UDP or Ethernet its interface, with the index of that one, and its address on Ethernet. Over UDP the socket
+   hears what comes to the group, and another one, -1 elsewhere, asks, and hears what is answered to this host alone. */
+struct end { int socket, asking; const char *interface; unsigned index; uint8_t station[STATION]; };
 
 static struct sockaddr_storage clock_address;
 static socklen_t clock_size;
 static struct end ends[MOST_INTERFACES];
 static size_t end_count;
+static int copies = -1;         /* of what comes to UDP port 320 of this host alone; -1 if the program may hear none */
 /* What the transport is called in a notice. */
 static char name[MOST_INTERFACES * (IFNAMSIZ + 2) + sizeof ((struct sockaddr_un *)0)->sun_path];
 static bool is_six, is_ethernet;
 
-enum { MOST_DATAGRAM = 65536, ROOM_FOR_MANY = 4 << 20 };
+enum { MOST_DATAGRAM = 65536, ROOM_FOR_MANY = 4 << 20, SOCKETS_OF_END = 2, MOST_WAITS = SOCKETS_OF_END * MOST_INTERFACES + 1 };
 
 const char *transport_name(void) { return name; }
 
@@ -146,8 +149,15 @@ void find_transport(struct task *task) {
 /* Whether it can be opened; otherwise errno says why not, and `what` of what. */
 static bool open_end(struct end *end, const char **what) {
     end->index = if_nametoindex(end->interface);
+    end->asking = -1;
     end->socket = is_ethernet ? open_ethernet(end->interface, end->station, what) : open_udp(end->interface, is_six, what);
-    return end->socket >= 0;
+    if (end->socket < 0 || is_ethernet) return end->socket >= 0;
+    end->asking = open_asking_udp(end->interface, is_six, what);
+    if (end->asking >= 0) return true;
+    int failure = errno;
+    close(end->socket);
+    errno = failure;
+    return false;
 }
 
 static void open_at_interface(struct end *end) {
@@ -184,19 +194,32 @@ static void open_beside(const char *path) {
     int size = snprintf(own_path, sizeof own_path, "%s.%ld", path, (long)getpid());
     if ((size_t)size >= sizeof ((struct sockaddr_un *)0)->sun_path) refuse("--unix %s: the path is too long", path);
     ends[0].socket = open_unix(own_path);
+    ends[0].asking = -1;
 }
 
 void open_transport(const struct task *task) {
     if (task->path != NULL) open_beside(task->path);
     for (size_t i = 0; i < end_count && task->path == NULL; i++) open_at_interface(&ends[i]);
+    if (task->path == NULL && !is_ethernet) copies = open_copies(is_six);
+}
+
+static void widen(int socket) {
+    const int wanted = ROOM_FOR_MANY;
+    if (setsockopt(socket, SOL_SOCKET, SO_RCVBUFFORCE, &wanted, sizeof wanted) == 0) return;
+    setsockopt(socket, SOL_SOCKET, SO_RCVBUF, &wanted, sizeof wanted);
 }
 
 void widen_transport(void) {
-    const int wanted = ROOM_FOR_MANY;
     for (size_t i = 0; i < end_count; i++) {
-        if (setsockopt(ends[i].socket, SOL_SOCKET, SO_RCVBUFFORCE, &wanted, sizeof wanted) == 0) continue;
-        setsockopt(ends[i].socket, SOL_SOCKET, SO_RCVBUF, &wanted, sizeof wanted);
+        widen(ends[i].socket);
+        if (ends[i].asking >= 0) widen(ends[i].asking);
     }
+    if (copies >= 0) widen(copies);
+}
+
+void tell_deaf_port(void) {
+    if (copies >= 0 || is_ethernet || ends[0].interface == NULL) return;
+    complain("a clock that answers to UDP port 320 of this host alone isn't heard: it takes root, or the capability CAP_NET_RAW");
 }
 
 /* An address of a link has the index of its interface in it. */
@@ -213,6 +236,7 @@ void renew_transport(void) {
         if (index == 0 || index == other.index || !open_end(&other, &what)) continue;
         renew_scope(ends[i].index, other.index);
         close(ends[i].socket);
+        if (ends[i].asking >= 0) close(ends[i].asking);
         ends[i] = other;
         complain("%s: the interface was made anew", other.interface);
     }
@@ -236,7 +260,8 @@ static ssize_t send_frame(const struct end *end, const uint8_t *octets, size_t s
 }
 
 static ssize_t send_datagram(const struct end *end, const uint8_t *octets, size_t size) {
-    return sendto(end->socket, octets, size, MSG_DONTWAIT, (struct sockaddr *)&clock_address, clock_size);
+    int from = end->asking >= 0 ? end->asking : end->socket;
+    return sendto(from, octets, size, MSG_DONTWAIT, (struct sockaddr *)&clock_address, clock_size);
 }
 
 enum sending send_message(const uint8_t *octets, size_t size) {
@@ -248,27 +273,84 @@ enum sending send_message(const uint8_t *octets, size_t size) {
     return sending;
 }
 
-/* The end at which something has come in, after the one before it in turn; NULL if nothing has in time. */
-static const struct end *next_end(long wait) {
+/* Where something has come in: a socket of an end, or the one that hears copies, which is of none. */
+struct arrival { int socket; const struct end *end; };
+
+/* The one after the one before it in turn; none if nothing has in time. */
+static bool next_arrival(struct arrival *arrival, long wait) {
     static size_t latest;
-    struct pollfd waits[MOST_INTERFACES];
-    for (size_t i = 0; i < end_count; i++) waits[i] = (struct pollfd){ ends[i].socket, POLLIN, 0 };
-    if (wait_for(waits, end_count, wait) <= 0) return NULL;
-    do latest = (latest + 1) % end_count;
+    struct pollfd waits[MOST_WAITS];
+    size_t count = SOCKETS_OF_END * end_count + 1;
+    for (size_t i = 0; i < end_count; i++) {
+        waits[SOCKETS_OF_END * i] = (struct pollfd){ ends[i].socket, POLLIN, 0 };
+        waits[SOCKETS_OF_END * i + 1] = (struct pollfd){ ends[i].asking, POLLIN, 0 };
+    }
+    waits[count - 1] = (struct pollfd){ copies, POLLIN, 0 };
+    if (wait_for(waits, count, wait) <= 0) return false;
+    do latest = (latest + 1) % count;
     while (waits[latest].revents == 0);
-    return &ends[latest];
+    *arrival = (struct arrival){ waits[latest].fd, latest == count - 1 ? NULL : &ends[latest / SOCKETS_OF_END] };
+    return true;
+}
+
+/* Who sent a datagram, and the index of the interface at which it came in, if the kernel was to report that. */
+struct place { struct sockaddr_storage sender; unsigned index; };
+
+static void take_index(struct place *from, struct msghdr *head) {
+    struct in_pktinfo four;
+    struct in6_pktinfo six;
+    for (struct cmsghdr *one = CMSG_FIRSTHDR(head); one != NULL; one = CMSG_NXTHDR(head, one)) {
+        if (one->cmsg_level == IPPROTO_IP && one->cmsg_type == IP_PKTINFO) {
+            memcpy(&four, CMSG_DATA(one), sizeof four);
+            from->index = (unsigned)four.ipi_ifindex;
+        } else if (one->cmsg_level == IPPROTO_IPV6 && one->cmsg_type == IPV6_PKTINFO) {
+            memcpy(&six, CMSG_DATA(one), sizeof six);
+            from->index = six.ipi6_ifindex;
+        }
+    }
+}
+
+static ssize_t receive_from(int socket, uint8_t *octets, size_t most, struct place *from) {
+    _Alignas(struct cmsghdr) char control[CMSG_SPACE(sizeof(struct in6_pktinfo))];
+    struct iovec part = { octets, most };
+    struct msghdr head = {
+        .msg_name = &from->sender, .msg_namelen = sizeof from->sender, .msg_iov = &part, .msg_iovlen = 1,
+        .msg_control = control, .msg_controllen = sizeof control,
+    };
+    *from = (struct place){ .index = 0 };
+    ssize_t found = recvmsg(socket, &head, MSG_DONTWAIT);
+    if (found >= 0) take_index(from, &head);
+    return found;
+}
+
+static bool is_of_end(unsigned index) {
+    for (size_t i = 0; i < end_count; i++) {
+        if (ends[i].index == index) return true;
+    }
+    return false;
+}
+
+/* The message in what an arrival is, of `found` octets; NULL if it is none for this program. */
+static const uint8_t *message_of(const struct arrival *arrival, const uint8_t *octets, size_t found, struct place *from,
+                                 size_t *size) {
+    *size = found;
+    if (arrival->end == NULL) {
+        size_t place = is_of_end(from->index) ? message_in_copy(octets, size, (struct sockaddr *)&from->sender) : 0;
+        return place == 0 ? NULL : octets + place;
+    }
+    size_t place = is_ethernet ? message_in(octets, found, arrival->end->station) : 0;
+    *size -= place;
+    return is_ethernet && place == 0 ? NULL : octets + place;
 }
 
 const uint8_t *receive_message(size_t *size, long end) {
     static uint8_t datagram[MOST_DATAGRAM];
     for (long left; (left = end - milliseconds()) > 0 && !stopped;) {
-        const struct end *from = next_end(left);
-        ssize_t found = from == NULL ? -1 : recv(from->socket, datagram, sizeof datagram, MSG_DONTWAIT);
-        if (found < 0) continue;
-        size_t place = is_ethernet ? message_in(datagram, (size_t)found, from->station) : 0;
-        if (is_ethernet && place == 0) continue;
-        *size = (size_t)found - place;
-        return datagram + place;
+        struct arrival arrival;
+        struct place from;
+        ssize_t found = next_arrival(&arrival, left) ? receive_from(arrival.socket, datagram, sizeof datagram, &from) : -1;
+        const uint8_t *message = found < 0 ? NULL : message_of(&arrival, datagram, (size_t)found, &from, size);
+        if (message != NULL) return message;
     }
     return NULL;
 }

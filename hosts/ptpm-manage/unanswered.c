@@ -98,6 +98,7 @@ int no_answer(const struct task *task, enum unanswered what, uint16_t number, lo
     tell_rest(task, what, number);
     if (stopped) return BY_SIGNAL + stopped;
     tell_missing_addresses();
+    tell_deaf_port();
     if (task->is_survey && !task->is_of_clock) {
         advise_on_time(task);
         return NOT_ANSWERED;
