@@ -33,16 +33,15 @@ static int refused(enum ptpm_started answer) {
 }
 
 static int open_port(const char *interface) {
-    const int none = 0;
-    struct sockaddr_in any = group;
+    const int one = 1, none = 0;
     struct ip_mreqn join;
     int at = socket(AF_INET, SOCK_DGRAM, 0);
-    any.sin_addr.s_addr = htonl(INADDR_ANY);
     memset(&join, 0, sizeof join);
     join.imr_multiaddr = group.sin_addr;
     join.imr_ifindex = (int)if_nametoindex(interface);
-    return at >= 0 && setsockopt(at, SOL_SOCKET, SO_BINDTODEVICE, interface, (socklen_t)strlen(interface) + 1) == 0
-           && bind(at, (const struct sockaddr *)&any, sizeof any) == 0
+    return at >= 0 && setsockopt(at, SOL_SOCKET, SO_REUSEADDR, &one, sizeof one) == 0
+           && setsockopt(at, SOL_SOCKET, SO_BINDTODEVICE, interface, (socklen_t)strlen(interface) + 1) == 0
+           && bind(at, (const struct sockaddr *)&group, sizeof group) == 0
            && setsockopt(at, IPPROTO_IP, IP_ADD_MEMBERSHIP, &join, sizeof join) == 0
            && setsockopt(at, IPPROTO_IP, IP_MULTICAST_IF, &join, sizeof join) == 0
            && setsockopt(at, IPPROTO_IP, IP_MULTICAST_LOOP, &none, sizeof none) == 0 ? at : -1;

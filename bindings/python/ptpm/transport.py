@@ -13,7 +13,7 @@ import select
 import socket
 import struct
 import time
-from typing import Optional, Tuple, Union
+from typing import Optional, Sequence, Tuple, Union
 
 from .identity import Identity
 
@@ -27,23 +27,57 @@ _SO_ATTACH_FILTER = 26
 _SIOCGIFADDR = 0x8915
 _SIOCGIFHWADDR = 0x8927
 
-# Of datagrams, which begin with their UDP header here, those whose messageType is 0xD: management messages (linux/filter.h).
-_WANTED = b"".join(
-    struct.pack("=HBBI", *instruction)
-    for instruction in (
-        (0x30, 0, 0, 8),  # load the octet after the header
-        (0x54, 0, 0, 0x0F),  # its lower half
-        (0x15, 0, 1, 0x0D),  # if it is not 0xD, pass over the next
-        (0x06, 0, 0, MOST_DATAGRAM - 1),  # keep the datagram
-        (0x06, 0, 0, 0),  # drop it
-    )
+
+
+def _program(*instructions: Tuple[int, int, int, int]) -> bytes:
+    """A filter of the kernel's (linux/filter.h)."""
+    return b"".join(struct.pack("=HBBI", *one) for one in instructions)
+
+
+_DROP, _KEEP = (0x06, 0, 0, 0), (0x06, 0, 0, MOST_DATAGRAM - 1)
+
+# Of datagrams, which begin with their UDP header here, those whose messageType is 0xD: management messages.
+_WANTED = _program(
+    (0x30, 0, 0, 8),  # load the octet after the header
+    (0x54, 0, 0, 0x0F),  # its lower half
+    (0x15, 0, 1, 0x0D),  # if it is not 0xD, pass over the next
+    _KEEP,
+    _DROP,
+)
+
+# Of copies over IPv4, which begin with their IP header, such messages to port 320 of no group.
+_WANTED_COPIES_4 = _program(
+    (0xB1, 0, 0, 0),  # the size of the IP header
+    (0x48, 0, 0, 2),  # load the port after it
+    (0x15, 0, 7, GENERAL_PORT),
+    (0x30, 0, 0, 16),  # the first octet of the address
+    (0x54, 0, 0, 0xF0),
+    (0x15, 4, 0, 0xE0),
+    (0x50, 0, 0, 8),  # the octet after the UDP header
+    (0x54, 0, 0, 0x0F),
+    (0x15, 0, 1, 0x0D),
+    _KEEP,
+    _DROP,
+)
+
+# The same over IPv6, where they begin with their UDP header; the address is before it.
+_WANTED_COPIES_6 = _program(
+    (0x28, 0, 0, 2),
+    (0x15, 0, 6, GENERAL_PORT),
+    (0x30, 0, 0, 0xFFF00000 + 24),
+    (0x15, 4, 0, 0xFF),
+    (0x30, 0, 0, 8),
+    (0x54, 0, 0, 0x0F),
+    (0x15, 0, 1, 0x0D),
+    _KEEP,
+    _DROP,
 )
 
 Address = Union[str, Tuple[str, int], Tuple[str, int, int, int]]
 
 
 class Transport:
-    """A way to clocks: a socket, and the address that it sends to. It is closed when its `with` ends."""
+    """A way to clocks: sockets, and the address that the first one sends to. It is closed when its `with` ends."""
 
     identity = Identity(bytes(8))
     """The clockIdentity that a manager has here by default."""
@@ -51,12 +85,17 @@ class Transport:
     is_local = False
     """Whether it leads to clocks of this machine only."""
 
-    def __init__(self, opened: socket.socket, to: Address, name: Optional[str] = None) -> None:
-        """`name` is what an error calls it: the address, if there is no name."""
+    def __init__(
+        self, opened: socket.socket, to: Address, name: Optional[str] = None, beside: Sequence[socket.socket] = ()
+    ) -> None:
+        """`name` is what an error calls it: the address, if there is no name. At the sockets beside the first one answers come in
+        too."""
         self._socket = opened
+        self._heard = [opened, *beside]
         self._to = to
         self._name = name or (to if isinstance(to, str) else to[0])
-        opened.setblocking(False)
+        for one in self._heard:
+            one.setblocking(False)
 
     def __enter__(self) -> Transport:
         return self
@@ -65,8 +104,9 @@ class Transport:
         self.close()
 
     def close(self) -> None:
-        """Closes the socket."""
-        self._socket.close()
+        """Closes the sockets."""
+        for one in self._heard:
+            one.close()
 
     def send(self, octets: bytes) -> bool:
         """Sends a message; whether there was room for it. An OSError says that there is no way."""
@@ -84,12 +124,19 @@ class Transport:
         """The next datagram, or None if none comes in before a time of time.monotonic()."""
         while True:
             left = until - time.monotonic()
-            if left <= 0 or not select.select([self._socket], [], [], left)[0]:
+            found = select.select(self._heard, [], [], left)[0] if left > 0 else []
+            if not found:
                 return None
             try:
-                return self._socket.recv(MOST_DATAGRAM)
+                message = self._message_of(found[0], found[0].recv(MOST_DATAGRAM))
             except OSError:
                 continue  # as an ICMP of an earlier message
+            if message is not None:
+                return message
+
+    def _message_of(self, opened: socket.socket, octets: bytes) -> Optional[bytes]:
+        """The message in what a socket heard."""
+        return octets
 
 
 def _ask_interface(name: str, request: int) -> bytes:
@@ -145,13 +192,23 @@ def _destination(interface: Optional[str], address: Optional[str], ipv6: bool) -
 
 class UdpTransport(Transport):
     """UDP port 320 at an interface, to the group of all clocks there, or to one address. It takes root, or the capability
-    CAP_NET_BIND_SERVICE. An answer to this host alone comes in at the socket that was opened last there. So a session has its turn
-    at its file before its way is opened."""
+    CAP_NET_BIND_SERVICE. What comes to the group is heard, and what is answered to the port of the request. A clock may answer to
+    port 320 of this host alone, from whatever port it was asked. Then a copy of that is heard if the program has the capability
+    CAP_NET_RAW, as root has, and nothing is taken from who else has the port, such as a ptp4l."""
 
     def __init__(self, interface: Optional[str] = None, address: Optional[str] = None, *, ipv6: bool = False) -> None:
         self.interface, family, to = _destination(interface, address, ipv6)
         self.identity = Identity.of_mac(_mac_of(self.interface))
-        super().__init__(_opened(self.interface, family), to, address or self.interface)
+        group, asking, self._copies = _opened(self.interface, family)
+        beside = [group] if self._copies is None else [group, self._copies]
+        super().__init__(asking, to, address or self.interface, beside)
+
+    def _message_of(self, opened: socket.socket, octets: bytes) -> Optional[bytes]:
+        if opened is not self._copies:
+            return octets
+        place = 4 * (octets[0] & 0x0F) if opened.family == socket.AF_INET and octets else 0
+        size = int.from_bytes(octets[place + 4 : place + 6], "big")  # with the UDP header
+        return octets[place + 8 : place + size] if 8 < size <= len(octets) - place else None
 
     @staticmethod
     def identity_at(interface: Optional[str] = None, address: Optional[str] = None, *, ipv6: bool = False) -> Identity:
@@ -159,37 +216,64 @@ class UdpTransport(Transport):
         return Identity.of_mac(_mac_of(_destination(interface, address, ipv6)[0]))
 
 
-def _filter(opened: socket.socket) -> None:
+def _filter(opened: socket.socket, wanted: bytes) -> None:
     """Has the kernel drop what is no management message, so that other messages leave the answers their room."""
-    octets = ctypes.create_string_buffer(_WANTED, len(_WANTED))
-    opened.setsockopt(socket.SOL_SOCKET, _SO_ATTACH_FILTER, struct.pack("HP", len(_WANTED) // 8, ctypes.addressof(octets)))
+    octets = ctypes.create_string_buffer(wanted, len(wanted))
+    opened.setsockopt(socket.SOL_SOCKET, _SO_ATTACH_FILTER, struct.pack("HP", len(wanted) // 8, ctypes.addressof(octets)))
 
 
-def _opened(interface: str, family: socket.AddressFamily) -> socket.socket:
-    """A socket that hears and sends management messages at this interface alone."""
-    opened = socket.socket(family, socket.SOCK_DGRAM | socket.SOCK_CLOEXEC)
-    try:
-        _filter(opened)  # before it is bound, since it hears nothing until then
-        opened.setsockopt(socket.SOL_SOCKET, socket.SO_REUSEADDR, 1)
-        opened.setsockopt(socket.SOL_SOCKET, _SO_BINDTODEVICE, interface.encode() + b"\0")
-        index = socket.if_nametoindex(interface)
-        if family == socket.AF_INET6:
-            opened.setsockopt(socket.IPPROTO_IPV6, socket.IPV6_V6ONLY, 1)
-            opened.bind(("::", GENERAL_PORT))
-            join = socket.inet_pton(family, _GROUP_6) + struct.pack("=I", index)
-            opened.setsockopt(socket.IPPROTO_IPV6, socket.IPV6_JOIN_GROUP, join)
-            opened.setsockopt(socket.IPPROTO_IPV6, socket.IPV6_MULTICAST_IF, index)
-            opened.setsockopt(socket.IPPROTO_IPV6, socket.IPV6_MULTICAST_LOOP, 0)
-        else:
-            opened.bind(("", GENERAL_PORT))
-            join = struct.pack("=4s4si", socket.inet_pton(family, _GROUP_4), bytes(4), index)
-            opened.setsockopt(socket.IPPROTO_IP, socket.IP_ADD_MEMBERSHIP, join)
-            opened.setsockopt(socket.IPPROTO_IP, socket.IP_MULTICAST_IF, join)
-            opened.setsockopt(socket.IPPROTO_IP, socket.IP_MULTICAST_LOOP, 0)
-    except OSError as error:
-        opened.close()
-        raise OSError(error.errno, error.strerror, f"UDP port {GENERAL_PORT} at {interface}") from None
+def _at(opened: socket.socket, interface: str, wanted: bytes) -> socket.socket:
+    """The socket hears and sends at this interface alone. It is not bound yet, and hears nothing until then."""
+    _filter(opened, wanted)
+    opened.setsockopt(socket.SOL_SOCKET, _SO_BINDTODEVICE, interface.encode() + b"\0")
     return opened
+
+
+def _send_at(opened: socket.socket, index: int) -> None:
+    """What is sent to the group goes out at that interface, and doesn't come back."""
+    if opened.family == socket.AF_INET6:
+        opened.setsockopt(socket.IPPROTO_IPV6, socket.IPV6_V6ONLY, 1)
+        opened.setsockopt(socket.IPPROTO_IPV6, socket.IPV6_MULTICAST_IF, index)
+        opened.setsockopt(socket.IPPROTO_IPV6, socket.IPV6_MULTICAST_LOOP, 0)
+        opened.bind(("::", 0))
+    else:
+        opened.setsockopt(socket.IPPROTO_IP, socket.IP_MULTICAST_IF, struct.pack("=4s4si", bytes(4), bytes(4), index))
+        opened.setsockopt(socket.IPPROTO_IP, socket.IP_MULTICAST_LOOP, 0)
+        opened.bind(("", 0))
+
+
+def _join(opened: socket.socket, index: int) -> None:
+    """The socket is bound to the group, so nothing that is sent to this host alone comes in there, which may be another's."""
+    opened.setsockopt(socket.SOL_SOCKET, socket.SO_REUSEADDR, 1)
+    if opened.family == socket.AF_INET6:
+        opened.setsockopt(socket.IPPROTO_IPV6, socket.IPV6_V6ONLY, 1)
+        opened.bind((_GROUP_6, GENERAL_PORT, 0, index))
+        join = socket.inet_pton(opened.family, _GROUP_6) + struct.pack("=I", index)
+        opened.setsockopt(socket.IPPROTO_IPV6, socket.IPV6_JOIN_GROUP, join)
+    else:
+        opened.bind((_GROUP_4, GENERAL_PORT))
+        join = struct.pack("=4s4si", socket.inet_pton(opened.family, _GROUP_4), bytes(4), index)
+        opened.setsockopt(socket.IPPROTO_IP, socket.IP_ADD_MEMBERSHIP, join)
+
+
+def _opened(interface: str, family: socket.AddressFamily) -> Tuple[socket.socket, socket.socket, Optional[socket.socket]]:
+    """A socket that hears what comes to the group, one that asks, and one that hears copies, if the program may."""
+    kind = socket.SOCK_DGRAM | socket.SOCK_CLOEXEC
+    with contextlib.ExitStack() as opened:
+        try:
+            group = _at(opened.enter_context(socket.socket(family, kind)), interface, _WANTED)
+            asking = _at(opened.enter_context(socket.socket(family, kind)), interface, _WANTED)
+            index = socket.if_nametoindex(interface)
+            _send_at(asking, index)
+            _join(group, index)
+        except OSError as error:
+            raise OSError(error.errno, error.strerror, f"UDP port {GENERAL_PORT} at {interface}") from None
+        copies = None
+        with contextlib.suppress(PermissionError):
+            copies = opened.enter_context(socket.socket(family, socket.SOCK_RAW | socket.SOCK_CLOEXEC, socket.IPPROTO_UDP))
+            _at(copies, interface, _WANTED_COPIES_6 if family == socket.AF_INET6 else _WANTED_COPIES_4)
+        opened.pop_all()
+        return group, asking, copies
 
 
 class UnixTransport(Transport):

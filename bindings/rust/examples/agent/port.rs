@@ -60,7 +60,8 @@ fn set<T: ?Sized>(socket: &OwnedFd, level: c_int, option: c_int, value: &T) -> i
     Ok(())
 }
 
-/// A socket that hears and sends at this interface alone.
+/// A socket that hears what comes to the group at this interface, and sends there. It is bound to the group: what is sent to port
+/// 320 of this host alone goes to one socket, which may be that of a `ptp4l`.
 pub fn open(interface: &str) -> io::Result<UdpSocket> {
     let name = CString::new(interface)?;
     // SAFETY: the name ends with a zero.
@@ -72,9 +73,9 @@ pub fn open(interface: &str) -> io::Result<UdpSocket> {
     let socket = unsafe { OwnedFd::from_raw_fd(checked(socket(AF_INET, SOCK_DGRAM | SOCK_CLOEXEC, 0))?) };
     set(&socket, SOL_SOCKET, SO_REUSEADDR, &1)?;
     set(&socket, SOL_SOCKET, SO_BINDTODEVICE, name.as_bytes_with_nul())?;
-    let any = Address { family: AF_INET as u16, port: GENERAL_PORT.to_be_bytes(), address: [0; 4], zeros: [0; 8] };
+    let group = Address { family: AF_INET as u16, port: GENERAL_PORT.to_be_bytes(), address: GROUP.octets(), zeros: [0; 8] };
     // SAFETY: the address has the layout that its family asks.
-    checked(unsafe { bind(socket.as_raw_fd(), &any, size_of::<Address>() as u32) })?;
+    checked(unsafe { bind(socket.as_raw_fd(), &group, size_of::<Address>() as u32) })?;
     let membership = Membership { group: GROUP.octets(), address: [0; 4], interface: index as c_int };
     set(&socket, IPPROTO_IP, IP_ADD_MEMBERSHIP, &membership)?;
     set(&socket, IPPROTO_IP, IP_MULTICAST_IF, &membership)?;
