@@ -57,7 +57,7 @@ static bool set_number(int socket, int level, int option, int value) {
     return setsockopt(socket, level, option, &value, sizeof value) == 0;
 }
 
-/* The kernel tells of each datagram where it came in, and which address it was sent to. */
+/* The kernel is to report of each datagram where it came in, and which address it was sent to. */
 static bool tell_places(int socket, bool is_six) {
     return is_six ? set_number(socket, IPPROTO_IPV6, IPV6_RECVPKTINFO, 1) : set_number(socket, IPPROTO_IP, IP_PKTINFO, 1);
 }
@@ -69,8 +69,9 @@ static int closed(int socket) {
     return -1;
 }
 
-/* Of the sockets at a port, Linux prefers those of IPv4 for what comes by IPv4, those that are bound to an interface, and then the
-   latest. So this one is of IPv6, but hears IPv4, and is bound to none. Groups that other sockets have joined are not its own. */
+/* Of the sockets at a port Linux prefers one of IPv4 for what comes by IPv4. Then it prefers one that is bound to an interface, and
+   then the latest. So this one is of IPv6, but hears IPv4, and is bound to none. Groups that other sockets have joined are not its
+   own. */
 static bool bind_last(int socket, sa_family_t family, bool is_six) {
     struct sockaddr_in6 six = { .sin6_family = AF_INET6, .sin6_port = htons(GENERAL_PORT) };
     struct sockaddr_in four = { .sin_family = AF_INET, .sin_port = htons(GENERAL_PORT) };
@@ -129,7 +130,7 @@ static struct question question_of(unsigned interface, bool is_six) {
     return question;
 }
 
-/* The number of the socket's file; 0 if none gets it, or the kernel doesn't tell. */
+/* The number of the socket's file; 0 if none gets it, or the kernel does not report it. */
 static ino_t file_of_owner(unsigned interface, bool is_six) {
     struct question question = question_of(interface, is_six);
     struct answer answer = { .head = { 0 } };

@@ -67,8 +67,8 @@ static bool stay_at(int socket, const char *interface, bool is_six, const char *
            && (is_six ? send_at_six(socket, index, what) : send_at_four(socket, index, what));
 }
 
-/* The address of the group takes nothing that is sent to this host alone: Linux hands that to one socket, the latest of those
-   that may have it, which may be a servo's. */
+/* At the address of the group nothing comes in that is sent to this host alone. Linux hands that to one socket, and a servo may
+   need it. */
 static bool bind_to_group(int socket, const struct sockaddr_storage *to, socklen_t size, const char **what) {
     int one = 1;
     if (!set_option(socket, SOL_SOCKET, SO_REUSEADDR, &one, sizeof one, what, "SO_REUSEADDR")) return false;

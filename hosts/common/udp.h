@@ -13,8 +13,8 @@ enum { GENERAL_PORT = 320 };
    can't be made: errno says why, and *what at which step. */
 int open_udp(const char *interface, bool is_six, const char **what);
 
-/* A socket at a port of its own of an interface. What is sent from it is answered to that port if it is answered to this host
-   alone, since such an answer goes to the port of the request (annexes C and D). -1 as above. */
+/* A socket of an interface at a port of its own, to ask from. An answer to this host alone comes back to it, since that goes to
+   the port of the request (annexes C and D). -1 as above. */
 int open_asking_udp(const char *interface, bool is_six, const char **what);
 
 /* Has a socket hear management messages alone, or every message; whether it does. The kernel drops the rest before the program

@@ -88,7 +88,8 @@ static bool take_event(uint32_t what) {
     return asked != END_ASKED;
 }
 
-/* Once a second: what came in at a socket that was at the path for a moment, the source, if it moved, and who has UDP port 320. */
+/* Once a second: what came in at a socket that was at the path for a moment. Then the source, if it moved, and who has UDP port
+   320. */
 static void look_around(long now) {
     static long next;
     if (now < next) return;

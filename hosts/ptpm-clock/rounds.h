@@ -29,7 +29,7 @@ struct heard {
     union sender sender;
     socklen_t sender_size;
     const uint8_t *station;             /* who sent it over Ethernet */
-    const struct port *port;            /* where it came in; NULL at the Unix socket */
+    const struct port *port;            /* that of the interface; NULL at the Unix socket */
     bool is_unicast;                    /* it was sent to this host alone, and so is what is answered */
     struct in_pktinfo own_four;         /* the address that it was sent to */
     struct in6_pktinfo own_six;

@@ -15,7 +15,7 @@ static enum general_port owner_at(const struct port *port) {
     return port->socket < 0 ? WE_HAVE_IT : who_has_general_port(general, port->index, is_six());
 }
 
-/* Where another program has the port there is nothing to take. */
+/* Whether there is an interface at which no other program has the port. */
 static bool is_free_somewhere(void) {
     for (size_t i = 0; i < port_count; i++) {
         if (ports[i].socket >= 0 && owner_at(&ports[i]) == NOBODY_HAS_IT) return true;

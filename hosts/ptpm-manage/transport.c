@@ -273,7 +273,7 @@ enum sending send_message(const uint8_t *octets, size_t size) {
     return sending;
 }
 
-/* Where something has come in: a socket of an end, or the one that hears copies, which is of none. */
+/* A socket that something has come in at: that of an end, or the one that hears copies, which is of none. */
 struct arrival { int socket; const struct end *end; };
 
 /* The one after the one before it in turn; none if nothing has in time. */

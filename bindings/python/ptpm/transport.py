@@ -194,7 +194,7 @@ class UdpTransport(Transport):
     """UDP port 320 at an interface, to the group of all clocks there, or to one address. It takes root, or the capability
     CAP_NET_BIND_SERVICE. What comes to the group is heard, and what is answered to the port of the request. A clock may answer to
     port 320 of this host alone, from whatever port it was asked. Then a copy of that is heard if the program has the capability
-    CAP_NET_RAW, as root has, and nothing is taken from who else has the port, such as a ptp4l."""
+    CAP_NET_RAW, as root has. Nothing is taken from who else has the port, such as a ptp4l."""
 
     def __init__(self, interface: Optional[str] = None, address: Optional[str] = None, *, ipv6: bool = False) -> None:
         self.interface, family, to = _destination(interface, address, ipv6)
