@@ -22,8 +22,8 @@ int open_copies(bool is_six);
    the port that it was sent from. */
 size_t message_in_copy(const uint8_t *octets, size_t *size, struct sockaddr *sender);
 
-/* Who gets what comes in at an interface for UDP port 320 of this host alone: our socket, another program, or nobody as far as the
-   kernel reports it. */
+/* Who gets what comes in at an interface for UDP port 320 of this host alone: our socket, another program, or nobody. The kernel
+   may report nobody although somebody is there. */
 enum general_port { NOBODY_HAS_IT, WE_HAVE_IT, ANOTHER_HAS_IT };
 enum general_port who_has_general_port(int ours, unsigned interface, bool is_six);
 
