@@ -1,6 +1,8 @@
 #define _GNU_SOURCE
 #include "netlink.h"
+#include "monotonic.h"
 #include "program.h"
+#include "route.h"
 #include <errno.h>
 #include <ifaddrs.h>
 #include <linux/netlink.h>
@@ -12,7 +14,7 @@
 #include <string.h>
 #include <unistd.h>
 
-enum { MOST_NETWORKS = 1024, TOLD = 16384 };
+enum { MOST_NETWORKS = 1024, TOLD = 16384, SECOND = 1000 };
 
 /* The addresses whose first bits are those of one address of an interface. */
 struct network { unsigned index; sa_family_t family; uint8_t address[16], mask[16]; };
@@ -105,15 +107,25 @@ static void add_network(const struct ifaddrs *one) {
     if (network->index != 0) network_count++;
 }
 
-/* If the kernel can't be asked, what it reported before stays. */
-static void read_networks(void) {
+/* Whether the kernel could be asked. If not, what it reported before stays. */
+static bool read_networks(void) {
     struct ifaddrs *all;
-    is_stale = false;
-    if (getifaddrs(&all) != 0) return;
+    if (getifaddrs(&all) != 0) return false;
     network_count = 0;
     for (const struct ifaddrs *one = all; one != NULL; one = one->ifa_next) add_network(one);
     freeifaddrs(all);
+    return true;
 }
+
+/* What can't be read now, for example since no descriptor is left, is read again in a second. */
+static void renew_networks(void) {
+    static long next;
+    if (!is_stale || milliseconds() < next) return;
+    is_stale = !read_networks();
+    next = is_stale ? milliseconds() + SECOND : 0;
+}
+
+void forget_networks(void) { is_stale = true; }
 
 static bool is_in(const struct network *network, const uint8_t *address, size_t size) {
     for (size_t i = 0; i < size; i++) {
@@ -123,7 +135,7 @@ static bool is_in(const struct network *network, const uint8_t *address, size_t 
 }
 
 bool has_address(unsigned index, sa_family_t family) {
-    if (is_stale) read_networks();
+    renew_networks();
     for (size_t i = 0; i < network_count; i++) {
         if (networks[i].index == index && networks[i].family == family) return true;
     }
@@ -134,10 +146,10 @@ bool is_on_link(unsigned index, const struct sockaddr *address) {
     size_t size;
     const uint8_t *octets = octets_of(address, &size);
     if (size == 16 && octets[0] == 0xfe && (octets[1] & 0xc0) == 0x80) return true;
-    if (is_stale) read_networks();
+    renew_networks();
     for (size_t i = 0; i < network_count; i++) {
         const struct network *network = &networks[i];
         if (network->index == index && network->family == address->sa_family && is_in(network, octets, size)) return true;
     }
-    return false;
+    return is_routed_to_link(index, address);
 }

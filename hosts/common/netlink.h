@@ -20,8 +20,11 @@ void read_netlink(link_taker *take);
 /* Whether the interface has an address of that family. */
 bool has_address(unsigned index, sa_family_t family);
 
-/* Whether an address of IPv4 or IPv6 belongs to a network at the interface: that of one of its own addresses. With IPv6 it may
-   also be an address of the link. */
+/* Whether an address of IPv4 or IPv6 belongs to a network at the interface: that of one of its own addresses, or one to which a
+   route leads there without a gateway. With IPv6 it may also be an address of the link. */
 bool is_on_link(unsigned index, const struct sockaddr *address);
+
+/* For who does not read what the kernel reports: the addresses of interfaces may have changed. */
+void forget_networks(void);
 
 #endif

@@ -94,10 +94,15 @@ static void join_port(struct port *port) {
     }
 }
 
-static void renew(struct port *port) {
+/* Whether the kernel says that no interface has the port's index any more. It may also say that no descriptor is left to ask it. */
+static bool is_gone(const struct port *port) {
     char name[IF_NAMESIZE];
+    return if_indextoname(port->index, name) == NULL && errno == ENXIO;
+}
+
+static void renew(struct port *port) {
     unsigned index = if_nametoindex(port->name);
-    if (index == 0 && port->index != 0 && if_indextoname(port->index, name) == NULL) close_port(port);
+    if (index == 0 && port->index != 0 && is_gone(port)) close_port(port);
     if (index != 0 && index != port->index) open_other(port, index);
     else if (port->is_due) join_port(port);
 }

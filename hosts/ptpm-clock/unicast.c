@@ -24,10 +24,12 @@ static bool is_free_somewhere(void) {
 }
 
 static void tell_owner(size_t place) {
-    bool was = is_of_another[place], is = owner_at(&ports[place]) == ANOTHER_HAS_IT;
-    is_of_another[place] = is;
-    if (is && !was) say("%s: another program has UDP port 320, and what is sent to this host alone: the group alone is heard", ports[place].name);
-    if (was && !is) say("%s: what is sent to this host alone is heard", ports[place].name);
+    enum general_port owner = owner_at(&ports[place]);
+    const char *name = ports[place].name;
+    if (owner == (is_of_another[place] ? ANOTHER_HAS_IT : WE_HAVE_IT) || owner == NOBODY_HAS_IT) return;
+    is_of_another[place] = owner == ANOTHER_HAS_IT;
+    if (owner == WE_HAVE_IT) say("%s: what is sent to this host alone is heard", name);
+    else say("%s: another program has UDP port 320, and what is sent to this host alone: the group alone is heard", name);
 }
 
 void renew_unicast(void) {

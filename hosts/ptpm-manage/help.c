@@ -32,6 +32,7 @@ static const char text[] =
     "  -6, --ipv6              with IPv6\n"
     "  -2, --ethernet          there in frames of IEEE 802.3, and not over UDP\n"
     "      --udp ADDRESS       over UDP to this address, also without --interface\n"
+    "      --any-source        hears addresses too that are not on the link, over UDP\n"
     "  -u, --unix PATH         at a Unix socket, such as /var/run/ptp4l\n"
     "\n"
     "What is asked of whom:\n"

@@ -14,7 +14,7 @@
 #include <strings.h>
 
 /* Options without a letter of their own, and a word that is none: getopt's for a string that begins with a hyphen. */
-enum { WORD = 1, UDP = 256, TEXT, VERSION, GIVE_UP, JSON };
+enum { WORD = 1, UDP = 256, TEXT, VERSION, GIVE_UP, JSON, ANY_SOURCE };
 
 enum { MOST_WORDS = 2 + MOST_FIELD_WORDS, MOST_FIELD = 1418, NOT_NAMED = -1 };
 
@@ -23,7 +23,7 @@ enum { HOPS = 1, ATTEMPTS = 30, SITE_HOPS = 7, SITE_ATTEMPTS = 10, LISTENED = 40
 
 static const struct option options[] = {
     { "interface", required_argument, NULL, 'i' }, { "udp", required_argument, NULL, UDP }, { "ipv6", no_argument, NULL, '6' },
-    { "ethernet", no_argument, NULL, '2' },
+    { "ethernet", no_argument, NULL, '2' }, { "any-source", no_argument, NULL, ANY_SOURCE },
     { "unix", required_argument, NULL, 'u' }, { "target", required_argument, NULL, 'T' }, { "to", required_argument, NULL, 'T' },
     { "port", required_argument, NULL, 'p' }, { "domain", required_argument, NULL, 'd' }, { "hops", required_argument, NULL, 'b' },
     { "manager", required_argument, NULL, 'm' }, { "numbers", required_argument, NULL, 'k' },
@@ -85,6 +85,7 @@ static void take_option(struct task *task, struct words *words, int option, cons
     case UDP: task->address = value; break;
     case '6': task->is_six = true; break;
     case '2': task->is_ethernet = true; break;
+    case ANY_SOURCE: task->is_any_source = true; break;
     case 'u': task->path = value; break;
     case 'T': read_target(task, words, value); break;
     case 'p': read_port(words, value); break;

@@ -3,6 +3,7 @@
 #include "ethernet.h"
 #include "general_port.h"
 #include "monotonic.h"
+#include "netlink.h"
 #include "notices.h"
 #include "program.h"
 #include "reading.h"
@@ -32,7 +33,8 @@ static size_t end_count;
 static int copies = -1;         /* of what comes to UDP port 320 of this host alone; -1 if the program may hear none */
 /* What the transport is called in a notice. */
 static char name[MOST_INTERFACES * (IFNAMSIZ + 2) + sizeof ((struct sockaddr_un *)0)->sun_path];
-static bool is_six, is_ethernet;
+static bool is_six, is_ethernet, is_any_source;
+static bool is_to_one;          /* messages go to one address, and not to a group */
 
 enum { MOST_DATAGRAM = 65536, ROOM_FOR_MANY = 4 << 20, SOCKETS_OF_END = 2, MOST_WAITS = SOCKETS_OF_END * MOST_INTERFACES + 1 };
 
@@ -100,6 +102,8 @@ static void write_own_identity(uint8_t identity[8], const char *interface) {
 
 static void find_udp(const struct task *task) {
     is_six = task->is_six;
+    is_to_one = task->address != NULL;
+    is_any_source = task->is_any_source;
     if (task->address != NULL) read_address(task->address);
     else clock_size = group(&clock_address, is_six);
 }
@@ -165,26 +169,15 @@ static void open_at_interface(struct end *end) {
     if (!open_end(end, &what)) refuse("nothing was sent: %s: %s%s", what, strerror(errno), right_needed(is_ethernet));
 }
 
-/* If the kernel can't be asked, each interface is taken to have one. */
-static bool has_address(const char *interface, int family) {
-    struct ifaddrs *all;
-    bool is_found = false;
-    if (getifaddrs(&all) != 0) return true;
-    for (const struct ifaddrs *one = all; one != NULL && !is_found; one = one->ifa_next) {
-        char owner[IFNAMSIZ];
-        snprintf(owner, sizeof owner, "%s", one->ifa_name);
-        owner[strcspn(owner, ":")] = '\0';
-        is_found = one->ifa_addr != NULL && one->ifa_addr->sa_family == family && if_nametoindex(owner) == if_nametoindex(interface);
-    }
-    freeifaddrs(all);
-    return is_found;
-}
+static sa_family_t family(void) { return is_six ? AF_INET6 : AF_INET; }
 
 void tell_missing_addresses(void) {
+    forget_networks();
     for (size_t i = 0; i < end_count; i++) {
         const char *interface = ends[i].interface;
-        if (interface == NULL || is_ethernet || has_address(interface, is_six ? AF_INET6 : AF_INET)) continue;
-        if (if_nametoindex(interface) == 0) complain("%s is gone", interface);
+        unsigned index = interface == NULL || is_ethernet ? 0 : if_nametoindex(interface);
+        if (interface == NULL || is_ethernet || (index != 0 && has_address(index, family()))) continue;
+        if (index == 0) complain("%s is gone", interface);
         else complain("%s has no address of IPv%d: a clock may not hear this machine there", interface, is_six ? 6 : 4);
     }
 }
@@ -229,6 +222,7 @@ static void renew_scope(unsigned before, unsigned now) {
 }
 
 void renew_transport(void) {
+    forget_networks();
     for (size_t i = 0; i < end_count; i++) {
         struct end other = ends[i];
         const char *what;
@@ -323,19 +317,43 @@ static ssize_t receive_from(int socket, uint8_t *octets, size_t most, struct pla
     return found;
 }
 
-static bool is_of_end(unsigned index) {
+static const struct end *end_at(unsigned index) {
     for (size_t i = 0; i < end_count; i++) {
-        if (ends[i].index == index) return true;
+        if (ends[i].index == index) return &ends[i];
     }
+    return NULL;
+}
+
+/* What is not taken is said once. */
+static void tell_stranger(const struct end *end, const struct sockaddr *sender) {
+    static bool is_told;
+    char address[INET6_ADDRSTRLEN] = "";
+    const void *octets = is_six ? (const void *)&((const struct sockaddr_in6 *)sender)->sin6_addr
+                                : (const void *)&((const struct sockaddr_in *)sender)->sin_addr;
+    if (is_told) return;
+    is_told = true;
+    inet_ntop(sender->sa_family, octets, address, sizeof address);
+    complain("%s: what came from %s is not taken, which is not on the link: --any-source takes it", end->interface, address);
+}
+
+/* Whether a datagram comes from the link, or from the address that is asked. An interface without an address has no link that is
+   known. */
+static bool is_from_here(const struct end *end, const struct sockaddr *sender) {
+    if (is_any_source || is_ethernet || end->interface == NULL || is_on_link(end->index, sender)) return true;
+    if ((is_to_one && is_same(sender, &clock_address)) || !has_address(end->index, family())) return true;
+    tell_stranger(end, sender);
     return false;
 }
 
 /* The message in what an arrival is, of `found` octets; NULL if it is none for this program. */
 static const uint8_t *message_of(const struct arrival *arrival, const uint8_t *octets, size_t found, struct place *from,
                                  size_t *size) {
+    struct sockaddr *sender = (struct sockaddr *)&from->sender;
+    const struct end *end = arrival->end != NULL ? arrival->end : end_at(from->index);
     *size = found;
+    if (end == NULL || !is_from_here(end, sender)) return NULL;
     if (arrival->end == NULL) {
-        size_t place = is_of_end(from->index) ? message_in_copy(octets, size, (struct sockaddr *)&from->sender) : 0;
+        size_t place = message_in_copy(octets, size, sender);
         return place == 0 ? NULL : octets + place;
     }
     size_t place = is_ethernet ? message_in(octets, found, arrival->end->station) : 0;
