@@ -20,7 +20,7 @@ void read_netlink(link_taker *take);
 /* Whether the interface has an address of that family. */
 bool has_address(unsigned index, sa_family_t family);
 
-/* Whether an address of IPv4 or IPv6 belongs to a network at the interface: that of one of its own addresses, or one to which a
+/* Whether an address of IPv4 or IPv6 belongs to a network at the interface. That is one of its own addresses', or one to which a
    route leads there without a gateway. With IPv6 it may also be an address of the link. */
 bool is_on_link(unsigned index, const struct sockaddr *address);
 

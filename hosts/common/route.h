@@ -1,4 +1,4 @@
-/* Where the kernel would send a datagram. */
+/* The routes of the kernel. */
 #ifndef ROUTE_H
 #define ROUTE_H
 
