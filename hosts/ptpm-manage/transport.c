@@ -254,8 +254,9 @@ static ssize_t send_frame(const struct end *end, const uint8_t *octets, size_t s
 }
 
 static ssize_t send_datagram(const struct end *end, const uint8_t *octets, size_t size) {
-    int from = end->asking >= 0 ? end->asking : end->socket;
-    return sendto(from, octets, size, MSG_DONTWAIT, (struct sockaddr *)&clock_address, clock_size);
+    struct iovec part = { (void *)octets, size };
+    const struct msghdr head = { .msg_name = &clock_address, .msg_namelen = clock_size, .msg_iov = &part, .msg_iovlen = 1 };
+    return sendmsg(end->asking >= 0 ? end->asking : end->socket, &head, MSG_DONTWAIT);
 }
 
 enum sending send_message(const uint8_t *octets, size_t size) {
@@ -304,17 +305,23 @@ static void take_index(struct place *from, struct msghdr *head) {
     }
 }
 
-static ssize_t receive_from(int socket, uint8_t *octets, size_t most, struct place *from) {
+static ssize_t receive_copy(uint8_t *octets, size_t most, struct place *from) {
     _Alignas(struct cmsghdr) char control[CMSG_SPACE(sizeof(struct in6_pktinfo))];
     struct iovec part = { octets, most };
     struct msghdr head = {
         .msg_name = &from->sender, .msg_namelen = sizeof from->sender, .msg_iov = &part, .msg_iovlen = 1,
         .msg_control = control, .msg_controllen = sizeof control,
     };
-    *from = (struct place){ .index = 0 };
-    ssize_t found = recvmsg(socket, &head, MSG_DONTWAIT);
+    ssize_t found = recvmsg(copies, &head, MSG_DONTWAIT);
     if (found >= 0) take_index(from, &head);
     return found;
+}
+
+static ssize_t receive_from(int socket, uint8_t *octets, size_t most, struct place *from) {
+    socklen_t size = sizeof from->sender;
+    *from = (struct place){ .index = 0 };
+    if (socket == copies) return receive_copy(octets, most, from);
+    return recvfrom(socket, octets, most, MSG_DONTWAIT, (struct sockaddr *)&from->sender, &size);
 }
 
 static const struct end *end_at(unsigned index) {

@@ -223,9 +223,9 @@ def losses_of_power():
     kept = ["fsync", "rename", "fsync"]
     words = [PROGRAM, "-m", MANAGER + "/1", "-w", "0", "-u", path, "-k", os.path.join(work, "number"), "get", "PRIORITY1",
              "--target", ME]
-    for what, wanted in [("a new session", ["fsync", "sendto", *kept, "sendto", "write", *kept]),
-                         ("a session", [*kept, "sendto", *kept, "sendto", "write", *kept])]:
-        traced = run("strace", "-e", "trace=fsync,renameat,renameat2,sendto,write", *words)
+    for what, wanted in [("a new session", ["fsync", "sendmsg", *kept, "sendmsg", "write", *kept]),
+                         ("a session", [*kept, "sendmsg", *kept, "sendmsg", "write", *kept])]:
+        traced = run("strace", "-e", "trace=fsync,renameat,renameat2,sendmsg,write", *words)
         calls = [line.split("(")[0] for line in traced.stdout.splitlines() if "(" in line and not re.match(r"write\([^1]", line)]
         calls = ["rename" if call.startswith("rename") else call for call in calls]
         check(f"{what} is on the disk when it has to be: {calls}", calls == wanted)
@@ -338,7 +338,7 @@ def kills():
     for is_new in [True, False]:
         run("strace", "-qq", "-o", os.path.join(work, "trace"), *words)
         calls = calls_of(read("trace"))
-        check("it makes calls", ("sendto", 2) in calls and ("renameat", 1) in calls and two.value() == "priority2 50")
+        check("it makes calls", ("sendmsg", 2) in calls and ("renameat", 1) in calls and two.value() == "priority2 50")
         wrong = []
         for name, place in calls:
             if is_new:
