@@ -11,9 +11,7 @@ static bool is_of_another[PORTS];       /* what was said last of each port */
 
 static bool is_six(void) { return transport == UDP_IPV6; }
 
-static enum general_port owner_at(const struct port *port) {
-    return port->socket < 0 ? WE_HAVE_IT : who_has_general_port(general, port->index, is_six());
-}
+static enum general_port owner_at(const struct port *port) { return who_has_general_port(general, port->index, is_six()); }
 
 /* Whether there is an interface at which no other program has the port. */
 static bool is_free_somewhere(void) {
@@ -24,8 +22,9 @@ static bool is_free_somewhere(void) {
 }
 
 static void tell_owner(size_t place) {
-    enum general_port owner = owner_at(&ports[place]);
     const char *name = ports[place].name;
+    if (ports[place].socket < 0) return;
+    enum general_port owner = owner_at(&ports[place]);
     if (owner == (is_of_another[place] ? ANOTHER_HAS_IT : WE_HAVE_IT) || owner == NOBODY_HAS_IT) return;
     is_of_another[place] = owner == ANOTHER_HAS_IT;
     if (owner == WE_HAVE_IT) say("%s: what is sent to this host alone is heard", name);
