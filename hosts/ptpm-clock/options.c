@@ -72,7 +72,7 @@ _Noreturn void usage(void) {
     exit(2);
 }
 
-__attribute__((format(printf, 1, 2))) _Noreturn static void refuse(const char *format, ...) {
+__attribute__((format(printf, 1, 2))) _Noreturn static void refuse_command_line(const char *format, ...) {
     va_list values;
     fputs("ptpm-clock: ", stderr);
     va_start(values, format);
@@ -85,7 +85,7 @@ __attribute__((format(printf, 1, 2))) _Noreturn static void refuse(const char *f
 /* The number that an option takes. */
 static long number(const char *option, long least, long most) {
     long found = decimal(optarg, most);
-    if (found < least) refuse("%s %s: it takes a number from %ld to %ld", option, optarg, least, most);
+    if (found < least) refuse_command_line("%s %s: it takes a number from %ld to %ld", option, optarg, least, most);
     return found;
 }
 
@@ -94,27 +94,27 @@ static mode_t mode(void) {
     char *end;
     long found = strtol(optarg, &end, 8);
     if (strlen(optarg) != 3 || *end != '\0' || found < 0) {
-        refuse("--unix-mode %s: it takes three octal digits, such as 660", optarg);
+        refuse_command_line("--unix-mode %s: it takes three octal digits, such as 660", optarg);
     }
     return (mode_t)found;
 }
 
 static gid_t group_named(void) {
     const struct group *found = getgrnam(optarg);
-    if (found == NULL) refuse("--unix-group %s: there is no such group", optarg);
+    if (found == NULL) refuse_command_line("--unix-group %s: there is no such group", optarg);
     return found->gr_gid;
 }
 
 static void take_user(struct privileges *privileges) {
     const struct passwd *found = getpwnam(optarg);
-    if (found == NULL) refuse("--user %s: there is no such user", optarg);
+    if (found == NULL) refuse_command_line("--user %s: there is no such user", optarg);
     privileges->user_name = optarg;
     privileges->user = found->pw_uid;
     privileges->group = found->pw_gid;
 }
 
 static const char *socket_path(void) {
-    if (strlen(optarg) >= sizeof ((struct sockaddr_un *)0)->sun_path) refuse("-u %s: the path is too long", optarg);
+    if (strlen(optarg) >= sizeof ((struct sockaddr_un *)0)->sun_path) refuse_command_line("-u %s: the path is too long", optarg);
     return optarg;
 }
 
@@ -123,7 +123,7 @@ static struct ptpm_manager_settings read_manager(const char *text) {
     struct ptpm_manager_settings manager = { .rights = PTPM_CLOCK_SET | PTPM_PORT_SET | PTPM_PORT_COMMAND };
     const char *rest = identity_at(text, manager.clock);
     long port = rest == NULL ? -1 : port_behind(rest, 65535);
-    if (port < 0) refuse("-m %s: it takes aabbccfffeddee01/1 or aabbcc.fffe.ddee01-1", text);
+    if (port < 0) refuse_command_line("-m %s: it takes aabbccfffeddee01/1 or aabbcc.fffe.ddee01-1", text);
     manager.port = (uint16_t)port;
     return manager;
 }
@@ -173,9 +173,9 @@ static void refuse_twice(char *const *given, size_t count) {
     for (size_t i = 1; i < count; i++) {
         unsigned index = if_nametoindex(given[i]);
         for (size_t k = 0; k < i; k++) {
-            if (strcmp(given[i], given[k]) == 0) refuse("%s: the interface is named twice", given[i]);
+            if (strcmp(given[i], given[k]) == 0) refuse_command_line("%s: the interface is named twice", given[i]);
             if (index == 0 || index != if_nametoindex(given[k])) continue;
-            refuse("%s: the interface is named twice, as %s", given[i], given[k]);
+            refuse_command_line("%s: the interface is named twice, as %s", given[i], given[k]);
         }
     }
 }
@@ -187,16 +187,16 @@ static void refuse_itself(const struct options *options) {
         const struct ptpm_manager_settings *manager = &options->managers[i];
         if (memcmp(manager->clock, options->settings.identity, sizeof manager->clock) != 0) continue;
         write_identity(identity, manager->clock);
-        refuse("-m %s/%u: it has the identity of the clock, which hears no such manager", identity, manager->port);
+        refuse_command_line("-m %s/%u: it has the identity of the clock, which hears no such manager", identity, manager->port);
     }
 }
 
 static void judge(const struct options *options, bool has_two_ways) {
-    if (options->interface_count > PORTS) refuse("it takes eight interfaces at most");
+    if (options->interface_count > PORTS) refuse_command_line("it takes eight interfaces at most");
     if (options->interface_count == 0 && options->meeting.path == NULL) {
-        refuse("an interface is missing, or a Unix socket: -u PATH");
+        refuse_command_line("an interface is missing, or a Unix socket: -u PATH");
     }
-    if (has_two_ways) refuse("-2 and -6 exclude each other");
+    if (has_two_ways) refuse_command_line("-2 and -6 exclude each other");
     refuse_twice(options->interfaces, options->interface_count);
     refuse_itself(options);
 }
@@ -211,10 +211,10 @@ void read_options(struct options *options, int argc, char **argv) {
         has_six |= option == '6';
         take_option(options, option);
     }
-    if (optind == argc) refuse("the clock's identity is missing");
+    if (optind == argc) refuse_command_line("the clock's identity is missing");
     const char *rest = identity_at(argv[optind], options->settings.identity);
     if (rest == NULL || *rest != '\0') {
-        refuse("%s: it takes a clockIdentity, such as aabbccfffeddee01 or aabbcc.fffe.ddee01", argv[optind]);
+        refuse_command_line("%s: it takes a clockIdentity, such as aabbccfffeddee01 or aabbcc.fffe.ddee01", argv[optind]);
     }
     options->interfaces = argv + optind + 1;
     options->interface_count = (size_t)(argc - optind - 1);
