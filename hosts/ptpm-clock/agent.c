@@ -179,7 +179,7 @@ void take_round(const struct port *port, int socket) {
     count_dropped(lost + send_saved());
 }
 
-static void report_left(uint8_t left) {
+static void tell_left(uint8_t left) {
     for (int i = 0; i < OBSERVED_PORTS; i++) {
         if (left >> i & 1) say_at_times("%s: port %d stays DISABLED", options->source, i + 1);
     }
@@ -198,7 +198,7 @@ void observe(char *text) {
     count_observation(answer == PTPM_OBSERVED);
     if (answer != PTPM_OBSERVED) say_at_times("%s: nothing is observed: %s", options->source, answer_name(answer));
     else if (options->is_told) print_line("observed");
-    report_left(left);
+    tell_left(left);
 }
 
 void stop_clock(void) { ptpm_clock_stop(&clock_held); }
