@@ -1,5 +1,5 @@
-/* exchanges [-p] FILE..: runs the cases of these pages over the library, and compares what comes of them with what they say.
-   tests/library/README.md has the form of a page. Prints each case that is otherwise, and `exchanges: N passed, M failed`, of
+/* exchanges [-p] FILE..: runs the cases of these pages over the library, and compares what comes of them with what they say. The
+   form of a page is in tests/library/README.md. Prints each case that is otherwise, and `exchanges: N passed, M failed`, of
    commands and rows; its status is 1 if one failed. With -p it prints the pages as they are now, and compares nothing. */
 #define _GNU_SOURCE
 #include "../checking.h"

@@ -23,8 +23,8 @@ long long next_number(char **words, long long without);
 /* The number of the next word, of hexadecimal digits. */
 uint16_t next_hex(char **words);
 
-/* The octets of all words that are left: hexadecimal digits, or a name; N*WORD for N times these. @PLACE=WORD puts others in place
-   of those from a place on. @..N leaves the first N. A minus sign alone is none. */
+/* The octets of all words that are left: hexadecimal digits, or a name; N*WORD for N times these. A word
+   @PLACE=WORD puts others in place of those from a place on, and @..N leaves the first N. A minus sign alone is none. */
 void read_octets(char **words, struct octets *octets);
 
 /* Like read_octets, of one word alone, which has this number of octets. */
