@@ -87,7 +87,8 @@ static void run_commands(const char *line) {
 }
 
 static void end_group(FILE *out, unsigned times, char *group) {
-    if (times > 0) fprintf(out, "%u times:\n%s", times, group);
+    if (times == 1) fprintf(out, "once:\n%s", group);
+    if (times > 1) fprintf(out, "%u times:\n%s", times, group);
     free(group);
 }
 
@@ -170,7 +171,7 @@ static char *said_lines(void) {
 
 /* A row with what its command writes in its last cell. */
 static char *row_found(const char *row, const char *command) {
-    char *cells = copy_of(row, strlen(row)), *line = copy_of(command, strlen(command)), *rest = cells, *said_in_row, *made;
+    char *cells = copy_of(row, strlen(row)), *line = copy_of(command, strlen(command)), *rest = cells + strlen(INDENT), *said_in_row, *made;
     for (char number = '1', *end; (end = strstr(rest, " => ")) != NULL; number++, rest = end + 4) {
         *end = '\0';
         char *put = replaced(line, (char[]){ '$', number, '\0' }, rest);

@@ -8,32 +8,25 @@ static struct ptpm_rate rate;
 
 void stop_network(void) { memset(&passed_on, 0, sizeof passed_on); }
 
-/* A word with \xHH for an octet; how many octets it has. */
-static size_t read_text(const char *word, uint8_t *octets) {
-    size_t size = 0;
-    for (; *word != '\0'; size++) {
-        if (strncmp(word, "\\x", 2) == 0 && strlen(word) >= 4) {
-            read_exactly((char[]){ word[2], word[3], '\0' }, octets + size, 1);
-            word += 4;
-        } else {
-            octets[size] = (uint8_t)*word++;
-        }
-    }
-    return size;
-}
-
 /* A name that a call wrote, or a minus sign for none. */
 static void say_name(size_t size) {
     if (!wrote_alone(size)) say("it writes more than that\n");
     say("%.*s\n", size == 0 ? 1 : (int)size, size == 0 ? "-" : (const char *)room);
 }
 
-static void run_id(char *words) {
-    uint8_t octets[MOST_OCTETS / 8];
-    size_t size = read_text(words == NULL ? "" : words, octets);
-    uint32_t id = ptpm_id_named((const char *)octets, size);
+static void say_id(const void *name, size_t size) {
+    uint32_t id = ptpm_id_named(name, size);
     if (id == PTPM_NO_ID) say("-\n");
     else say("%04x\n", id);
+}
+
+/* `id NAME`; `id-of OCTETS` of a name as octets. */
+static void run_id(char *words) { say_id(words == NULL ? "" : words, words == NULL ? 0 : strlen(words)); }
+
+static void run_id_of(char *words) {
+    static struct octets name;
+    read_octets(&words, &name);
+    say_id(name.at, name.size);
 }
 
 static void run_id_name(char *words) {
@@ -87,8 +80,10 @@ static void run_parse(char *words) {
     size_t size = 0, octets = next_room(&words, PTPM_MOST_READ);
     uint16_t id = next_hex(&words);
     for (char *word; (word = strsep(&words, "|")) != NULL;) {
-        size += read_text(word, typed + size);
-        typed[size++] = 0;
+        size_t length = strlen(word) + 1;
+        if (size + length > sizeof typed) return;
+        memcpy(typed + size, word, length);
+        size += length;
     }
     parse(id, typed, size, octets);
 }
@@ -123,7 +118,7 @@ static void run_tokens(char *words) {
 }
 
 const struct command text_commands[] = {
-    { "id", run_id }, { "id-name", run_id_name }, { "answer-name", run_answer_name }, { "error-name", run_error_name },
+    { "id", run_id }, { "id-of", run_id_of }, { "id-name", run_id_name }, { "answer-name", run_answer_name }, { "error-name", run_error_name },
     { "ids", run_ids }, { "text", run_text }, { "parse", run_parse }, { "raw", run_raw }, { "first", run_first },
     { "bucket", run_bucket }, { "tokens", run_tokens }, { NULL, NULL },
 };

@@ -50,7 +50,7 @@ bool takes_word(char **words, const char *word) {
 long long next_number(char **words, long long without) {
     char *word = next_word(words), *end;
     if (word == NULL) return without;
-    long long number = strtoll(word, &end, 0);
+    long long number = *word == '-' ? strtoll(word, &end, 0) : (long long)strtoull(word, &end, 0);
     if (*end != '\0') say_misspelt(word);
     return number;
 }
@@ -121,7 +121,7 @@ static size_t put_octets(const char *word, uint8_t *at, size_t room) {
 static void edit_octets(const char *word, struct octets *octets) {
     char *end;
     bool is_cut = strncmp(word, "..", 2) == 0;
-    size_t place = strtoul(is_cut ? word + 2 : word, &end, 10);
+    size_t place = strtoul(is_cut ? word + 2 : word, &end, 0);
     if (place > octets->size || (is_cut ? *end != '\0' : *end != '=')) say_misspelt(word);
     else if (is_cut) octets->size = place;
     else put_octets(end + 1, octets->at + place, octets->size - place);
