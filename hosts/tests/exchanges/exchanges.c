@@ -1,9 +1,11 @@
 /* exchanges [-p] FILE..: runs the cases of these pages over the library, and compares what comes of them with what they say. The
-   form of a page is in tests/library/README.md. Prints each case that is otherwise, and `exchanges: N passed, M failed`, of
-   commands and rows; its status is 1 if one failed. With -p it prints the pages as they are now, and compares nothing. */
+   form of a page is in tests/library/README.md. Prints each case that is otherwise, how often memory was refused, and `exchanges: N
+   passed, M failed`, of commands and rows; its status is 1 if one failed. With -p it prints the pages as they are now, and compares
+   nothing. */
 #define _GNU_SOURCE
 #include "../checking.h"
 #include "commands.h"
+#include "refusing.h"
 #include "words.h"
 #include <stdlib.h>
 #include <string.h>
@@ -265,5 +267,7 @@ static void run_page(const char *path, bool is_printed) {
 int main(int argc, char **argv) {
     bool is_printed = argc > 1 && strcmp(argv[1], "-p") == 0;
     for (int i = is_printed ? 2 : 1; i < argc; i++) run_page(argv[i], is_printed);
-    return is_printed ? 0 : told("exchanges");
+    if (is_printed) return 0;
+    printf("memory was refused %u times\n", refused_so_far());
+    return told("exchanges");
 }

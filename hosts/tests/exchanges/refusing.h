@@ -10,4 +10,7 @@
    Answers: what the call answers at last. */
 uint32_t refusing(uint32_t (*call)(void *given), void *given, size_t (*state)(uint8_t *octets));
 
+/* How many requests were refused so far. */
+unsigned refused_so_far(void);
+
 #endif
