@@ -1,5 +1,5 @@
 -- A session whose own messages come in time is served, after every list of events, whatever comes late of others.
-use Rattle.ptpm_network.proofs.Common.{◌++◌, arith, by_test, ◌≡◌, ℕ, ◌+◌, ◌<◌, ◌≤◌, ◌==◌, ◌^◌, ◌&&◌, Bool, List, [], ◌∷◌, reading, length, Option, Some, None, Result, Ok, Err, true, false, refl, sym, ◌∙◌, ap, subst, and_cases, and_from, eq-eqb, eqb-true, ltb-false, true≢false, all_append, frame_at-all, AllByRecursion, Message, Fits, IsForeign, message_of, with_session_value, canonical, is_copy, received_of, IsAsked, strange_frame, with_place, AtPort, AtSession, End, HasEnd, IsNetwork, Network, manager, ports, Held, seen, Origin, SessionValue, Happened, network_event, network_run, goes_on, delivers, reaches, hears, RunningNetwork, begun, resumed, retuned, sent, due_message, Ask, begin_refusal, BeginRefused, SendRefused, Refusal, Event, Begin, Send, Resume, Retune, Deliver, Stranger, IsInRange, Forged, is_forged, forged, frame_at, first_of-none, no_port, no_room, no_session, nothing_to_resume, send_refusal, option_map, is_late_at, sends_in, PortIdentity, DataSetsValue, Entry, initial_history, StandsAfter, session_value, Clock, greatest, Frame, State, RequestOf, Verdict, DecodeError, Accepted, after_turn, judged, if◌then◌else◌}
+use Rattle.ptpm_network.proofs.Common.{◌++◌, arith, by_test, ◌≡◌, ℕ, ◌+◌, ◌<◌, ◌≤◌, ◌==◌, ◌^◌, ◌&&◌, Bool, List, [], ◌∷◌, reading, length, Option, Some, None, Result, Ok, Err, true, false, refl, sym, ap, subst, and_cases, and_from, eq-eqb, eqb-true, ltb-false, true≢false, all_append, frame_at-all, AllByRecursion, Message, canonical, is_copy, received_of, IsAsked, strange_frame, with_place, AtPort, AtSession, End, HasEnd, IsNetwork, Network, manager, ports, Held, seen, Origin, SessionValue, Happened, network_event, network_run, goes_on, reaches, hears, RunningNetwork, begun, resumed, retuned, sent, due_message, Ask, begin_refusal, Refusal, Event, Begin, IsInRange, frame_at, is_late_at, sends_in, PortIdentity, DataSetsValue, Entry, initial_history, StandsAfter, session_value, Clock, greatest, Frame, State, RequestOf, Verdict, DecodeError, Accepted, after_turn, judged, if◌then◌else◌}
 use Rattle.ptpm_agent.specs.CarriedOut.{carried_by, carried_in, carried_of}
 use Rattle.ptpm_agent.specs.declared.verdict.Verdict.TheVariants as verdicts
 use Rattle.ptpm_agent.specs.Laws.{IsKept}
@@ -15,16 +15,15 @@ use Rattle.ptpm_network.specs.GivingUp.{carried_as}
 use Rattle.ptpm_network.proofs.Accepting.{in_order, in_step-window}
 use Rattle.ptpm_network.proofs.Arriving.{step-gained}
 use Rattle.ptpm_network.proofs.EachEvent.{HoldsAfterEach, holds_after}
-use Rattle.ptpm_network.proofs.Honest.{replayed-honest, IsHonest, IsSentBy, IsTrueFrame, Then, begins-honest, first-honest, frame-true, moved-honest, nothing_kept, reaches-honest, sends-honest, sent-all, sent_by, session-honest, then_ok, then_unless, turns-honest}
+use Rattle.ptpm_network.proofs.Honest.{replayed-honest, IsHonest, IsSentBy, IsTrueFrame, Then, begins-honest, first-honest, frame-true, moved-honest, nothing_kept, reaches-honest, sends-honest, sent-all, sent_by, session-honest, turns-honest}
 use Rattle.ptpm_network.specs.Invariant.{IsRequestFrame}
 use Rattle.ptpm_network.proofs.Origins.{IsTrue}
 use Rattle.ptpm_network.proofs.Own.{IsLastOf, TurnsOwn, turns_own}
 use Rattle.ptpm_network.proofs.Owned.{IsOwn, IsOwnFrame, IsSaid, own-begun, own-hears, own-held, own-message, own-resumed, own-retuned, own-sent, reports_with, state_of}
 use Rattle.ptpm_network.proofs.Promise.{first_of_sessions, firsts}
-use Rattle.ptpm_network.proofs.Reaching.{first-reached, port-exists, session-exists}
-use Rattle.ptpm_network.proofs.Refusals.{begin-not_refused, option_map-none}
+use Rattle.ptpm_network.proofs.Reaching.{first-reached}
+use Rattle.ptpm_network.proofs.Refusals.{begin-not_refused}
 use Rattle.ptpm_network.proofs.Serving.{IsGiven, comes_own, held-turned, with_accepted}
-use Rattle.ptpm_network.proofs.Strangers.{strange-message}
 use Rattle.ptpm_network.proofs.Lists.{flipped}
 
 -- ---- what is in time
