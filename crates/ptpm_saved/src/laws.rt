@@ -13,7 +13,7 @@ ghost use Rattle.ptpm_saved.specs.Saving.{Event, IsAsIfPowered, happen_all, star
 ghost use Rattle.ptpm_manager.specs.Session.{SessionValue};
 ghost use Rattle.ptpm_saved.specs.SavingSession.{SessionInput, SessionNote, session_process};
 ghost use Rattle.ptpm_saved.specs.SavingClock.{Datagram, clock_process};
-ghost use Rattle.ptpm_saved.specs.Image.{AreEntries, IsSaved, saved_of};
+ghost use Rattle.ptpm_saved.specs.Image.{AreEntries, IsSaved, clock_image, saved_of};
 
 use ptpm_agent::Agent;
 use ptpm_data::{data_sets_law, fits_law};
@@ -30,6 +30,12 @@ pub fn clock_law<T: LendingTable + Drop>(agent: &Agent<T>)
     fits_law(sets);
     entries_law(agent.table());
 }
+
+/// No two clocks have the same image. Every clock is one that can be saved, by `clock_law`.
+pub fn image_law()
+    ensures { (s t : State) → IsSaved (saved_of s) → IsSaved (saved_of t)
+        → clock_image s ≡ clock_image t → s ≡ t }
+{}
 
 /// A clock that saves before it answers may lose its power at any moment and as often as it likes. Some of its datagrams and
 /// observations then count. It has what these make of its start, as if its power had never failed. What it sent is some of what
