@@ -552,7 +552,7 @@ __extension__ enum PTPM_FOUR_OCTETS(ptpm_survey_received) {
 };
 
 /* ptpm_session_report and ptpm_survey_answer. */
-__extension__ enum PTPM_FOUR_OCTETS(ptpm_told) {
+__extension__ enum PTPM_FOUR_OCTETS(ptpm_reported) {
     PTPM_VALUE = 0,                     /* the clock answered a dataField */
     PTPM_DONE = 25,                     /* it carried a COMMAND out */
     PTPM_REFUSED = 26,                  /* it answered a managementErrorId */
@@ -610,7 +610,7 @@ PTPM_IS_WIDE(ptpm_given_up);
 PTPM_IS_WIDE(ptpm_retuned);
 PTPM_IS_WIDE(ptpm_session_received);
 PTPM_IS_WIDE(ptpm_survey_received);
-PTPM_IS_WIDE(ptpm_told);
+PTPM_IS_WIDE(ptpm_reported);
 PTPM_IS_WIDE(ptpm_saved);
 PTPM_IS_WIDE(ptpm_restored);
 PTPM_IS_WIDE(ptpm_parsed);
@@ -824,7 +824,7 @@ uint64_t ptpm_session_issued(const struct ptpm_session *session);
    Answers: PTPM_VALUE, PTPM_DONE or PTPM_REFUSED; or why nothing is given.
    Writes:  *size, and as many octets from octets on: the dataField, after PTPM_VALUE. *size is 0 after every other answer.
             *error: the managementErrorId after PTPM_REFUSED, and 0 after every other answer. */
-enum ptpm_told ptpm_session_report(const struct ptpm_session *session, uint8_t *octets, size_t room, size_t *size,
+enum ptpm_reported ptpm_session_report(const struct ptpm_session *session, uint8_t *octets, size_t room, size_t *size,
                                    uint16_t *error);
 
 /* Ends what the handle holds, if it holds anything. The handle then holds nothing, and may be started again. */
@@ -885,7 +885,7 @@ size_t ptpm_survey_count(const struct ptpm_survey *survey);
    Writes:  *size, and as many octets from octets on: the dataField, after PTPM_VALUE. *size is 0 after every other answer.
             *error: the managementErrorId after PTPM_REFUSED, and 0 after every other answer.
             *source: the port that gave the answer. It stays as it was if nothing is given. */
-enum ptpm_told ptpm_survey_answer(const struct ptpm_survey *survey, size_t place, struct ptpm_source *source, uint8_t *octets,
+enum ptpm_reported ptpm_survey_answer(const struct ptpm_survey *survey, size_t place, struct ptpm_source *source, uint8_t *octets,
                                   size_t room, size_t *size, uint16_t *error);
 
 /* Ends what the handle holds, if it holds anything. The handle then holds nothing, and may be started again. */
