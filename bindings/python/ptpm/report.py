@@ -37,7 +37,7 @@ class Report:
 
 
 def told(number: int, asked: int, octets: bytes, error: int, source: Optional[PortIdentity] = None) -> Report:
-    """The report of a number of `enum ptpm_told`."""
+    """The report of a number of `enum ptpm_reported`."""
     if number == header.PTPM_NO_REPORT:
         raise Error(number)
     is_refused = judged(number) == header.PTPM_REFUSED

@@ -1,0 +1,204 @@
+#define _GNU_SOURCE
+#include "agent.h"
+#include "counts.h"
+#include "field_text.h"
+#include "identity.h"
+#include "names.h"
+#include "observation.h"
+#include "output.h"
+#include "peers.h"
+#include "saving.h"
+#include <errno.h>
+#include <stdbool.h>
+#include <stddef.h>
+#include <stdio.h>
+#include <stdlib.h>
+#include <string.h>
+#include <sys/socket.h>
+#include <sys/un.h>
+
+static struct ptpm_clock clock_held;
+static const struct options *options;
+
+void start_clock(const struct options *given) {
+    struct ptpm_port_settings settings[PORTS];
+    options = given;
+    if (restore_clock(&clock_held, options)) return;
+    size_t count = ports_of(options);
+    for (size_t i = 0; i < count; i++) ptpm_port_defaults(&settings[i]);
+    enum ptpm_started answer = ptpm_clock_start(&clock_held, &options->settings, settings, count, options->managers,
+                                                options->manager_count);
+    if (answer == PTPM_STARTED) return;
+    say("it does not start: %s", answer_name(answer));
+    exit(1);
+}
+
+void save_clock(void) { save_at_start(&clock_held); }
+
+static uint8_t domain(void) {
+    uint8_t octets[PTPM_MOST_READ];
+    size_t size;
+    return ptpm_clock_read(&clock_held, PTPM_ID_DOMAIN, 0, octets, sizeof octets, &size) == PTPM_READ ? *octets : 0;
+}
+
+/* Whether another clock of this machine with this identity and domain was started before this one, and still runs. From then on
+   one that is started later finds this one. The clock has an abstract name, which one program of a network namespace has at a
+   time, and which goes when that ends. Nobody is heard at it. Any user may take such a name, so it is no reason not to start. */
+static bool has_twin(void) {
+    struct sockaddr_un address = { .sun_family = AF_UNIX };
+    char identity[IDENTITY_TEXT];
+    write_identity(identity, options->settings.identity);
+    int size = snprintf(address.sun_path + 1, sizeof address.sun_path - 1, "ptpm-clock/%s/%u", identity, domain());
+    int claim = socket(AF_UNIX, SOCK_STREAM | SOCK_CLOEXEC, 0);
+    socklen_t whole = (socklen_t)(offsetof(struct sockaddr_un, sun_path) + 1 + (size_t)size);
+    return claim >= 0 && bind(claim, (const struct sockaddr *)&address, whole) != 0 && errno == EADDRINUSE;
+}
+
+void report_twin(void) {
+    char identity[IDENTITY_TEXT];
+    if (!has_twin()) return;
+    write_identity(identity, options->settings.identity);
+    say("another clock %s runs in domain %u of this machine: both answer, and a SET may change one of them alone", identity, domain());
+}
+
+/* The portState that a GET of PORT_DATA_SET shows, by its name. */
+static const char *state_of(size_t port) {
+    static struct field_lines lines;
+    uint8_t octets[PTPM_MOST_READ];
+    size_t size;
+    if (ptpm_clock_read(&clock_held, PTPM_ID_PORT_DATA_SET, (uint16_t)port, octets, sizeof octets, &size) != PTPM_READ) return "?";
+    start_lines(&lines, PTPM_ID_PORT_DATA_SET, octets, size);
+    const char *name = value_of(&lines, "portState");
+    return name != NULL ? name : "?";
+}
+
+/* Says the clock's identity and its interfaces, once it is heard. */
+void say_started(void) {
+    char identity[IDENTITY_TEXT], text[2048];
+    write_identity(identity, options->settings.identity);
+    size_t size = (size_t)snprintf(text, sizeof text, "%s in domain %u:", identity, domain());
+    for (size_t i = 0; i < ports_of(options); i++) {
+        const char *where = port_count > 0 ? ports[i].name : options->meeting.path;
+        size += (size_t)snprintf(text + size, sizeof text - size, " port %zu at %.128s %s,", i + 1, where, state_of(i + 1));
+    }
+    say("%s %zu manager%s", text, options->manager_count, options->manager_count == 1 ? "" : "s");
+}
+
+/* Prints the names of members that changed. Each has the place of the answer which refuses its value, `first` and on. */
+static void print_changed(const char *where, uint32_t first, uint32_t members) {
+    char line[1024];
+    int size = snprintf(line, sizeof line, "%s", where);
+    for (uint32_t i = 0; i < 32; i++) {
+        if ((members >> i & 1) == 0) continue;
+        size += snprintf(line + size, sizeof line - (size_t)size, " %s", refused_member(first + i));
+    }
+    print_line("%s", line);
+}
+
+static void print_turn(uint16_t ingress, const struct heard *heard, uint32_t answer, size_t out, size_t count) {
+    print_line("port %u, %zu octets: %u %s, %zu of %zu sent", ingress, heard->whole, answer, answer_name(answer), out, count);
+}
+
+static void print_all_changed(const struct ptpm_changed *changed) {
+    if (changed->clock != 0) print_changed("changed:", PTPM_BAD_IDENTITY, changed->clock);
+    for (size_t i = 0; i < ports_of(options); i++) {
+        char where[32];
+        snprintf(where, sizeof where, "changed at port %zu:", i + 1);
+        if (changed->ports[i] != 0) print_changed(where, PTPM_BAD_STATE, changed->ports[i]);
+    }
+}
+
+/* A message to who asked at the Unix socket goes back there, at once if nothing is to be saved. Any other goes out with the
+   round. How many messages were not taken. */
+static unsigned long send_out(const struct ptpm_sent *message, const struct heard *heard, const struct port *port,
+                              uint16_t ingress) {
+    if (message->port != ingress) send_later(message, NULL);
+    else if (port == NULL && !is_unsaved) return !answer_peer(message, heard);
+    else if (port == NULL) answer_later(message, heard);
+    else send_later(message, heard->is_unicast ? heard : NULL);
+    return 0;
+}
+
+/* Sends what is to go out once the change that it shows is saved. If that fails it drops it. For peers nothing waits unless
+   something is to be saved. How many messages were not taken. */
+static unsigned long send_saved(void) {
+    if (!is_unsaved) return send_round();
+    return save_changes(&clock_held) ? send_all() : drop_round();
+}
+
+/* Sends what a turn sends, or lets it wait, except what is kept from the network. `left` is how many messages that leaves. How
+   many of these were not taken. */
+static inline unsigned long hand_on(const struct heard *heard, const struct port *port, uint16_t ingress, enum ptpm_handled answer,
+                                    const struct ptpm_sent *places, size_t count, size_t *left) {
+    const struct ptpm_sent *kept[PTPM_MOST_SENT];
+    unsigned long lost = 0;
+    count_answer(answer);
+    if (answer == PTPM_ANSWERED_NEW) note_change();
+    *left = keep_back(heard, port, ingress, answer, places, count, kept);
+    for (size_t i = 0; i < *left; i++) lost += send_out(kept[i], heard, port, ingress);
+    use_places(count);
+    return lost;
+}
+
+/* A turn with lines of what became of it and what it changed. To find that costs more than the turn does. */
+static unsigned long take_verbose_turn(const struct heard *heard, const struct port *port, uint16_t ingress,
+                                    struct ptpm_sent *places) {
+    struct ptpm_changed changed;
+    size_t count, left;
+    enum ptpm_handled answer = ptpm_clock_handle_changed(&clock_held, ingress, heard->octets, heard->size, places, PTPM_MOST_SENT,
+                                                         &count, &changed);
+    unsigned long lost = hand_on(heard, port, ingress, answer, places, count, &left);
+    bool is_done = save_changes(&clock_held);
+    lost += is_done ? send_all() : drop_round();
+    print_turn(ingress, heard, answer, left - lost, count);
+    if (is_done) print_all_changed(&changed);
+    return lost;
+}
+
+/* What becomes of a datagram; port is NULL at the Unix socket. How many messages were not taken. */
+static unsigned long take_turn(struct heard *heard, const struct port *port) {
+    size_t count, left;
+    uint16_t ingress = port == NULL ? 1 : (uint16_t)(port - ports + 1);
+    if (port != NULL && !admit_datagram(heard, port)) return 0;
+    lower_hops(heard);
+    struct ptpm_sent *places = places_to_send();
+    if (places == NULL) {
+        count_dropped(send_saved());
+        places = places_to_send();
+    }
+    if (options->is_told) return take_verbose_turn(heard, port, ingress, places);
+    enum ptpm_handled answer = ptpm_clock_handle(&clock_held, ingress, heard->octets, heard->size, places, PTPM_MOST_SENT, &count);
+    return hand_on(heard, port, ingress, answer, places, count, &left);
+}
+
+void take_round(const struct port *port, int socket) {
+    static struct heard heard[ROUND];
+    unsigned long lost = 0;
+    size_t count = hear_round(port, socket, heard);
+    for (size_t i = 0; i < count; i++) lost += take_turn(&heard[i], port);
+    count_dropped(lost + send_saved());
+}
+
+static void tell_left(uint8_t left) {
+    for (int i = 0; i < OBSERVED_PORTS; i++) {
+        if (left >> i & 1) say_at_times("%s: port %d stays DISABLED", options->source, i + 1);
+    }
+}
+
+/* The clock observes what a text says, all of it or nothing. */
+void observe(char *text) {
+    struct observation observation;
+    uint8_t left = 0;
+    if (!read_observation(&observation, options->source, text)) {
+        count_observation(false);
+        return;
+    }
+    enum ptpm_observed answer = ptpm_clock_observe(&clock_held, &observation.clock, observation.ports, observation.port_count,
+                                                   &left);
+    count_observation(answer == PTPM_OBSERVED);
+    if (answer != PTPM_OBSERVED) say_at_times("%s: nothing is observed: %s", options->source, answer_name(answer));
+    else if (options->is_told) print_line("observed");
+    tell_left(left);
+}
+
+void stop_clock(void) { ptpm_clock_stop(&clock_held); }

@@ -1,0 +1,30 @@
+/* The clock that the library holds, for the ports and the Unix socket: what becomes of datagrams and of observations. */
+#ifndef AGENT_H
+#define AGENT_H
+
+#include "options.h"
+#include "ports.h"
+
+/* Starts it with a port for each interface, afresh or as the file of its state has it. Ends the program with status 1, and says
+   why, if the library does not start it. */
+void start_clock(const struct options *given);
+
+/* It is saved, if it has a file of its state. */
+void save_clock(void);
+
+/* A line on standard error if another clock of this machine has its identity. */
+void report_twin(void);
+
+/* A line on standard error: its identity, its interfaces, the states of its ports, and how many managers it has. */
+void say_started(void);
+
+/* Takes the datagrams that have come in at a port, or at the Unix socket if there is none. Sends their answers, and what is
+   passed on. */
+void take_round(const struct port *port, int socket);
+
+/* The clock observes what a text says, all of it or nothing. */
+void observe(char *text);
+
+void stop_clock(void);
+
+#endif

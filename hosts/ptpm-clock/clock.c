@@ -1,0 +1,157 @@
+/* ptpm-clock: a clock. Its management messages come in by UDP or Ethernet (IEEE 1588-2019, annexes C, D and E) at its
+   interfaces, the ports 1, 2 and on. They also come in at a Unix socket, which counts as port 1. There it is asked as pmc asks
+   a ptp4l. How it is used is in docs/ptpm-clock.md. It has no servo: what one would observe comes from a file or a pipe. The
+   library decides what becomes of a request that it is handed. What is here and in the files beside it is not proved. It moves
+   octets and prints. It also decides which datagrams reach the library, with how many hops, and which messages go out ("What the
+   hosts decide" in docs/architecture.md). It waits for nobody except the disk: what a peer doesn't take at once is dropped. */
+#define _GNU_SOURCE
+#include "agent.h"
+#include "counts.h"
+#include "monotonic.h"
+#include "netlink.h"
+#include "network_limits.h"
+#include "options.h"
+#include "output.h"
+#include "peers.h"
+#include "ports.h"
+#include "privileges.h"
+#include "program.h"
+#include "service.h"
+#include "source.h"
+#include "waking.h"
+#include <errno.h>
+#include <stdbool.h>
+#include <sys/epoll.h>
+
+enum { SECOND = 1000 };
+
+const char program[] = "ptpm-clock";
+
+static struct options options;
+static int unix_socket = -1, source = -1, signals, links, timer;
+
+static void observe_all(void) {
+    source = read_source();
+    for (char *text; next_text(&text);) observe(text);
+}
+
+/* What is polled. The ports come first. */
+enum { UNIX_SOCKET = PORTS, SOURCE, SIGNALS, LINKS, TIMER, WAITS };
+
+static int polled = -1;
+static unsigned long polled_openings[PORTS];    /* which socket of each port is polled */
+
+static void wait_at(int descriptor, uint32_t what) {
+    struct epoll_event event = { .events = EPOLLIN, .data.u32 = what };
+    if (descriptor >= 0 && epoll_ctl(polled, EPOLL_CTL_ADD, descriptor, &event) && errno != EEXIST) give_up("epoll_ctl");
+}
+
+static void wait_at_all(void) {
+    polled = epoll_create1(EPOLL_CLOEXEC);
+    if (polled < 0) give_up("epoll_create1");
+    wait_at(unix_socket, UNIX_SOCKET);
+    wait_at(source, SOURCE);
+    wait_at(signals, SIGNALS);
+    wait_at(links, LINKS);
+    wait_at(timer, TIMER);
+}
+
+/* A socket that is closed is not polled any more. */
+static void wait_at_ports(void) {
+    for (uint32_t i = 0; i < port_count; i++) {
+        if (ports[i].openings == polled_openings[i] || ports[i].socket < 0) continue;
+        polled_openings[i] = ports[i].openings;
+        wait_at(ports[i].socket, i);
+    }
+}
+
+/* What has come in there; whether the program goes on. */
+static bool take_event(uint32_t what) {
+    enum asked asked = NOTHING_ASKED;
+    switch (what) {
+    case UNIX_SOCKET: take_round(NULL, unix_socket); break;
+    case SOURCE:
+        observe_all();
+        wait_at(source, SOURCE);
+        break;
+    case SIGNALS: asked = read_signal(signals); break;
+    case LINKS: hear_of_links(); break;
+    case TIMER: read_timer(); break;
+    default:
+        if (ports[what].socket >= 0) take_round(&ports[what], ports[what].socket);
+    }
+    if (asked == COUNTS_ASKED) print_counts();
+    return asked != END_ASKED;
+}
+
+/* Once a second: what came in at a socket that was at the path for a moment, and the source, if it moved. */
+static void look_around(long now) {
+    static long next;
+    if (now < next) return;
+    next = now + SECOND;
+    for (size_t i = 0; unix_socket >= 0 && i < WAYS_BACK; i++) take_round(NULL, way_back_socket(i));
+    if (source >= 0 && follow_source()) observe_all();
+}
+
+/* Runs until a signal asks for the end, or until that time comes, if it is not 0. */
+static void run(long end) {
+    struct epoll_event events[WAITS];
+    bool is_going_on = true;
+    if (source >= 0) observe_all();
+    wait_at_all();
+    say_started();
+    say_deaf_ports();
+    report_ready();
+    while (is_going_on) {
+        long now = milliseconds();
+        if (end != 0 && now >= end) return;
+        report_alive(now);
+        renew_ports(now);
+        wait_at_ports();
+        look_around(now);
+        long most = end != 0 && end - now < SECOND ? end - now : SECOND;
+        wake_at(now + until_alive(now, most));
+        int found = epoll_wait(polled, events, WAITS, -1);
+        for (int i = 0; i < found && is_going_on; i++) is_going_on = take_event(events[i].data.u32);
+    }
+}
+
+static void open_all(void) {
+    signals = open_signals();
+    transport = options.transport;
+    links = open_netlink();
+    timer = open_timer();
+    for (size_t i = 0; i < options.interface_count; i++) open_port(options.interfaces[i]);
+    if (options.meeting.path != NULL) unix_socket = open_peers(&options.meeting);
+    open_service();
+}
+
+static enum needs needs(void) {
+    return port_count == 0 ? NEEDS_NOTHING : transport == ETHERNET ? NEEDS_FRAMES : NEEDS_LOW_PORT;
+}
+
+static void end_in_order(void) {
+    report_stopping();
+    stop_clock();
+    close_ports();
+    close_peers();
+    print_counts();
+    end_output();
+}
+
+int main(int argc, char **argv) {
+    hold_streams();
+    read_options(&options, argc, argv);
+    start_clock(&options);
+    open_all();
+    report_twin();
+    let_go_of_rights(&options.privileges, needs());
+    if (options.source != NULL) source = open_source(options.source);
+    start_limits(&options.limits);
+    filter_calls(&options.privileges);
+    save_clock();
+    start_output();
+    run(options.end);
+    end_in_order();
+    return 0;
+}

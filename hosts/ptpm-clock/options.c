@@ -1,0 +1,228 @@
+#define _GNU_SOURCE
+#include "options.h"
+#include "digits.h"
+#include "identity.h"
+#include "monotonic.h"
+#include "output.h"
+#include "program.h"
+#include <getopt.h>
+#include <grp.h>
+#include <net/if.h>
+#include <pwd.h>
+#include <stdarg.h>
+#include <stdbool.h>
+#include <stdio.h>
+#include <stdlib.h>
+#include <string.h>
+#include <sys/un.h>
+
+enum { SECOND = 1000, HOPS_AT_FIRST = 8, RATE_AT_FIRST = 1000, MOST_RATE = 1000000, MODE_AT_FIRST = 0660 };
+
+/* Options without a letter of their own. */
+enum { VERSION = 256, HOPS, RATE, NO_FORWARD, ANY_SOURCE, USER, UNIX_GROUP, UNIX_MODE, NO_FILTER };
+
+static const struct option names[] = {
+    { "ipv6", no_argument, NULL, '6' }, { "ethernet", no_argument, NULL, '2' }, { "hops", required_argument, NULL, HOPS },
+    { "rate", required_argument, NULL, RATE }, { "no-forward", no_argument, NULL, NO_FORWARD },
+    { "any-source", no_argument, NULL, ANY_SOURCE }, { "user", required_argument, NULL, USER },
+    { "unix-group", required_argument, NULL, UNIX_GROUP }, { "unix-mode", required_argument, NULL, UNIX_MODE },
+    { "no-filter", no_argument, NULL, NO_FILTER }, { "state", required_argument, NULL, 's' }, { "help", no_argument, NULL, 'h' },
+    { "version", no_argument, NULL, VERSION }, { NULL, 0, NULL, 0 },
+};
+
+static const char help[] =
+    "ptpm-clock [OPTION].. IDENTITY INTERFACE..\n"
+    "ptpm-clock [OPTION].. -u PATH IDENTITY [INTERFACE..]\n"
+    "\n"
+    "Answers PTP management messages as a clock does, over UDP or Ethernet at its interfaces and at a Unix socket.\n"
+    "\n"
+    "  IDENTITY            clockIdentity of the clock: aabbccfffeddee01, or aabbcc.fffe.ddee01\n"
+    "  INTERFACE           one for each of its ports, eight at most. With -u there may be none\n"
+    "  -6, --ipv6          IPv6 in place of IPv4\n"
+    "  -2, --ethernet      IEEE 802.3 in place of IPv4\n"
+    "  -m MANAGER          IDENTITY/PORT of a manager with every right, sixteen at most\n"
+    "  -d DOMAIN           domainNumber (0)\n"
+    "\n"
+    "  -u PATH             a Unix socket for programs of this host, which counts as port 1\n"
+    "  --unix-group NAME   the group of this socket, which the program then joins\n"
+    "  --unix-mode MODE    the mode of this socket (660)\n"
+    "  -f                  what comes in there for other clocks is passed on at the other ports\n"
+    "\n"
+    "  --hops N            by how many clocks a message is passed on at most, this one included (8)\n"
+    "  --no-forward        nothing is passed on between the ports\n"
+    "  --rate N            how many messages a port passes on a second, and how many answers it sends to others than\n"
+    "                      managers (1000)\n"
+    "  --any-source        datagrams from addresses that are not on the link are heard too\n"
+    "\n"
+    "  -s, --state FILE    the clock is saved to FILE before it answers, and goes on from FILE at its next start\n"
+    "  -o FILE             what the clock observes, like a servo: a file, which is read at the start and whenever it is\n"
+    "                      written, or a pipe. Lines are for example: offset_from_master 98304, or: port 1 state 9\n"
+    "  -n SECONDS          it ends by itself then\n"
+    "  -v                  a line for each datagram that it hears, and one for what it changed\n"
+    "  --user NAME         the user that it becomes once its sockets are open\n"
+    "  --no-filter         no system call is refused, for example for a debugger\n"
+    "  -h, --help          this text\n"
+    "  --version           the version\n"
+    "\n"
+    "SIGTERM ends it; at its end, and at SIGUSR1, it prints how often each answer was given.\n"
+    "Exit status: 0 it ended in order; 1 the clock does not start; 2 wrong words, or a socket or file can't be opened.\n";
+
+_Noreturn void usage(void) {
+    fputs("ptpm-clock: see ptpm-clock --help\n", stderr);
+    exit(2);
+}
+
+__attribute__((format(printf, 1, 2))) _Noreturn static void refuse_command_line(const char *format, ...) {
+    va_list values;
+    fputs("ptpm-clock: ", stderr);
+    va_start(values, format);
+    vfprintf(stderr, format, values);
+    va_end(values);
+    fputs("; see ptpm-clock --help\n", stderr);
+    exit(2);
+}
+
+/* The number that an option takes. */
+static long number(const char *option, long least, long most) {
+    long found = decimal(optarg, most);
+    if (found < least) refuse_command_line("%s %s: it takes a number from %ld to %ld", option, optarg, least, most);
+    return found;
+}
+
+/* Three octal digits, such as 660. */
+static mode_t mode(void) {
+    char *end;
+    long found = strtol(optarg, &end, 8);
+    if (strlen(optarg) != 3 || *end != '\0' || found < 0) {
+        refuse_command_line("--unix-mode %s: it takes three octal digits, such as 660", optarg);
+    }
+    return (mode_t)found;
+}
+
+static gid_t group_named(void) {
+    const struct group *found = getgrnam(optarg);
+    if (found == NULL) refuse_command_line("--unix-group %s: there is no such group", optarg);
+    return found->gr_gid;
+}
+
+static void take_user(struct privileges *privileges) {
+    const struct passwd *found = getpwnam(optarg);
+    if (found == NULL) refuse_command_line("--user %s: there is no such user", optarg);
+    privileges->user_name = optarg;
+    privileges->user = found->pw_uid;
+    privileges->group = found->pw_gid;
+}
+
+static const char *socket_path(void) {
+    if (strlen(optarg) >= sizeof ((struct sockaddr_un *)0)->sun_path) refuse_command_line("-u %s: the path is too long", optarg);
+    return optarg;
+}
+
+/* IDENTITY/PORT, with every right. */
+static struct ptpm_manager_settings read_manager(const char *text) {
+    struct ptpm_manager_settings manager = { .rights = PTPM_CLOCK_SET | PTPM_PORT_SET | PTPM_PORT_COMMAND };
+    const char *rest = identity_at(text, manager.clock);
+    long port = rest == NULL ? -1 : port_behind(rest, 65535);
+    if (port < 0) refuse_command_line("-m %s: it takes aabbccfffeddee01/1 or aabbcc.fffe.ddee01-1", text);
+    manager.port = (uint16_t)port;
+    return manager;
+}
+
+/* Options of what the host is to do. */
+static void take_limit(struct options *options, int option) {
+    switch (option) {
+    case HOPS: options->limits.hops = number("--hops", 0, 255); break;
+    case RATE: options->limits.rate = number("--rate", 1, MOST_RATE); break;
+    case NO_FORWARD: options->limits.is_passed_on = false; break;
+    case ANY_SOURCE: options->limits.is_any_source = true; break;
+    case USER: take_user(&options->privileges); break;
+    case UNIX_GROUP: options->meeting.group = group_named(); break;
+    case UNIX_MODE: options->meeting.mode = mode(); break;
+    case NO_FILTER: options->privileges.is_unfiltered = true; break;
+    default: usage();
+    }
+}
+
+static void take_option(struct options *options, int option) {
+    switch (option) {
+    case '2': options->transport = ETHERNET; break;
+    case '6': options->transport = UDP_IPV6; break;
+    case 'f': options->limits.is_passed_on_from_host = true; break;
+    case 'v': options->is_told = true; break;
+    case 'u': options->meeting.path = socket_path(); break;
+    case 's': options->state = optarg; break;
+    case 'o': options->source = optarg; break;
+    case 'd':
+        options->settings.domain = (uint8_t)number("-d", 0, 255);
+        options->has_domain = true;
+        break;
+    case 'n': options->end = milliseconds() + number("-n", 0, 1000000) * SECOND; break;
+    case 'm':
+        if (options->manager_count <= MANAGERS) options->managers[options->manager_count++] = read_manager(optarg);
+        break;
+    case 'h': exit(fputs(help, stdout) < 0 || fflush(stdout) != 0);
+    case VERSION: exit(puts("ptpm-clock " PTPM_VERSION) < 0 || fflush(stdout) != 0);
+    default: take_limit(options, option);
+    }
+}
+
+size_t ports_of(const struct options *options) { return options->interface_count > 0 ? options->interface_count : 1; }
+
+/* Two ports at one interface would pass on to its link what comes from there. It may be named by another of its names. */
+static void refuse_twice(char *const *given, size_t count) {
+    for (size_t i = 1; i < count; i++) {
+        unsigned index = if_nametoindex(given[i]);
+        for (size_t k = 0; k < i; k++) {
+            if (strcmp(given[i], given[k]) == 0) refuse_command_line("%s: the interface is named twice", given[i]);
+            if (index == 0 || index != if_nametoindex(given[k])) continue;
+            refuse_command_line("%s: the interface is named twice, as %s", given[i], given[k]);
+        }
+    }
+}
+
+/* A clock drops what has its own identity as its source: it takes it for a message of its own that came back. */
+static void refuse_itself(const struct options *options) {
+    char identity[IDENTITY_TEXT];
+    for (size_t i = 0; i < options->manager_count; i++) {
+        const struct ptpm_manager_settings *manager = &options->managers[i];
+        if (memcmp(manager->clock, options->settings.identity, sizeof manager->clock) != 0) continue;
+        write_identity(identity, manager->clock);
+        refuse_command_line("-m %s/%u: it has the identity of the clock, which hears no such manager", identity, manager->port);
+    }
+}
+
+static void judge(const struct options *options, bool has_two_ways) {
+    if (options->interface_count > PORTS) refuse_command_line("it takes eight interfaces at most");
+    if (options->interface_count == 0 && options->meeting.path == NULL) {
+        refuse_command_line("an interface is missing, or a Unix socket: -u PATH");
+    }
+    if (has_two_ways) refuse_command_line("-2 and -6 exclude each other");
+    refuse_twice(options->interfaces, options->interface_count);
+    refuse_itself(options);
+}
+
+void read_options(struct options *options, int argc, char **argv) {
+    bool has_two = false, has_six = false;
+    ptpm_clock_defaults(&options->settings);
+    options->limits = (struct limits){ .hops = HOPS_AT_FIRST, .rate = RATE_AT_FIRST, .is_passed_on = true };
+    options->meeting = (struct meeting){ .mode = MODE_AT_FIRST, .group = (gid_t)-1 };
+    for (int option; (option = getopt_long(argc, argv, "26fu:m:d:s:o:n:vh", names, NULL)) != -1;) {
+        has_two |= option == '2';
+        has_six |= option == '6';
+        take_option(options, option);
+    }
+    if (optind == argc) refuse_command_line("the clock's identity is missing");
+    const char *rest = identity_at(argv[optind], options->settings.identity);
+    if (rest == NULL || *rest != '\0') {
+        refuse_command_line("%s: it takes a clockIdentity, such as aabbccfffeddee01 or aabbcc.fffe.ddee01", argv[optind]);
+    }
+    options->interfaces = argv + optind + 1;
+    options->interface_count = (size_t)(argc - optind - 1);
+    if (options->privileges.user_name != NULL && options->meeting.group == (gid_t)-1) {
+        options->meeting.group = options->privileges.group;
+    }
+    options->privileges.socket_group = options->meeting.group;
+    options->limits.managers = options->managers;
+    options->limits.manager_count = options->manager_count;
+    judge(options, has_two && has_six);
+}

@@ -1,0 +1,140 @@
+#define _GNU_SOURCE
+#include "field_words.h"
+#include "field_text.h"
+#include "notices.h"
+#include "program.h"
+#include <stdbool.h>
+#include <stdio.h>
+#include <stdlib.h>
+#include <string.h>
+#include <strings.h>
+
+bool has_text(uint16_t id) { return id == PTPM_ID_USER_DESCRIPTION; }
+
+bool can_only_be_read(uint16_t id) {
+    return id == PTPM_ID_DEFAULT_DATA_SET || id == PTPM_ID_CURRENT_DATA_SET || id == PTPM_ID_PARENT_DATA_SET ||
+           id == PTPM_ID_TIME_PROPERTIES_DATA_SET || id == PTPM_ID_PORT_DATA_SET;
+}
+
+bool has_no_member(uint16_t id) {
+    uint8_t octets[PTPM_MOST_READ];
+    size_t count, place;
+    return ptpm_field_parse(id, "", 0, octets, sizeof octets, &count, &place) == PTPM_PARSED;
+}
+
+/* The member at a place, from 0 on; whether there is one. */
+static bool member_at(struct field_lines *lines, uint16_t id, size_t place, struct member *member) {
+    start_members(lines, id);
+    while (next_member(lines, member)) {
+        if (place-- == 0) return true;
+    }
+    return false;
+}
+
+static size_t count_members(uint16_t id) {
+    struct field_lines lines;
+    struct member member;
+    size_t count = 0;
+    for (start_members(&lines, id); next_member(&lines, &member);) count++;
+    return count;
+}
+
+bool takes_value(uint16_t id) { return count_members(id) == 1 && !has_text(id); }
+
+bool is_member(uint16_t id, const char *word) {
+    struct field_lines lines;
+    struct member member;
+    for (start_members(&lines, id); next_member(&lines, &member);) {
+        if (strcasecmp(word, member.name) == 0) return true;
+    }
+    return false;
+}
+
+/* Whether a word alone is the value of the one member of an id. */
+static bool is_value(uint16_t id, const char *word) {
+    uint8_t octets[PTPM_MOST_READ];
+    size_t count, place;
+    return ptpm_field_parse(id, word, strlen(word) + 1, octets, sizeof octets, &count, &place) == PTPM_PARSED;
+}
+
+size_t most_words(uint16_t id, const char *first) {
+    size_t members = count_members(id);
+    bool is_one_word = members == 0 || (!is_member(id, first) && is_value(id, first));
+    return is_one_word ? 1 : 2 * members;
+}
+
+/* What a SET of a member takes, by its name and its value without a bit set. */
+static const char *wanted(const struct member *member) {
+    if (is_named(member, "userDescription")) return "a text of at most 128 octets in UTF-8";
+    if (is_named(member, "delayMechanism")) return "E2E, P2P, NO_MECHANISM or a number from 0 to 255";
+    if (is_named(member, "currentUtcOffset")) return "a number from -32768 to 32767";
+    if (is_named(member, "versionNumber")) return "a number from 0 to 15, or 0x and two hexadecimal digits";
+    if (strncmp(member->name, "log", 3) == 0) return "a number from -128 to 127";
+    return strcmp(member->value, "false") == 0 ? "true or false" : "a number from 0 to 255, or 0x and two hexadecimal digits";
+}
+
+/* Says which value is none of its member. */
+static _Noreturn void refuse_value(const char *named, const struct member *member, const char *const *words, size_t count,
+                                   size_t place) {
+    if (count == 1) refuse("set %s %s: it takes %s", named, words[0], wanted(member));
+    refuse("set %s %s %s: it takes %s", named, words[2 * place], words[2 * place + 1], wanted(member));
+}
+
+/* Says which members a SET of the id takes, each with its value. */
+static _Noreturn void refuse_count(uint16_t id, const char *named) {
+    char names[PTPM_MOST_FIELD_TEXT + 1] = "";
+    struct field_lines lines;
+    struct member member;
+    size_t size = 0;
+    for (start_members(&lines, id); next_member(&lines, &member);) {
+        size += (size_t)snprintf(names + size, sizeof names - size, " %s VALUE", member.name);
+    }
+    refuse("set %s: it takes%s", named, names);
+}
+
+/* Says what is wrong with words that are no dataField. */
+static _Noreturn void refuse_words(uint16_t id, const char *named, const char *const *words, size_t count, enum ptpm_parsed why,
+                                   size_t place) {
+    struct field_lines lines;
+    struct member member = { "", "" };
+    member_at(&lines, id, place, &member);
+    switch (why) {
+    case PTPM_NO_VALUE: refuse_value(named, &member, words, count, place);
+    case PTPM_OTHER_NAME: refuse("set %s %s: the member that comes next is %s", named, words[2 * place], member.name);
+    case PTPM_WORD_COUNT: refuse_count(id, named);
+    default: refuse("%s: the value is no UTF-8", named);
+    }
+}
+
+/* Puts the words one after another, with a zero octet after each; how many octets they have. */
+static size_t join(char **joined, const char *const *words, size_t count) {
+    size_t size = 0;
+    for (size_t i = 0; i < count; i++) size += strlen(words[i]) + 1;
+    char *to = *joined = malloc(size + 1);
+    if (to == NULL) give_up("the value of a set");
+    for (size_t i = 0; i < count; i++) to = stpcpy(to, words[i]) + 1;
+    return size;
+}
+
+size_t read_field(uint16_t id, const char *named, const char *const *words, size_t count, uint8_t octets[PTPM_MOST_READ]) {
+    char *joined;
+    size_t size = join(&joined, words, count), found, place;
+    enum ptpm_parsed why = ptpm_field_parse(id, joined, size, octets, PTPM_MOST_READ, &found, &place);
+    free(joined);
+    if (why != PTPM_PARSED) refuse_words(id, named, words, count, why, place);
+    return found;
+}
+
+size_t read_text_field(uint16_t id, const char *named, const char *const *words, size_t count, uint8_t octets[PTPM_MOST_READ]) {
+    char text[4 * MOST_DESCRIPTION + 1], *to = text;
+    const char *taken[MOST_FIELD_WORDS], *typed = words[count - 1];
+    if (strlen(typed) > MOST_DESCRIPTION) refuse("the text has over %d octets", MOST_DESCRIPTION);
+    for (; *typed != '\0'; typed++) {
+        if (*typed == '\\') to = stpcpy(to, "\\x5c");
+        else *to++ = *typed;
+    }
+    *to = '\0';
+    memcpy(taken, words, count * sizeof *words);
+    taken[count - 1] = text;
+    return read_field(id, named, taken, count, octets);
+}

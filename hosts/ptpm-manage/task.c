@@ -1,0 +1,364 @@
+#define _GNU_SOURCE
+#include "task.h"
+#include "digits.h"
+#include "field_words.h"
+#include "help.h"
+#include "identity.h"
+#include "names.h"
+#include "notices.h"
+#include <getopt.h>
+#include <stdbool.h>
+#include <stdio.h>
+#include <stdlib.h>
+#include <string.h>
+#include <strings.h>
+
+/* Options without a letter of their own, and a word that is none: getopt's for a string that begins with a hyphen. */
+enum { WORD = 1, UDP = 256, TEXT, VERSION, GIVE_UP, JSON };
+
+/* The same of `collect` and `status` alone. */
+enum site_option { LISTEN = 512, DRAW, MAX_OFFSET, MAX_DELAY, ONCE, WATCH };
+
+enum { MOST_WORDS = 2 + MOST_FIELD_WORDS, MOST_FIELD = 1418, NOT_NAMED = -1 };
+
+/* What holds if no option says otherwise. Each request to one clock alone is repeated for two seconds. */
+enum { HOPS = 1, ATTEMPTS = 30, SITE_HOPS = 7, SITE_ATTEMPTS = 10, LISTENED = 4000 };
+
+enum { SECOND = 1000, MOST_SECONDS = 86400 };
+
+static const long most_limit = 1000000000000000;        /* of an offset or a delay, in nanoseconds */
+
+static const struct option options[] = {
+    { "interface", required_argument, NULL, 'i' }, { "udp", required_argument, NULL, UDP }, { "ipv6", no_argument, NULL, '6' },
+    { "ethernet", no_argument, NULL, '2' },
+    { "unix", required_argument, NULL, 'u' }, { "target", required_argument, NULL, 'T' }, { "to", required_argument, NULL, 'T' },
+    { "port", required_argument, NULL, 'p' }, { "domain", required_argument, NULL, 'd' }, { "hops", required_argument, NULL, 'b' },
+    { "manager", required_argument, NULL, 'm' }, { "numbers", required_argument, NULL, 'k' },
+    { "wait", required_argument, NULL, 'w' }, { "attempts", required_argument, NULL, 'a' },
+    { "timeout", required_argument, NULL, 't' }, { "times", required_argument, NULL, 'n' },
+    { "give-up", no_argument, NULL, GIVE_UP }, { "listen", required_argument, NULL, LISTEN }, { "json", no_argument, NULL, JSON },
+    { "draw", no_argument, NULL, DRAW }, { "max-offset", required_argument, NULL, MAX_OFFSET },
+    { "max-delay", required_argument, NULL, MAX_DELAY }, { "once", no_argument, NULL, ONCE },
+    { "watch", required_argument, NULL, WATCH },
+    { "hexadecimal", no_argument, NULL, 'x' }, { "text", no_argument, NULL, TEXT }, { "quiet", no_argument, NULL, 'q' },
+    { "help", no_argument, NULL, 'h' }, { "version", no_argument, NULL, VERSION },
+    { NULL, 0, NULL, 0 },
+};
+
+/* The words of the command line, and what options say that a later option may change. */
+struct words {
+    const char *at[MOST_WORDS + 1], *domain;
+    int count;
+    bool is_text, has_target, is_every_port;
+    long port, target_port, hops, attempts;
+};
+
+static long number(const char *option, const char *text, long least, long most) {
+    long found = decimal(text, most);
+    if (found < least) refuse("--%s %s: it takes a number from %ld to %ld", option, text, least, most);
+    return found;
+}
+
+static long seconds(const char *option, const char *text, long least) {
+    long found = decimal(text, MOST_SECONDS);
+    if (found < least) refuse("%s %s: it takes a number from %ld to %d", option, text, least, MOST_SECONDS);
+    return found * SECOND;
+}
+
+/* A limit in nanoseconds, which goes to `ptpm site` as it is written. */
+static const char *limit(const char *option, const char *text) {
+    if (decimal(text, most_limit) < 0) refuse("%s %s: it takes a number of nanoseconds from 0 to %ld", option, text, most_limit);
+    return text;
+}
+
+/* Takes an option of `collect` and `status`; whether it is one of these. */
+static bool take_site_option(struct site_options *site, int option, const char *value) {
+    static const char *const names[] = { "--listen", "--draw", "--max-offset", "--max-delay", "--once", "--watch" };
+    if (option < LISTEN || option > WATCH) return false;
+    const char *name = names[option - LISTEN];
+    switch ((enum site_option)option) {
+    case LISTEN: site->listen = seconds(name, value, 0); break;
+    case WATCH: site->watch = seconds(name, value, 1); break;
+    case MAX_OFFSET: site->max_offset = limit(name, value); break;
+    case MAX_DELAY: site->max_delay = limit(name, value); break;
+    case DRAW: site->is_drawn = true; break;
+    case ONCE: site->is_once = true; break;
+    }
+    if (option != LISTEN) site->given = name;
+    return true;
+}
+
+/* The domains of a word: a number, two with a hyphen, or `all`. */
+static void read_domains(struct site_options *site, const char *text) {
+    char *rest;
+    site->is_every_domain = strcasecmp(text, "all") == 0;
+    if (site->is_every_domain) return;
+    long first = *text >= '0' && *text <= '9' ? strtol(text, &rest, 10) : -1, last = first;
+    if (first >= 0 && *rest != '\0') last = *rest == '-' ? decimal(rest + 1, DOMAINS - 1) : -1;
+    if (first < 0 || first >= DOMAINS || last < first) {
+        refuse("--domain %s: it takes a number from 0 to 255, two as 0-7, or all", text);
+    }
+    site->first_domain = (uint8_t)first;
+    site->last_domain = (uint8_t)last;
+}
+
+/* Refuses options that exclude each other, or that what is asked does not take. */
+static void judge_site_options(const struct site_options *site) {
+    if (site->given != NULL && !site->is_shown) refuse("%s: it is of status alone", site->given);
+    if (site->listen >= 0 && !site->is_every_domain) refuse("--listen: it is of --domain all of collect and status");
+    if (site->is_drawn && site->watch > 0) refuse("--draw and --watch exclude each other");
+}
+
+/* The clock that is asked, and the port after it, if one is named there. */
+static void read_target(struct task *task, struct words *words, const char *text) {
+    const char *rest = identity_at(text, task->settings.target);
+    words->has_target = true;
+    if (rest == NULL) refuse("--target %s: it takes aabbccfffeddee01 or aabbcc.fffe.ddee01, and after it -1 for port 1", text);
+    words->target_port = *rest == '\0' ? NOT_NAMED : port_behind(rest, 65535);
+    if (*rest != '\0' && words->target_port < 0) refuse("--target %s: %s is no port", text, rest);
+}
+
+static void read_port(struct words *words, const char *text) {
+    words->is_every_port = strcasecmp(text, "all") == 0;
+    words->port = words->is_every_port ? NOT_NAMED : number("port", text, 0, 65535);
+}
+
+static void read_manager(struct task *task, const char *text) {
+    const char *rest = identity_at(text, task->settings.clock);
+    long port = rest == NULL ? -1 : port_behind(rest, 65534);
+    if (port < 0) refuse("--manager %s: it takes aabbccfffeddee01/1 or aabbcc.fffe.ddee01-1", text);
+    task->settings.port = (uint16_t)port;
+    task->has_manager = true;
+}
+
+static void take_interface(struct task *task, const char *name) {
+    if (task->interface_count == MOST_INTERFACES) refuse("--interface %s: there are more than %d", name, MOST_INTERFACES);
+    task->interfaces[task->interface_count++] = name;
+}
+
+static void take_option(struct task *task, struct words *words, int option, const char *value) {
+    switch (option) {
+    case 'i': take_interface(task, value); break;
+    case UDP: task->address = value; break;
+    case '6': task->is_six = true; break;
+    case '2': task->is_ethernet = true; break;
+    case 'u': task->path = value; break;
+    case 'T': read_target(task, words, value); break;
+    case 'p': read_port(words, value); break;
+    case 'd': words->domain = value; break;
+    case 'b': words->hops = number("hops", value, 0, 255); break;
+    case 'm': read_manager(task, value); break;
+    case 'k': task->numbers = value; break;
+    case 'w': task->wait = number("wait", value, 0, 100000); break;
+    case 'a': words->attempts = number("attempts", value, 1, 255); break;
+    case 't': task->timeout = number("timeout", value, 1, 100000); break;
+    case 'n': task->times = number("times", value, 1, 1000000); break;
+    case GIVE_UP: task->is_letting_go = true; break;
+    case 'x': task->is_in_octets = true; break;
+    case JSON: task->is_json = true; break;
+    case TEXT: words->is_text = true; break;
+    case 'q': be_quiet(); break;
+    case 'h': help(); break;
+    case VERSION: version(); break;
+    default: if (!take_site_option(&task->site, option, value)) refuse("see ptpm-manage --help");
+    }
+}
+
+static void take_word(struct words *words, const char *word) {
+    if (words->count == MOST_WORDS) refuse("%s: there is a word too many; see ptpm-manage --help", word);
+    words->at[words->count++] = word;
+}
+
+/* After `set ID`, and after the name of one of its members, comes a value. It may be below 0: it is no option there. */
+static bool is_value(const struct words *words, const char *word) {
+    if (word[0] != '-' || word[1] < '0' || word[1] > '9') return false;
+    if (words->count < 2 || strcasecmp(words->at[0], "set") != 0) return false;
+    long id = id_named(words->at[1]);
+    return words->count == 2 || (id >= 0 && is_member((uint16_t)id, words->at[words->count - 1]));
+}
+
+static void read_words(struct task *task, struct words *words, int argc, char **argv) {
+    for (;;) {
+        if (optind < argc && is_value(words, argv[optind])) {
+            take_word(words, argv[optind++]);
+            continue;
+        }
+        int option = getopt_long(argc, argv, "-26i:u:T:p:d:b:m:k:w:a:t:n:xqh", options, NULL);
+        if (option == -1) break;
+        if (option == WORD) take_word(words, optarg);
+        else take_option(task, words, option, optarg);
+    }
+    while (optind < argc) take_word(words, argv[optind++]);
+}
+
+enum { ACTIONS = 3 };
+static const struct { const char *name; uint8_t action; } actions[ACTIONS] = {
+    { "get", PTPM_GET }, { "set", PTPM_SET }, { "command", PTPM_COMMAND },
+};
+
+static void read_verb(struct task *task, const char *verb) {
+    task->site.is_shown = strcasecmp(verb, "status") == 0;
+    task->site.is_collected = task->site.is_shown || strcasecmp(verb, "collect") == 0;
+    task->is_survey = task->site.is_collected || strcasecmp(verb, "survey") == 0;
+    for (int i = 0; i < ACTIONS; i++) {
+        if (strcasecmp(verb, actions[i].name) != 0) continue;
+        task->action = actions[i].action;
+        return;
+    }
+    if (!task->is_survey) refuse("%s: it is none of get, set, command, survey, collect and status", verb);
+}
+
+/* A get of every port is a survey of one clock. It asks by nobody, since a clock numbers what its managers ask of it alone. */
+static void read_every_port(struct task *task, const struct words *words) {
+    if (!words->is_every_port) return;
+    if (task->is_survey || task->action != PTPM_GET) refuse("--port all goes with get alone");
+    if (task->has_manager || task->numbers != NULL) {
+        refuse("--port all asks by no manager: it takes no --manager and no --numbers");
+    }
+    task->is_survey = task->is_of_clock = true;
+}
+
+static void read_id(struct task *task, const char *text) {
+    long id = id_named(text);
+    if (id < 0) refuse("%s: it is neither a managementId of the list in ptpm-manage --help nor four hexadecimal digits", text);
+    task->id = (uint16_t)id;
+}
+
+/* What else is said of a value that is no dataField. */
+static const char *hint(const struct task *task) {
+    if (has_text(task->id)) return "; a text takes --text";
+    return task->action == PTPM_SET && can_only_be_read(task->id) ? "; the id can only be read" : "";
+}
+
+static void read_octets_of(struct task *task, const char *text) {
+    const char *rest = text;
+    if (strlen(text) > 2 * MOST_FIELD) refuse("the dataField has over %d octets", MOST_FIELD);
+    task->size = read_octets(&rest, task->octets, sizeof task->octets);
+    if (*rest == '\0' && task->size % 2 == 0) return;
+    refuse("%s: it is no even number of octets in hexadecimal%s", text, hint(task));
+}
+
+/* Whether the words of a value are what an answer prints, or the value of the one member, and no dataField in hexadecimal. */
+static bool are_members(const struct task *task, const char *const *value, size_t count) {
+    if (task->action != PTPM_SET || task->is_in_octets) return false;
+    return count > 1 || takes_value(task->id) || is_member(task->id, value[0]);
+}
+
+static void judge_count(const struct task *task, const char *const *value, size_t count, bool is_text) {
+    size_t most = is_text || are_members(task, value, count) ? most_words(task->id, value[0]) : 1;
+    if (count > most) refuse("%s: there is a word too many; see ptpm-manage --help", value[most]);
+}
+
+static void read_value(struct task *task, const struct words *words) {
+    const char *id = words->at[1], *const *value = words->at + 2;
+    size_t count = words->count > 2 ? (size_t)words->count - 2 : 0;
+    bool is_set = !task->is_survey && task->action == PTPM_SET;
+    bool is_read_only = is_set && can_only_be_read(task->id);
+    if (is_read_only && (count != 1 || is_member(task->id, value[0]))) refuse("set %s: the id can only be read", id);
+    if (count == 0 && is_set && !has_no_member(task->id)) refuse("set %s: it takes a value after it", id);
+    if (count == 0) return;
+    if (task->is_survey) refuse("%s %s%s: it takes no value", words->at[0], id, task->is_of_clock ? " of every port" : "");
+    if (words->is_text && !has_text(task->id)) refuse("--text: %s has no text", id);
+    judge_count(task, value, count, words->is_text);
+    if (words->is_text) task->size = read_text_field(task->id, id, value, count, task->octets);
+    else if (are_members(task, value, count)) task->size = read_field(task->id, id, value, count, task->octets);
+    else read_octets_of(task, value[0]);
+}
+
+/* Whether what is said of the clock and the way to it is whole, and said once. */
+static void judge(const struct task *task, const struct words *words) {
+    if (task->path == NULL && task->interface_count == 0 && task->address == NULL) {
+        refuse("the way to the clock is missing: --interface NAME, --udp ADDRESS or --unix PATH");
+    }
+    if (task->path != NULL && (task->interface_count > 0 || task->address != NULL || task->is_six || task->is_ethernet)) {
+        refuse("--unix excludes --interface, --udp, --ipv6 and --ethernet");
+    }
+    if (task->address != NULL && task->interface_count > 1) refuse("--udp takes one --interface at most");
+    if (task->is_ethernet && (task->address != NULL || task->is_six)) refuse("--ethernet excludes --udp and --ipv6");
+    bool asks_one = !task->is_survey || task->is_of_clock;
+    if (!asks_one && words->has_target) refuse("%s asks every clock: it takes no --target", words->at[0]);
+    if (asks_one && !words->has_target) refuse("--target is missing: the clock that is asked; survey asks every clock");
+    if (words->is_every_port && words->target_port >= 0) refuse("--port all names every port, and --target names one");
+    if (words->port >= 0 && words->target_port >= 0 && words->port != words->target_port) {
+        refuse("--port %ld and --target name two ports", words->port);
+    }
+}
+
+/* Whether all that is printed can be objects of JSON. */
+static void judge_json(const struct task *task) {
+    if (!task->is_json) return;
+    if (task->site.is_drawn) refuse("--draw and --json exclude each other");
+    if (task->site.is_collected && !task->site.is_shown) refuse("--json: collect prints datagrams in hexadecimal");
+    if (task->times > 1) refuse("--json and --times exclude each other");
+}
+
+/* Whether who asks is the same in each run, so that a clock may have kept an answer of his. It never keeps one to a GET to
+   every clock. A GET by nobody needs none. At a Unix socket clock 0 asks at another port each time. */
+static bool is_by_one_manager(const struct task *task) {
+    if (task->is_survey) return false;
+    return task->numbers != NULL || task->has_manager || (task->path == NULL && task->action != PTPM_GET);
+}
+
+/* The id that is asked, and its value. There is none if every clock is asked for all six ids of a site. */
+static void read_asked(struct task *task, const struct words *words) {
+    const char *verb = words->at[0];
+    if (task->site.is_collected) {
+        if (words->count > 1) refuse("%s %s: %s takes no managementId", verb, words->at[1], verb);
+        if (task->has_manager) refuse("--manager: %s asks by no manager", verb);
+        if (words->port >= 0 || words->is_text || task->is_in_octets || task->numbers != NULL) {
+            refuse("%s takes none of --port, --text, --hexadecimal and --numbers", verb);
+        }
+        return;
+    }
+    if (words->count < 2) refuse("%s: it takes a managementId; see ptpm-manage --help", verb);
+    read_id(task, words->at[1]);
+    read_value(task, words);
+}
+
+/* The domains, hops and attempts that the options name, or else those of what is asked. Of several interfaces the last counts, but a
+   whole site is asked at all of them. */
+static void read_reach(struct task *task, const struct words *words) {
+    bool is_site = task->site.is_collected;
+    struct ptpm_session_settings *settings = &task->settings;
+    if (words->domain != NULL && is_site) read_domains(&task->site, words->domain);
+    else if (words->domain != NULL) settings->domain = (uint8_t)number("domain", words->domain, 0, 255);
+    settings->hops = (uint8_t)(words->hops >= 0 ? words->hops : is_site ? SITE_HOPS : HOPS);
+    settings->attempts = (uint8_t)(words->attempts >= 0 ? words->attempts : is_site ? SITE_ATTEMPTS : ATTEMPTS);
+    if (is_site || task->interface_count < 2) return;
+    task->interfaces[0] = task->interfaces[task->interface_count - 1];
+    task->interface_count = 1;
+}
+
+void read_task(struct task *task, int argc, char **argv) {
+    struct words words = { .port = NOT_NAMED, .target_port = NOT_NAMED, .hops = NOT_NAMED, .attempts = NOT_NAMED };
+    *task = (struct task){
+        .settings = { .port = 1, .target_ports = 8 }, .site = { .listen = NOT_NAMED }, .wait = 3000, .timeout = 200, .times = 1,
+    };
+    read_words(task, &words, argc, argv);
+    if (words.count == 0) refuse("it takes get, set, command or survey and a managementId, or collect or status; see ptpm-manage --help");
+    read_verb(task, words.at[0]);
+    read_every_port(task, &words);
+    read_asked(task, &words);
+    read_reach(task, &words);
+    judge(task, &words);
+    judge_site_options(&task->site);
+    judge_json(task);
+    if (task->site.listen < 0) task->site.listen = LISTENED;
+    long port = words.port >= 0 ? words.port : words.target_port;
+    task->port = port < 0 ? 0 : (uint16_t)port;
+    task->is_kept = is_by_one_manager(task);
+    if (task->is_letting_go && !task->is_kept) refuse("--give-up: no session is kept of what is asked");
+}
+
+const char *task_words(const struct task *task) {
+    static char words[64];
+    char number[8];
+    const char *action = "", *id = id_name(task->id);
+    for (int i = 0; i < ACTIONS; i++) {
+        if (actions[i].action == task->action) action = actions[i].name;
+    }
+    snprintf(number, sizeof number, "%04x", task->id);
+    int size = snprintf(words, sizeof words, "%s %s", action, id != NULL ? id : number);
+    if (task->port != 0) snprintf(words + size, sizeof words - (size_t)size, " at port %u", task->port);
+    return words;
+}

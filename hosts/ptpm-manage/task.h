@@ -1,0 +1,52 @@
+/* What a command line of ptpm-manage asks for. */
+#ifndef TASK_H
+#define TASK_H
+
+#include "ptpm.h"
+#include <stdbool.h>
+#include <stdint.h>
+
+enum { MOST_INTERFACES = 8, DOMAINS = 256 };
+
+/* What a command line of `collect` and `status` says beyond that of a survey. */
+struct site_options {
+    bool is_collected, is_shown;                /* `collect`; `status` */
+    uint8_t first_domain, last_domain;
+    bool is_every_domain;                       /* those in which Announce messages are heard, and 0 and 127 */
+    long listen, watch;                         /* in milliseconds: for such messages, or -1 by default; between two looks, or 0 */
+    bool is_drawn, is_once;
+    const char *max_offset, *max_delay;         /* as they are written, or NULL */
+    const char *given;                          /* an option of `status` alone that was given, or NULL */
+};
+
+struct task {
+    bool is_survey;                             /* every clock is asked, or one, at every port */
+    bool is_of_clock;                           /* a survey of one clock */
+    struct site_options site;                   /* of a survey that collects, and what is shown of it */
+    uint8_t action;                             /* PTPM_GET, PTPM_SET or PTPM_COMMAND, if it is no survey */
+    uint16_t id;
+    uint16_t port;                              /* the clock's; 0 if none is named */
+    size_t size;
+    uint8_t octets[PTPM_MOST_OCTETS];           /* the dataField */
+    struct ptpm_session_settings settings;      /* the number of the first request is 0 until one is drawn */
+    bool has_manager;                           /* whether settings name the manager */
+    bool is_kept;                               /* by a manager who is the same in each run: a file keeps his session */
+    bool is_letting_go;                         /* what an earlier run asked without an answer is not finished */
+    const char *interfaces[MOST_INTERFACES];    /* the way: interfaces; `collect` and `status` alone may have several, */
+    int interface_count;
+    const char *address, *path;                 /* an address, with one of these or none, or a Unix socket */
+    bool is_six, is_ethernet;                   /* at an interface IPv6, or IEEE 802.3, in place of IPv4 */
+    const char *numbers;                        /* the file that keeps the session, or NULL */
+    long wait;                                  /* how long a session waits that has no such file yet, in milliseconds */
+    long timeout;                               /* how long an answer is waited for, in milliseconds */
+    long times;                                 /* how often the request is made anew */
+    bool is_in_octets, is_json;                 /* answers are printed as octets; as objects of JSON */
+};
+
+/* Reads it from a command line. Ends the program with status 2 if it is none, and with 0 after --help and --version. */
+void read_task(struct task *task, int argc, char **argv);
+
+/* What is asked, such as `set PRIORITY1` or `command DISABLE_PORT at port 2`. The text is there until the next call. */
+const char *task_words(const struct task *task);
+
+#endif

@@ -1,0 +1,110 @@
+#include "unanswered.h"
+#include "answer.h"
+#include "asking.h"
+#include "identity.h"
+#include "notices.h"
+#include "reading.h"
+#include "session_file.h"
+#include "stopping.h"
+#include "transport.h"
+#include <stdbool.h>
+
+/* Whether the clock answers nobody's GET, if it did not answer the manager; then what it has is said. */
+static bool say_value(const struct task *task) {
+    static struct answer answer;
+    struct ptpm_session session = { 0 };
+    bool is_answered = begin_reading(&session, task, task->id) && finish_reading(&session, task);
+    if (is_answered) {
+        take_report(&session, &answer);
+        complain("the clock answers reads%s", answer.told == PTPM_VALUE ? ", and has by now" : "");
+        if (answer.told == PTPM_VALUE) print_answer(stderr, task, "ptpm-manage: ", &answer);
+    } else if (!stopped) {
+        complain("it answers no read either");
+    }
+    ptpm_session_stop(&session);
+    return is_answered;
+}
+
+/* Why a clock that answers reads may drop what this manager asks. */
+static void say_reason(const struct task *task, enum unanswered what, uint16_t number) {
+    static const char unsaved[] = ", or the clock can't save its state, for example since its disk is full";
+    char manager[IDENTITY_TEXT];
+    unsigned port = task->settings.port;
+    write_identity(manager, task->settings.clock);
+    switch (what) {
+    case REQUEST:
+        complain("it dropped the request, since a copy of manager %s/%u asks too, or each answer was lost%s", manager, port, unsaved);
+        break;
+    case EARLIER_REQUEST:
+    case EARLIER_ELSEWHERE:
+    case NUMBER:
+        complain("it dropped number %u of manager %s/%u, since another file or a copy of the manager is ahead, or each answer was "
+                 "lost%s", number, manager, port, unsaved);
+        complain("if it does so each time: once %s is removed, the next run begins a new session", session_path());
+        break;
+    case FIRST_NUMBER:
+        complain("it answers no GET of manager %s/%u under any of four numbers: each answer was lost%s", manager, port, unsaved);
+        break;
+    }
+}
+
+/* Who asks every clock or every port waits for a few answers' time. An answer that takes longer is not heard. */
+void advise_on_time(const struct task *task) {
+    if (task->path == NULL) complain("over a slow link --timeout waits longer for each answer, %ld ms here", task->timeout);
+}
+
+/* What may be wrong if the clock answers nobody. */
+static void advise(const struct task *task, enum unanswered what) {
+    const char *end = what == EARLIER_REQUEST || what == EARLIER_ELSEWHERE ? "" : "; --domain names another";
+    if (task->port > 1) complain("numberPorts of get DEFAULT_DATA_SET shows whether the clock has a port %u", task->port);
+    if (task->path != NULL) return;
+    if (task->port == 0) complain("a clock that answers only if its port is named, such as a ptpd, is asked with --port 1");
+    complain("survey DEFAULT_DATA_SET shows which clocks are in that domain%s", end);
+    if (task->is_survey) advise_on_time(task);
+}
+
+/* What becomes of a request that stays in the session's file. */
+static void say_rest(const struct task *task, enum unanswered what, uint16_t number) {
+    const char *words = task_words(task);
+    unsigned domain = task->settings.domain;
+    if (!task->is_kept) return;
+    if (what == REQUEST) {
+        complain("the next run sends %s again, under number %u, before its own; --give-up lets it go", words, number);
+    } else if (what == EARLIER_REQUEST) {
+        complain("%s of an earlier run, number %u, comes before it; --give-up lets it go", words, number);
+    } else if (what == EARLIER_ELSEWHERE) {
+        complain("%s of an earlier run, number %u, was asked in domain %u, and comes before it; --give-up lets it go, and --domain "
+                 "%u asks there", words, number, domain, domain);
+    }
+}
+
+/* What is said of the request at the end of the first line. */
+static const char *request_clause(const struct task *task, enum unanswered what) {
+    bool may_change = !task->is_survey && task->action != PTPM_GET;
+    if (what == REQUEST) return may_change ? ": the request may have been carried out" : "";
+    bool is_earlier = what == EARLIER_REQUEST || what == EARLIER_ELSEWHERE;
+    if (is_earlier && may_change) return ": an earlier request may have been carried out, and this one was not sent";
+    return ": the request itself was not sent";
+}
+
+int no_answer(const struct task *task, enum unanswered what, uint16_t number, long sent) {
+    const char *end = stopped ? "ended by a signal: " : "";
+    if (sent == 0) {
+        complain("%snothing was sent%s%s", end, stopped ? "" : ": no message is taken at ", stopped ? "" : transport_name());
+        return stopped ? BY_SIGNAL + stopped : NOT_ASKED;
+    }
+    complain("%sno answer at %s in domain %u to %ld message%s%s", end, transport_name(), task->settings.domain, sent,
+             sent == 1 ? "" : "s", request_clause(task, what));
+    say_rest(task, what, number);
+    if (stopped) return BY_SIGNAL + stopped;
+    tell_missing_addresses();
+    if (task->is_survey && !task->is_of_clock) {
+        advise_on_time(task);
+        return NOT_ANSWERED;
+    }
+    bool is_answered = (task->is_kept || task->action != PTPM_GET) && say_value(task);
+    if (stopped) return BY_SIGNAL + stopped;
+    if (!is_answered) advise(task, what);
+    else if (task->is_kept) say_reason(task, what, number);
+    return NOT_ANSWERED;
+}

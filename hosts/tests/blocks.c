@@ -1,0 +1,289 @@
+/* blocks: clocks, sessions and surveys in a block of the host's own (ptpm_memory.h). Each has the room that the header says, in any
+   order of calls. One octet less is refused by PTPM_NO_MEMORY, and changes nothing. What is stopped is given back whole. Prints what
+   does not hold and `blocks: N passed, M failed`; its status is 1 if one failed. */
+#include "checking.h"
+#include "ptpm.h"
+#include "ptpm_memory.h"
+#include <stdbool.h>
+#include <stdlib.h>
+#include <string.h>
+
+enum { CLOCKS = 3, PORTS = 8, MANAGERS = 16, TIMES = 10000, MOST_FIELD = 1418, HEAD = 54 };
+enum { ROOM = CLOCKS * PTPM_CLOCK_MEMORY + 4 * PTPM_SESSION_MEMORY + PTPM_SURVEY_MEMORY(512, 1418) };
+
+static const uint8_t manager[8] = { 0x00, 0x11, 0x22, 0x33, 0x44, 0x55, 0x66, 0x77 };
+static const uint8_t target[8] = { 0xaa, 0xbb, 0xcc, 0xff, 0xfe, 0xdd, 0xee, 0x01 };
+static const uint8_t field[MOST_FIELD];
+static __attribute__((aligned(16))) uint8_t block[ROOM];
+static uint8_t octets[PTPM_MOST_OCTETS], image[PTPM_CLOCK_IMAGE_OCTETS];
+static struct ptpm_clock clocks[CLOCKS];
+static struct ptpm_session session;
+static struct ptpm_survey survey;
+static uint16_t next_number;            /* of the session's next request */
+
+static unsigned below(unsigned limit) { return (unsigned)rand() % limit; }
+
+/* An answer of this many octets of USER_DESCRIPTION, to the manager, from port 1 of a clock (IEEE 1588-2019, 15.4.1). */
+static size_t answer_of(uint16_t number, uint16_t source, size_t size) {
+    size_t whole = HEAD + size;
+    memset(octets, 0, sizeof octets);
+    memcpy(octets, (const uint8_t[]){ 0x0d, 0x12, (uint8_t)(whole >> 8), (uint8_t)whole }, 4);
+    memcpy(octets + 20, target, 6);
+    memcpy(octets + 26, (const uint8_t[]){ (uint8_t)(source >> 8), (uint8_t)source, 0, 1, (uint8_t)(number >> 8), (uint8_t)number }, 6);
+    memcpy(octets + 34, manager, 8);
+    memcpy(octets + 42, (const uint8_t[]){ 0, 1, 0, 0, 2, 0, 0, 1, (uint8_t)((size + 2) >> 8), (uint8_t)(size + 2), 0, 2 }, 12);
+    return whole;
+}
+
+static struct ptpm_manager_settings managers[MANAGERS];
+static size_t clock_managers = MANAGERS;    /* how many of them a clock has */
+
+static size_t clock_room(void) { return PTPM_CLOCK_MEMORY_OF(clock_managers); }
+
+static enum ptpm_started start_clock(struct ptpm_clock *clock) {
+    struct ptpm_clock_settings settings;
+    struct ptpm_port_settings ports[PORTS];
+    ptpm_clock_defaults(&settings);
+    memcpy(settings.identity, target, 8);
+    for (int i = 0; i < PORTS; i++) ptpm_port_defaults(&ports[i]);
+    return ptpm_clock_start(clock, &settings, ports, PORTS, managers, clock_managers);
+}
+
+static enum ptpm_restored restore_clock(struct ptpm_clock *clock, const struct ptpm_clock *from) {
+    size_t size, gone;
+    if (ptpm_clock_image(from, image, sizeof image, &size) != PTPM_SAVED) return PTPM_NOT_AN_IMAGE;
+    return ptpm_clock_restore(clock, target, PORTS, managers, clock_managers, image, size, &gone);
+}
+
+static bool holds_clock(const struct ptpm_clock *clock) {
+    size_t size;
+    return ptpm_clock_read(clock, PTPM_ID_PRIORITY1, 0, octets, sizeof octets, &size) == PTPM_READ && octets[0] == 128;
+}
+
+static enum ptpm_started start_session(void) {
+    struct ptpm_session_settings settings = { .port = 1, .target_ports = 1, .first = 7, .hops = 1, .attempts = 2 };
+    memcpy(settings.clock, manager, 8);
+    memcpy(settings.target, target, 8);
+    next_number = 7;
+    return ptpm_session_start(&session, &settings);
+}
+
+static enum ptpm_begun begin(size_t size) {
+    enum ptpm_begun answer = ptpm_session_begin(&session, PTPM_SET, PTPM_ID_USER_DESCRIPTION, 0, field, size);
+    if (answer == PTPM_BEGUN) next_number++;
+    return answer;
+}
+
+/* Has the session's request answered by this many octets. */
+static enum ptpm_session_received receive(size_t size) {
+    size_t whole = answer_of((uint16_t)(next_number - 1), 0xee01, size);
+    return ptpm_session_receive(&session, octets, whole);
+}
+
+static enum ptpm_started start_survey(void) {
+    struct ptpm_survey_settings settings = { .port = 1, .number = 7, .id = PTPM_ID_USER_DESCRIPTION, .hops = 1 };
+    memcpy(settings.clock, manager, 8);
+    return ptpm_survey_start(&survey, &settings);
+}
+
+static enum ptpm_survey_received survey_receive(uint16_t source, size_t size) {
+    size_t whole = answer_of(7, source, size);
+    return ptpm_survey_receive(&survey, octets, whole);
+}
+
+static void stop_all(void) {
+    for (int i = 0; i < CLOCKS; i++) ptpm_clock_stop(&clocks[i]);
+    ptpm_session_stop(&session);
+    ptpm_survey_stop(&survey);
+    check(ptpm_memory_taken() == 0, "what is stopped is given back");
+}
+
+static void nothing_given(void) {
+    check(start_clock(&clocks[0]) == PTPM_START_NO_MEMORY && start_session() == PTPM_START_NO_MEMORY
+          && start_survey() == PTPM_START_NO_MEMORY, "no start without a block");
+    check(!ptpm_memory_give(block, 31) && !ptpm_memory_give(block + 1, 46), "a block that is too small");
+    check(ptpm_memory_give(block + 1, 47), "a block that is just large enough");
+    stop_all();
+}
+
+static void given_again(void) {
+    check(ptpm_memory_give(block + 16, PTPM_CLOCK_MEMORY) && start_clock(&clocks[0]) == PTPM_STARTED, "a clock in its block");
+    check(!ptpm_memory_give(block, ROOM) && holds_clock(&clocks[0]), "another block while one is used");
+    check(ptpm_memory_taken() == PTPM_CLOCK_MEMORY, "what a clock takes");
+    stop_all();
+    check(ptpm_memory_most_taken() == PTPM_CLOCK_MEMORY, "what was taken at most");
+    check(ptpm_memory_give(block, ROOM) && ptpm_memory_most_taken() == 0, "another block after it");
+}
+
+/* A clock takes what the header says of its managers, and no octet less. */
+static void exact_managers(void) {
+    for (clock_managers = 0; clock_managers <= MANAGERS; clock_managers++) {
+        ptpm_memory_give(block, clock_room() - 1);
+        check(start_clock(&clocks[0]) == PTPM_START_NO_MEMORY, "a clock in one octet less than its managers take");
+        stop_all();
+        ptpm_memory_give(block, clock_room());
+        check(start_clock(&clocks[0]) == PTPM_STARTED && ptpm_memory_taken() == clock_room(), "what a clock takes with its managers");
+        stop_all();
+    }
+    clock_managers = MANAGERS;
+    check(clock_room() == PTPM_CLOCK_MEMORY, "what any clock takes at most");
+}
+
+/* So many clocks in a block for them; and in one octet less one fewer, until another is stopped. */
+static void exact_clocks(int all) {
+    int last = all - 1;
+    ptpm_memory_give(block, (size_t)all * clock_room());
+    for (int i = 0; i < all; i++) check(start_clock(&clocks[i]) == PTPM_STARTED, "a clock in its share of a block");
+    check(restore_clock(&clocks[0], &clocks[last]) == PTPM_RESTORE_NO_MEMORY && holds_clock(&clocks[0]), "no room for both clocks");
+    stop_all();
+    ptpm_memory_give(block, (size_t)all * clock_room() - 1);
+    for (int i = 0; i < last; i++) check(start_clock(&clocks[i]) == PTPM_STARTED, "a clock in its share of a smaller block");
+    check(start_clock(&clocks[last]) == PTPM_START_NO_MEMORY, "a clock in one octet less");
+    for (int i = 0; i < last; i++) check(holds_clock(&clocks[i]), "the clocks beside one that was refused");
+    ptpm_clock_stop(&clocks[0]);
+    check(last == 0 || start_clock(&clocks[last]) == PTPM_STARTED, "a clock in the place of another");
+    stop_all();
+}
+
+/* Clocks that are started, started anew, restored and stopped without end, in a block for just this many. */
+static void endless_clocks(void) {
+    unsigned refused = 0;
+    ptpm_memory_give(block, CLOCKS * clock_room());
+    for (int i = 0; i < TIMES; i++) {
+        struct ptpm_clock *one = &clocks[below(CLOCKS)], *other = &clocks[below(CLOCKS)];
+        if (below(3) == 0) ptpm_clock_stop(one);
+        else if (one->at == NULL && other->at != NULL) refused += restore_clock(one, other) != PTPM_RESTORED;
+        else refused += start_clock(one) != PTPM_STARTED;
+    }
+    check(refused == 0, "no start is refused, whatever was stopped before it");
+    stop_all();
+}
+
+/* The order of requests and answers that leaves the least room: one of 1,408 octets, and then the largest. */
+static uint32_t worst_order(void) {
+    if (start_session() != PTPM_STARTED || begin(1408) != PTPM_BEGUN) return PTPM_OTHER_SIZES;
+    return receive(MOST_FIELD) != PTPM_ANSWERED ? PTPM_OTHER_SIZES : (uint32_t)begin(MOST_FIELD);
+}
+
+static void exact_session(void) {
+    unsigned refused = 0;
+    ptpm_memory_give(block, PTPM_SESSION_MEMORY - 1);
+    check(worst_order() == PTPM_NO_MEMORY, "a request in one octet less than a session takes");
+    check(ptpm_session_issued(&session) == 1 && begin(1408) == PTPM_BEGUN, "a smaller request after it");
+    stop_all();
+    ptpm_memory_give(block, PTPM_SESSION_MEMORY);
+    check(worst_order() == PTPM_BEGUN && receive(MOST_FIELD) == PTPM_ANSWERED, "the largest requests of a session");
+    for (int i = 0; i < TIMES; i++) {
+        if (below(100) == 0) refused += start_session() != PTPM_STARTED;
+        else refused += begin(2 * below(MOST_FIELD / 2 + 1)) != PTPM_BEGUN || receive(2 * below(MOST_FIELD / 2 + 1)) != PTPM_ANSWERED;
+    }
+    check(refused == 0, "no request and no answer of a session is refused");
+    stop_all();
+}
+
+/* A survey that keeps each of this many answers. */
+static void roomy_survey(unsigned answers, size_t size, size_t room) {
+    unsigned kept = 0;
+    ptpm_memory_give(block, room);
+    check(start_survey() == PTPM_STARTED, "a survey in its block");
+    for (unsigned i = 0; i < answers; i++) kept += survey_receive((uint16_t)i, size) == PTPM_TAKEN;
+    check(kept == answers && ptpm_survey_count(&survey) == answers, "the answers that a survey's block is for");
+    stop_all();
+}
+
+/* A survey keeps 512 of a thousand answers. In a small block it keeps fewer, and each of these is read. */
+static void thousand_answers(void) {
+    unsigned full = 0, refused = 0;
+    struct ptpm_source source;
+    size_t size, kept, read = 0;
+    uint16_t error;
+    ptpm_memory_give(block, PTPM_SURVEY_MEMORY(512, 130));
+    start_survey();
+    for (uint16_t i = 0; i < 1000; i++) full += survey_receive(i, 130) == PTPM_FULL;
+    check(full == 488 && ptpm_survey_count(&survey) == 512, "512 of a thousand answers are kept");
+    stop_all();
+    ptpm_memory_give(block, PTPM_SURVEY_MEMORY(20, 130));
+    start_survey();
+    for (uint16_t i = 0; i < 1000; i++) refused += survey_receive(i, 130) == PTPM_SURVEY_NO_MEMORY;
+    kept = ptpm_survey_count(&survey);
+    check(refused == 1000 - kept && kept >= 20 && kept < 100, "a thousand answers for which there is too little room");
+    for (size_t i = 0; i < kept; i++)
+        read += ptpm_survey_answer(&survey, i, &source, octets, sizeof octets, &size, &error) == PTPM_VALUE && size == 130
+                && (source.clock[6] << 8 | source.clock[7]) == (int)i;
+    check(read == kept, "the answers that are kept");
+    stop_all();
+}
+
+/* Each call that takes memory, in a block that grows by one unit each time until none is refused. */
+static void refused_in_turn(void) {
+    uint32_t asked[7], counts[7] = { 0 }, kept = 0, lost = 0;
+    for (size_t room = 32; asked[0] = 0, room < 3 * PTPM_CLOCK_MEMORY; room += 16) {
+        ptpm_memory_give(block, room);
+        asked[0] = start_session();
+        asked[1] = begin(MOST_FIELD);
+        asked[2] = receive(2);
+        asked[3] = start_survey();
+        asked[4] = survey_receive(1, 2);
+        asked[5] = start_clock(&clocks[0]);
+        asked[6] = asked[5] == PTPM_STARTED ? (uint32_t)restore_clock(&clocks[0], &clocks[0]) : PTPM_NO_CLOCK;
+        for (int i = 0; i < 7; i++) counts[i] += asked[i] == PTPM_NO_MEMORY;
+        lost += asked[6] == PTPM_NO_MEMORY && !holds_clock(&clocks[0]);
+        ptpm_clock_stop(&clocks[0]);
+        ptpm_session_stop(&session);
+        ptpm_survey_stop(&survey);
+        kept += ptpm_memory_taken() != 0;
+    }
+    for (int i = 0; i < 7; i++) check(counts[i] > 0, "each call that takes memory is refused in some block");
+    for (int i = 0; i < 7; i++) check(asked[i] == 0 || asked[i] == PTPM_NOTHING_ASKED, "each call is done in a large block");
+    check(kept == 0 && lost == 0, "what was refused keeps nothing, and leaves the clock");
+}
+
+static unsigned any_step(void) {
+    static uint16_t source;
+    switch (below(6)) {
+    case 0: ptpm_clock_stop(&clocks[below(CLOCKS)]); return 0;
+    case 1: return start_clock(&clocks[below(CLOCKS)]) != PTPM_STARTED;
+    case 2: return below(20) == 0 && start_session() != PTPM_STARTED;
+    case 3: return below(100) == 0 && (source = 0, start_survey() != PTPM_STARTED);
+    case 4: return source < 200 && survey.at != NULL && survey_receive(source++, below(130)) == PTPM_SURVEY_NO_MEMORY;
+    default:
+        if (session.at == NULL) return 0;
+        return begin(2 * below(MOST_FIELD / 2 + 1)) == PTPM_BEGIN_NO_MEMORY || receive(2 * below(700)) == PTPM_SESSION_NO_MEMORY;
+    }
+}
+
+/* All three side by side in the sum of what each takes. */
+static void side_by_side(void) {
+    unsigned refused = 0;
+    ptpm_memory_give(block, CLOCKS * clock_room() + PTPM_SESSION_MEMORY + PTPM_SURVEY_MEMORY(200, 130));
+    for (int i = 0; i < 10 * TIMES; i++) refused += any_step();
+    check(refused == 0, "nothing is refused in the sum of what each takes");
+    stop_all();
+}
+
+int main(void) {
+    static const unsigned answers[] = { 1, 8, 9, 16, 17, 100, 257, 512 };
+    static const size_t sizes[] = { 0, 2, 130, MOST_FIELD };
+    for (int i = 0; i < MANAGERS; i++) {
+        memcpy(managers[i].clock, manager, 8);
+        managers[i].port = (uint16_t)(i + 1);
+    }
+    nothing_given();
+    given_again();
+    exact_managers();
+    for (clock_managers = 1; clock_managers <= MANAGERS; clock_managers += MANAGERS - 1) {
+        for (int all = 1; all <= CLOCKS; all++) exact_clocks(all);
+        endless_clocks();
+    }
+    clock_managers = MANAGERS;
+    exact_session();
+    for (size_t i = 0; i < sizeof answers / sizeof *answers; i++)
+        for (size_t k = 0; k < sizeof sizes / sizeof *sizes; k++)
+            roomy_survey(answers[i], sizes[k], PTPM_SURVEY_MEMORY(answers[i], sizes[k]));
+    thousand_answers();
+    refused_in_turn();
+    side_by_side();
+    clock_managers = 1;
+    side_by_side();
+    return print_checks("blocks");
+}

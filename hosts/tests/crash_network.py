@@ -1,0 +1,287 @@
+"""Clocks, sessions and a reader over a network in memory, for hosts/tests/crashes. Each datagram that was ever sent may come in, often,
+late, in any order, or never. What the library does is held against the model; and what managers were told and the reader read against what
+the clocks have after all."""
+import struct
+from collections import Counter
+from typing import NamedTuple, Optional
+
+from crash_hosts import ATTEMPTS, ClockHost, SessionHost, ptpm
+from crash_model import CLOCK_SET, GET, NEW, PORT_COMMAND, PORT_DATA_SET, PORT_SET, REPEAT, WHOLE_CLOCK, Answer, Asked, field_of
+
+READER = "reader"                               # an end of a link
+READER_IDENTITY = bytes([0x0A, 0x0B, 0x0C, 0xFF, 0xFE, 0x0D, 0x0E, 0x0F, 0, 1])
+HOPS = 3
+
+
+class Broken(Exception):
+    """The library is not what the model says: nothing after that can be judged."""
+
+
+class Origin(NamedTuple):
+    """What a datagram has to do with: a manager's request, or none if it is the reader's; and what a reply to the reader shows, a clock
+    with the requests that it had accepted."""
+
+    asked: Optional[Asked]
+    is_reply: bool
+    clock: Optional[int] = None
+    shown: tuple = ()
+
+
+class Frame(NamedTuple):
+    """A datagram on its way to one end: a port (a clock and its number), a session (its number), or the reader."""
+
+    octets: bytes
+    end: object
+    origin: Origin
+
+
+class Wiring(NamedTuple):
+    """The ends of each link. Either all are on one, or the clocks are in a row and pass messages on."""
+
+    links: list
+    is_row: bool
+
+    def others(self, end):
+        return [other for link in self.links if end in link for other in link if other != end]
+
+
+def draw_wiring(chance, ports, sessions):
+    """Ports get more, where a row needs two at a clock."""
+    if chance.random() < 0.6:
+        return Wiring([[(i, 1) for i in range(len(ports))] + list(range(sessions)) + [READER]], False)
+    ports[:] = [max(count, 2) for count in ports]
+    links = [[READER, (0, 1)]] + [[(i - 1, 2), (i, 1)] for i in range(1, len(ports))] + [[(len(ports) - 1, 2)]]
+    for number in range(sessions):
+        chance.choice(links).append(number)
+    return Wiring(links, True)
+
+
+def answer_in(octets):
+    """What a RESPONSE or an ACKNOWLEDGE says (15.5.3, 15.5.4)."""
+    if octets[49] == 2:
+        return Answer(None, int.from_bytes(octets[52:54], "big"))
+    return Answer(None if octets[46] & 15 == 4 else octets[54:])
+
+
+def reader_asks(identity, domain, number, id_, port):
+    """A GET of somebody who is no manager (13.3, 15.4)."""
+    head = b"\x0d\x12" + struct.pack(">HB", 54, domain) + bytes(15) + READER_IDENTITY + struct.pack(">HBB", number, 4, 0x7F)
+    return head + identity + struct.pack(">HBBBBHHH", port, HOPS, HOPS, GET, 0, 1, 2, id_)
+
+
+class World:
+    """All of it, as it is at one moment."""
+
+    def __init__(self, chance, planted=None):
+        self.chance, self.wrong, self.counts = chance, [], Counter()
+        self.frames, self.came_in = [], set()
+        ports = [chance.randint(1, 3) for _ in range(chance.randint(1, 3))]
+        self.targets = [chance.randrange(len(ports)) for _ in range(chance.randint(1, 3))]
+        self.wiring = draw_wiring(chance, ports, len(self.targets))
+        self.rights = [chance.choice((7, 7, 7, CLOCK_SET, PORT_SET | PORT_COMMAND, 0)) for _ in self.targets]
+        names = [ptpm.PortIdentity(ptpm.Identity(bytes([2, 0, 0, 0xFF, 0xFE, 0, 0, 16 + i])), 1) for i in range(len(self.targets))]
+        managers = [ptpm.Manager(name, ptpm.Rights(rights)) for name, rights in zip(names, self.rights)]
+        identities = [bytes([0xAA, 0xBB, 0xCC, 0xFF, 0xFE, 0, 0, i + 1]) for i in range(len(ports))]
+        self.clocks = [ClockHost(identity, count, managers, planted) for identity, count in zip(identities, ports)]
+        self.sessions = [SessionHost(i, self.settings(names[i], self.clocks[target]), planted) for i, target in enumerate(self.targets)]
+        self.replied = {}                       # what left first in reply to each request
+        self.read = [()] * len(ports)           # the requests of each clock that the reader saw the effect of
+
+    def settings(self, name, clock):
+        first = self.chance.choice((0, 7, 32760, 65530, self.chance.randrange(65536)))
+        return ptpm.SessionSettings(name, ptpm.Identity(clock.identity), first, hops=HOPS, attempts=ATTEMPTS,
+                                    target_ports=clock.ports)
+
+    def note(self, holds, kind, what):
+        """A promise that does not hold is wrong."""
+        if not holds:
+            self.wrong.append((kind, " ".join(map(str, what))))
+
+    def need(self, holds, *what):
+        """Where the library is not as the model, the run ends."""
+        if not holds:
+            raise Broken(" ".join(map(str, what)))
+
+    # ---- datagrams
+
+    def post(self, end, octets, origin):
+        """What leaves at an end is there for each other end of its link. What is for others is there too, but hardly, where nobody
+        passes it on."""
+        for other in self.wiring.others(end):
+            is_to_pass = self.wiring.is_row and isinstance(other, tuple)
+            if is_to_pass or octets[34:34 + len(self.name_of(other))] == self.name_of(other) or self.chance.random() < 0.1:
+                self.frames.append(Frame(octets, other, origin))
+        self.counts["datagrams"] += 1
+        if origin.is_reply and origin.asked:
+            answer = answer_in(octets)
+            before = self.replied.setdefault(origin.asked, answer)
+            self.note(before == answer, "one request has two replies", (origin.asked, before, answer))
+
+    def name_of(self, end):
+        """What the target of a message for this end begins with."""
+        if end == READER:
+            return READER_IDENTITY
+        if isinstance(end, tuple):
+            return self.clocks[end[0]].identity
+        manager = self.sessions[end].settings.manager
+        return manager.clock.octets + manager.port.to_bytes(2, "big")
+
+    def deliver(self, place):
+        frame = self.frames[place]
+        self.counts["deliveries"] += 1
+        self.counts["copies of what had come in"] += place in self.came_in
+        self.came_in.add(place)
+        if frame.end == READER:
+            if frame.octets[34:44] == READER_IDENTITY and frame.origin.is_reply:
+                self.read_by_reader(frame)
+        elif isinstance(frame.end, int):
+            self.hear(self.sessions[frame.end], frame)
+        else:
+            self.turn(*frame.end, frame)
+
+    def read_by_reader(self, frame):
+        clock, shown = frame.origin.clock, frame.origin.shown
+        stands = self.clocks[clock].state.accepted[:len(shown)] == shown
+        self.note(stands, "what was read is gone", ("clock", clock, "showed", shown[-1:]))
+        if stands and len(shown) > len(self.read[clock]):
+            self.read[clock] = shown
+
+    # ---- a clock
+
+    def turn(self, number, port, frame):
+        """What a clock makes of a datagram: as the model says."""
+        host, asked = self.clocks[number], frame.origin.asked
+        is_request = asked is not None and not frame.origin.is_reply and self.targets[asked.manager] == number
+        wanted = host.state.verdict(asked, frame.octets[4]) if is_request else None
+        handled = host.take(port, frame.octets, is_request and asked.request.action == GET)
+        found = handled.answer.name
+        self.counts[f"answers {found}"] += 1
+        self.need(found == wanted if wanted else found not in (NEW, REPEAT), "clock", number, "makes", found, "of", asked, "not", wanted)
+        if wanted == NEW:
+            self.note(asked not in self.replied, "a request is carried out twice", ("clock", number, asked))
+            host.state = host.state.after(asked, self.rights[asked.manager])
+        made = [(at, octets, self.origin_of(octets, number, frame.origin)) for at, octets in handled.messages]
+        if wanted in (NEW, REPEAT):
+            self.judge_reply(host, asked, made)
+        self.leave(number, host.let_go(made, handled.answer.name != NEW))
+        self.judge_sets(number)
+
+    def origin_of(self, octets, number, origin):
+        """A message is the clock's own, or passed on."""
+        host = self.clocks[number]
+        if octets[20:28] != host.identity:
+            return origin
+        return Origin(origin.asked, True, *(() if origin.asked else (number, host.state.accepted)))
+
+    def judge_reply(self, host, asked, made):
+        """One reply, and it is the one of the time when the request was carried out."""
+        own = [answer_in(octets) for _, octets, _ in made if octets[20:28] == host.identity]
+        kept = host.state.latest(asked.manager).answer
+        self.need(own == [kept], asked, "is answered", own, "and not", kept)
+
+    def judge_sets(self, number):
+        """The data sets are those that the accepted requests make, each once and in this order."""
+        host = self.clocks[number]
+        for id_, port in [(id_, 0) for id_ in WHOLE_CLOCK] + [(PORT_DATA_SET, i + 1) for i in range(host.ports)]:
+            found, wanted = host.clock.read(id_, port), field_of(host.state.sets, id_, port)
+            if found != wanted:
+                raise Broken(f"clock {number} has {found.hex()} at {id_:04x}, and not {wanted.hex()}: {host.state.accepted}")
+
+    def leave(self, number, messages):
+        for port, octets, origin in messages:
+            self.post((number, port), octets, origin)
+
+    def save_clock(self, number, chance):
+        host = self.clocks[number]
+        self.counts["saves of clocks"] += 1
+        before = host.state
+        self.leave(number, host.save(chance))
+        self.counts["saves that failed"] += host.is_unsaved
+        if host.state is not before:
+            self.judge_restart(number)
+
+    def crash_clock(self, number):
+        self.counts["crashes of clocks"] += 1
+        self.counts["changes that were lost unsaved"] += self.clocks[number].is_unsaved
+        self.clocks[number].crash()
+        self.judge_restart(number)
+
+    def judge_restart(self, number):
+        """Nothing is gone of what was reported or read."""
+        self.judge_sets(number)
+        accepted = self.clocks[number].state.accepted
+        shown = self.read[number]
+        self.note(accepted[:len(shown)] == shown, "what was read is gone", ("clock", number, "showed", shown[-1:]))
+        for session in self.sessions:
+            for told in session.told if self.targets[session.number] == number else ():
+                self.note(told in accepted, "what was reported is gone", ("clock", number, told))
+
+    # ---- a session
+
+    def hear(self, session, frame):
+        wanted = frame.origin.is_reply and frame.origin.asked is not None and frame.origin.asked is session.asked
+        asked = session.asked
+        is_taken, told = session.take(frame.octets)
+        self.need(is_taken or not wanted or frame.octets[4] != session.domain, "the answer is not taken to", asked)
+        self.note(wanted or not is_taken, "the answer to another request is taken", (frame.origin.asked, "for", asked))
+        self.judge_session(session)
+        self.tell(session, told)
+
+    def judge_session(self, session):
+        issued, wanted = session.session.issued, len(session.state.begun)
+        self.need(issued == wanted, "session", session.number, "has begun", issued, "requests, and not", wanted)
+        self.need(session.session.is_busy() == session.state.is_under_way, "session", session.number, "is busy or idle, and should not be")
+
+    def tell(self, session, told):
+        """What the owner is told was carried out once at the clock, and is no other than before."""
+        if told is None:
+            return
+        accepted = self.clocks[self.targets[session.number]].state.accepted
+        self.counts["reports"] += 1
+        self.counts["reports that came again"] += told in session.told
+        self.note(accepted.count(told) == 1, "what is reported was not carried out so", told)
+        others = [before for before in session.told if before[0] is told[0] and before != told]
+        self.note(not others, "one request has two reports", (told, others))
+        session.told.append(told)
+
+    def begin(self, session, request):
+        session.begin(request)
+        self.judge_session(session)
+        self.counts["requests"] += 1
+
+    def send(self, session):
+        octets = session.send()
+        number = (session.settings.first + session.asked.index - 1) % 65536
+        self.need(int.from_bytes(octets[30:32], "big") == number, session.asked, "has another number than", number)
+        self.post(session.number, octets, Origin(session.asked, False))
+
+    def give_up(self, session):
+        session.give_up()
+        self.judge_session(session)
+        self.counts["requests that were let go"] += 1
+
+    def save_session(self, session, chance):
+        self.counts["saves of sessions"] += 1
+        session.save(chance)
+        self.counts["saves that failed"] += session.is_unsaved
+
+    def crash_session(self, session):
+        self.counts["crashes of sessions"] += 1
+        session.crash()
+        self.judge_session(session)
+
+    # ---- after all
+
+    def judge_end(self):
+        """Each request that stands was answered, and carried out once, in the order of its manager. One that was let go may have been."""
+        for number in range(len(self.clocks)):
+            self.judge_restart(number)
+        for session in self.sessions:
+            accepted = self.clocks[self.targets[session.number]].state.accepted
+            own = tuple(one.asked for one in accepted if one.asked.manager == session.number)
+            told = {asked for asked, _ in session.told}
+            self.note(not session.state.is_under_way, "a request is never answered", (session.asked,))
+            silent = [asked for asked in own if asked not in told | session.state.let_go and asked is not session.asked]
+            self.note(not silent, "a request is never reported", silent)
+            wanted = tuple(asked for asked in session.state.begun if asked in own or asked not in session.state.let_go)
+            self.note(own == wanted, "other requests are carried out than were asked", (own, "and not", wanted))
