@@ -1,18 +1,21 @@
 #define _GNU_SOURCE
 #include "agent.h"
 #include "counts.h"
-#include "field_lines.h"
+#include "field_text.h"
 #include "identity.h"
 #include "names.h"
 #include "observation.h"
 #include "output.h"
 #include "peers.h"
 #include "saving.h"
-#include "twin.h"
+#include <errno.h>
 #include <stdbool.h>
+#include <stddef.h>
 #include <stdio.h>
 #include <stdlib.h>
 #include <string.h>
+#include <sys/socket.h>
+#include <sys/un.h>
 
 static struct ptpm_clock clock_held;
 static const struct options *options;
@@ -38,9 +41,22 @@ static uint8_t domain(void) {
     return ptpm_clock_read(&clock_held, PTPM_ID_DOMAIN, 0, octets, sizeof octets, &size) == PTPM_READ ? *octets : 0;
 }
 
-void tell_twin(void) {
+/* Whether another clock of this machine with this identity and domain was started before this one, and still runs. From then on
+   one that is started later finds this one. The clock has an abstract name, which one program of a network namespace has at a
+   time, and which goes when that ends. Nobody is heard at it. Any user may take such a name, so it is no reason not to start. */
+static bool has_twin(void) {
+    struct sockaddr_un address = { .sun_family = AF_UNIX };
     char identity[IDENTITY_TEXT];
-    if (!has_twin(options->settings.identity, domain())) return;
+    write_identity(identity, options->settings.identity);
+    int size = snprintf(address.sun_path + 1, sizeof address.sun_path - 1, "ptpm-clock/%s/%u", identity, domain());
+    int claim = socket(AF_UNIX, SOCK_STREAM | SOCK_CLOEXEC, 0);
+    socklen_t whole = (socklen_t)(offsetof(struct sockaddr_un, sun_path) + 1 + (size_t)size);
+    return claim >= 0 && bind(claim, (const struct sockaddr *)&address, whole) != 0 && errno == EADDRINUSE;
+}
+
+void report_twin(void) {
+    char identity[IDENTITY_TEXT];
+    if (!has_twin()) return;
     write_identity(identity, options->settings.identity);
     say("another clock %s runs in domain %u of this machine: both answer, and a SET may change one of them alone", identity, domain());
 }
@@ -69,7 +85,7 @@ void say_started(void) {
 }
 
 /* Prints the names of members that changed. Each has the place of the answer which refuses its value, `first` and on. */
-static void tell_changed(const char *where, uint32_t first, uint32_t members) {
+static void print_changed(const char *where, uint32_t first, uint32_t members) {
     char line[1024];
     int size = snprintf(line, sizeof line, "%s", where);
     for (uint32_t i = 0; i < 32; i++) {
@@ -79,16 +95,16 @@ static void tell_changed(const char *where, uint32_t first, uint32_t members) {
     print_line("%s", line);
 }
 
-static void tell_turn(uint16_t ingress, const struct heard *heard, uint32_t answer, size_t out, size_t count) {
+static void print_turn(uint16_t ingress, const struct heard *heard, uint32_t answer, size_t out, size_t count) {
     print_line("port %u, %zu octets: %u %s, %zu of %zu sent", ingress, heard->whole, answer, answer_name(answer), out, count);
 }
 
-static void tell_all_changed(const struct ptpm_changed *changed) {
-    if (changed->clock != 0) tell_changed("changed:", PTPM_BAD_IDENTITY, changed->clock);
+static void print_all_changed(const struct ptpm_changed *changed) {
+    if (changed->clock != 0) print_changed("changed:", PTPM_BAD_IDENTITY, changed->clock);
     for (size_t i = 0; i < ports_of(options); i++) {
         char where[32];
         snprintf(where, sizeof where, "changed at port %zu:", i + 1);
-        if (changed->ports[i] != 0) tell_changed(where, PTPM_BAD_STATE, changed->ports[i]);
+        if (changed->ports[i] != 0) print_changed(where, PTPM_BAD_STATE, changed->ports[i]);
     }
 }
 
@@ -125,7 +141,7 @@ static inline unsigned long hand_on(const struct heard *heard, const struct port
 }
 
 /* A turn with lines of what became of it and what it changed. To find that costs more than the turn does. */
-static unsigned long take_told_turn(const struct heard *heard, const struct port *port, uint16_t ingress,
+static unsigned long take_verbose_turn(const struct heard *heard, const struct port *port, uint16_t ingress,
                                     struct ptpm_sent *places) {
     struct ptpm_changed changed;
     size_t count, left;
@@ -134,8 +150,8 @@ static unsigned long take_told_turn(const struct heard *heard, const struct port
     unsigned long lost = hand_on(heard, port, ingress, answer, places, count, &left);
     bool is_done = save_changes(&clock_held);
     lost += is_done ? send_all() : drop_round();
-    tell_turn(ingress, heard, answer, left - lost, count);
-    if (is_done) tell_all_changed(&changed);
+    print_turn(ingress, heard, answer, left - lost, count);
+    if (is_done) print_all_changed(&changed);
     return lost;
 }
 
@@ -150,7 +166,7 @@ static unsigned long take_turn(struct heard *heard, const struct port *port) {
         count_dropped(send_saved());
         places = places_to_send();
     }
-    if (options->is_told) return take_told_turn(heard, port, ingress, places);
+    if (options->is_told) return take_verbose_turn(heard, port, ingress, places);
     enum ptpm_handled answer = ptpm_clock_handle(&clock_held, ingress, heard->octets, heard->size, places, PTPM_MOST_SENT, &count);
     return hand_on(heard, port, ingress, answer, places, count, &left);
 }

@@ -13,7 +13,7 @@ void start_clock(const struct options *given);
 void save_clock(void);
 
 /* A line on standard error if another clock of this machine has its identity. */
-void tell_twin(void);
+void report_twin(void);
 
 /* A line on standard error: its identity, its interfaces, the states of its ports, and how many managers it has. */
 void say_started(void);

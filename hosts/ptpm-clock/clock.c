@@ -17,9 +17,8 @@
 #include "privileges.h"
 #include "program.h"
 #include "service.h"
-#include "signals.h"
 #include "source.h"
-#include "timer.h"
+#include "waking.h"
 #include <errno.h>
 #include <stdbool.h>
 #include <sys/epoll.h>
@@ -102,11 +101,11 @@ static void run(long end) {
     wait_at_all();
     say_started();
     say_deaf_ports();
-    tell_ready();
+    report_ready();
     while (is_going_on) {
         long now = milliseconds();
         if (end != 0 && now >= end) return;
-        tell_alive(now);
+        report_alive(now);
         renew_ports(now);
         wait_at_ports();
         look_around(now);
@@ -132,7 +131,7 @@ static enum needs needs(void) {
 }
 
 static void end_in_order(void) {
-    tell_stopping();
+    report_stopping();
     stop_clock();
     close_ports();
     close_peers();
@@ -145,7 +144,7 @@ int main(int argc, char **argv) {
     read_options(&options, argc, argv);
     start_clock(&options);
     open_all();
-    tell_twin();
+    report_twin();
     let_go_of_rights(&options.privileges, needs());
     if (options.source != NULL) source = open_source(options.source);
     start_limits(&options.limits);
