@@ -1,5 +1,6 @@
 #include "asking.h"
 #include "answer.h"
+#include "as_asked.h"
 #include "exchange.h"
 #include "identity.h"
 #include "monotonic.h"
@@ -77,6 +78,10 @@ static int print_report(struct session *session, const struct task *task) {
     take_report(&session->handle, &answer);
     print_own_answer(task);
     if (fflush(stdout)) return NOT_WRITTEN;
+    if (is_other(task, &answer)) {
+        say_other(task, &answer);
+        return NOT_AS_ASKED;
+    }
     if (answer.told == PTPM_REFUSED && answer.error == NOT_SUPPORTED && task->action != PTPM_GET) say_not_supported(session);
     return answer.told == PTPM_REFUSED ? REFUSED : ANSWERED;
 }
@@ -119,7 +124,7 @@ int ask_clock(struct session *session, const struct task *task) {
         status = carry_out(session, task, &sent);
     }
     if (task->times > 1) printf("requests %ld, datagrams %ld\n", requests, sent);
-    if (status == ANSWERED || status == REFUSED) keep_at_rest(session);
+    if (status == ANSWERED || status == REFUSED || status == NOT_AS_ASKED) keep_at_rest(session);
     ptpm_session_stop(&session->handle);
     return status;
 }
