@@ -1,7 +1,7 @@
 # For race and floods, which begin by it: two network namespaces with a link between them, and a program at its far end that is
 # asked. $identity is that program's clock. CPUS are the processors of the program, of who asks it, and of what goes on beside.
 # REALTIME=1 has them run before all others.
-lacks() { echo "hosts/${0##*/}: $1"; exit 1; }
+lacks() { echo "hosts/tests/${0##*/}: $1"; exit 1; }
 for word in ip ptp4l taskset python3; do command -v $word > /dev/null || lacks "$word is missing"; done
 [ "$(id -u)" = 0 ] || lacks "network namespaces need root"
 make -s clock flood bare noise || lacks "clock, flood, bare and noise are not built"

@@ -1,5 +1,5 @@
 #!/usr/bin/env python3
-"""hosts/named_port.py PATH: at the Unix socket PATH a clock that answers a request to it alone only if its port 1 is named, as a
+"""hosts/tests/named_port.py PATH: at the Unix socket PATH a clock that answers a request to it alone only if its port 1 is named, as a
 ptpd does. GETs of PRIORITY1, which is 77, and of DEFAULT_DATA_SET are answered, and nothing else is."""
 import socket
 import sys

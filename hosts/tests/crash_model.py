@@ -1,4 +1,4 @@
-"""What a clock has and answers by IEEE 1588-2019, clause 15, and by this project's profile (docs/protocol.md), for hosts/crashes: the
+"""What a clock has and answers by IEEE 1588-2019, clause 15, and by this project's profile (docs/protocol.md), for hosts/tests/crashes: the
 library's data sets, verdicts and replies are held against it. A state of the model is never changed; what follows is a new one."""
 import struct
 from typing import NamedTuple, Optional

@@ -1,4 +1,4 @@
-"""What the attacks of hosts/attack share: the programs that they start, who asks a clock and what comes in at its ports, and the
+"""What the attacks of hosts/tests/attack share: the programs that they start, who asks a clock and what comes in at its ports, and the
 count of what holds."""
 import ctypes
 import fcntl
@@ -11,7 +11,7 @@ import subprocess
 import tempfile
 import time
 
-HOME = os.path.dirname(os.path.abspath(__file__))
+HOME = os.path.dirname(os.path.dirname(os.path.abspath(__file__)))
 ME, OTHER, MANAGER = "aabbccfffeddee01", "aabbccfffeddee99", "0011223344556677"
 LIBC = ctypes.CDLL(None, use_errno=True)
 passed, failed = 0, 0

@@ -1,11 +1,11 @@
-"""A clock and a session over the library as a host has them that saves and loses its power, for hosts/crashes: nothing leaves before it
-is saved, and a restart goes on from the last save. With each live state goes its state in the model, also into the storage. Hosts that
+"""A clock and a session over the library as a host has them that saves and loses its power, for hosts/tests/crashes: nothing leaves before
+it is saved, and a restart goes on from the last save. With each live state goes its state in the model, also into the storage. Hosts that
 break one rule each are planted ones."""
 import sys
 from enum import Enum
 from pathlib import Path
 
-sys.path.insert(0, str(Path(__file__).resolve().parent.parent / "bindings/python"))
+sys.path.insert(0, str(Path(__file__).resolve().parents[2] / "bindings/python"))
 import ptpm  # noqa: E402
 from ptpm import HandleAnswer, SessionAnswer  # noqa: E402
 from ptpm.requests import Requests  # noqa: E402

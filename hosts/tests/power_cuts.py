@@ -1,4 +1,4 @@
-"""What the trials of hosts/power share: a link that loses, repeats and holds back frames (link.c) between two network namespaces,
+"""What the trials of hosts/tests/power share: a link that loses, repeats and holds back frames (link.c) between two network namespaces,
 what is on the disk after a loss of power, and the count of what was seen and of what does not hold."""
 import collections
 import os
@@ -7,7 +7,7 @@ import subprocess
 import tempfile
 import time
 
-HOME = os.path.dirname(os.path.abspath(__file__))
+HOME = os.path.dirname(os.path.dirname(os.path.abspath(__file__)))
 CLOCK, MANAGE = (os.path.join(HOME, name) for name in ("clock", "manage"))
 ME = "aabbccfffeddee01"
 WIDTH = 7                                   # digits of a number, so that each SET has the same size

@@ -1,6 +1,6 @@
-"""Clocks, sessions and a reader over a network in memory, for hosts/crashes. Each datagram that was ever sent may come in, often, late, in
-any order, or never. What the library does is held against the model; and what managers were told and the reader read against what the
-clocks have after all."""
+"""Clocks, sessions and a reader over a network in memory, for hosts/tests/crashes. Each datagram that was ever sent may come in, often,
+late, in any order, or never. What the library does is held against the model; and what managers were told and the reader read against what
+the clocks have after all."""
 import struct
 from collections import Counter
 from typing import NamedTuple, Optional

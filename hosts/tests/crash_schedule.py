@@ -1,5 +1,5 @@
-"""What happens in a run of hosts/crashes, drawn by chance: requests, deliveries, observations, saves and crashes; and then a quiet network
-in which nothing is lost any more."""
+"""What happens in a run of hosts/tests/crashes, drawn by chance: requests, deliveries, observations, saves and crashes; and then a quiet
+network in which nothing is lost any more."""
 import struct
 
 from crash_hosts import GIVES_UP, ptpm
