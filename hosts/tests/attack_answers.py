@@ -3,11 +3,11 @@ run reports as done is what it asked."""
 import os
 import shutil
 import subprocess
+import time
 
 from attack_collect import Site
-from attacking import HOME, MANAGER, ME, Clock, check, manage, path, response, run, start, work, write
+from attacking import MANAGER, ME, Clock, check, manage, path, response, run, start, work, write
 
-PROGRAM = os.path.join(HOME, "manage")
 NOT_AS_ASKED = 5
 
 
@@ -62,25 +62,54 @@ def values_of_an_earlier_run():
               and "a get shows what the clock has: a run with a copy of the session's file" in site.said())
 
 
-def copies_at_once():
+class OneManager:
+    """A clock beyond a port that takes each number of its one manager once, keeps the answer, and answers to the group."""
+
+    def __init__(self, port):
+        self.port, self.latest, self.kept, self.value = port, None, None, bytes(2)
+
+    def hear(self):
+        for request in self.port.sent():
+            if request[46] > 2 or request[34:42].hex() != ME:
+                continue
+            number, asked = int.from_bytes(request[30:32], "big"), request[46:47] + request[52:]
+            if self.latest is not None and number == self.latest and asked == self.kept[0]:
+                self.port.come_in(self.kept[1])
+            elif self.latest is None or 0 < (number - self.latest) % 65536 < 32768:
+                if request[46] == 1:
+                    self.value = request[54:56]
+                field = self.value if request[52:54] == b"\x20\x05" else bytes(20)
+                self.latest, self.kept = number, (asked, response(request, request[52:54] + field))
+                self.port.come_in(self.kept[1])
+
+    def hears_until(self, runs):
+        """Answers until these runs have ended: what each printed, and its status."""
+        while any(one.poll() is None for one in runs):
+            self.hear()
+            time.sleep(0.001)
+        return [(one.communicate()[0], one.returncode) for one in runs]
+
+
+def copies_at_once(port):
     """Two runs at a time, one with a session's file and one with its copy: none ends with 0 that was answered for the other."""
-    clock, wrong, told = Clock("-m", MANAGER + "/1", "-u", path, ME), [], 0
+    clock, wrong, told, both = OneManager(port), [], 0, 0
     files = [os.path.join(work, name) for name in ("number", "copy")]
-    manage("-u", path, "-k", files[0], "set", "PRIORITY1", "1")
+    port.sent()
+
+    def begins(file, value):
+        return start("manage", "-m", MANAGER + "/1", "-w", "0", "-i", port.name, "-a", "5", "-t", "40", "--give-up", "-k", file, "--target",
+                     ME, "set", "PRIORITY1", str(value), stdout=subprocess.PIPE, stderr=subprocess.DEVNULL, text=True)
     for turn in range(20):
+        if turn == 0 or not os.path.exists(files[0]):
+            clock.hears_until([begins(files[0], 1)])
         shutil.copy(files[0], files[1])
         values = (2 * turn + 10, 2 * turn + 11)
-        runs = [start("manage", "-m", MANAGER + "/1", "-w", "0", "-u", path, "-a", "5", "-t", "30", "-k", file, "--target", ME, "set",
-                      "PRIORITY1", str(value), stdout=subprocess.PIPE, stderr=subprocess.DEVNULL, text=True)
-                for file, value in zip(files, values)]
-        ends = [(one.communicate(timeout=20)[0], one.returncode) for one in runs]
+        ends = clock.hears_until([begins(file, value) for file, value in zip(files, values)])
         wrong += [(value, end) for value, end in zip(values, ends) if end[1] == 0 and end[0] != f"priority1 {value}\n"]
         told += any(status == NOT_AS_ASKED for _, status in ends)
-        if os.path.exists(files[1]) and ends[0][1] != 0:
-            shutil.copy(files[1], files[0])
-        manage("-u", path, "-a", "5", "-t", "30", "--give-up", "-k", files[0], "get", "PRIORITY1")
-    check(f"of two runs with a file and its copy none has the other's answer as its own: {wrong}, and {told} said so", wrong == [])
-    clock.end()
+        both += all(status == 0 for _, status in ends)
+    check(f"of two runs with a file and its copy none has the other's answer as its own: {wrong}", wrong == [])
+    print(f"of 20 pairs with a file and its copy {told} had a run that was answered for the other, and {both} ended with 0 both")
 
 
 def errors_of_other_ports():
@@ -103,4 +132,4 @@ def errors_of_other_ports():
     check("nor is a value of another port", site.status == 3)
 
 
-ATTACKS = [values_that_were_not_asked, values_of_an_earlier_run, copies_at_once, errors_of_other_ports]
+ATTACKS = [values_that_were_not_asked, values_of_an_earlier_run, errors_of_other_ports]
