@@ -16,14 +16,15 @@
 #include <string.h>
 #include <sys/un.h>
 
-enum { SECOND = 1000, HOPS_AT_FIRST = 8, RATE_AT_FIRST = 1000, MOST_RATE = 1000000, MODE_AT_FIRST = 0660 };
+enum { SECOND = 1000, HOPS_AT_FIRST = 8, RATE_AT_FIRST = 1000, MANAGER_RATE_AT_FIRST = 100, MOST_RATE = 1000000, MODE_AT_FIRST = 0660 };
 
 /* Options without a letter of their own. */
-enum { VERSION = 256, HOPS, RATE, NO_FORWARD, ANY_SOURCE, USER, UNIX_GROUP, UNIX_MODE, NO_FILTER };
+enum { VERSION = 256, HOPS, RATE, MANAGER_RATE, NO_FORWARD, ANY_SOURCE, USER, UNIX_GROUP, UNIX_MODE, NO_FILTER };
 
 static const struct option names[] = {
     { "ipv6", no_argument, NULL, '6' }, { "ethernet", no_argument, NULL, '2' }, { "hops", required_argument, NULL, HOPS },
-    { "rate", required_argument, NULL, RATE }, { "no-forward", no_argument, NULL, NO_FORWARD },
+    { "rate", required_argument, NULL, RATE }, { "manager-rate", required_argument, NULL, MANAGER_RATE },
+    { "no-forward", no_argument, NULL, NO_FORWARD },
     { "any-source", no_argument, NULL, ANY_SOURCE }, { "user", required_argument, NULL, USER },
     { "unix-group", required_argument, NULL, UNIX_GROUP }, { "unix-mode", required_argument, NULL, UNIX_MODE },
     { "no-filter", no_argument, NULL, NO_FILTER }, { "state", required_argument, NULL, 's' }, { "help", no_argument, NULL, 'h' },
@@ -51,7 +52,8 @@ static const char help[] =
     "  --hops N            by how many clocks a message is passed on at most, this one included (8)\n"
     "  --no-forward        nothing is passed on between the ports\n"
     "  --rate N            how many messages a port passes on a second, and how many answers it sends to others than\n"
-    "                      managers (1000)\n"
+    "                      managers (1000); a few more for each address\n"
+    "  --manager-rate N    how many requests of managers a port takes a second (100); a few more for each address\n"
     "  --any-source        datagrams from addresses that are not on the link are heard too\n"
     "\n"
     "  -s, --state FILE    the clock is saved to FILE before it answers, and goes on from FILE at its next start\n"
@@ -133,6 +135,7 @@ static void take_limit(struct options *options, int option) {
     switch (option) {
     case HOPS: options->limits.hops = number("--hops", 0, 255); break;
     case RATE: options->limits.rate = number("--rate", 1, MOST_RATE); break;
+    case MANAGER_RATE: options->limits.manager_rate = number("--manager-rate", 1, MOST_RATE); break;
     case NO_FORWARD: options->limits.is_passed_on = false; break;
     case ANY_SOURCE: options->limits.is_any_source = true; break;
     case USER: take_user(&options->privileges); break;
@@ -204,7 +207,7 @@ static void judge(const struct options *options, bool has_two_ways) {
 void read_options(struct options *options, int argc, char **argv) {
     bool has_two = false, has_six = false;
     ptpm_clock_defaults(&options->settings);
-    options->limits = (struct limits){ .hops = HOPS_AT_FIRST, .rate = RATE_AT_FIRST, .is_passed_on = true };
+    options->limits = (struct limits){ .hops = HOPS_AT_FIRST, .rate = RATE_AT_FIRST, .manager_rate = MANAGER_RATE_AT_FIRST, .is_passed_on = true };
     options->meeting = (struct meeting){ .mode = MODE_AT_FIRST, .group = (gid_t)-1 };
     for (int option; (option = getopt_long(argc, argv, "26fu:m:d:s:o:n:vh", names, NULL)) != -1;) {
         has_two |= option == '2';

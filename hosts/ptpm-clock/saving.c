@@ -15,6 +15,7 @@
 enum { NOT_STARTED = 1, NOT_OPENED = 2, IDENTITY = 12 };
 
 enum { MOST_STATE_OCTETS = PTPM_CLOCK_IMAGE_OCTETS + 1, LOCK_TRIES = 100 };
+enum { JOINED = 5 };        /* for so many requests of managers a second there is a save a second */
 
 static struct kept_file file = { .folder = -1, .mode = 0600 };
 static const struct options *options;
@@ -153,6 +154,14 @@ static enum replaced save(const struct ptpm_clock *clock) {
 
 void save_at_start(struct ptpm_clock *clock) {
     if (options->state != NULL && save(clock) != REPLACED) refuse_file(NULL);
+}
+
+bool may_save(void) {
+    static struct ptpm_rate rate;
+    if (options->state == NULL) return true;
+    long a_second = options->limits.manager_rate / JOINED;
+    if (rate.rate == 0) ptpm_rate_start(&rate, a_second > 0 ? (uint64_t)a_second : 1, (uint64_t)milliseconds());
+    return ptpm_rate_take(&rate, (uint64_t)milliseconds());
 }
 
 void note_change(void) { is_unsaved = options->state != NULL; }
