@@ -91,6 +91,23 @@ def strangers_without_end():
     check("where there is no room for requests it ends all the same", site.took < 60)
 
 
+def strangers_that_are_one():
+    """One host answers the first request as 1,000 clocks, and then reads: each is asked alone once, at a pace, and let go."""
+    many, times = [identity(number) for number in range(1000)], []
+
+    def reply(request):
+        times.append(time.monotonic())
+        return [answer(request, clock) for clock in many] if len(times) == 1 else []
+    site = Site(reply, "-t", "100", "-a", "10", "collect")
+    pace = max(sum(begin <= one < begin + 0.5 for one in times[place:place + 5000]) for place, begin in enumerate(times) if place % 50 == 0)
+    check(f"1,000 clocks that are one are asked {len(times)} times, and {pace} in half a second", site.status == 0
+          and 5000 < len(times) < 5100 and pace < 1700)
+    check("they are let go", "1000 clocks gave no new answer when they were asked alone: they were let go\n" in site.said())
+    few = Site(lambda request: [answer(request, clock) for clock in many[:100]] if request[52:54] == b"\x20\0" else [], "-t", "100", "-a", "3",
+               "collect")
+    check("a hundred are not", len(few.requests) == 6 + 3 * 500 and "let go" not in few.said())
+
+
 def strangers_that_never_end():
     """A new clock answers in each silence, and answers no more."""
     count = iter(range(1, 1 << 30))
@@ -229,5 +246,5 @@ int main(void) {
     check(f"without memory a site is whole or fails, except {wrong}", wrong == [] and 0 < refused < 46)
 
 
-ATTACKS = [strangers_without_end, strangers_that_never_end, junk, one_identity, ids_that_lack, signals_to_collect, programs_that_show,
+ATTACKS = [strangers_without_end, strangers_that_are_one, strangers_that_never_end, junk, one_identity, ids_that_lack, signals_to_collect, programs_that_show,
            refusals_of_memory]
