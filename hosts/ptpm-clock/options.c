@@ -15,6 +15,7 @@
 #include <stdlib.h>
 #include <string.h>
 #include <sys/un.h>
+#include <unistd.h>
 
 enum { SECOND = 1000, HOPS_AT_FIRST = 8, RATE_AT_FIRST = 1000, MANAGER_RATE_AT_FIRST = 100, MOST_RATE = 1000000, MODE_AT_FIRST = 0660 };
 
@@ -61,7 +62,8 @@ static const char help[] =
     "                      written, or a pipe. Lines are for example: offset_from_master 98304, or: port 1 state 9\n"
     "  -n SECONDS          it ends by itself then\n"
     "  -v                  a line for each datagram that it hears, and one for what it changed\n"
-    "  --user NAME         the user that it becomes once its sockets are open\n"
+    "  --user NAME         the user that it becomes once its sockets are open. Root becomes ptpm if there is such a user,\n"
+    "                      else nobody; --user root stays root\n"
     "  --no-filter         no system call is refused, for example for a debugger\n"
     "  -h, --help          this text\n"
     "  --version           the version\n"
@@ -107,12 +109,28 @@ static gid_t group_named(void) {
     return found->gr_gid;
 }
 
-static void take_user(struct privileges *privileges) {
-    const struct passwd *found = getpwnam(optarg);
-    if (found == NULL) refuse("--user %s: there is no such user", optarg);
-    privileges->user_name = optarg;
+/* Whether there is such a user; whom the program then becomes. */
+static bool find_user(struct privileges *privileges, const char *name) {
+    const struct passwd *found = getpwnam(name);
+    if (found == NULL) return false;
+    privileges->user_name = name;
     privileges->user = found->pw_uid;
     privileges->group = found->pw_gid;
+    return true;
+}
+
+static void take_user(struct privileges *privileges) {
+    if (!find_user(privileges, optarg)) refuse("--user %s: there is no such user", optarg);
+}
+
+/* Root stays root only if it is named. The Unix socket stays one of root's group, and what root asks there can be answered. */
+static void leave_root(struct options *options) {
+    struct privileges *privileges = &options->privileges;
+    if (geteuid() != 0 || privileges->user_name != NULL) return;
+    gid_t group = getegid();
+    privileges->is_by_default = find_user(privileges, "ptpm") || find_user(privileges, "nobody");
+    if (!privileges->is_by_default) refuse("there is no user nobody: --user NAME names one, and --user root stays root");
+    if (options->meeting.path != NULL && options->meeting.group == (gid_t)-1) options->meeting.group = group;
 }
 
 static const char *socket_path(void) {
@@ -221,6 +239,7 @@ void read_options(struct options *options, int argc, char **argv) {
     }
     options->interfaces = argv + optind + 1;
     options->interface_count = (size_t)(argc - optind - 1);
+    leave_root(options);
     if (options->privileges.user_name != NULL && options->meeting.group == (gid_t)-1) {
         options->meeting.group = options->privileges.group;
     }

@@ -178,6 +178,7 @@ static void read_octets_of(struct task *task, const char *text) {
     if (strlen(text) > 2 * MOST_FIELD) refuse("the dataField has over %d octets", MOST_FIELD);
     task->size = read_octets(&rest, task->octets, sizeof task->octets);
     if (*rest == '\0' && task->size % 2 == 0) return;
+    if (task->action == PTPM_GET && id_named(text) >= 0) refuse("get takes one managementId: %s is asked for by a run of its own", text);
     refuse("%s: it is no even number of octets in hexadecimal%s", text, hint(task));
 }
 

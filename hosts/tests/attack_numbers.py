@@ -412,7 +412,7 @@ def places_without_room():
             fill_disk(folder, "filler2")
         two.clock.text()
         check("a full disk", two.other_sets() and two.is_honest() and two.last == 2
-              and f"the request was not sent: --numbers {two.number}: No space left on device" in two.said)
+              and f"the request was not sent: --numbers {two.number}.new: No space left on device" in two.said)
         check("nothing was sent then, and nothing new lies there", os.path.exists(two.number) != is_new
               and not os.path.exists(two.number + ".new"))
     os.unlink(os.path.join(folder, "filler"))

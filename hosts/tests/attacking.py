@@ -31,8 +31,9 @@ def check(what, holds):
 
 
 def start(name, *words, **streams):
-    """A program of this folder, which is ended with the attack that started it."""
-    process = subprocess.Popen([os.path.join(HOME, name), *words], **streams)
+    """A program of this folder, which is ended with the attack that started it. A clock stays root where no user is named."""
+    stays = ["--user", "root"] if name == "clock" and "--user" not in words else []
+    process = subprocess.Popen([os.path.join(HOME, name), *stays, *words], **streams)
     started.append(process)
     return process
 
