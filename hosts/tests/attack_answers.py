@@ -6,7 +6,7 @@ import subprocess
 import time
 
 from attack_collect import Site
-from attacking import MANAGER, ME, Clock, check, manage, path, response, run, start, work, write
+from attacking import MANAGER, ME, check, response, start, work
 
 NOT_AS_ASKED = 5
 
