@@ -24,7 +24,7 @@ static struct answer answer;
 /* What an operator can do if the library refuses to ask. */
 static const char *advice(uint32_t refusal) {
     switch (refusal) {
-    case PTPM_NEEDS_PORT: return ": name a port of the clock, 1 to 8, such as --target aabbcc.fffe.ddee01-1 or --port 1";
+    case PTPM_NEEDS_PORT: return ": name a port of the clock, 1 to 65534, such as --target aabbcc.fffe.ddee01-1 or --port 1";
     case PTPM_SAME_CLOCK: return ": the manager has the identity of the clock; --manager gives it another";
     case PTPM_MANAGER_IS_EVERY: return ": the manager's identity means every clock; --manager gives it another";
     case PTPM_TARGET_IS_EVERY: return ": --target means every clock; survey asks every clock";

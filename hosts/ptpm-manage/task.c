@@ -1,6 +1,7 @@
 #define _GNU_SOURCE
 #include "task.h"
 #include "digits.h"
+#include "exchange.h"
 #include "field_words.h"
 #include "help.h"
 #include "identity.h"
@@ -276,7 +277,7 @@ static void read_reach(struct task *task, const struct words *words) {
 void read_task(struct task *task, int argc, char **argv) {
     struct words words = { .port = NOT_NAMED, .target_port = NOT_NAMED, .hops = NOT_NAMED, .attempts = NOT_NAMED };
     *task = (struct task){
-        .settings = { .port = 1, .target_ports = 8 }, .site = { .listen = NOT_NAMED }, .wait = 3000, .timeout = 200, .times = 1,
+        .settings = { .port = 1, .target_ports = SESSION_PORTS }, .site = { .listen = NOT_NAMED }, .wait = 3000, .timeout = 200, .times = 1,
     };
     read_words(task, &words, argc, argv);
     if (words.count == 0) refuse("it takes get, set, command or survey and a managementId, or collect or status; see ptpm-manage --help");
@@ -290,7 +291,9 @@ void read_task(struct task *task, int argc, char **argv) {
     if (task->site.listen < 0) task->site.listen = LISTENED;
     long port = words.port >= 0 ? words.port : words.target_port;
     task->port = port < 0 ? 0 : (uint16_t)port;
-    task->is_kept = is_by_one_manager(task);
+    bool is_beyond = is_beyond_session(task->port);
+    if (is_beyond && task->numbers != NULL) refuse("--numbers: no session is kept of a port above %d, which no clock of ptpm has", SESSION_PORTS);
+    task->is_kept = is_by_one_manager(task) && !is_beyond;
     if (task->is_letting_go && !task->is_kept) refuse("--give-up: no session is kept of what is asked");
 }
 

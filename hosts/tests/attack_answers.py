@@ -132,4 +132,31 @@ def errors_of_other_ports():
     check("nor is a value of another port", site.status == 3)
 
 
-ATTACKS = [values_that_were_not_asked, values_of_an_earlier_run, errors_of_other_ports]
+def ports_above_eight():
+    """A switch with 24 ports: one of them is named, answers, and refuses."""
+    def reply(request, port):
+        octets = bytearray(response(request, request[52:54] + (request[54:] or b"\x03\0")))
+        octets[28:30] = port.to_bytes(2, "big")
+        return [bytes(octets)]
+    for words, printed in [(("-T", ME + "-20", "get", "LOG_SYNC_INTERVAL"), "logSyncInterval 3"), (("--target", ME, "-p", "20", "set",
+                            "LOG_SYNC_INTERVAL", "-2"), "logSyncInterval -2"), (("--target", ME + "-65534", "set", "LOG_SYNC_INTERVAL", "1"), "logSyncInterval 1")]:
+        site = Site(lambda request: reply(request, int.from_bytes(request[42:44], "big")), *words)
+        named = {int.from_bytes(request[42:44], "big") for request in site.requests}
+        check(f"{words} is asked of that port", (site.status, site.lines()) == (0, [printed]) and named == {65534 if "65534" in str(words) else 20})
+    for port in [1, 8, 21]:
+        site = Site(lambda request: reply(request, port), "--target", ME + "-20", "-a", "2", "-t", "50", "get", "LOG_SYNC_INTERVAL")
+        check(f"an answer of port {port} is none of port 20", site.status == 3)
+        site = Site(lambda request: reply(request, port), "--target", ME + "-20", "get", "PRIORITY1")
+        check("but it is for an id of the clock", site.status == 0 and site.lines() == ["priority1 3"])
+
+    def refusal(request):
+        octets = bytearray(response(request, b"\0\6" + request[52:54] + bytes(4), 2))
+        octets[46] = 4                                              # ACKNOWLEDGE
+        return [bytes(octets)]
+    site = Site(refusal, "-m", MANAGER + "/1", "--target", ME + "-20", "command", "DISABLE_PORT")
+    check("a refusal of a manager's COMMAND there counts", (site.status, site.lines()) == (1, ["refused NOT_SUPPORTED"]))
+    site = Site(lambda request: [], "--target", ME + "-20", "-k", os.path.join(work, "number"), "get", "LOG_SYNC_INTERVAL")
+    check("no session is kept of it", site.status == 2 and site.requests == [] and os.listdir(work).count("number") == 0)
+
+
+ATTACKS = [values_that_were_not_asked, values_of_an_earlier_run, errors_of_other_ports, ports_above_eight]
