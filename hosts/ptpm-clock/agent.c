@@ -161,7 +161,7 @@ static unsigned long take_turn(struct heard *heard, const struct port *port) {
     return hand_on(heard, port, ingress, answer, places, count, &left);
 }
 
-/* Puts those that may change the clock behind the others, each in their order; how many others there are. */
+/* Parts those that may change the clock from the others, each in their order; how many others there are. */
 static size_t part_round(struct heard *const *all, size_t count, struct heard **first, struct heard **last) {
     size_t firsts = 0, lasts = 0;
     for (size_t i = 0; i < count; i++) {

@@ -9,7 +9,7 @@
 
 struct held { struct heard heard; const struct port *port; };
 
-/* Copies a datagram behind those that wait; whether there is room. */
+/* Copies a datagram after those that wait; whether there is room. */
 bool hold(const struct heard *heard, const struct port *port);
 
 /* How many wait, and which, in the order in which they came. */

@@ -15,7 +15,7 @@
 enum { NOT_STARTED = 1, NOT_OPENED = 2, IDENTITY = 12 };
 
 enum { MOST_STATE_OCTETS = PTPM_CLOCK_IMAGE_OCTETS + 1, LOCK_TRIES = 100 };
-enum { JOINED = 5 };        /* for so many requests of managers a second there is a save a second */
+enum { JOINED = 5 };        /* requests of managers for which there is one save */
 
 static struct kept_file file = { .folder = -1, .mode = 0600 };
 static const struct options *options;

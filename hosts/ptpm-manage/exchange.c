@@ -5,8 +5,7 @@
 enum { ERROR_TLV = 2 };             /* a tlvType (14.1.1): a MANAGEMENT_ERROR_STATUS (15.5.4) */
 enum { CLOCK = SOURCE_PORT_AT - SOURCE_AT, PORT_IDENTITY = CLOCK + 2 };     /* octets of identities */
 
-/* The target of the latest message as the session has it, and the port above the session's that stands in place of its last one; 0 if
-   none does. */
+/* The target of the latest message as the session has it. And the port that takes the place of the session's last one, or 0. */
 static uint8_t target[PORT_IDENTITY];
 static uint16_t beyond;
 
