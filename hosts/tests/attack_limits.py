@@ -4,8 +4,8 @@ import re
 import signal
 import time
 
-from attack_wire import STATION, STRANGER, Wire, frame_four, message, wait_until
-from attacking import MANAGER, ME, OTHER, Clock, Peer, check, path, run, work
+from attack_wire import STATION, STRANGER, Wire, frame_four, message
+from attacking import MANAGER, ME, OTHER, Clock, Peer, check, path, run, wait_until, work
 
 TOOL = "0a0b0c0d0e0f10aa"
 

@@ -105,10 +105,3 @@ def message_of(frame):
     if kind == b"\x86\xdd" and frame[20] == 17 and frame[56:58] == b"\x01\x40":
         return frame[62:]
     return frame[14:] if kind == b"\x88\xf7" else None
-
-
-def wait_until(holds, most=4):
-    end = time.monotonic() + most
-    while not holds() and time.monotonic() < end:
-        time.sleep(0.05)
-    return holds()
