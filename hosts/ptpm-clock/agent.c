@@ -2,8 +2,10 @@
 #include "agent.h"
 #include "counts.h"
 #include "field_text.h"
+#include "held.h"
 #include "identity.h"
 #include "names.h"
+#include "network_limits.h"
 #include "observation.h"
 #include "output.h"
 #include "peers.h"
@@ -16,6 +18,8 @@
 #include <string.h>
 #include <sys/socket.h>
 #include <sys/un.h>
+
+enum { NEXT_SAVE = 10 };       /* in how many milliseconds it is seen whether it is time for one */
 
 static struct ptpm_clock clock_held;
 static const struct options *options;
@@ -80,6 +84,9 @@ void say_started(void) {
     for (size_t i = 0; i < ports_of(options); i++) {
         const char *where = port_count > 0 ? ports[i].name : options->meeting.path;
         size += (size_t)snprintf(text + size, sizeof text - size, " port %zu at %.128s %s,", i + 1, where, state_of(i + 1));
+    }
+    if (options->privileges.is_by_default) {
+        say("it is user %s from here on: --user names another, and --user root stays root", options->privileges.user_name);
     }
     say("%s %zu manager%s", text, options->manager_count, options->manager_count == 1 ? "" : "s");
 }
@@ -159,7 +166,6 @@ static unsigned long take_verbose_turn(const struct heard *heard, const struct p
 static unsigned long take_turn(struct heard *heard, const struct port *port) {
     size_t count, left;
     uint16_t ingress = port == NULL ? 1 : (uint16_t)(port - ports + 1);
-    if (port != NULL && !admit_datagram(heard, port)) return 0;
     lower_hops(heard);
     struct ptpm_sent *places = places_to_send();
     if (places == NULL) {
@@ -171,12 +177,46 @@ static unsigned long take_turn(struct heard *heard, const struct port *port) {
     return hand_on(heard, port, ingress, answer, places, count, &left);
 }
 
+/* Parts those that may change the clock from the others, each in their order; how many others there are. */
+static size_t part_round(struct heard *const *all, size_t count, struct heard **first, struct heard **last) {
+    size_t firsts = 0, lasts = 0;
+    for (size_t i = 0; i < count; i++) {
+        if (is_of_manager(all[i], options->settings.identity)) last[lasts++] = all[i];
+        else first[firsts++] = all[i];
+    }
+    return firsts;
+}
+
 void take_round(const struct port *port, int socket) {
     static struct heard heard[ROUND];
+    struct heard *admitted[ROUND], *first[ROUND], *last[ROUND];
     unsigned long lost = 0;
-    size_t count = hear_round(port, socket, heard);
-    for (size_t i = 0; i < count; i++) lost += take_turn(&heard[i], port);
+    size_t count = hear_round(port, socket, heard), left = 0;
+    for (size_t i = 0; i < count; i++) {
+        if (port == NULL || admit_datagram(&heard[i], port)) admitted[left++] = &heard[i];
+    }
+    size_t firsts = part_round(admitted, left, first, last);
+    for (size_t i = 0; i < firsts; i++) lost += take_turn(first[i], port);
+    lost += send_saved();
+    for (size_t i = 0; i < left - firsts; i++) {
+        if (port == NULL) lost += take_turn(last[i], port);
+        else if (admit_manager(last[i], port) && !hold(last[i], port)) count_manager_dropped();
+    }
     count_dropped(lost + send_saved());
+}
+
+/* Takes as many as one save does for. */
+static void take_held(void) {
+    unsigned long lost = 0;
+    size_t taken = 0;
+    for (; taken < held_count() && places_to_send() != NULL; taken++) lost += take_turn(&held_at(taken)->heard, held_at(taken)->port);
+    count_dropped(lost + send_saved());
+    let_go_of_held(taken);
+}
+
+long take_waiting(void) {
+    while (held_count() > 0 && may_save()) take_held();
+    return held_count() > 0 ? NEXT_SAVE : -1;
 }
 
 static void tell_left(uint8_t left) {

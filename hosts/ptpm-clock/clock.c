@@ -109,7 +109,8 @@ static void run(long end) {
         renew_ports(now);
         wait_at_ports();
         look_around(now);
-        long most = end != 0 && end - now < SECOND ? end - now : SECOND;
+        long most = end != 0 && end - now < SECOND ? end - now : SECOND, waiting = take_waiting();
+        if (waiting >= 0 && waiting < most) most = waiting;
         wake_at(now + until_alive(now, most));
         int found = epoll_wait(polled, events, WAITS, -1);
         for (int i = 0; i < found && is_going_on; i++) is_going_on = take_event(events[i].data.u32);

@@ -1,6 +1,7 @@
 #define _GNU_SOURCE
 #include "task.h"
 #include "digits.h"
+#include "exchange.h"
 #include "field_words.h"
 #include "help.h"
 #include "identity.h"
@@ -235,6 +236,7 @@ static void read_octets_of(struct task *task, const char *text) {
     if (strlen(text) > 2 * MOST_FIELD) refuse("the dataField has over %d octets", MOST_FIELD);
     task->size = read_octets(&rest, task->octets, sizeof task->octets);
     if (*rest == '\0' && task->size % 2 == 0) return;
+    if (task->action == PTPM_GET && id_named(text) >= 0) refuse("get takes one managementId: %s is asked for by a run of its own", text);
     refuse("%s: it is no even number of octets in hexadecimal%s", text, hint(task));
 }
 
@@ -332,7 +334,7 @@ static void read_reach(struct task *task, const struct words *words) {
 void read_task(struct task *task, int argc, char **argv) {
     struct words words = { .port = NOT_NAMED, .target_port = NOT_NAMED, .hops = NOT_NAMED, .attempts = NOT_NAMED };
     *task = (struct task){
-        .settings = { .port = 1, .target_ports = 8 }, .site = { .listen = NOT_NAMED }, .wait = 3000, .timeout = 200, .times = 1,
+        .settings = { .port = 1, .target_ports = SESSION_PORTS }, .site = { .listen = NOT_NAMED }, .wait = 3000, .timeout = 200, .times = 1,
     };
     read_words(task, &words, argc, argv);
     if (words.count == 0) refuse("it takes get, set, command or survey and a managementId, or collect or status; see ptpm-manage --help");
@@ -346,7 +348,9 @@ void read_task(struct task *task, int argc, char **argv) {
     if (task->site.listen < 0) task->site.listen = LISTENED;
     long port = words.port >= 0 ? words.port : words.target_port;
     task->port = port < 0 ? 0 : (uint16_t)port;
-    task->is_kept = is_by_one_manager(task);
+    bool is_beyond = is_beyond_session(task->port);
+    if (is_beyond && task->numbers != NULL) refuse("--numbers: no session is kept of a port above %d, which no clock of ptpm has", SESSION_PORTS);
+    task->is_kept = is_by_one_manager(task) && !is_beyond;
     if (task->is_letting_go && !task->is_kept) refuse("--give-up: no session is kept of what is asked");
 }
 

@@ -9,7 +9,7 @@ import fcntl
 import ipaddress
 import itertools
 import os
-import select
+import selectors
 import socket
 import struct
 import time
@@ -80,11 +80,17 @@ class Transport:
             raise OSError(error.errno, error.strerror, self._name) from None
         return True
 
+    def _is_readable(self, wait: float) -> bool:
+        """Whether something has come in within a time."""
+        with selectors.PollSelector() as selector:
+            selector.register(self._socket, selectors.EVENT_READ)
+            return bool(selector.select(wait))
+
     def receive(self, until: float) -> Optional[bytes]:
         """The next datagram, or None if none comes in before a time of time.monotonic()."""
         while True:
             left = until - time.monotonic()
-            if left <= 0 or not select.select([self._socket], [], [], left)[0]:
+            if left <= 0 or not self._is_readable(left):
                 return None
             try:
                 return self._socket.recv(MOST_DATAGRAM)
