@@ -1,5 +1,5 @@
 #include "as_asked.h"
-#include "field_lines.h"
+#include "field_text.h"
 #include "notices.h"
 #include <string.h>
 
