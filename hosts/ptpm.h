@@ -1,29 +1,28 @@
 /* PTP management (IEEE 1588-2019, clause 15) for a host in C. An agent: the data sets of one clock, and what becomes of each
    management message that comes in at its ports. And a session of a manager: one request at a time to one clock. Such an agent
    carries it out once, however often it is sent. And a survey: one GET to every clock, or to one, and the first answer of each
-   port. The library opens no socket, reads no clock and starts no thread. Link libptpm.a or libptpm.so. Either needs the C library
-   alone, and calls malloc, realloc and free of the host; libptpm_memory.a calls none (ptpm_memory.h). This file is C99, C11, C17
-   and C++17, of gcc or clang.
+   port. The library opens no socket, reads no clock and starts no thread. Link libptpm.a or libptpm.so. Both need only the C
+   library, and call malloc, realloc and free of the host; libptpm_memory.a calls none of these (ptpm_memory.h). This file is C99,
+   C11, C17 and C++17, for gcc and clang.
 
-   What is proved of a call is proved of callers that keep to this:
+   The proofs about a call hold for callers that keep these rules:
 
-   - A pointer is never null, even if its size is 0 (let it then point at anything), and is aligned as its type asks.
-   - What a pointer and its size name may be read, and if it is no const may be written. It stays the caller's, and the library
-     keeps no pointer to it after the call. What a call may write lies apart from everything else that the call is
-     given.
-   - One thread at a time is in a call with a handle, a table or a bucket. Calls with different ones may run side by
-     side.
-   - A handle is all zeros before its first call. A start frees what the handle holds, and takes any other octets for something to
-     free. There is one live copy of a handle. The host may move it, and reads and writes nothing inside it.
+   - No pointer is null, even if its size is 0 (any valid address will do then). Each pointer is aligned as its type requires.
+   - The memory that a pointer and its size describe may be read, and written unless it is const. It stays the caller's: the library
+     keeps no pointer to it after the call. Output buffers must not overlap other arguments.
+   - Only one thread at a time makes calls with a given handle, table or bucket. Calls with different ones may run in parallel.
+   - A handle is all zeros before its first call. A start frees what the handle holds, and would free whatever an uninitialised
+     handle points to. There is one live copy of a handle. The host may move it, and neither reads nor writes anything inside it.
    - malloc, realloc and free come from one allocator. malloc aligns each block to the greatest power of two up to 16 that divides
      its size. No call is made from a signal handler, or in a forked child of a process with threads.
    - A call has the stack that it needs. As the library is built for x86-64 and aarch64, most calls take 500 octets. The image of a
      clock, and the image and the restore of a session, take 1,000 each. A restore of a clock takes 9,200. A start of a clock takes
      5,500, ptpm_clock_handle_changed and ptpm_field_parse 2,100 each. ptpm_clock_handle, ptpm_clock_observe and ptpm_field_text take
-     1,000 each. The message of a survey takes 1,900. Beyond that a call has what malloc, realloc, free, memcpy, memmove and memset of the host take. No call calls itself.
+     1,000 each. The message of a survey takes 1,900. Beyond that a call takes the stack of the host's malloc, realloc, free, memcpy,
+     memmove and memset. No call calls itself.
 
-   A call that only reads takes a const handle, and leaves it as it is. If several refusals hold, a call answers the first. In
-   ptpm_clock_start alone PTPM_NO_MEMORY may come in its place. Every other call asks for memory only if nothing else refuses. */
+   A call that only reads takes a const handle, and leaves it as it is. If several errors apply, the first is returned. Only
+   ptpm_clock_start may return PTPM_NO_MEMORY in its place. Every other call asks for memory only if no other error applies. */
 #ifndef PTPM_H
 #define PTPM_H
 
@@ -32,7 +31,7 @@
 #include <stdint.h>
 
 #if __SIZEOF_POINTER__ != 8 || __BYTE_ORDER__ != __ORDER_LITTLE_ENDIAN__
-#error "ptpm is built for 64-bit little-endian processors alone"
+#error "ptpm is built only for 64-bit little-endian processors"
 #endif
 
 #ifdef __cplusplus
@@ -55,7 +54,8 @@ enum {
     PTPM_ID_DELAY_MECHANISM = 0x6000, PTPM_ID_LOG_MIN_PDELAY_REQ_INTERVAL = 0x6001
 };
 
-/* A clock, about 34,600 octets at one pointer. All zeros hold no clock: struct ptpm_clock clock = { 0 }; */
+/* A clock: 2,608 octets at one pointer with one manager, and 34,648 with sixteen. All zeros hold no clock: struct ptpm_clock
+   clock = { 0 }; */
 struct ptpm_clock { void *at; bool live; };
 
 /* The start values of a clock's own members: ptpm_clock_defaults writes them all, then the host writes its own over them.
@@ -380,7 +380,7 @@ enum { PTPM_MOST_ANSWERS = 512 };
    PTPM_TOO_MANY_PORTS, PTPM_TARGET_IS_ZERO or PTPM_NO_MEMORY, in this order. A survey of every clock is refused by the first or the
    last of these. A survey of one clock is refused by all of them except the two of ports. A clock is refused by all others,
    PTPM_IDENTITY_IS_ZERO last, and by PTPM_NO_PORTS, PTPM_TOO_MANY_PORTS and PTPM_NO_MEMORY. PTPM_OTHER_SIZES comes before all of
-   them, of ptpm_clock_start_sized and its like alone. */
+   them, and only for ptpm_clock_start_sized and its like. */
 __extension__ enum PTPM_FOUR_OCTETS(ptpm_started) {
     PTPM_STARTED = 0,
     PTPM_START_NO_MEMORY = PTPM_NO_MEMORY,
@@ -534,7 +534,7 @@ __extension__ enum PTPM_FOUR_OCTETS(ptpm_survey_received) {
     PTPM_SURVEY_OTHER_DOMAIN = PTPM_OTHER_DOMAIN,
     PTPM_SURVEY_NOT_A_REPLY = PTPM_NOT_A_REPLY,
     PTPM_SURVEY_OTHER_TARGET = PTPM_OTHER_TARGET,
-    PTPM_SURVEY_OTHER_SOURCE = PTPM_OTHER_SOURCE, /* of a survey of one clock alone */
+    PTPM_SURVEY_OTHER_SOURCE = PTPM_OTHER_SOURCE, /* only for a survey of one clock */
     PTPM_SURVEY_OTHER_NUMBER = PTPM_OTHER_NUMBER,
     PTPM_SURVEY_OTHER_CONTENT = PTPM_OTHER_CONTENT,
     PTPM_SURVEY_TOO_SHORT = PTPM_TOO_SHORT,
@@ -552,7 +552,7 @@ __extension__ enum PTPM_FOUR_OCTETS(ptpm_survey_received) {
 };
 
 /* ptpm_session_report and ptpm_survey_answer. */
-__extension__ enum PTPM_FOUR_OCTETS(ptpm_told) {
+__extension__ enum PTPM_FOUR_OCTETS(ptpm_reported) {
     PTPM_VALUE = 0,                     /* the clock answered a dataField */
     PTPM_DONE = 25,                     /* it carried a COMMAND out */
     PTPM_REFUSED = 26,                  /* it answered a managementErrorId */
@@ -610,7 +610,7 @@ PTPM_IS_WIDE(ptpm_given_up);
 PTPM_IS_WIDE(ptpm_retuned);
 PTPM_IS_WIDE(ptpm_session_received);
 PTPM_IS_WIDE(ptpm_survey_received);
-PTPM_IS_WIDE(ptpm_told);
+PTPM_IS_WIDE(ptpm_reported);
 PTPM_IS_WIDE(ptpm_saved);
 PTPM_IS_WIDE(ptpm_restored);
 PTPM_IS_WIDE(ptpm_parsed);
@@ -701,7 +701,7 @@ enum ptpm_observed ptpm_clock_observe(struct ptpm_clock *clock, const struct ptp
                                       const struct ptpm_observed_port *ports, size_t port_count, uint8_t *left);
 
 /* Reads what a GET of a managementId is answered.
-   Takes:   the id; a port of the clock, which matters for an id of a port alone; and room octets, PTPM_MOST_READ or more.
+   Takes:   the id; a port of the clock, which matters only for an id of a port; and room octets, PTPM_MOST_READ or more.
    Answers: PTPM_READ, or why not.
    Writes:  *size, and as many octets from octets on: the dataField. *size is 0 if the call is refused. */
 enum ptpm_read ptpm_clock_read(const struct ptpm_clock *clock, uint16_t id, uint16_t port, uint8_t *octets, size_t room,
@@ -750,7 +750,7 @@ static inline enum ptpm_started ptpm_session_start_sized(struct ptpm_session *ha
 
 /* Begins a request, and lets the answer to the one before go.
    Takes:   PTPM_GET, PTPM_SET or PTPM_COMMAND; the id; a port of the managed clock; and the dataField, of size octets. The
-            port matters for an id of a port alone.
+            port matters only for an id of a port.
    Answers: PTPM_BEGUN; or why not, and then nothing changes.
    Memory:  a copy of the dataField, until the request is answered or given up.
    Owed:    the caller saves the session's image in a place where a restart finds it, and then sends the request. */
@@ -824,8 +824,8 @@ uint64_t ptpm_session_issued(const struct ptpm_session *session);
    Answers: PTPM_VALUE, PTPM_DONE or PTPM_REFUSED; or why nothing is given.
    Writes:  *size, and as many octets from octets on: the dataField, after PTPM_VALUE. *size is 0 after every other answer.
             *error: the managementErrorId after PTPM_REFUSED, and 0 after every other answer. */
-enum ptpm_told ptpm_session_report(const struct ptpm_session *session, uint8_t *octets, size_t room, size_t *size,
-                                   uint16_t *error);
+enum ptpm_reported ptpm_session_report(const struct ptpm_session *session, uint8_t *octets, size_t room, size_t *size,
+                                       uint16_t *error);
 
 /* Ends what the handle holds, if it holds anything. The handle then holds nothing, and may be started again. */
 void ptpm_session_stop(struct ptpm_session *session);
@@ -885,8 +885,8 @@ size_t ptpm_survey_count(const struct ptpm_survey *survey);
    Writes:  *size, and as many octets from octets on: the dataField, after PTPM_VALUE. *size is 0 after every other answer.
             *error: the managementErrorId after PTPM_REFUSED, and 0 after every other answer.
             *source: the port that gave the answer. It stays as it was if nothing is given. */
-enum ptpm_told ptpm_survey_answer(const struct ptpm_survey *survey, size_t place, struct ptpm_source *source, uint8_t *octets,
-                                  size_t room, size_t *size, uint16_t *error);
+enum ptpm_reported ptpm_survey_answer(const struct ptpm_survey *survey, size_t place, struct ptpm_source *source, uint8_t *octets,
+                                      size_t room, size_t *size, uint16_t *error);
 
 /* Ends what the handle holds, if it holds anything. The handle then holds nothing, and may be started again. */
 void ptpm_survey_stop(struct ptpm_survey *survey);
@@ -947,7 +947,7 @@ size_t ptpm_error_name(uint16_t error, char *text, size_t room);
 enum { PTPM_MOST_FIELD_TEXT = 2843 };
 
 /* Gives the members of a dataField as text, a line each: its name in the standard (15.5.3), a space and its value, such as
-   "priority1 128". How each kind of value is written is in docs/ptpm.md. There is one line alone if the octets are no dataField
+   "priority1 128". How each kind of value is written is in docs/ptpm.md. There is only one line if the octets are no dataField
    of the id, or it has no member. That is "value" and the octets in hexadecimal, or "value -" for none.
    Takes:   the managementId; a dataField of size octets; and room octets, for which PTPM_MOST_FIELD_TEXT is enough.
    Answers: how many octets the lines have; 0 if room is too small for all of them.

@@ -1,17 +1,15 @@
-//! The same work as plain Rust: a boundary clock's answers to GET and SET, a manager's requests, and deliveries in a network,
-//! with nothing proved.
+//! The same work as plain Rust: a boundary clock's answers to GET and SET, and a manager's requests, with nothing proved.
 //!
 //!     rustc --edition 2024 -O baseline.rs && ./baseline DATAGRAM STEP COUNT [PORTS [MANAGERS [FIRST]]]
 //!
 //! handles the datagram, in hexadecimal, COUNT times, with its sequenceId raised by STEP each time, at a clock of so many
 //! ports and managers (2 and 1) that has answered a GET by the last of its managers with sequenceId 7: FIRST, or one of
-//! PRIORITY1. With STEP `view` it only reads it, with `nothing` not even that; with `start` it makes such a clock and its
-//! outbox COUNT times. A datagram that is shorter than its messageLength gets octets 0.
+//! PRIORITY1. With STEP `nothing` it does not handle it; with `start` it makes such a clock and its outbox COUNT times. A
+//! datagram that is shorter than its messageLength gets octets 0.
 //!
 //! With STEP `send` a manager sends one GET of PRIORITY1 COUNT times, with `receive` it begins COUNT of them and hears the
-//! DATAGRAM as the answer to each, under the number of the request, with `ignore` it hears it COUNT times under the number
-//! before that of its one request, and with `deliver` the DATAGRAM is the first frame of a network, and is delivered COUNT
-//! times at the clock.
+//! DATAGRAM as the answer to each, under the number of the request, and with `ignore` it hears it COUNT times under the
+//! number before that of its one request.
 //!
 //! It judges a datagram in the same order, keeps one request and reply for each of sixteen managers, writes every message
 //! once, in place, and forwards. Of the management ids it knows USER_DESCRIPTION, PRIORITY1, PRIORITY2, PORT_DATA_SET and
@@ -375,65 +373,6 @@ impl Session {
     }
 }
 
-#[derive(Clone, Copy, PartialEq)]
-enum End {
-    Clock(u8, u16),
-    Session(u16),
-}
-
-#[derive(Clone, Copy)]
-enum Origin {
-    Request { session: u16, index: u64 },
-    Reply { session: u16, index: u64 },
-    Other,
-}
-
-struct Frame {
-    end: End,
-    origin: Origin,
-    start: usize,
-    size: usize,
-}
-
-struct World {
-    clocks: Vec<Clock>,
-    links: Vec<Vec<End>>,
-    frames: Vec<Frame>,
-    octets: Vec<u8>,
-    out: Vec<(u16, Vec<u8>)>,
-}
-
-impl World {
-    /// Delivers a frame, counted from 1, at its clock, and sends what the clock answers or passes on.
-    #[inline(never)]
-    fn deliver(&mut self, number: u32) -> Option<Verdict> {
-        let frame = self.frames.get((number as usize).checked_sub(1)?)?;
-        let End::Clock(place, ingress) = frame.end else { return None };
-        let (origin, place_of_octets) = (frame.origin, frame.start..frame.start + frame.size);
-        if self.frames.len() > 399_775 {
-            return None;
-        }
-        let (verdict, count) =
-            self.clocks[place as usize].handle(ingress, &self.octets[place_of_octets], &mut self.out);
-        let reply = match (verdict, origin) {
-            (Verdict::AnsweredNew | Verdict::AnsweredRepeat, Origin::Request { session, index }) => {
-                Origin::Reply { session, index }
-            }
-            _ => Origin::Other,
-        };
-        for (port, message) in &self.out[..count] {
-            let (from, start) = (End::Clock(place, *port), self.octets.len());
-            let origin = if *port == ingress { reply } else { origin };
-            let Some(ends) = self.links.iter().find(|ends| ends.contains(&from)) else { continue };
-            self.octets.extend_from_slice(message);
-            for &end in ends.iter().filter(|&&end| end != from) {
-                self.frames.push(Frame { end, origin, start, size: message.len() });
-            }
-        }
-        Some(verdict)
-    }
-}
-
 /// What a manager spends on a datagram, by the word.
 fn manage(word: &str, mut datagram: Vec<u8>, count: u32) {
     let me = ([0x00, 0x11, 0x22, 0x33, 0x44, 0x55, 0x66, 0x77], 1);
@@ -462,20 +401,6 @@ fn manage(word: &str, mut datagram: Vec<u8>, count: u32) {
     println!("{} {:x?} {last:x?}", session.issued, out);
 }
 
-/// Delivers the datagram as the first frame of a network of one clock.
-fn deliver(clock: Clock, out: Vec<(u16, Vec<u8>)>, datagram: Vec<u8>, count: u32) {
-    let end = End::Clock(0, 1);
-    let origin = Origin::Request { session: 0, index: 1 };
-    let frames = vec![Frame { end, origin, start: 0, size: datagram.len() }];
-    let links = vec![vec![end, End::Session(0)]];
-    let mut world = World { clocks: vec![clock], links, frames, octets: datagram, out };
-    let mut last = world.deliver(1);
-    for _ in 0..count {
-        last = world.deliver(std::hint::black_box(1));
-    }
-    println!("{last:?} {}", world.frames.len());
-}
-
 fn main() {
     let words: Vec<String> = std::env::args().collect();
     let octets = |text: &str| -> Vec<u8> {
@@ -499,7 +424,6 @@ fn main() {
     match words[2].as_str() {
         "start" => return (0..number(3, 0)).for_each(|_| drop(std::hint::black_box(start()))),
         "send" | "receive" | "ignore" => return manage(&words[2], octets(&words[1]), number(3, 0) as u32),
-        "deliver" => return deliver(clock, out, octets(&words[1]), number(3, 0) as u32),
         _ => {}
     }
     let mut last = clock.handle(1, &octets(words.get(6).map_or(first, |word| word)), &mut out);
@@ -510,7 +434,6 @@ fn main() {
         datagram[30..32].copy_from_slice(&number.to_be_bytes());
         match words[2].as_str() {
             "nothing" => {}
-            "view" => drop(std::hint::black_box(view(&datagram).is_some())),
             _ => last = clock.handle(1, &datagram, &mut out),
         }
     }

@@ -7,6 +7,10 @@
 #include <string.h>
 #include <unistd.h>
 
+static const char *fault = "";
+
+const char *kept_fault(void) { return fault; }
+
 bool open_kept_folder(struct kept_file *file, const char *path) {
     char text[4096] = ".";
     const char *slash = strrchr(path, '/'), *last = slash == NULL ? path : slash + 1;
@@ -21,12 +25,14 @@ bool open_kept_folder(struct kept_file *file, const char *path) {
     strcpy(stpcpy(file->new_name, last), ".new");
     strcpy(stpcpy(file->lock_name, last), ".lock");
     int failure = size > 0 && mkdir(text, 0755) ? errno : 0;
+    file->is_folder_made = size > 0 && failure == 0;
     file->folder = open(text, O_RDONLY | O_DIRECTORY | O_CLOEXEC);
     if (file->folder < 0 && errno == ENOENT && failure != 0) errno = failure;
     return file->folder >= 0;
 }
 
 int open_kept_lock(const struct kept_file *file) {
+    fault = ".lock";
     return openat(file->folder, file->lock_name, O_RDWR | O_CREAT | O_NOFOLLOW | O_NONBLOCK | O_CLOEXEC, file->mode & 0660);
 }
 
@@ -53,6 +59,7 @@ void leave_no_lock(const struct kept_file *file) {
 
 enum kept_found read_kept(const struct kept_file *file, uint8_t *octets, size_t most, size_t *size, struct stat *found) {
     *size = 0;
+    fault = "";
     int opened = openat(file->folder, file->name, O_RDONLY | O_NOFOLLOW | O_NONBLOCK | O_CLOEXEC);
     if (opened < 0) return errno == ENOENT ? KEPT_NONE : errno == ELOOP ? KEPT_LINK : KEPT_UNREADABLE;
     enum kept_found what = fstat(opened, found) ? KEPT_UNREADABLE : S_ISREG(found->st_mode) ? KEPT_FILE : KEPT_OTHER;
@@ -85,6 +92,7 @@ static bool write_whole(int descriptor, const uint8_t *octets, size_t size) {
 
 /* Writes the file that is to replace the old one; whether it could. */
 static bool write_new(const struct kept_file *file, const uint8_t *octets, size_t size) {
+    fault = ".new";
     unlinkat(file->folder, file->new_name, 0);
     int opened = openat(file->folder, file->new_name, O_WRONLY | O_CREAT | O_EXCL | O_NOFOLLOW | O_CLOEXEC, file->mode);
     if (opened < 0) return false;
@@ -108,7 +116,9 @@ bool try_room(const struct kept_file *file, const uint8_t *octets, size_t size) 
 }
 
 enum replaced replace_kept(const struct kept_file *file, const uint8_t *octets, size_t size) {
-    if (!write_new(file, octets, size) || renameat(file->folder, file->new_name, file->folder, file->name)) {
+    bool is_written = write_new(file, octets, size);
+    if (is_written) fault = "";
+    if (!is_written || renameat(file->folder, file->new_name, file->folder, file->name)) {
         remove_new(file);
         return NOT_REPLACED;
     }

@@ -2,7 +2,14 @@
 #ifndef MONOTONIC_H
 #define MONOTONIC_H
 
-long milliseconds(void);
-long nanoseconds(void);
+#include <time.h>
+
+static inline long nanoseconds(void) {
+    struct timespec now;
+    clock_gettime(CLOCK_MONOTONIC, &now);
+    return now.tv_sec * 1000000000 + now.tv_nsec;
+}
+
+static inline long milliseconds(void) { return nanoseconds() / 1000000; }
 
 #endif

@@ -1,6 +1,6 @@
 #include "names.h"
 #include "digits.h"
-#include "field_lines.h"
+#include "field_text.h"
 #include "ptpm.h"
 #include <stddef.h>
 #include <string.h>

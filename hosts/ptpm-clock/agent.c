@@ -1,19 +1,26 @@
 #define _GNU_SOURCE
 #include "agent.h"
 #include "counts.h"
-#include "field_lines.h"
+#include "field_text.h"
+#include "held.h"
 #include "identity.h"
 #include "names.h"
+#include "network_limits.h"
 #include "observation.h"
 #include "output.h"
 #include "peers.h"
 #include "saving.h"
-#include "twin.h"
 #include "unicast.h"
+#include <errno.h>
 #include <stdbool.h>
+#include <stddef.h>
 #include <stdio.h>
 #include <stdlib.h>
 #include <string.h>
+#include <sys/socket.h>
+#include <sys/un.h>
+
+enum { NEXT_SAVE = 10 };       /* in how many milliseconds it is seen whether it is time for one */
 
 static struct ptpm_clock clock_held;
 static const struct options *options;
@@ -39,9 +46,22 @@ static uint8_t domain(void) {
     return ptpm_clock_read(&clock_held, PTPM_ID_DOMAIN, 0, octets, sizeof octets, &size) == PTPM_READ ? *octets : 0;
 }
 
-void tell_twin(void) {
+/* Whether another clock of this machine with this identity and domain was started before this one, and still runs. From then on
+   one that is started later finds this one. The clock has an abstract name, which one program of a network namespace has at a
+   time, and which goes when that ends. Nobody is heard at it. Any user may take such a name, so it is no reason not to start. */
+static bool has_twin(void) {
+    struct sockaddr_un address = { .sun_family = AF_UNIX };
     char identity[IDENTITY_TEXT];
-    if (!has_twin(options->settings.identity, domain())) return;
+    write_identity(identity, options->settings.identity);
+    int size = snprintf(address.sun_path + 1, sizeof address.sun_path - 1, "ptpm-clock/%s/%u", identity, domain());
+    int claim = socket(AF_UNIX, SOCK_STREAM | SOCK_CLOEXEC, 0);
+    socklen_t whole = (socklen_t)(offsetof(struct sockaddr_un, sun_path) + 1 + (size_t)size);
+    return claim >= 0 && bind(claim, (const struct sockaddr *)&address, whole) != 0 && errno == EADDRINUSE;
+}
+
+void report_twin(void) {
+    char identity[IDENTITY_TEXT];
+    if (!has_twin()) return;
     write_identity(identity, options->settings.identity);
     say("another clock %s runs in domain %u of this machine: both answer, and a SET may change one of them alone", identity, domain());
 }
@@ -66,11 +86,14 @@ void say_started(void) {
         const char *where = port_count > 0 ? ports[i].name : options->meeting.path;
         size += (size_t)snprintf(text + size, sizeof text - size, " port %zu at %.128s %s,", i + 1, where, state_of(i + 1));
     }
+    if (options->privileges.is_by_default) {
+        say("it is user %s from here on: --user names another, and --user root stays root", options->privileges.user_name);
+    }
     say("%s %zu manager%s", text, options->manager_count, options->manager_count == 1 ? "" : "s");
 }
 
 /* Prints the names of members that changed. Each has the place of the answer which refuses its value, `first` and on. */
-static void tell_changed(const char *where, uint32_t first, uint32_t members) {
+static void print_changed(const char *where, uint32_t first, uint32_t members) {
     char line[1024];
     int size = snprintf(line, sizeof line, "%s", where);
     for (uint32_t i = 0; i < 32; i++) {
@@ -80,16 +103,16 @@ static void tell_changed(const char *where, uint32_t first, uint32_t members) {
     print_line("%s", line);
 }
 
-static void tell_turn(uint16_t ingress, const struct heard *heard, uint32_t answer, size_t out, size_t count) {
+static void print_turn(uint16_t ingress, const struct heard *heard, uint32_t answer, size_t out, size_t count) {
     print_line("port %u, %zu octets: %u %s, %zu of %zu sent", ingress, heard->whole, answer, answer_name(answer), out, count);
 }
 
-static void tell_all_changed(const struct ptpm_changed *changed) {
-    if (changed->clock != 0) tell_changed("changed:", PTPM_BAD_IDENTITY, changed->clock);
+static void print_all_changed(const struct ptpm_changed *changed) {
+    if (changed->clock != 0) print_changed("changed:", PTPM_BAD_IDENTITY, changed->clock);
     for (size_t i = 0; i < ports_of(options); i++) {
         char where[32];
         snprintf(where, sizeof where, "changed at port %zu:", i + 1);
-        if (changed->ports[i] != 0) tell_changed(where, PTPM_BAD_STATE, changed->ports[i]);
+        if (changed->ports[i] != 0) print_changed(where, PTPM_BAD_STATE, changed->ports[i]);
     }
 }
 
@@ -126,7 +149,7 @@ static inline unsigned long hand_on(const struct heard *heard, const struct port
 }
 
 /* A turn with lines of what became of it and what it changed. To find that costs more than the turn does. */
-static unsigned long take_told_turn(const struct heard *heard, const struct port *port, uint16_t ingress,
+static unsigned long take_verbose_turn(const struct heard *heard, const struct port *port, uint16_t ingress,
                                     struct ptpm_sent *places) {
     struct ptpm_changed changed;
     size_t count, left;
@@ -135,8 +158,8 @@ static unsigned long take_told_turn(const struct heard *heard, const struct port
     unsigned long lost = hand_on(heard, port, ingress, answer, places, count, &left);
     bool is_done = save_changes(&clock_held);
     lost += is_done ? send_all() : drop_round();
-    tell_turn(ingress, heard, answer, left - lost, count);
-    if (is_done) tell_all_changed(&changed);
+    print_turn(ingress, heard, answer, left - lost, count);
+    if (is_done) print_all_changed(&changed);
     return lost;
 }
 
@@ -144,29 +167,65 @@ static unsigned long take_told_turn(const struct heard *heard, const struct port
 static unsigned long take_turn(struct heard *heard, const struct port *port) {
     size_t count, left;
     uint16_t ingress = port == NULL ? 1 : (uint16_t)(port - ports + 1);
-    if (port != NULL && !admit_datagram(heard, port)) return 0;
     lower_hops(heard);
     struct ptpm_sent *places = places_to_send();
     if (places == NULL) {
         count_dropped(send_saved());
         places = places_to_send();
     }
-    if (options->is_told) return take_told_turn(heard, port, ingress, places);
+    if (options->is_told) return take_verbose_turn(heard, port, ingress, places);
     enum ptpm_handled answer = ptpm_clock_handle(&clock_held, ingress, heard->octets, heard->size, places, PTPM_MOST_SENT, &count);
     return hand_on(heard, port, ingress, answer, places, count, &left);
+}
+
+/* Parts those that may change the clock from the others, each in their order; how many others there are. */
+static size_t part_round(struct heard *const *all, size_t count, struct heard **first, struct heard **last) {
+    size_t firsts = 0, lasts = 0;
+    for (size_t i = 0; i < count; i++) {
+        if (is_of_manager(all[i], options->settings.identity)) last[lasts++] = all[i];
+        else first[firsts++] = all[i];
+    }
+    return firsts;
 }
 
 static struct heard heard_now[ROUND];
 
 static void take_all(size_t count) {
+    struct heard *admitted[ROUND], *first[ROUND], *last[ROUND];
     unsigned long lost = 0;
-    for (size_t i = 0; i < count; i++) lost += take_turn(&heard_now[i], heard_now[i].port);
+    size_t left = 0;
+    for (size_t i = 0; i < count; i++) {
+        const struct port *port = heard_now[i].port;
+        if (port == NULL || admit_datagram(&heard_now[i], port)) admitted[left++] = &heard_now[i];
+    }
+    size_t firsts = part_round(admitted, left, first, last);
+    for (size_t i = 0; i < firsts; i++) lost += take_turn(first[i], first[i]->port);
+    lost += send_saved();
+    for (size_t i = 0; i < left - firsts; i++) {
+        const struct port *port = last[i]->port;
+        if (port == NULL) lost += take_turn(last[i], port);
+        else if (admit_manager(last[i], port) && !hold(last[i], port)) count_manager_dropped();
+    }
     count_dropped(lost + send_saved());
 }
 
 void take_round(const struct port *port, int socket) { take_all(hear_round(port, socket, heard_now)); }
 
 void take_unicast_round(void) { take_all(hear_unicast(heard_now)); }
+
+/* Takes as many as one save does for. */
+static void take_held(void) {
+    unsigned long lost = 0;
+    size_t taken = 0;
+    for (; taken < held_count() && places_to_send() != NULL; taken++) lost += take_turn(&held_at(taken)->heard, held_at(taken)->port);
+    count_dropped(lost + send_saved());
+    let_go_of_held(taken);
+}
+
+long take_waiting(void) {
+    while (held_count() > 0 && may_save()) take_held();
+    return held_count() > 0 ? NEXT_SAVE : -1;
+}
 
 static void tell_left(uint8_t left) {
     for (int i = 0; i < OBSERVED_PORTS; i++) {

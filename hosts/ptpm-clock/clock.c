@@ -17,10 +17,9 @@
 #include "privileges.h"
 #include "program.h"
 #include "service.h"
-#include "signals.h"
 #include "source.h"
-#include "timer.h"
 #include "unicast.h"
+#include "waking.h"
 #include <errno.h>
 #include <stdbool.h>
 #include <sys/epoll.h>
@@ -108,15 +107,16 @@ static void run(long end) {
     wait_at_all();
     say_started();
     say_deaf_ports();
-    tell_ready();
+    report_ready();
     while (is_going_on) {
         long now = milliseconds();
         if (end != 0 && now >= end) return;
-        tell_alive(now);
+        report_alive(now);
         renew_ports(now);
         wait_at_ports();
         look_around(now);
-        long most = end != 0 && end - now < SECOND ? end - now : SECOND;
+        long most = end != 0 && end - now < SECOND ? end - now : SECOND, waiting = take_waiting();
+        if (waiting >= 0 && waiting < most) most = waiting;
         wake_at(now + until_alive(now, most));
         int found = epoll_wait(polled, events, WAITS, -1);
         for (int i = 0; i < found && is_going_on; i++) is_going_on = take_event(events[i].data.u32);
@@ -139,7 +139,7 @@ static enum needs needs(void) {
 }
 
 static void end_in_order(void) {
-    tell_stopping();
+    report_stopping();
     stop_clock();
     close_ports();
     close_unicast();
@@ -153,7 +153,7 @@ int main(int argc, char **argv) {
     read_options(&options, argc, argv);
     start_clock(&options);
     open_all();
-    tell_twin();
+    report_twin();
     let_go_of_rights(&options.privileges, needs());
     if (options.source != NULL) source = open_source(options.source);
     start_limits(&options.limits);

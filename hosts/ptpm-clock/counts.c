@@ -43,6 +43,7 @@ void print_counts(void) {
     print_count("not passed on again", kept_back->again);
     print_count("not passed on over the rate", kept_back->over_rate);
     print_count("not answered over the rate", kept_back->unanswered);
+    print_count("not taken of managers over their rate", kept_back->managers);
     print_saves(told_saves());
     print_count("observed", observed);
     print_count("not observed", not_observed);

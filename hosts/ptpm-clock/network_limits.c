@@ -5,16 +5,18 @@
 #include "netlink.h"
 #include "output.h"
 #include "program.h"
+#include "shares.h"
 #include <stdbool.h>
 #include <string.h>
 #include <sys/random.h>
 
-enum { NOTED = 1000 };     /* for how many milliseconds a message is not passed on again */
+/* For how many milliseconds a message is not passed on again. How many addresses of managers have tokens of their own. */
+enum { NOTED = 1000, MANAGERS_HEARD = 8 };
 
 static struct limits limits;
 static struct kept_back kept_back;
 static struct ptpm_passed_on passed_on;
-static struct ptpm_rate copies[PORTS], answers[PORTS];
+static struct shares copies[PORTS], answers[PORTS], requests[PORTS];
 
 static uint64_t time_now(void) { return (uint64_t)milliseconds(); }
 
@@ -22,8 +24,9 @@ void start_limits(const struct limits *given) {
     limits = *given;
     if (getrandom(&passed_on.seed, sizeof passed_on.seed, 0) < 0) give_up("getrandom");
     for (int i = 0; i < PORTS; i++) {
-        ptpm_rate_start(&copies[i], (uint64_t)limits.rate, time_now());
-        ptpm_rate_start(&answers[i], (uint64_t)limits.rate, time_now());
+        start_shares(&copies[i], (uint64_t)limits.rate, MOST_SHARES, time_now());
+        start_shares(&answers[i], (uint64_t)limits.rate, MOST_SHARES, time_now());
+        start_shares(&requests[i], (uint64_t)limits.manager_rate, MANAGERS_HEARD, time_now());
     }
 }
 
@@ -48,14 +51,23 @@ void lower_hops(struct heard *heard) {
     heard->octets[STARTING_HOPS_AT] = starting > less ? (uint8_t)(starting - less) : 0;
 }
 
-static bool is_of_manager(const struct heard *heard) {
+bool is_of_manager(const struct heard *heard, const uint8_t own[8]) {
     const uint8_t *source = heard->octets + SOURCE_AT, *port = heard->octets + SOURCE_PORT_AT;
+    if (heard->size < LEAST_MESSAGE || memcmp(heard->octets + TARGET_AT, own, 8) != 0) return false;
     for (size_t i = 0; i < limits.manager_count; i++) {
         const struct ptpm_manager_settings *manager = &limits.managers[i];
         if (memcmp(manager->clock, source, 8) == 0 && manager->port == (port[0] << 8 | port[1])) return true;
     }
     return false;
 }
+
+bool admit_manager(const struct heard *heard, const struct port *port) {
+    if (take_share(&requests[port - ports], heard, time_now())) return true;
+    kept_back.managers++;
+    return false;
+}
+
+void count_manager_dropped(void) { kept_back.managers++; }
 
 /* Whether a message is to be passed on at all. It is asked once of each, since it is noted. */
 static bool admit_copies(const struct heard *heard, const struct port *port, uint64_t now) {
@@ -65,10 +77,10 @@ static bool admit_copies(const struct heard *heard, const struct port *port, uin
     return false;
 }
 
-/* Answers to programs of this host, and to managers, are not counted. */
+/* Answers to programs of this host are not counted, nor those to requests of managers, which were counted as they came in. */
 static bool admit_answer(const struct heard *heard, const struct port *port, uint16_t ingress, uint32_t answer, uint64_t now) {
-    if (port == NULL || answer != PTPM_ANSWERED_UNNUMBERED || is_of_manager(heard)) return true;
-    if (ptpm_rate_take(&answers[ingress - 1], now)) return true;
+    if (port == NULL || answer != PTPM_ANSWERED_UNNUMBERED) return true;
+    if (take_share(&answers[ingress - 1], heard, now)) return true;
     kept_back.unanswered++;
     return false;
 }
@@ -86,7 +98,7 @@ size_t keep_back(const struct heard *heard, const struct port *port, uint16_t in
         if (!is_asked) is_going_on = admit_copies(heard, port, now);
         is_asked = true;
         if (!is_going_on) continue;
-        if (ptpm_rate_take(&copies[sent[i].port - 1], now)) kept[left++] = &sent[i];
+        if (take_share(&copies[sent[i].port - 1], heard, now)) kept[left++] = &sent[i];
         else kept_back.over_rate++;
     }
     return left;

@@ -1,8 +1,7 @@
 #define _GNU_SOURCE
 #include "observation.h"
-#include "field_lines.h"
+#include "field_text.h"
 #include "identity.h"
-#include "interval.h"
 #include "names.h"
 #include "output.h"
 #include <errno.h>

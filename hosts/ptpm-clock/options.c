@@ -15,15 +15,17 @@
 #include <stdlib.h>
 #include <string.h>
 #include <sys/un.h>
+#include <unistd.h>
 
-enum { SECOND = 1000, HOPS_AT_FIRST = 8, RATE_AT_FIRST = 1000, MOST_RATE = 1000000, MODE_AT_FIRST = 0660 };
+enum { SECOND = 1000, HOPS_AT_FIRST = 8, RATE_AT_FIRST = 1000, MANAGER_RATE_AT_FIRST = 100, MOST_RATE = 1000000, MODE_AT_FIRST = 0660 };
 
 /* Options without a letter of their own. */
-enum { VERSION = 256, HOPS, RATE, NO_FORWARD, ANY_SOURCE, USER, UNIX_GROUP, UNIX_MODE, NO_FILTER };
+enum { VERSION = 256, HOPS, RATE, MANAGER_RATE, NO_FORWARD, ANY_SOURCE, USER, UNIX_GROUP, UNIX_MODE, NO_FILTER };
 
 static const struct option names[] = {
     { "ipv6", no_argument, NULL, '6' }, { "ethernet", no_argument, NULL, '2' }, { "hops", required_argument, NULL, HOPS },
-    { "rate", required_argument, NULL, RATE }, { "no-forward", no_argument, NULL, NO_FORWARD },
+    { "rate", required_argument, NULL, RATE }, { "manager-rate", required_argument, NULL, MANAGER_RATE },
+    { "no-forward", no_argument, NULL, NO_FORWARD },
     { "any-source", no_argument, NULL, ANY_SOURCE }, { "user", required_argument, NULL, USER },
     { "unix-group", required_argument, NULL, UNIX_GROUP }, { "unix-mode", required_argument, NULL, UNIX_MODE },
     { "no-filter", no_argument, NULL, NO_FILTER }, { "state", required_argument, NULL, 's' }, { "help", no_argument, NULL, 'h' },
@@ -51,7 +53,8 @@ static const char help[] =
     "  --hops N            by how many clocks a message is passed on at most, this one included (8)\n"
     "  --no-forward        nothing is passed on between the ports\n"
     "  --rate N            how many messages a port passes on a second, and how many answers it sends to others than\n"
-    "                      managers (1000)\n"
+    "                      managers (1000). Each address has a few more\n"
+    "  --manager-rate N    how many requests of managers a port takes a second (100). Each address has a few more\n"
     "  --any-source        datagrams from addresses that are not on the link are heard too\n"
     "\n"
     "  -s, --state FILE    the clock is saved to FILE before it answers, and goes on from FILE at its next start\n"
@@ -59,7 +62,8 @@ static const char help[] =
     "                      written, or a pipe. Lines are for example: offset_from_master 98304, or: port 1 state 9\n"
     "  -n SECONDS          it ends by itself then\n"
     "  -v                  a line for each datagram that it hears, and one for what it changed\n"
-    "  --user NAME         the user that it becomes once its sockets are open\n"
+    "  --user NAME         the user that it becomes once its sockets are open. Root becomes ptpm if there is such a user,\n"
+    "                      else nobody; --user root stays root\n"
     "  --no-filter         no system call is refused, for example for a debugger\n"
     "  -h, --help          this text\n"
     "  --version           the version\n"
@@ -72,7 +76,7 @@ _Noreturn void usage(void) {
     exit(2);
 }
 
-__attribute__((format(printf, 1, 2))) _Noreturn static void refuse(const char *format, ...) {
+__attribute__((format(printf, 1, 2))) _Noreturn static void refuse_command_line(const char *format, ...) {
     va_list values;
     fputs("ptpm-clock: ", stderr);
     va_start(values, format);
@@ -85,7 +89,7 @@ __attribute__((format(printf, 1, 2))) _Noreturn static void refuse(const char *f
 /* The number that an option takes. */
 static long number(const char *option, long least, long most) {
     long found = decimal(optarg, most);
-    if (found < least) refuse("%s %s: it takes a number from %ld to %ld", option, optarg, least, most);
+    if (found < least) refuse_command_line("%s %s: it takes a number from %ld to %ld", option, optarg, least, most);
     return found;
 }
 
@@ -94,27 +98,43 @@ static mode_t mode(void) {
     char *end;
     long found = strtol(optarg, &end, 8);
     if (strlen(optarg) != 3 || *end != '\0' || found < 0) {
-        refuse("--unix-mode %s: it takes three octal digits, such as 660", optarg);
+        refuse_command_line("--unix-mode %s: it takes three octal digits, such as 660", optarg);
     }
     return (mode_t)found;
 }
 
 static gid_t group_named(void) {
     const struct group *found = getgrnam(optarg);
-    if (found == NULL) refuse("--unix-group %s: there is no such group", optarg);
+    if (found == NULL) refuse_command_line("--unix-group %s: there is no such group", optarg);
     return found->gr_gid;
 }
 
-static void take_user(struct privileges *privileges) {
-    const struct passwd *found = getpwnam(optarg);
-    if (found == NULL) refuse("--user %s: there is no such user", optarg);
-    privileges->user_name = optarg;
+/* Whether there is such a user; whom the program then becomes. */
+static bool find_user(struct privileges *privileges, const char *name) {
+    const struct passwd *found = getpwnam(name);
+    if (found == NULL) return false;
+    privileges->user_name = name;
     privileges->user = found->pw_uid;
     privileges->group = found->pw_gid;
+    return true;
+}
+
+static void take_user(struct privileges *privileges) {
+    if (!find_user(privileges, optarg)) refuse_command_line("--user %s: there is no such user", optarg);
+}
+
+/* Root stays root only if it is named. The Unix socket stays one of root's group, and what root asks there can be answered. */
+static void leave_root(struct options *options) {
+    struct privileges *privileges = &options->privileges;
+    if (geteuid() != 0 || privileges->user_name != NULL) return;
+    gid_t group = getegid();
+    privileges->is_by_default = find_user(privileges, "ptpm") || find_user(privileges, "nobody");
+    if (!privileges->is_by_default) say("it stays root: there is no user ptpm, and no nobody");
+    if (options->meeting.path != NULL && options->meeting.group == (gid_t)-1) options->meeting.group = group;
 }
 
 static const char *socket_path(void) {
-    if (strlen(optarg) >= sizeof ((struct sockaddr_un *)0)->sun_path) refuse("-u %s: the path is too long", optarg);
+    if (strlen(optarg) >= sizeof ((struct sockaddr_un *)0)->sun_path) refuse_command_line("-u %s: the path is too long", optarg);
     return optarg;
 }
 
@@ -123,7 +143,7 @@ static struct ptpm_manager_settings read_manager(const char *text) {
     struct ptpm_manager_settings manager = { .rights = PTPM_CLOCK_SET | PTPM_PORT_SET | PTPM_PORT_COMMAND };
     const char *rest = identity_at(text, manager.clock);
     long port = rest == NULL ? -1 : port_behind(rest, 65535);
-    if (port < 0) refuse("-m %s: it takes aabbccfffeddee01/1 or aabbcc.fffe.ddee01-1", text);
+    if (port < 0) refuse_command_line("-m %s: it takes aabbccfffeddee01/1 or aabbcc.fffe.ddee01-1", text);
     manager.port = (uint16_t)port;
     return manager;
 }
@@ -133,6 +153,7 @@ static void take_limit(struct options *options, int option) {
     switch (option) {
     case HOPS: options->limits.hops = number("--hops", 0, 255); break;
     case RATE: options->limits.rate = number("--rate", 1, MOST_RATE); break;
+    case MANAGER_RATE: options->limits.manager_rate = number("--manager-rate", 1, MOST_RATE); break;
     case NO_FORWARD: options->limits.is_passed_on = false; break;
     case ANY_SOURCE: options->limits.is_any_source = true; break;
     case USER: take_user(&options->privileges); break;
@@ -173,9 +194,9 @@ static void refuse_twice(char *const *given, size_t count) {
     for (size_t i = 1; i < count; i++) {
         unsigned index = if_nametoindex(given[i]);
         for (size_t k = 0; k < i; k++) {
-            if (strcmp(given[i], given[k]) == 0) refuse("%s: the interface is named twice", given[i]);
+            if (strcmp(given[i], given[k]) == 0) refuse_command_line("%s: the interface is named twice", given[i]);
             if (index == 0 || index != if_nametoindex(given[k])) continue;
-            refuse("%s: the interface is named twice, as %s", given[i], given[k]);
+            refuse_command_line("%s: the interface is named twice, as %s", given[i], given[k]);
         }
     }
 }
@@ -187,16 +208,16 @@ static void refuse_itself(const struct options *options) {
         const struct ptpm_manager_settings *manager = &options->managers[i];
         if (memcmp(manager->clock, options->settings.identity, sizeof manager->clock) != 0) continue;
         write_identity(identity, manager->clock);
-        refuse("-m %s/%u: it has the identity of the clock, which hears no such manager", identity, manager->port);
+        refuse_command_line("-m %s/%u: it has the identity of the clock, which hears no such manager", identity, manager->port);
     }
 }
 
 static void judge(const struct options *options, bool has_two_ways) {
-    if (options->interface_count > PORTS) refuse("it takes eight interfaces at most");
+    if (options->interface_count > PORTS) refuse_command_line("it takes eight interfaces at most");
     if (options->interface_count == 0 && options->meeting.path == NULL) {
-        refuse("an interface is missing, or a Unix socket: -u PATH");
+        refuse_command_line("an interface is missing, or a Unix socket: -u PATH");
     }
-    if (has_two_ways) refuse("-2 and -6 exclude each other");
+    if (has_two_ways) refuse_command_line("-2 and -6 exclude each other");
     refuse_twice(options->interfaces, options->interface_count);
     refuse_itself(options);
 }
@@ -204,20 +225,21 @@ static void judge(const struct options *options, bool has_two_ways) {
 void read_options(struct options *options, int argc, char **argv) {
     bool has_two = false, has_six = false;
     ptpm_clock_defaults(&options->settings);
-    options->limits = (struct limits){ .hops = HOPS_AT_FIRST, .rate = RATE_AT_FIRST, .is_passed_on = true };
+    options->limits = (struct limits){ .hops = HOPS_AT_FIRST, .rate = RATE_AT_FIRST, .manager_rate = MANAGER_RATE_AT_FIRST, .is_passed_on = true };
     options->meeting = (struct meeting){ .mode = MODE_AT_FIRST, .group = (gid_t)-1 };
     for (int option; (option = getopt_long(argc, argv, "26fu:m:d:s:o:n:vh", names, NULL)) != -1;) {
         has_two |= option == '2';
         has_six |= option == '6';
         take_option(options, option);
     }
-    if (optind == argc) refuse("the clock's identity is missing");
+    if (optind == argc) refuse_command_line("the clock's identity is missing");
     const char *rest = identity_at(argv[optind], options->settings.identity);
     if (rest == NULL || *rest != '\0') {
-        refuse("%s: it takes a clockIdentity, such as aabbccfffeddee01 or aabbcc.fffe.ddee01", argv[optind]);
+        refuse_command_line("%s: it takes a clockIdentity, such as aabbccfffeddee01 or aabbcc.fffe.ddee01", argv[optind]);
     }
     options->interfaces = argv + optind + 1;
     options->interface_count = (size_t)(argc - optind - 1);
+    leave_root(options);
     if (options->privileges.user_name != NULL && options->meeting.group == (gid_t)-1) {
         options->meeting.group = options->privileges.group;
     }

@@ -9,6 +9,7 @@ struct privileges {
     const char *user_name;      /* whom the program is to be, or NULL: it stays who it is */
     uid_t user;
     gid_t group;
+    bool is_by_default;         /* it is root, and --user does not say whom it becomes */
     gid_t socket_group;         /* that of the Unix socket, in which it is then too; -1 if none was given */
     bool is_unfiltered;         /* it may call all of the system */
 };

@@ -15,6 +15,7 @@
 enum { NOT_STARTED = 1, NOT_OPENED = 2, IDENTITY = 12 };
 
 enum { MOST_STATE_OCTETS = PTPM_CLOCK_IMAGE_OCTETS + 1, LOCK_TRIES = 100 };
+enum { JOINED = 5 };        /* requests of managers for which there is one save */
 
 static struct kept_file file = { .folder = -1, .mode = 0600 };
 static const struct options *options;
@@ -29,7 +30,9 @@ _Noreturn static void end_with(int status) {
 
 /* Why the file can't be used: what `why` says, or errno if it is NULL. */
 _Noreturn static void refuse_file(const char *why) {
-    say("%s: %s", options->state, why != NULL ? why : strerror(errno));
+    bool is_right = why == NULL && errno == EACCES && options->privileges.is_by_default;
+    say("%s%s: %s", options->state, why != NULL ? "" : kept_fault(), why != NULL ? why : strerror(errno));
+    if (is_right) say("it is user %s here: --user names another, and --user root stays root", options->privileges.user_name);
     end_with(NOT_OPENED);
 }
 
@@ -41,6 +44,12 @@ _Noreturn static void refuse_second(long owner) {
     end_with(NOT_OPENED);
 }
 
+/* What root has made is of the user that the program becomes. */
+static void hand_over(int made) {
+    const struct privileges *privileges = &options->privileges;
+    if (privileges->user_name != NULL && fchown(made, privileges->user, privileges->group)) errno = 0;     /* it saves to see if it may */
+}
+
 /* Two clocks that save to one file would each undo what the other said. */
 static void take_file(void) {
     for (int tries = 0; tries < LOCK_TRIES; tries++) {
@@ -50,7 +59,10 @@ static void take_file(void) {
             if (errno != EAGAIN && errno != EACCES) refuse_file(NULL);
             refuse_second(kept_lock_owner(lock));
         }
-        if (is_kept_lock(&file, lock)) return;
+        if (is_kept_lock(&file, lock)) {
+            hand_over(lock);
+            return;
+        }
         close(lock);
     }
     refuse_second(0);
@@ -119,6 +131,7 @@ bool restore_clock(struct ptpm_clock *clock, const struct options *given) {
     if (options->state == NULL) return false;
     if (!open_kept_folder(&file, options->state)) refuse_file(errno == EINVAL ? "no name of a file" : NULL);
     take_file();
+    if (file.is_folder_made) hand_over(file.folder);
     if (atexit(leave_nothing)) refuse_file(NULL);
     bool is_there = read_state(&size);
     if (is_there) {
@@ -155,6 +168,14 @@ void save_at_start(struct ptpm_clock *clock) {
     if (options->state != NULL && save(clock) != REPLACED) refuse_file(NULL);
 }
 
+bool may_save(void) {
+    static struct ptpm_rate rate;
+    if (options->state == NULL) return true;
+    long a_second = options->limits.manager_rate / JOINED;
+    if (rate.rate == 0) ptpm_rate_start(&rate, a_second > 0 ? (uint64_t)a_second : 1, (uint64_t)milliseconds());
+    return ptpm_rate_take(&rate, (uint64_t)milliseconds());
+}
+
 void note_change(void) { is_unsaved = options->state != NULL; }
 
 /* After a save in doubt the store holds what was to be saved, but may lose it with the power. So no message leaves before it is
@@ -165,7 +186,7 @@ bool save_changes(struct ptpm_clock *clock) {
     enum replaced answer = save(clock);
     is_unsaved = answer == IN_DOUBT;
     if (answer == REPLACED) return true;
-    say_at_times("%s: nothing is answered: %s", options->state, strerror(errno));
+    say_at_times("%s%s: nothing is answered: %s", options->state, kept_fault(), strerror(errno));
     if (!read_state(&size)) refuse_file("it is gone");
     restore(clock, size);
     return false;

@@ -26,6 +26,10 @@ void note_change(void);
    has, and standard error says why. Then nothing that waits is to be sent. Ends the program if the file can't be read then. */
 bool save_changes(struct ptpm_clock *clock);
 
+/* Whether a save may be made now for who asks at a port. There are a fifth as many a second as requests of managers may be, and as
+   many at once. So the disk is waited for in a part of the time alone. Without a file it always may. */
+bool may_save(void);
+
 /* Saves that were made and that failed, and how many microseconds those that were made took. */
 struct saves { unsigned long made, failed, least, most, all; };
 

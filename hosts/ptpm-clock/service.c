@@ -9,7 +9,7 @@
 #include <sys/un.h>
 #include <unistd.h>
 
-static struct sockaddr_un told = { .sun_family = AF_UNIX };
+static struct sockaddr_un service_manager = { .sun_family = AF_UNIX };
 static socklen_t size;
 static int service_socket = -1;
 static long every, next;        /* milliseconds; 0: nobody watches */
@@ -17,10 +17,10 @@ static long every, next;        /* milliseconds; 0: nobody watches */
 /* A path, or a name after @ that is in no folder. */
 void open_service(void) {
     const char *name = getenv("NOTIFY_SOCKET"), *watched = getenv("WATCHDOG_USEC"), *process = getenv("WATCHDOG_PID");
-    if (name == NULL || (*name != '/' && *name != '@') || strlen(name) >= sizeof told.sun_path) return;
-    strcpy(told.sun_path, name);
+    if (name == NULL || (*name != '/' && *name != '@') || strlen(name) >= sizeof service_manager.sun_path) return;
+    strcpy(service_manager.sun_path, name);
     size = (socklen_t)(offsetof(struct sockaddr_un, sun_path) + strlen(name) + (*name == '/'));
-    if (*name == '@') told.sun_path[0] = '\0';
+    if (*name == '@') service_manager.sun_path[0] = '\0';
     service_socket = socket(AF_UNIX, SOCK_DGRAM | SOCK_CLOEXEC, 0);
     long time = watched == NULL ? -1 : decimal(watched, LONG_MAX / 10 - 1);
     if (time > 0 && (process == NULL || decimal(process, INT_MAX) == getpid())) every = time / 2000 > 0 ? time / 2000 : 1;
@@ -28,14 +28,14 @@ void open_service(void) {
 
 static void say_state(const char *state) {
     if (service_socket < 0) return;
-    sendto(service_socket, state, strlen(state), MSG_DONTWAIT | MSG_NOSIGNAL, (const struct sockaddr *)&told, size);
+    sendto(service_socket, state, strlen(state), MSG_DONTWAIT | MSG_NOSIGNAL, (const struct sockaddr *)&service_manager, size);
 }
 
-void tell_ready(void) { say_state("READY=1"); }
+void report_ready(void) { say_state("READY=1"); }
 
-void tell_stopping(void) { say_state("STOPPING=1"); }
+void report_stopping(void) { say_state("STOPPING=1"); }
 
-void tell_alive(long now) {
+void report_alive(long now) {
     if (every == 0 || now < next) return;
     next = now + every;
     say_state("WATCHDOG=1");

@@ -6,12 +6,12 @@
 void open_service(void);
 
 /* Reports that its sockets are open. */
-void tell_ready(void);
+void report_ready(void);
 
 /* Reports that it goes on, when half of the time has passed in which it has to. */
-void tell_alive(long now);
+void report_alive(long now);
 
-void tell_stopping(void);
+void report_stopping(void);
 
 /* In how many milliseconds it has to be reported again that the program goes on, at most `most`. */
 long until_alive(long now, long most);

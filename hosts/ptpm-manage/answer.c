@@ -1,4 +1,5 @@
 #include "answer.h"
+#include "as_asked.h"
 #include "identity.h"
 #include "members.h"
 #include "names.h"
@@ -54,5 +55,5 @@ void print_answer_as_json(FILE *to, const struct task *task, const struct ptpm_s
     if (answer->told == PTPM_DONE) fputs(",\"status\":\"done\"", to);
     else if (answer->told == PTPM_REFUSED) print_error_as_json(to, answer->error);
     else print_field_as_json(to, task, answer);
-    fputs("}\n", to);
+    fputs(is_other(task, answer) ? ",\"isAsAsked\":false}\n" : "}\n", to);
 }

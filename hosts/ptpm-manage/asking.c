@@ -1,5 +1,6 @@
 #include "asking.h"
 #include "answer.h"
+#include "as_asked.h"
 #include "exchange.h"
 #include "identity.h"
 #include "monotonic.h"
@@ -23,7 +24,7 @@ static struct answer answer;
 /* What an operator can do if the library refuses to ask. */
 static const char *advice(uint32_t refusal) {
     switch (refusal) {
-    case PTPM_NEEDS_PORT: return ": name a port of the clock, 1 to 8, such as --target aabbcc.fffe.ddee01-1 or --port 1";
+    case PTPM_NEEDS_PORT: return ": name a port of the clock, 1 to 65534, such as --target aabbcc.fffe.ddee01-1 or --port 1";
     case PTPM_SAME_CLOCK: return ": the manager has the identity of the clock; --manager gives it another";
     case PTPM_MANAGER_IS_EVERY: return ": the manager's identity means every clock; --manager gives it another";
     case PTPM_TARGET_IS_EVERY: return ": --target means every clock; survey asks every clock";
@@ -77,6 +78,10 @@ static int print_report(struct session *session, const struct task *task) {
     take_report(&session->handle, &answer);
     print_own_answer(task);
     if (fflush(stdout)) return NOT_WRITTEN;
+    if (is_other(task, &answer)) {
+        say_other(task, &answer);
+        return NOT_AS_ASKED;
+    }
     if (answer.told == PTPM_REFUSED && answer.error == NOT_SUPPORTED && task->action != PTPM_GET) say_not_supported(session);
     return answer.told == PTPM_REFUSED ? REFUSED : ANSWERED;
 }
@@ -119,7 +124,7 @@ int ask_clock(struct session *session, const struct task *task) {
         status = carry_out(session, task, &sent);
     }
     if (task->times > 1) printf("requests %ld, datagrams %ld\n", requests, sent);
-    if (status == ANSWERED || status == REFUSED) keep_at_rest(session);
+    if (status == ANSWERED || status == REFUSED || status == NOT_AS_ASKED) keep_at_rest(session);
     ptpm_session_stop(&session->handle);
     return status;
 }

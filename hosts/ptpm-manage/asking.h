@@ -6,7 +6,7 @@
 #include "task.h"
 
 /* The status with which the program ends. */
-enum status { ANSWERED = 0, REFUSED = 1, NOT_ASKED = 2, NOT_ANSWERED = 3, NOT_WRITTEN = 4, BY_SIGNAL = 128 };
+enum status { ANSWERED = 0, REFUSED = 1, NOT_ASKED = 2, NOT_ANSWERED = 3, NOT_WRITTEN = 4, NOT_AS_ASKED = 5, BY_SIGNAL = 128 };
 
 /* Whether the library would take the task's request; nothing is sent for that. ANSWERED, or the program's status, and then it
    is said why not. */

@@ -15,8 +15,9 @@
 #include <string.h>
 
 /* One request each 50 ms: all at once lose answers in the buffers of the clocks, which hear each other's answers too. A burst
-   of requests to one clock alone has fewer answers than such a buffer holds, unless that would take more bursts than this. */
-enum { STEP = 50, BURST = 128, MOST_BURSTS = 16, DOMAINS_AT_ONCE = 32 };
+   of requests to one clock alone has fewer answers than such a buffer holds. There are no more, however many clocks are asked: one
+   host may answer as thousands. If more clocks than MOST_SILENT give no answer when they are asked alone, they are such. */
+enum { STEP = 50, BURST = 128, MOST_SILENT = 128, DOMAINS_AT_ONCE = 32 };
 
 /* A socket without room is tried again this often, this many milliseconds apart. A silence that never comes is waited for this
    many time-outs at most. */
@@ -44,6 +45,7 @@ static struct request requests[DOMAINS_AT_ONCE * COLLECTED];
 static size_t request_count;
 static FILE *output;
 static long sent, latest;               /* messages that went out; when an answer came that is no copy */
+static size_t let_go;                   /* clocks that are asked no more */
 static bool has_no_transport;
 
 static unsigned two_octets(const uint8_t *at) { return (unsigned)at[0] << 8 | at[1]; }
@@ -193,17 +195,19 @@ static bool ask_alone(const struct request *request, const struct seen_clock *cl
 }
 
 /* Asks each clock of these domains for what it lacks, until there is no room for more. */
-static void ask_lacking(size_t count) {
-    size_t asked = 0, burst = count / MOST_BURSTS > BURST ? count / MOST_BURSTS : BURST;
+static void ask_lacking(void) {
+    size_t asked = 0;
     long end = milliseconds() + STEP;
     for (size_t place = 0; place < seen_count(); place++) {
         for (int id = 0; id < COLLECTED; id++) {
             const struct request *request = lacking(seen_clock(place), id);
             if (request == NULL) continue;
             if (!ask_alone(request, seen_clock(place))) return;
-            if (++asked % burst != 0) continue;
+            note_asked(place);
+            if (++asked % BURST != 0) continue;
             hear_until(end);
             end = milliseconds() + STEP;
+            if (stopped) return;
         }
     }
 }
@@ -224,8 +228,9 @@ static bool ask_in(const struct task *task, const uint8_t *domains, size_t count
         size_t lacks = count_lacking();
         if (lacks == 0) break;
         show_progress("%zu clocks so far; attempt %d for %zu answers that are missing", seen_count(), round, lacks);
-        ask_lacking(lacks);
+        ask_lacking();
         hear_until_quiet(task);
+        let_go += let_go_of_silent(MOST_SILENT);
     }
     stop_requests();
     return true;
@@ -236,6 +241,7 @@ static int end_of_collection(const struct task *task, const struct domains *doma
     if (unseen_answers() > 0) {
         complain("there is room for %d clocks and %d answers: %lu more answers are left out", MOST_CLOCKS, MOST_KEPT, unseen_answers());
     }
+    if (let_go > 0) complain("%zu clocks gave no new answer when they were asked alone: they were let go", let_go);
     if (has_no_transport) complain("nothing was sent: %s: %s", transport_name(), strerror(errno));
     else if (stopped && task->site.watch == 0) complain("ended by a signal: more may answer");
     else if (sent == 0 && !stopped) complain("nothing was sent: no message is taken at %s", transport_name());
@@ -255,6 +261,7 @@ int collect_answers(const struct task *task, const struct domains *domains, FILE
     see_none();
     output = to;
     sent = 0;
+    let_go = 0;
     has_no_transport = false;
     for (int domain = 0; domain < DOMAINS && !stopped && !has_no_transport; domain++) {
         if (domains->is_in[domain]) together[count++] = (uint8_t)domain;

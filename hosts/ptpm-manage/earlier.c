@@ -1,5 +1,6 @@
 #include "earlier.h"
 #include "answer.h"
+#include "as_asked.h"
 #include "asking.h"
 #include "fresh_number.h"
 #include "names.h"
@@ -36,6 +37,7 @@ static int say_answer(struct session *session, const struct task *earlier, const
     complain("%s, had no answer yet, and was sent again:", earlier_words(session, earlier, task));
     take_report(&session->handle, &answer);
     print_answer(stderr, earlier, "ptpm-manage: ", &answer);
+    if (is_other(earlier, &answer)) say_other(earlier, &answer);
     return ferror(stderr) ? NOT_WRITTEN : ANSWERED;
 }
 

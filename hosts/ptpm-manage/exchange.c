@@ -1,26 +1,67 @@
 #include "exchange.h"
+#include "message_places.h"
+#include <string.h>
 
-enum { EVERY_PORT = 65535 };        /* a portNumber (IEEE 1588-2019, 15.4.1) */
+enum { ERROR_TLV = 2 };             /* a tlvType (14.1.1): a MANAGEMENT_ERROR_STATUS (15.5.4) */
+enum { CLOCK = SOURCE_PORT_AT - SOURCE_AT, PORT_IDENTITY = CLOCK + 2 };     /* octets of identities */
+
+/* The target of the latest message as the session has it. And the port that takes the place of the session's last one, or 0. */
+static uint8_t target[PORT_IDENTITY];
+static uint16_t beyond;
+
+bool is_beyond_session(uint16_t port) { return port > SESSION_PORTS && port != EVERY_PORT; }
 
 enum ptpm_begun begin_of_task(struct ptpm_session *session, const struct task *task) {
-    if (task->port == 0 || task->port == EVERY_PORT) {
-        return ptpm_session_begin(session, task->action, task->id, task->port, task->octets, task->size);
-    }
-    return ptpm_session_begin_at(session, task->action, task->id, task->port, task->octets, task->size);
+    beyond = is_beyond_session(task->port) ? task->port : 0;
+    uint16_t port = beyond != 0 ? SESSION_PORTS : task->port;
+    if (port == 0 || port == EVERY_PORT) return ptpm_session_begin(session, task->action, task->id, port, task->octets, task->size);
+    return ptpm_session_begin_at(session, task->action, task->id, port, task->octets, task->size);
+}
+
+/* The session's last port and the one that is named in its place are each the other beyond the session. */
+static void swap_port(uint8_t *at) {
+    unsigned port = (unsigned)at[0] << 8 | at[1];
+    if (beyond == 0 || (port != beyond && port != SESSION_PORTS)) return;
+    port = port == beyond ? SESSION_PORTS : beyond;
+    at[0] = (uint8_t)(port >> 8);
+    at[1] = (uint8_t)port;
 }
 
 enum sending send_again(struct ptpm_session *session) {
     static uint8_t message[PTPM_MOST_OCTETS];
     size_t size;
     if (ptpm_session_send(session, message, sizeof message, &size) != PTPM_SENT) return NONE_LEFT;
+    memcpy(target, message + TARGET_AT, sizeof target);
+    swap_port(message + TARGET_AT + CLOCK);
     return send_message(message, size);
+}
+
+/* Whether a datagram is an error of the clock that was asked. */
+static bool is_error_of_clock(const uint8_t *datagram, size_t size) {
+    return size >= LEAST_MESSAGE && datagram[TLV_AT] == 0 && datagram[TLV_AT + 1] == ERROR_TLV
+           && memcmp(datagram + SOURCE_AT, target, CLOCK) == 0;
+}
+
+/* Whether a datagram answers the session's request. The sourcePortIdentity of an answer is that of the port which made it
+   (13.3.2.8). A clock of this project has the port that was named make it. A `ptp4l` refuses at the port where the request came in,
+   before it looks at the port that was named. So an error of that clock is judged as one of the named port; the library judges all
+   else of it, its number among that. */
+static bool is_answered(struct ptpm_session *session, const uint8_t *datagram, size_t size) {
+    static uint8_t copy[PTPM_MOST_OCTETS];
+    if (size > sizeof copy) size = sizeof copy;         /* octets that follow the message */
+    memcpy(copy, datagram, size);
+    if (size >= LEAST_MESSAGE) swap_port(copy + SOURCE_PORT_AT);
+    if (ptpm_session_receive(session, copy, size) == PTPM_ANSWERED) return true;
+    if (!is_error_of_clock(copy, size)) return false;
+    memcpy(copy + SOURCE_AT, target, sizeof target);
+    return ptpm_session_receive(session, copy, size) == PTPM_ANSWERED;
 }
 
 int first_answered(struct ptpm_session *first, struct ptpm_session *second, long end) {
     size_t size;
     for (const uint8_t *datagram; (datagram = receive_message(&size, end)) != NULL;) {
-        if (ptpm_session_receive(first, datagram, size) == PTPM_ANSWERED) return 0;
-        if (second != NULL && ptpm_session_receive(second, datagram, size) == PTPM_ANSWERED) return 1;
+        if (is_answered(first, datagram, size)) return 0;
+        if (second != NULL && is_answered(second, datagram, size)) return 1;
     }
     return -1;
 }

@@ -1,6 +1,6 @@
 #define _GNU_SOURCE
 #include "field_words.h"
-#include "field_lines.h"
+#include "field_text.h"
 #include "notices.h"
 #include "program.h"
 #include <stdbool.h>

@@ -76,9 +76,9 @@ static const char text[] =
     "\n";
 
 static const char end[] =
-    "Exit status: 0 answered, and of status nothing was found; 1 the clock refuses, or there are findings;\n"
-    "2 nothing was asked or sent; 3 no answer came; 4 the answer could not be printed. 128 and its number:\n"
-    "a signal ended it.\n";
+    "Exit status: 0 answered, and of status nothing was found. 1 the clock refuses, or there are findings.\n"
+    "2 nothing was asked or sent; 3 no answer came; 4 the answer could not be printed. 5 a set is\n"
+    "answered by another value than was asked. 128 and its number: a signal ended it.\n";
 
 /* The names of all ids, in their order. */
 static void print_ids(void) {

@@ -1,8 +1,7 @@
 #define _GNU_SOURCE
 #include "members.h"
-#include "field_lines.h"
+#include "field_text.h"
 #include "identity.h"
-#include "interval.h"
 #include "text.h"
 #include <inttypes.h>
 #include <stdbool.h>

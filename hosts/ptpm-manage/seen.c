@@ -101,8 +101,31 @@ size_t seen_count(void) { return clock_count; }
 const struct seen_clock *seen_clock(size_t place) { return &clocks[place]; }
 
 bool is_lacking(const struct seen_clock *clock, enum collected id) {
+    if (clock->is_let_go) return false;
     if ((clock->answered >> id & 1) == 0) return true;
     return id == PORT_SET && !clock->are_ports_refused && clock->ports < clock->port_count;
+}
+
+void note_asked(size_t place) {
+    struct seen_clock *clock = &clocks[place];
+    if (clock->is_asked) return;
+    clock->is_asked = true;
+    clock->answered_before = clock->answered;
+    clock->ports_before = clock->ports;
+}
+
+static bool is_silent(const struct seen_clock *clock) {
+    return clock->is_asked && clock->answered == clock->answered_before && clock->ports == clock->ports_before;
+}
+
+size_t let_go_of_silent(size_t most) {
+    size_t silent = 0;
+    for (size_t place = 0; place < clock_count; place++) silent += is_silent(&clocks[place]);
+    for (size_t place = 0; place < clock_count; place++) {
+        if (silent > most && is_silent(&clocks[place])) clocks[place].is_let_go = true;
+        clocks[place].is_asked = false;
+    }
+    return silent > most ? silent : 0;
 }
 
 unsigned long unseen_answers(void) { return not_kept; }

@@ -28,8 +28,9 @@ _Noreturn void refuse_session_file(const char *why) {
 }
 
 _Noreturn void refuse_place(void) {
-    if (path_is_named) refuse("the request was not sent: --numbers %s: %s", path, strerror(errno));
-    refuse("the request was not sent: %s: %s; --numbers FILE keeps the session elsewhere", path, strerror(errno));
+    const char *fault = kept_fault();
+    if (path_is_named) refuse("the request was not sent: --numbers %s%s: %s", path, fault, strerror(errno));
+    refuse("the request was not sent: %s%s: %s; --numbers FILE keeps the session elsewhere", path, fault, strerror(errno));
 }
 
 static void open_folder(void) {

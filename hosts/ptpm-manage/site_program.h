@@ -3,7 +3,7 @@
 #define SITE_PROGRAM_H
 
 #include "report.h"
-#include "site_options.h"
+#include "task.h"
 
 /* How it shows the site. */
 enum shown_as { AS_TEXT, AS_JSON, AS_DRAWING };

@@ -1,6 +1,7 @@
 #define _GNU_SOURCE
 #include "task.h"
 #include "digits.h"
+#include "exchange.h"
 #include "field_words.h"
 #include "help.h"
 #include "identity.h"
@@ -16,10 +17,17 @@
 /* Options without a letter of their own, and a word that is none: getopt's for a string that begins with a hyphen. */
 enum { WORD = 1, UDP = 256, TEXT, VERSION, GIVE_UP, JSON, ANY_SOURCE };
 
+/* The same of `collect` and `status` alone. */
+enum site_option { LISTEN = 512, DRAW, MAX_OFFSET, MAX_DELAY, ONCE, WATCH };
+
 enum { MOST_WORDS = 2 + MOST_FIELD_WORDS, MOST_FIELD = 1418, NOT_NAMED = -1 };
 
 /* What holds if no option says otherwise. Each request to one clock alone is repeated for two seconds. */
 enum { HOPS = 1, ATTEMPTS = 30, SITE_HOPS = 7, SITE_ATTEMPTS = 10, LISTENED = 4000 };
+
+enum { SECOND = 1000, MOST_SECONDS = 86400 };
+
+static const long most_limit = 1000000000000000;        /* of an offset or a delay, in nanoseconds */
 
 static const struct option options[] = {
     { "interface", required_argument, NULL, 'i' }, { "udp", required_argument, NULL, UDP }, { "ipv6", no_argument, NULL, '6' },
@@ -50,6 +58,56 @@ static long number(const char *option, const char *text, long least, long most) 
     long found = decimal(text, most);
     if (found < least) refuse("--%s %s: it takes a number from %ld to %ld", option, text, least, most);
     return found;
+}
+
+static long seconds(const char *option, const char *text, long least) {
+    long found = decimal(text, MOST_SECONDS);
+    if (found < least) refuse("%s %s: it takes a number from %ld to %d", option, text, least, MOST_SECONDS);
+    return found * SECOND;
+}
+
+/* A limit in nanoseconds, which goes to `ptpm site` as it is written. */
+static const char *limit(const char *option, const char *text) {
+    if (decimal(text, most_limit) < 0) refuse("%s %s: it takes a number of nanoseconds from 0 to %ld", option, text, most_limit);
+    return text;
+}
+
+/* Takes an option of `collect` and `status`; whether it is one of these. */
+static bool take_site_option(struct site_options *site, int option, const char *value) {
+    static const char *const names[] = { "--listen", "--draw", "--max-offset", "--max-delay", "--once", "--watch" };
+    if (option < LISTEN || option > WATCH) return false;
+    const char *name = names[option - LISTEN];
+    switch ((enum site_option)option) {
+    case LISTEN: site->listen = seconds(name, value, 0); break;
+    case WATCH: site->watch = seconds(name, value, 1); break;
+    case MAX_OFFSET: site->max_offset = limit(name, value); break;
+    case MAX_DELAY: site->max_delay = limit(name, value); break;
+    case DRAW: site->is_drawn = true; break;
+    case ONCE: site->is_once = true; break;
+    }
+    if (option != LISTEN) site->given = name;
+    return true;
+}
+
+/* The domains of a word: a number, two with a hyphen, or `all`. */
+static void read_domains(struct site_options *site, const char *text) {
+    char *rest;
+    site->is_every_domain = strcasecmp(text, "all") == 0;
+    if (site->is_every_domain) return;
+    long first = *text >= '0' && *text <= '9' ? strtol(text, &rest, 10) : -1, last = first;
+    if (first >= 0 && *rest != '\0') last = *rest == '-' ? decimal(rest + 1, DOMAINS - 1) : -1;
+    if (first < 0 || first >= DOMAINS || last < first) {
+        refuse("--domain %s: it takes a number from 0 to 255, two as 0-7, or all", text);
+    }
+    site->first_domain = (uint8_t)first;
+    site->last_domain = (uint8_t)last;
+}
+
+/* Refuses options that exclude each other, or that what is asked does not take. */
+static void judge_site_options(const struct site_options *site) {
+    if (site->given != NULL && !site->is_shown) refuse("%s: it is of status alone", site->given);
+    if (site->listen >= 0 && !site->is_every_domain) refuse("--listen: it is of --domain all of collect and status");
+    if (site->is_drawn && site->watch > 0) refuse("--draw and --watch exclude each other");
 }
 
 /* The clock that is asked, and the port after it, if one is named there. */
@@ -179,6 +237,7 @@ static void read_octets_of(struct task *task, const char *text) {
     if (strlen(text) > 2 * MOST_FIELD) refuse("the dataField has over %d octets", MOST_FIELD);
     task->size = read_octets(&rest, task->octets, sizeof task->octets);
     if (*rest == '\0' && task->size % 2 == 0) return;
+    if (task->action == PTPM_GET && id_named(text) >= 0) refuse("get takes one managementId: %s is asked for by a run of its own", text);
     refuse("%s: it is no even number of octets in hexadecimal%s", text, hint(task));
 }
 
@@ -276,7 +335,7 @@ static void read_reach(struct task *task, const struct words *words) {
 void read_task(struct task *task, int argc, char **argv) {
     struct words words = { .port = NOT_NAMED, .target_port = NOT_NAMED, .hops = NOT_NAMED, .attempts = NOT_NAMED };
     *task = (struct task){
-        .settings = { .port = 1, .target_ports = 8 }, .site = { .listen = NOT_NAMED }, .wait = 3000, .timeout = 200, .times = 1,
+        .settings = { .port = 1, .target_ports = SESSION_PORTS }, .site = { .listen = NOT_NAMED }, .wait = 3000, .timeout = 200, .times = 1,
     };
     read_words(task, &words, argc, argv);
     if (words.count == 0) refuse("it takes get, set, command or survey and a managementId, or collect or status; see ptpm-manage --help");
@@ -290,7 +349,9 @@ void read_task(struct task *task, int argc, char **argv) {
     if (task->site.listen < 0) task->site.listen = LISTENED;
     long port = words.port >= 0 ? words.port : words.target_port;
     task->port = port < 0 ? 0 : (uint16_t)port;
-    task->is_kept = is_by_one_manager(task);
+    bool is_beyond = is_beyond_session(task->port);
+    if (is_beyond && task->numbers != NULL) refuse("--numbers: no session is kept of a port above %d, which no clock of ptpm has", SESSION_PORTS);
+    task->is_kept = is_by_one_manager(task) && !is_beyond;
     if (task->is_letting_go && !task->is_kept) refuse("--give-up: no session is kept of what is asked");
 }
 

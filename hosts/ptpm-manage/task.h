@@ -3,11 +3,21 @@
 #define TASK_H
 
 #include "ptpm.h"
-#include "site_options.h"
 #include <stdbool.h>
 #include <stdint.h>
 
-enum { MOST_INTERFACES = 8 };
+enum { MOST_INTERFACES = 8, DOMAINS = 256 };
+
+/* What a command line of `collect` and `status` says beyond that of a survey. */
+struct site_options {
+    bool is_collected, is_shown;                /* `collect`; `status` */
+    uint8_t first_domain, last_domain;
+    bool is_every_domain;                       /* those in which Announce messages are heard, and 0 and 127 */
+    long listen, watch;                         /* in milliseconds: for such messages, or -1 by default; between two looks, or 0 */
+    bool is_drawn, is_once;
+    const char *max_offset, *max_delay;         /* as they are written, or NULL */
+    const char *given;                          /* an option of `status` alone that was given, or NULL */
+};
 
 struct task {
     bool is_survey;                             /* every clock is asked, or one, at every port */

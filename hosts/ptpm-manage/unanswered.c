@@ -10,11 +10,11 @@
 #include <stdbool.h>
 
 /* Whether the clock answers nobody's GET, if it did not answer the manager; then what it has is said. */
-static bool tell_value(const struct task *task) {
+static bool say_value(const struct task *task) {
     static struct answer answer;
     struct ptpm_session session = { 0 };
-    bool is_told = begin_reading(&session, task, task->id) && finish_reading(&session, task);
-    if (is_told) {
+    bool is_answered = begin_reading(&session, task, task->id) && finish_reading(&session, task);
+    if (is_answered) {
         take_report(&session, &answer);
         complain("the clock answers reads%s", answer.told == PTPM_VALUE ? ", and has by now" : "");
         if (answer.told == PTPM_VALUE) print_answer(stderr, task, "ptpm-manage: ", &answer);
@@ -22,11 +22,11 @@ static bool tell_value(const struct task *task) {
         complain("it answers no read either");
     }
     ptpm_session_stop(&session);
-    return is_told;
+    return is_answered;
 }
 
 /* Why a clock that answers reads may drop what this manager asks. */
-static void tell_reason(const struct task *task, enum unanswered what, uint16_t number) {
+static void say_reason(const struct task *task, enum unanswered what, uint16_t number) {
     static const char unsaved[] = ", or the clock can't save its state, for example since its disk is full";
     char manager[IDENTITY_TEXT];
     unsigned port = task->settings.port;
@@ -64,7 +64,7 @@ static void advise(const struct task *task, enum unanswered what) {
 }
 
 /* What becomes of a request that stays in the session's file. */
-static void tell_rest(const struct task *task, enum unanswered what, uint16_t number) {
+static void say_rest(const struct task *task, enum unanswered what, uint16_t number) {
     const char *words = task_words(task);
     unsigned domain = task->settings.domain;
     if (!task->is_kept) return;
@@ -95,7 +95,7 @@ int no_answer(const struct task *task, enum unanswered what, uint16_t number, lo
     }
     complain("%sno answer at %s in domain %u to %ld message%s%s", end, transport_name(), task->settings.domain, sent,
              sent == 1 ? "" : "s", request_clause(task, what));
-    tell_rest(task, what, number);
+    say_rest(task, what, number);
     if (stopped) return BY_SIGNAL + stopped;
     tell_missing_addresses();
     tell_deaf_port();
@@ -103,9 +103,9 @@ int no_answer(const struct task *task, enum unanswered what, uint16_t number, lo
         advise_on_time(task);
         return NOT_ANSWERED;
     }
-    bool is_answered = (task->is_kept || task->action != PTPM_GET) && tell_value(task);
+    bool is_answered = (task->is_kept || task->action != PTPM_GET) && say_value(task);
     if (stopped) return BY_SIGNAL + stopped;
     if (!is_answered) advise(task, what);
-    else if (task->is_kept) tell_reason(task, what, number);
+    else if (task->is_kept) say_reason(task, what, number);
     return NOT_ANSWERED;
 }

@@ -7,7 +7,7 @@ import signal
 import subprocess
 import time
 
-from attacking import HOME, ME, OTHER, Peer, check, has_own_socket, path, start, work, write
+from attacking import HOME, ME, OTHER, SLOW, Peer, check, has_own_socket, path, start, work, write
 
 # The dataFields of the six ids, of a clock with one port (IEEE 1588-2019, 15.5.3).
 DEFAULT, CURRENT, PARENT, TIMES, PORT, TEXT = 0x2000, 0x2001, 0x2002, 0x2003, 0x2004, 0x0002
@@ -88,7 +88,24 @@ def strangers_without_end():
     clocks = {line[40:56] for line in site.lines()}
     check("of 5,000 clocks 4,096 are collected", site.status == 0 and len(clocks) == 4096 and len(site.lines()) == 4096)
     check("the others are counted", "there is room for 4096 clocks and 65536 answers: 904 more answers are left out" in site.said())
-    check("where there is no room for requests it ends all the same", site.took < 60)
+    check("where there is no room for requests it ends all the same", site.took < 60 * SLOW)
+
+
+def strangers_that_are_one():
+    """One host answers the first request as 1,000 clocks, and then reads: each is asked alone once, at a pace, and let go."""
+    many, times = [identity(number) for number in range(1000)], []
+
+    def reply(request):
+        times.append(time.monotonic())
+        return [answer(request, clock) for clock in many] if len(times) == 1 else []
+    site = Site(reply, "-t", "100", "-a", "10", "collect")
+    pace = max(sum(begin <= one < begin + 0.5 for one in times[place:place + 5000]) for place, begin in enumerate(times) if place % 50 == 0)
+    check(f"1,000 clocks that are one are asked {len(times)} times, and {pace} in half a second", site.status == 0
+          and 5000 < len(times) < 5100 and pace < 1700)
+    check("they are let go", "1000 clocks gave no new answer when they were asked alone: they were let go\n" in site.said())
+    few = Site(lambda request: [answer(request, clock) for clock in many[:100]] if request[52:54] == b"\x20\0" else [], "-t", "100", "-a", "3",
+               "collect")
+    check("a hundred are not", len(few.requests) == 6 + 3 * 500 and "let go" not in few.said())
 
 
 def strangers_that_never_end():
@@ -101,7 +118,7 @@ def strangers_that_never_end():
         return []
 
     site = Site(reply, "-t", "50", "-a", "3", "collect", idle=lambda: [answer(asked[0], identity(next(count)))])
-    check("a silence that never comes is not waited for", site.status == 0 and site.lines() and site.took < 10)
+    check("a silence that never comes is not waited for", site.status == 0 and site.lines() and site.took < 10 * SLOW)
 
 
 def junk():
@@ -171,7 +188,7 @@ def signals_to_collect():
 
     held = Held("-t", "5000", "collect")
     check("SIGINT ends a collection, and what came is printed", held.status == 130 and len(held.lines()) == 5
-          and "ended by a signal" in held.said() and held.took < 5 and not has_own_socket())
+          and "ended by a signal" in held.said() and held.took < 5 * SLOW and not has_own_socket())
 
 
 def programs_that_show():
@@ -190,9 +207,9 @@ def programs_that_show():
     site = shown("kill -KILL $$")
     check("a program ptpm that is killed is a fault", site.status == 1 and "ended by signal 9" in site.said())
     site = shown("kill -TERM $PPID; exec sleep 60")
-    check("a program ptpm that hangs is ended by a signal", site.status == 143 and site.took < 10)
+    check("a program ptpm that hangs is ended by a signal", site.status == 143 and site.took < 10 * SLOW)
     site = shown("echo 'no findings here'; exit 1")
-    check("what it prints is printed as it is", site.status == 1 and site.lines() == ["no findings here"] and site.took < 2)
+    check("what it prints is printed as it is", site.status == 1 and site.lines() == ["no findings here"] and site.took < 2 * SLOW)
     site = shown("yes | head -c 3000000; exit 0")
     check("it may print three million octets and read none", site.status == 0 and len(site.read(0)) == 3000000)
     os.unlink(program)
@@ -229,5 +246,5 @@ int main(void) {
     check(f"without memory a site is whole or fails, except {wrong}", wrong == [] and 0 < refused < 46)
 
 
-ATTACKS = [strangers_without_end, strangers_that_never_end, junk, one_identity, ids_that_lack, signals_to_collect, programs_that_show,
+ATTACKS = [strangers_without_end, strangers_that_are_one, strangers_that_never_end, junk, one_identity, ids_that_lack, signals_to_collect, programs_that_show,
            refusals_of_memory]

@@ -10,7 +10,7 @@ import subprocess
 import tempfile
 import time
 
-from attacking import (HOME, MANAGER, ME, OTHER, Clock, Peer, asks, check, fill_disk, manage, path, read, response, run, start, work, write)
+from attacking import (HOME, MANAGER, ME, OTHER, SLOW, Clock, Peer, asks, check, fill_disk, manage, path, read, response, run, start, work, write)
 
 PROGRAM = os.path.join(HOME, "manage")
 
@@ -249,7 +249,7 @@ class TwoManagers:
         return done.returncode == 0 and self.value() == "priority2 60"
 
     def sets(self, *words):
-        return manage("-u", path, "-k", self.number, "-a", "3", "-t", "30", *words, "set", "PRIORITY2", "50")
+        return manage("-u", path, "-k", self.number, "-a", "3", "-t", str(30 * SLOW), *words, "set", "PRIORITY2", "50")
 
     def is_honest(self, *words):
         """Whether what a run reports is so: status 0 and the value that the clock has; or a failure, and it has what it had."""
@@ -333,7 +333,7 @@ def kills():
         print("attack: strace is missing")
         return
     two = TwoManagers()
-    words = [PROGRAM, "-k", two.number, "-m", MANAGER + "/1", "-w", "0", "-u", path, "-a", "3", "-t", "30",
+    words = [PROGRAM, "-k", two.number, "-m", MANAGER + "/1", "-w", "0", "-u", path, "-a", "3", "-t", str(30 * SLOW),
              "--target", ME, "set", "PRIORITY2", "50"]
     for is_new in [True, False]:
         run("strace", "-qq", "-o", os.path.join(work, "trace"), *words)
@@ -382,7 +382,7 @@ def hung_runs():
     words = [PROGRAM, "-m", MANAGER + "/1", "-u", path, "-k", number, "-w", "100000", "--target", ME, "get", "DOMAIN"]
     hung = subprocess.Popen(words, stderr=subprocess.DEVNULL)
     try:
-        time.sleep(0.5)
+        time.sleep(0.5 * SLOW)
         hung.send_signal(signal.SIGSTOP)
         waiting = subprocess.Popen(words, stderr=subprocess.PIPE, text=True)
         yield
@@ -412,7 +412,7 @@ def places_without_room():
             fill_disk(folder, "filler2")
         two.clock.text()
         check("a full disk", two.other_sets() and two.is_honest() and two.last == 2
-              and f"the request was not sent: --numbers {two.number}: No space left on device" in two.said)
+              and f"the request was not sent: --numbers {two.number}.new: No space left on device" in two.said)
         check("nothing was sent then, and nothing new lies there", os.path.exists(two.number) != is_new
               and not os.path.exists(two.number + ".new"))
     os.unlink(os.path.join(folder, "filler"))

@@ -31,7 +31,8 @@ def put(content, name=state):
 def begins(*words, user=None):
     """A clock that ends as soon as it has started: its status, and what it says."""
     who = {} if user is None else {"user": user, "group": user, "extra_groups": []}
-    done = subprocess.run([PROGRAM, "-n", "0", *words], stdout=subprocess.PIPE, stderr=subprocess.STDOUT, text=True, timeout=60, **who)
+    stays = ["--user", "root"] if user is None and "--user" not in words else []
+    done = subprocess.run([PROGRAM, "-n", "0", *stays, *words], stdout=subprocess.PIPE, stderr=subprocess.STDOUT, text=True, timeout=60, **who)
     return done.returncode, done.stdout
 
 
@@ -153,10 +154,11 @@ def files_in_the_way():
     check("a pipe is refused", is_refused(2, f"{state}: it is no file", *WORDS))
     os.unlink(state)
     for name, why in [(folder + "/", "no name of a file"), (folder + "/no/no/state", "No such file or directory"), ("/proc/state", "")]:
-        check(f"{name} is refused", is_refused(2, f"{name}: {why}", "-s", name, *UNIX))
+        fault = ".lock" if why == "" else ""
+        check(f"{name} is refused", is_refused(2, f"{name}{fault}: {why}", "-s", name, *UNIX))
     inner = os.path.join(folder, "state")
     os.mkdir(inner + ".new")
-    check("a folder in the way of a new file is", is_refused(2, f"{inner}: File exists", "-s", inner, *UNIX))
+    check("a folder in the way of a new file is", is_refused(2, f"{inner}.new: File exists", "-s", inner, *UNIX))
     check("and no lock is left without a state", os.listdir(folder) == ["state.new"])
     os.rmdir(inner + ".new")
     put(b"left over", inner + ".new")
@@ -172,8 +174,8 @@ def places_without_rights():
     inner = os.path.join(folder, "state")
     own = ("-s", inner, "-m", MANAGER + "/1", "-u", os.path.join(work, "nobodys"), ME)
     os.chmod(work, 0o777), os.mkdir(folder)
-    check("a folder that can't be written", is_refused(2, f"{inner}: Permission denied", *own, user=NOBODY) and os.listdir(folder) == [])
-    check("nor by the user that it becomes", is_refused(2, f"{inner}: Permission denied", "--user", "nobody", *own))
+    check("a folder that can't be written", is_refused(2, f"{inner}.lock: Permission denied", *own, user=NOBODY) and os.listdir(folder) == [])
+    check("nor by the user that it becomes", is_refused(2, f"{inner}.new: Permission denied", "--user", "nobody", *own))
     shutil.rmtree(folder), os.mkdir(folder)
     begins(*own)
     os.chmod(folder, 0o777), os.chmod(inner + ".lock", 0o666)
@@ -181,12 +183,18 @@ def places_without_rights():
     check("a file that can't be read", is_refused(2, f"{inner}: Permission denied", *own, user=NOBODY) and octets(inner) == whole)
     status, _ = begins("--user", "nobody", *own)
     check("which root reads, and which is its user's then", status == 0 and os.stat(inner).st_uid == NOBODY and octets(inner) == whole)
-    shutil.rmtree(folder), os.mkdir(folder)
+    shutil.rmtree(folder)
+    made = os.path.join(work, "made", "state")
+    for turn in ["first", "second"]:
+        status, said = begins("-s", made, "--user", "nobody", "-m", MANAGER + "/1", "-u", os.path.join(work, "nobodys"), ME)
+        check(f"a folder that is missing is made for the user that it becomes, at the {turn} start: {said}", status == 0)
+    check("and is his", os.stat(os.path.dirname(made)).st_uid == os.stat(made).st_uid == NOBODY)
+    os.mkdir(folder)
     run("mount", "-t", "tmpfs", "-o", "ro", "tmpfs", folder)
-    check("a disk that can't be written", is_refused(2, f"{inner}: Read-only file system", *own) and os.listdir(folder) == [])
+    check("a disk that can't be written", is_refused(2, f"{inner}.lock: Read-only file system", *own) and os.listdir(folder) == [])
     run("umount", folder)
     run("mount", "-t", "tmpfs", "-o", "size=16k", "tmpfs", folder)
-    check("a disk without room for a state", is_refused(2, f"{inner}: No space left on device", *own) and os.listdir(folder) == [])
+    check("a disk without room for a state", is_refused(2, f"{inner}.new: No space left on device", *own) and os.listdir(folder) == [])
     run("umount", folder)
 
 
@@ -216,7 +224,7 @@ def full_disks():
     check("nothing is answered that is not saved", status == 3)
     check("and the manager is told that this may be why", "or the clock can't save its state" in said)
     time.sleep(0.3)
-    said = f"ptpm-clock: {inner}: nothing is answered: No space left on device\n"
+    said = f"ptpm-clock: {inner}.new: nothing is answered: No space left on device\n"
     check("which is said", said in clock.text() and ", 0 of 1 sent" in clock.text())
     check("the clock and the file are as before", value() == 100 and octets(inner) == whole and not os.path.exists(inner + ".new"))
     os.unlink(filler)
@@ -240,7 +248,7 @@ def calls_that_fail():
         clear()
         with open(os.path.join(work, "output"), "w") as output:
             clock = subprocess.Popen(["strace", "-D", "-qq", "-o", "/dev/null", "-e", f"trace={name}", "-e",
-                                      f"inject={name}:error=EIO:when={at}", PROGRAM, "-v", *WORDS], stdout=output, stderr=subprocess.STDOUT)
+                                      f"inject={name}:error=EIO:when={at}", PROGRAM, "--user", "root", "-v", *WORDS], stdout=output, stderr=subprocess.STDOUT)
         started.append(clock)
         for _ in range(200):
             if "in domain" in read("output"):
@@ -249,7 +257,8 @@ def calls_that_fail():
         check(f"{name} {at} fails, and the manager is answered all the same", sets(50))
         time.sleep(0.3)
         said = read("output")
-        check("the failure is said", f"ptpm-clock: {state}: nothing is answered: Input/output error\n" in said)
+        place = ".new" if at == 4 else ""
+        check("the failure is said", f"ptpm-clock: {state}{place}: nothing is answered: Input/output error\n" in said)
         lines = [line for line in said.splitlines() if line.startswith(("saved", "port"))]
         failures = [place for place, line in enumerate(lines) if ", 0 of 1 sent" in line]
         is_saved = all(before.startswith("saved") for before, line in zip(lines, lines[1:]) if " 5 " in line and ", 1 of 1 sent" in line)

@@ -14,6 +14,16 @@ import time
 HOME = os.path.dirname(os.path.dirname(os.path.abspath(__file__)))
 ME, OTHER, MANAGER = "aabbccfffeddee01", "aabbccfffeddee99", "0011223344556677"
 LIBC = ctypes.CDLL(None, use_errno=True)
+
+
+def is_sanitized(name):
+    with open(os.path.join(HOME, name), "rb") as built:
+        octets = built.read()
+    return b"__asan_" in octets or b"__ubsan_" in octets
+
+
+# Programs that were built with a sanitizer take longer for all that they do.
+SLOW = 5 if is_sanitized("clock") or is_sanitized("manage") else 1
 passed, failed = 0, 0
 started = []            # the programs that may still run: none outlives its attack
 work = tempfile.mkdtemp()
@@ -31,8 +41,9 @@ def check(what, holds):
 
 
 def start(name, *words, **streams):
-    """A program of this folder, which is ended with the attack that started it."""
-    process = subprocess.Popen([os.path.join(HOME, name), *words], **streams)
+    """A program of this folder, which is ended with the attack that started it. A clock stays root where no user is named."""
+    stays = ["--user", "root"] if name == "clock" and "--user" not in words else []
+    process = subprocess.Popen([os.path.join(HOME, name), *stays, *words], **streams)
     started.append(process)
     return process
 
@@ -43,6 +54,19 @@ def get(number, target=ME, hops=1):
             + bytes.fromhex("047f" + target + "ffff") + bytes([hops, hops, 0, 0]) + bytes.fromhex("000100022005"))
 
 
+def pause(seconds):
+    """Waits so long, or longer where SLOW says so."""
+    time.sleep(seconds * SLOW)
+
+
+def wait_until(holds, most=4):
+    """Whether it comes to hold in time."""
+    end = time.monotonic() + most * SLOW
+    while not holds() and time.monotonic() < end:
+        time.sleep(0.05)
+    return holds()
+
+
 class Clock:
     """clock.c with these words, from when it says that it has started to its end."""
 
@@ -50,18 +74,18 @@ class Clock:
         self.output = open(os.path.join(work, "output"), "w+")
         self.began = time.monotonic()
         self.process = start("clock", *words, stdout=self.output, stderr=subprocess.STDOUT)
-        for _ in range(100):
+        for _ in range(100 * SLOW):
             if self.process.poll() is not None or " in domain " in self.text():
                 break
             time.sleep(0.02)
 
     def end(self, number=signal.SIGTERM):
-        """Its status, and how long it took to end, in seconds: ten and status -9 where it didn't."""
+        """Its status, and how long it took to end, in seconds: ten and status -9 where it didn't, or more where SLOW says so."""
         asked = time.monotonic()
         if number is not None:
             self.process.send_signal(number)
         try:
-            status = self.process.wait(10)
+            status = self.process.wait(10 * SLOW)
         except subprocess.TimeoutExpired:
             self.process.kill()
             status = self.process.wait()
@@ -89,7 +113,7 @@ class Peer:
         self.path = os.path.join(work, name)
         self.socket = socket.socket(socket.AF_UNIX, socket.SOCK_DGRAM)
         self.socket.bind(self.path)
-        self.socket.settimeout(2)
+        self.socket.settimeout(2 * SLOW)
 
     def ask(self, octets):
         self.socket.sendto(octets, path)

@@ -285,5 +285,5 @@ int main(void) {
     side_by_side();
     clock_managers = 1;
     side_by_side();
-    return told("blocks");
+    return print_checks("blocks");
 }

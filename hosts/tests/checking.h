@@ -17,7 +17,7 @@ static void check(bool holds, const char *what) {
 }
 
 /* The last line of a test, and its status. */
-static int told(const char *name) {
+static int print_checks(const char *name) {
     printf("%s: %u passed, %u failed\n", name, passed, failed);
     return failed > 0;
 }

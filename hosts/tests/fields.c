@@ -133,5 +133,5 @@ int main(void) {
     sole_members();
     utc_properties();
     descriptions();
-    return told("fields");
+    return print_checks("fields");
 }

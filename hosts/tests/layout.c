@@ -756,5 +756,5 @@ int main(void) {
     ptpm_clock_stop(&clock_held);
     ptpm_session_stop(&session);
     ptpm_survey_stop(&survey);
-    return told("layout");
+    return print_checks("layout");
 }

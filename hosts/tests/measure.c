@@ -1,24 +1,26 @@
-/* measure: what a datagram costs a host in C. `./measure LIST COUNT` starts a clock, lets it answer a request of its manager,
-   and hands it the datagram of the list COUNT times at port 1. By the difference of two runs a counter of instructions
-   (callgrind) shows what one of them costs. The lists are those of the program ptpm_measure, which calls the clock without the
-   exports. In `start` a clock of two ports is started and stopped COUNT times. Prints the list, the answer to the last
-   datagram, and how many messages it made, of how many octets; of `start` its name alone. Status 2 if the words are not
-   understood, 1 if the clock does not start. */
+/* measure: what a datagram costs a host in C. `./measure LIST COUNT` starts a clock, lets it answer a GET of its manager, and hands
+   it the datagram of the list COUNT times at port 1. The lists `send`, `receive` and `ignore` are of a manager's session. In `send`
+   a GET is sent, with an attempt more before it. In `receive` one is begun, and its answer is heard. In `ignore` an answer under
+   an older number is heard. In `start` a clock of two ports is started and stopped. By the difference of two runs a counter of
+   instructions (callgrind) shows what one of them costs. Prints the list, the answer to the last call, and its messages and
+   their octets; of `start` its name alone. Status 2 if the words are not understood, 1 if a clock or a session does not start. */
 #include "ptpm.h"
 #include <stdbool.h>
 #include <stdio.h>
 #include <stdlib.h>
 #include <string.h>
 
-enum { HEAD = 54, MOST = 56, TWO = 2, EIGHT = 8, SIXTEEN = 16 };
+enum { HEAD = 54, MOST = PTPM_MOST_OCTETS, TWO = 2, EIGHT = 8, SIXTEEN = 16 };
 enum {
-    GET = PTPM_GET, SET = PTPM_SET, PRIORITY1 = PTPM_ID_PRIORITY1, PORT_DATA_SET = PTPM_ID_PORT_DATA_SET,
-    LOG_ANNOUNCE_INTERVAL = PTPM_ID_LOG_ANNOUNCE_INTERVAL
+    GET = PTPM_GET, SET = PTPM_SET, RESPONSE = 2, PRIORITY1 = PTPM_ID_PRIORITY1, PORT_DATA_SET = PTPM_ID_PORT_DATA_SET,
+    LOG_ANNOUNCE_INTERVAL = PTPM_ID_LOG_ANNOUNCE_INTERVAL, USER_DESCRIPTION = PTPM_ID_USER_DESCRIPTION
 };
 enum who { MANAGER, STRANGER };
 enum whom { CLOCK, ANOTHER, EVERY };
+enum how { PLAIN, IN_ANOTHER_DOMAIN, WITHOUT_HOPS, OLDER };
 
-/* A list: the clock's ports and managers, and its datagram, whose sequenceId rises by `step` each time. */
+/* A list: the clock's ports and managers, and its datagram, whose sequenceId rises by `step` each time. The dataField has `data`
+   octets. The first is `value`. The others are letters in a userDescription, and else 0. */
 struct list {
     const char *name;
     size_t ports, managers;
@@ -26,22 +28,29 @@ struct list {
     enum whom to;
     uint8_t action;
     uint16_t id;
+    size_t data;
     uint8_t value;
     uint16_t step;
+    enum how how;
 };
 
 static const struct list lists[] = {
-    { "get", TWO, 1, MANAGER, CLOCK, GET, PRIORITY1, 0, 1 },
-    { "last_manager", TWO, SIXTEEN, MANAGER, CLOCK, GET, PRIORITY1, 0, 1 },
-    { "set", TWO, 1, MANAGER, CLOCK, SET, PRIORITY1, 100, 1 },
-    { "stranger", TWO, 1, STRANGER, CLOCK, GET, PRIORITY1, 0, 0 },
-    { "repeat", TWO, 1, MANAGER, CLOCK, GET, PRIORITY1, 0, 0 },
-    { "ports_get", EIGHT, 1, MANAGER, CLOCK, GET, PORT_DATA_SET, 0, 1 },
-    { "ports_set", EIGHT, 1, MANAGER, CLOCK, SET, LOG_ANNOUNCE_INTERVAL, 2, 1 },
-    { "ports_repeat", EIGHT, 1, MANAGER, CLOCK, GET, PORT_DATA_SET, 0, 0 },
-    { "ports_stranger", EIGHT, 1, STRANGER, EVERY, GET, PORT_DATA_SET, 0, 0 },
-    { "forward", TWO, 1, MANAGER, ANOTHER, GET, PRIORITY1, 0, 0 },
-    { "forward_seven", EIGHT, 1, MANAGER, ANOTHER, GET, PRIORITY1, 0, 0 },
+    { "get", TWO, 1, MANAGER, CLOCK, GET, PRIORITY1, 0, 0, 1, PLAIN },
+    { "last_manager", TWO, SIXTEEN, MANAGER, CLOCK, GET, PRIORITY1, 0, 0, 1, PLAIN },
+    { "set", TWO, 1, MANAGER, CLOCK, SET, PRIORITY1, 2, 100, 1, PLAIN },
+    { "set_text", TWO, 1, MANAGER, CLOCK, SET, USER_DESCRIPTION, 130, 128, 1, PLAIN },
+    { "stranger", TWO, 1, STRANGER, CLOCK, GET, PRIORITY1, 0, 0, 0, PLAIN },
+    { "repeat", TWO, 1, MANAGER, CLOCK, GET, PRIORITY1, 0, 0, 0, PLAIN },
+    { "other_domain", TWO, 1, MANAGER, CLOCK, GET, PRIORITY1, 0, 0, 0, IN_ANOTHER_DOMAIN },
+    { "ports_get", EIGHT, 1, MANAGER, CLOCK, GET, PORT_DATA_SET, 0, 0, 1, PLAIN },
+    { "ports_set", EIGHT, 1, MANAGER, CLOCK, SET, LOG_ANNOUNCE_INTERVAL, 2, 2, 1, PLAIN },
+    { "ports_repeat", EIGHT, 1, MANAGER, CLOCK, GET, PORT_DATA_SET, 0, 0, 0, PLAIN },
+    { "ports_stranger", EIGHT, 1, STRANGER, EVERY, GET, PORT_DATA_SET, 0, 0, 0, PLAIN },
+    { "forward", TWO, 1, MANAGER, ANOTHER, GET, PRIORITY1, 0, 0, 0, PLAIN },
+    { "forward_seven", EIGHT, 1, MANAGER, ANOTHER, GET, PRIORITY1, 0, 0, 0, PLAIN },
+    { "forward_long", EIGHT, 1, MANAGER, ANOTHER, SET, PRIORITY1, MOST - HEAD, 0, 0, PLAIN },
+    { "other_clock", TWO, 1, MANAGER, ANOTHER, GET, PRIORITY1, 0, 0, 0, WITHOUT_HOPS },
+    { "old", TWO, 1, MANAGER, CLOCK, GET, PRIORITY1, 0, 0, 0, OLDER },
 };
 
 static const uint8_t manager[8] = { 0x00, 0x11, 0x22, 0x33, 0x44, 0x55, 0x66, 0x77 };
@@ -51,19 +60,30 @@ static const uint8_t another[8] = { 0xaa, 0xbb, 0xcc, 0xff, 0xfe, 0xdd, 0xee, 0x
 static const uint8_t every[8] = { 0xff, 0xff, 0xff, 0xff, 0xff, 0xff, 0xff, 0xff };
 static struct ptpm_sent sent[PTPM_MOST_SENT];
 
-/* Writes the list's datagram under sequenceId 7, with one hop, and answers its size (IEEE 1588-2019, 15.4.1 and table 58). */
+/* The number in two octets, the high one first. */
+static void put(uint8_t *octets, uint16_t number) {
+    octets[0] = (uint8_t)(number >> 8);
+    octets[1] = (uint8_t)number;
+}
+
+/* Writes the list's datagram, and answers its size (IEEE 1588-2019, 15.4.1 and table 58). */
 static size_t request(const struct list *list, uint8_t octets[MOST]) {
-    size_t size = HEAD + (list->action == SET ? 2 : 0);
+    size_t size = HEAD + list->data;
+    uint8_t hops = list->how == WITHOUT_HOPS ? 0 : 1;
     memset(octets, 0, MOST);
-    memcpy(octets, (const uint8_t[]){ 0x0d, 0x12, 0, (uint8_t)size }, 4);
+    memcpy(octets, (const uint8_t[]){ 0x0d, 0x12 }, 2);
+    put(octets + 2, (uint16_t)size);
+    octets[4] = list->how == IN_ANOTHER_DOMAIN ? 5 : 0;
     memcpy(octets + 20, list->from == MANAGER ? manager : stranger, 8);
     octets[29] = 1;
-    memcpy(octets + 30, (const uint8_t[]){ 0, 7, 4, 0x7f }, 4);
+    octets[31] = list->how == OLDER ? 6 : 7;
+    memcpy(octets + 32, (const uint8_t[]){ 4, 0x7f }, 2);
     memcpy(octets + 34, list->to == CLOCK ? identity : list->to == ANOTHER ? another : every, 8);
-    memcpy(octets + 42, (const uint8_t[]){ 0xff, 0xff, 1, 1, list->action, 0, 0, 1, 0, (uint8_t)(size - HEAD + 2) }, 10);
-    octets[52] = (uint8_t)(list->id >> 8);
-    octets[53] = (uint8_t)list->id;
-    octets[54] = list->value;
+    memcpy(octets + 42, (const uint8_t[]){ 0xff, 0xff, hops, hops, list->action, 0, 0, 1 }, 8);
+    put(octets + 50, (uint16_t)(list->data + 2));
+    put(octets + 52, list->id);
+    if (list->id == USER_DESCRIPTION) memset(octets + HEAD, 'a', list->value + 1);
+    octets[HEAD] = list->value;
     return size;
 }
 
@@ -83,23 +103,26 @@ static bool start(const struct list *list, struct ptpm_clock *clock) {
     return ptpm_clock_start(clock, &settings, ports, list->ports, managers, list->managers) == PTPM_STARTED;
 }
 
-/* The datagram again and again, in two places that take turns. The answer to the last one. */
+/* A GET under number 7, and then the datagram again and again, in two places that take turns. The answer to the last one. */
 static enum ptpm_handled repeat(struct ptpm_clock *clock, const struct list *list, unsigned long count, size_t *messages) {
     static uint8_t places[2][MOST];
-    size_t size = request(list, places[0]);
-    uint16_t number = 7;
+    struct list first = *list;
+    first.from = MANAGER, first.to = CLOCK, first.action = GET, first.data = 0, first.how = PLAIN;
+    size_t size = request(&first, places[0]);
     enum ptpm_handled answer = ptpm_clock_handle(clock, 1, places[0], size, sent, PTPM_MOST_SENT, messages);
+    size = request(list, places[0]);
     memcpy(places[1], places[0], MOST);
+    uint16_t number = list->how == OLDER ? 6 : 7;
     for (unsigned long i = 0; i < count; i++) {
         uint8_t *octets = places[i % 2];
         number = (uint16_t)(number + list->step);
-        octets[30] = (uint8_t)(number >> 8);
-        octets[31] = (uint8_t)number;
+        put(octets + 30, number);
         answer = ptpm_clock_handle(clock, 1, octets, size, sent, PTPM_MOST_SENT, messages);
     }
     return answer;
 }
 
+/* The list's datagram at its clock. */
 static int measure(const struct list *list, unsigned long count) {
     struct ptpm_clock clock = { 0 };
     size_t messages = 0, octets = 0;
@@ -122,6 +145,64 @@ static int start_each(unsigned long count) {
     return 0;
 }
 
+/* A session of the manager, whose requests are numbered from 1. */
+static bool open_session(struct ptpm_session *session) {
+    struct ptpm_session_settings settings = { .port = 1, .target_ports = TWO, .first = 1, .hops = 1, .attempts = 1 };
+    memcpy(settings.clock, manager, 8);
+    memcpy(settings.target, identity, 8);
+    return ptpm_session_start(session, &settings) == PTPM_STARTED;
+}
+
+/* Writes the clock's answer to a GET of PRIORITY1 under number 0, which is 128. */
+static size_t reply(uint8_t octets[MOST]) {
+    static const struct list answer = { "", TWO, 1, MANAGER, CLOCK, RESPONSE, PRIORITY1, 2, 128, 0, PLAIN };
+    size_t size = request(&answer, octets);
+    memcpy(octets + 20, identity, 8);
+    memcpy(octets + 34, manager, 8);
+    put(octets + 42, 1);
+    put(octets + 30, 0);
+    return size;
+}
+
+/* The GET is sent, with an attempt more before it. */
+static unsigned send_once(struct ptpm_session *session, uint8_t *octets, size_t *size) {
+    ptpm_session_resume(session, 1);
+    return ptpm_session_send(session, octets, MOST, size);
+}
+
+/* A GET is begun, and its answer heard. */
+static unsigned receive_once(struct ptpm_session *session, uint8_t *octets, size_t *size) {
+    ptpm_session_begin(session, GET, PRIORITY1, 0, NULL, 0);
+    put(octets + 30, (uint16_t)ptpm_session_issued(session));
+    return ptpm_session_receive(session, octets, *size);
+}
+
+/* The answer under the number before is heard. */
+static unsigned ignore_once(struct ptpm_session *session, uint8_t *octets, size_t *size) {
+    return ptpm_session_receive(session, octets, *size);
+}
+
+/* What a session does again and again. All but `receive` have begun a request before. */
+static const struct {
+    const char *name;
+    bool begun;
+    unsigned (*once)(struct ptpm_session *session, uint8_t *octets, size_t *size);
+} calls[] = { { "send", true, send_once }, { "receive", false, receive_once }, { "ignore", true, ignore_once } };
+
+/* One of these calls again and again. */
+static int call(size_t place, unsigned long count) {
+    static uint8_t octets[MOST];
+    struct ptpm_session session = { 0 };
+    size_t size = reply(octets);
+    unsigned answer = 0;
+    if (!open_session(&session)) return 1;
+    if (calls[place].begun) ptpm_session_begin(&session, GET, PRIORITY1, 0, NULL, 0);
+    for (unsigned long i = 0; i < count; i++) answer = calls[place].once(&session, octets, &size);
+    printf("%s %u 1 %zu\n", calls[place].name, answer, size);
+    ptpm_session_stop(&session);
+    return 0;
+}
+
 int main(int argc, char **argv) {
     char *end = "";
     unsigned long count = argc == 3 ? strtoul(argv[2], &end, 10) : 0;
@@ -130,6 +211,8 @@ int main(int argc, char **argv) {
     if (argc == 3 && argv[2][0] >= '0' && argv[2][0] <= '9' && *end == '\0') {
         for (size_t i = 0; i < sizeof lists / sizeof *lists && status == 0; i++)
             if (all || strcmp(argv[1], lists[i].name) == 0) known = true, status = measure(&lists[i], count);
+        for (size_t i = 0; i < sizeof calls / sizeof *calls && status == 0; i++)
+            if (all || strcmp(argv[1], calls[i].name) == 0) known = true, status = call(i, count);
         if (status == 0 && (all || strcmp(argv[1], "start") == 0)) known = true, status = start_each(count);
     }
     if (known) return status;

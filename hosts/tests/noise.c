@@ -1,14 +1,16 @@
-/* noise INTERFACE junk|announce|foreign|all RATE SECONDS
+/* noise INTERFACE junk|announce|foreign|all RATE SECONDS [ADDRESS]
 
    For trials: sends RATE datagrams a second to the group of PTP, over UDP and IPv4, at even times. Prints how many went out. They
    are octets by chance, Announce messages of one master, GETs for clocks that are not there, or GETs for every clock. No manager
-   sends these. It reads nothing. */
+   sends these. They come from that address of the interface, or from its first. It reads nothing. */
 #define _GNU_SOURCE
 #include "digits.h"
 #include "message_places.h"
 #include "monotonic.h"
 #include "program.h"
 #include "udp.h"
+#include <arpa/inet.h>
+#include <net/if.h>
 #include <stdbool.h>
 #include <stdio.h>
 #include <stdlib.h>
@@ -35,7 +37,7 @@ static const struct message messages[KINDS] = {
 };
 
 _Noreturn void usage(void) {
-    fputs("noise INTERFACE junk|announce|foreign|all RATE SECONDS\n", stderr);
+    fputs("noise INTERFACE junk|announce|foreign|all RATE SECONDS [ADDRESS]\n", stderr);
     exit(2);
 }
 
@@ -72,14 +74,22 @@ static enum kind kind_named(const char *name) {
     usage();
 }
 
+/* What the socket sends to the group comes from this address. */
+static void send_from(int socket, const char *interface, const char *address) {
+    struct ip_mreqn from = { .imr_ifindex = (int)if_nametoindex(interface) };
+    if (inet_pton(AF_INET, address, &from.imr_address) != 1) usage();
+    if (setsockopt(socket, IPPROTO_IP, IP_MULTICAST_IF, &from, sizeof from)) give_up(address);
+}
+
 int main(int argc, char **argv) {
     const char *what;
-    if (argc != 5) usage();
+    if (argc != 5 && argc != 6) usage();
     enum kind kind = kind_named(argv[2]);
     long rate = decimal(argv[3], 1000000), seconds = decimal(argv[4], 1000), sent = 0;
     if (rate < 1 || seconds < 1) usage();
     int port_socket = open_udp(argv[1], false, &what);
     if (port_socket < 0) give_up(what);
+    if (argc == 6) send_from(port_socket, argv[1], argv[5]);
     long begin = nanoseconds(), end = begin + seconds * 1000000000;
     for (long now; (now = nanoseconds()) < end;) {
         long due = (now - begin) / 1000 * rate / 1000000 - sent;

@@ -96,7 +96,7 @@ class Clock:
 
     def start(self, *before):
         managers = [word for manager in MANAGERS for word in ("-m", manager)]
-        return subprocess.Popen([*RUN, FAR, *before, CLOCK, "-v", "-s", state, *managers, "-u", socket_path, ME, "far0"],
+        return subprocess.Popen([*RUN, FAR, *before, CLOCK, "--user", "root", "-v", "-s", state, *managers, "-u", socket_path, ME, "far0"],
                                 stdout=self.told, stderr=subprocess.STDOUT)
 
     def live(self):

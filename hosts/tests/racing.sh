@@ -41,6 +41,7 @@ ip link add near0 netns $near type veth peer name far0 netns $far || lacks "no v
 ip -n $near link set near0 address 02:00:00:00:00:10 up
 ip -n $far link set far0 address 02:00:00:00:00:20 up
 ip -n $near addr add 10.9.8.1/24 dev near0
+ip -n $near addr add 10.9.8.3/24 dev near0
 ip -n $far addr add 10.9.8.2/24 dev far0
 sleep 1
 printf '[global]\nfree_running 1\nslaveOnly 1\n' > "$work/config"

@@ -189,7 +189,7 @@ static void restore(struct ptpm_clock *clock, const struct base *base) {
     restore_whole(clock, base);
 }
 
-static void tell_answers(void) {
+static void print_answers(void) {
     char name[PTPM_MOST_NAME];
     printf("damaged images: %lu restored", answers[PTPM_RESTORED]);
     for (uint32_t i = PTPM_RESTORED + 1; i < PTPM_OTHER_SESSION; i++) {
@@ -212,7 +212,7 @@ int main(int argc, char **argv) {
     }
     ptpm_clock_stop(&clock);
     check(mallinfo2().uordblks < before + PAGE, "no memory is kept, except by the allocator for its next blocks");
-    tell_answers();
+    print_answers();
     for (size_t i = 0; i < BASES; i++) free(bases[i].image);
-    return told("restores");
+    return print_checks("restores");
 }

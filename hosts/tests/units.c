@@ -4,7 +4,7 @@
 #define _GNU_SOURCE
 #include "checking.h"
 #include "ethernet.h"
-#include "interval.h"
+#include "field_text.h"
 #include "ptpm.h"
 #include "session_image.h"
 #include "text.h"
@@ -245,5 +245,5 @@ int main(void) {
     intervals();
     json();
     free(printed);
-    return told("units");
+    return print_checks("units");
 }

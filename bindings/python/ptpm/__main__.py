@@ -13,14 +13,14 @@ from .answers import Error
 from .asking import NoAnswer
 from .identity import Identity, PortIdentity
 from .ids import Action, ManagementId, id_of
-from .members import data_field, has_one_member, parse, takes_no_value
+from .members import data_field, has_one_member, lines, parse, takes_no_value
 from .nobody import ask_as_nobody
 from .report import Report
 from .requests import EVERY_PORT, Requests, SessionSettings, begin_request
 from .session import Session
 from .session_file import SessionFile, SessionFileError
 from .site_command import main as show_site
-from .streams import NOT_WRITTEN, NotWritten, complain, flush, hold_streams, parsed
+from .streams import NOT_AS_ASKED, NOT_WRITTEN, NotWritten, complain, flush, hold_streams, parsed
 from .survey import survey
 from .transport import Transport, UdpTransport, UnixTransport
 
@@ -209,6 +209,8 @@ class Task:
             said = complain(f"a request of an earlier run{where} had no answer yet, and was sent again:") and complain(earlier)
             if not said:  # and then it stays in the file
                 raise NotWritten("standard error could not be written")
+            if not earlier.is_as_asked:
+                _complain_of(earlier)
         return session.ask(way, self.action, self.id, self.data, self.port, timeout=seconds)
 
 
@@ -221,6 +223,13 @@ def _lines(report: Report, is_hexadecimal: bool) -> List[str]:
     return [lead + line for line in told]
 
 
+def _complain_of(report: Report) -> None:
+    """Says what was asked, if the answer is something else."""
+    for line in lines(report.id, report.asked or b""):
+        if line not in lines(report.id, report.octets):
+            complain(f"the answer is not what was asked: {line}")
+
+
 def _print(reports: List[Report], is_hexadecimal: bool) -> int:
     with flush():
         for report in reports:
@@ -228,7 +237,12 @@ def _print(reports: List[Report], is_hexadecimal: bool) -> int:
     if not reports:
         complain("no answer")
         return NOT_ANSWERED
-    return REFUSED if len(reports) == 1 and reports[0].source is None and reports[0].error is not None else ANSWERED
+    if len(reports) != 1 or reports[0].source is not None:
+        return ANSWERED
+    if not reports[0].is_as_asked:
+        _complain_of(reports[0])
+        return NOT_AS_ASKED
+    return REFUSED if reports[0].error is not None else ANSWERED
 
 
 def _why(error: Exception) -> str:

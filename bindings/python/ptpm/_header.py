@@ -334,7 +334,7 @@ PTPM_FULL = 28
 PTPM_SURVEY_NO_MEMORY = 35
 PTPM_SURVEY_NO_SURVEY = 46
 
-# enum ptpm_told.
+# enum ptpm_reported.
 PTPM_VALUE = 0
 PTPM_DONE = 25
 PTPM_REFUSED = 26

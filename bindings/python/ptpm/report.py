@@ -16,13 +16,24 @@ MOST_DATA = 1418
 
 @dataclass(frozen=True)
 class Report:
-    """What a clock answered: a dataField, that it carried a COMMAND out (`is_done`), or a managementErrorId."""
+    """What a clock answered: a dataField, that it carried a COMMAND out (`is_done`), or a managementErrorId. If it answers a SET,
+    `asked` is the dataField of that."""
 
     id: int
     octets: bytes
     error: Optional[int] = None
     is_done: bool = False
     source: Optional[PortIdentity] = None
+    asked: Optional[bytes] = None
+
+    @property
+    def is_as_asked(self) -> bool:
+        """Whether it is no answer of a SET that has another value than was asked. A clock of ptpm answers a SET by its own octets,
+        others by their data set as it is then. So if this is false, the SET was not carried out as it was asked. The members are
+        compared, and no reserved octets."""
+        if self.asked is None or self.error is not None:
+            return True
+        return self.octets == self.asked or lines(self.id, self.octets) == lines(self.id, self.asked)
 
     @property
     def members(self) -> Dict[str, Member]:
@@ -36,9 +47,11 @@ class Report:
         return "done" if self.is_done else "\n".join(lines(self.id, self.octets))
 
 
-def told(number: int, asked: int, octets: bytes, error: int, source: Optional[PortIdentity] = None) -> Report:
-    """The report of a number of `enum ptpm_told`."""
+def told(
+    number: int, named: int, octets: bytes, error: int, source: Optional[PortIdentity] = None, asked: Optional[bytes] = None
+) -> Report:
+    """The report of a number of `enum ptpm_reported`."""
     if number == header.PTPM_NO_REPORT:
         raise Error(number)
     is_refused = judged(number) == header.PTPM_REFUSED
-    return Report(asked, octets, error if is_refused else None, number == header.PTPM_DONE, source)
+    return Report(named, octets, error if is_refused else None, number == header.PTPM_DONE, source, asked)

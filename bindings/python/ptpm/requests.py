@@ -13,7 +13,7 @@ from .clock import port_number
 from .identity import Identity, IdentityLike, PortIdentity, PortIdentityLike
 from .ids import Action, IdLike, id_of
 from .report import MOST_DATA, Report, told
-from .session_image import is_under_way
+from .session_image import is_under_way, unanswered_set
 from .settings import write_number, write_octets
 
 
@@ -50,6 +50,11 @@ class SessionSettings:
         return struct
 
 
+def _is_error_of(datagram: bytes, clock: bytes) -> bool:
+    """Whether it is a MANAGEMENT_ERROR_STATUS of a clock (15.5.4)."""
+    return len(datagram) >= 54 and datagram[48:50] == bytes([0, _MANAGEMENT_ERROR_STATUS]) and datagram[20:28] == clock
+
+
 class Requests(Handle):
     """One request at a time to one clock. Whoever uses these calls by themselves sees to the numbers. What is asked under one that
     was used before is answered by what the clock kept."""
@@ -57,6 +62,8 @@ class Requests(Handle):
     def __init__(self, settings: SessionSettings) -> None:
         super().__init__(header.ptpm_session, library.ptpm_session_stop)
         self._asked = 0  # the managementId of the latest answer
+        self._set: Optional[bytes] = None  # the dataField of the latest request, if it is a SET
+        self._target = bytes(10)  # of the latest message: a clockIdentity and a portNumber
         self._start(settings)
 
     def _start(self, settings: SessionSettings) -> None:
@@ -69,6 +76,7 @@ class Requests(Handle):
         """Begins a request, and lets the answer to the one before go. The port matters for an id of a port alone."""
         octets = bytes(data)
         done(self._call(library.ptpm_session_begin, Action(action), id_of(named), port_number(port), octets, len(octets)))
+        self._set = octets if action == Action.SET else None
 
     def begin_at(self, action: int, named: IdLike, port: int, data: bytes = b"") -> None:
         """Does what `begin` does at the port that is named, whatever the id. Some clocks answer only if one of their
@@ -76,6 +84,7 @@ class Requests(Handle):
         octets = bytes(data)
         words = (Action(action), id_of(named), port_number(port), octets, len(octets))
         done(self._call(library.ptpm_session_begin_at, *words))
+        self._set = octets if action == Action.SET else None
 
     def give_up(self) -> None:
         """Lets the unanswered request go, so that the next can be begun. Its number is used for no other, and no answer to it is
@@ -87,12 +96,19 @@ class Requests(Handle):
         size = ctypes.c_size_t()
         room = (ctypes.c_uint8 * header.PTPM_MOST_OCTETS)()
         done(self._call(library.ptpm_session_send, room, len(room), ctypes.byref(size)))
+        self._target = bytes(room[34:44])
         return bytes(room[: size.value])
 
+    def _judge_datagram(self, datagram: bytes) -> SessionAnswer:
+        return SessionAnswer(judged(self._call(library.ptpm_session_receive, datagram, len(datagram))))
+
     def receive(self, octets: bytes) -> SessionAnswer:
-        """Judges a datagram that came in. After ANSWERED the next request can be begun."""
+        """Judges a datagram that came in. After ANSWERED the next request can be begun. A clock that is none of ptpm may refuse at the
+        port where the request came in, and not at the one that was named. So its error is judged as one of the named port."""
         datagram = bytes(octets)
-        answer = SessionAnswer(judged(self._call(library.ptpm_session_receive, datagram, len(datagram))))
+        answer = self._judge_datagram(datagram)
+        if answer != SessionAnswer.ANSWERED and _is_error_of(datagram, self._target[:8]):
+            answer = self._judge_datagram(datagram[:20] + self._target + datagram[30:])
         if answer == SessionAnswer.ANSWERED:
             place = 54 if datagram[49] == _MANAGEMENT_ERROR_STATUS else 52
             self._asked = int.from_bytes(datagram[place : place + 2], "big")
@@ -103,7 +119,8 @@ class Requests(Handle):
         size, error = ctypes.c_size_t(), ctypes.c_uint16()
         room = (ctypes.c_uint8 * MOST_DATA)()
         words = (room, len(room), ctypes.byref(size), ctypes.byref(error))
-        return told(self._call(library.ptpm_session_report, *words), self._asked, bytes(room[: size.value]), error.value)
+        number = self._call(library.ptpm_session_report, *words)
+        return told(number, self._asked, bytes(room[: size.value]), error.value, asked=self._set)
 
     def resume(self, attempts: int) -> None:
         """Gives the unanswered request this many attempts, whatever was left."""
@@ -131,6 +148,7 @@ class Requests(Handle):
         refused is no reason to start the session anew: the clock would take its requests for old ones, or for others."""
         octets, struct = bytes(image), self.settings.as_in_c()
         done(self._call(library.ptpm_session_restore, ctypes.byref(struct), octets, len(octets)))
+        self._set = unanswered_set(octets)
 
     @property
     def issued(self) -> int:

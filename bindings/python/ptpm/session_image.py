@@ -42,6 +42,13 @@ def has_question(image: bytes) -> bool:
     return asked in ((header.PTPM_ID_DEFAULT_DATA_SET, 20), (header.PTPM_ID_PORT_DATA_SET, 26))
 
 
+def unanswered_set(image: bytes) -> Optional[bytes]:
+    """The dataField of what has no answer yet, if it is a SET."""
+    if not is_under_way(image) or image[_ACTION] != Action.SET:
+        return None
+    return image[_DATA : _DATA + _number_at(image, _SIZE)]
+
+
 def domain_of_unanswered(image: bytes, domain: int) -> int:
     """The domain in which what has no answer yet is sent again: the one in which it was asked. PTP instances of other domains may
     have the same clockIdentity, and nobody asked them to change anything. A GET changes nothing, so it is sent in this session's

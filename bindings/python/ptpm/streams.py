@@ -11,7 +11,7 @@ import sys
 from contextlib import contextmanager, redirect_stderr, redirect_stdout
 from typing import Callable, Iterator, List, Tuple
 
-NOT_WRITTEN = 4
+NOT_WRITTEN, NOT_AS_ASKED = 4, 5
 
 
 class NotWritten(Exception):

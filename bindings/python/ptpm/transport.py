@@ -9,11 +9,11 @@ import fcntl
 import ipaddress
 import itertools
 import os
-import select
+import selectors
 import socket
 import struct
 import time
-from typing import Optional, Sequence, Tuple, Union
+from typing import List, Optional, Sequence, Tuple, Union
 
 from .identity import Identity
 
@@ -120,11 +120,19 @@ class Transport:
             raise OSError(error.errno, error.strerror, self._name) from None
         return True
 
+    def _readable(self, wait: float) -> List[socket.socket]:
+        """The sockets at which something has come in within a time."""
+        with selectors.PollSelector() as selector:
+            for one in self._heard:
+                selector.register(one, selectors.EVENT_READ)
+            ready = {key.fd for key, _ in selector.select(wait)}
+        return [one for one in self._heard if one.fileno() in ready]
+
     def receive(self, until: float) -> Optional[bytes]:
         """The next datagram, or None if none comes in before a time of time.monotonic()."""
         while True:
             left = until - time.monotonic()
-            found = select.select(self._heard, [], [], left)[0] if left > 0 else []
+            found = self._readable(left) if left > 0 else []
             if not found:
                 return None
             try:

@@ -12,7 +12,7 @@ pub const MOST_OCTETS: usize = sys::PTPM_MOST_OCTETS;
 /// The most octets of a dataField that is answered.
 pub const MOST_DATA: usize = 1418;
 
-/// What an answer says (`enum ptpm_told`).
+/// What an answer says (`enum ptpm_reported`).
 #[derive(Clone, Copy, Debug, PartialEq, Eq)]
 #[non_exhaustive]
 pub enum Report<'a> {

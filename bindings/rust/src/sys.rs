@@ -23,7 +23,7 @@ pub type ptpm_given_up = u32;
 pub type ptpm_retuned = u32;
 pub type ptpm_session_received = u32;
 pub type ptpm_survey_received = u32;
-pub type ptpm_told = u32;
+pub type ptpm_reported = u32;
 pub type ptpm_saved = u32;
 pub type ptpm_restored = u32;
 pub type ptpm_parsed = u32;
@@ -325,7 +325,7 @@ extern "C" {
         room: usize,
         size: *mut usize,
         error: *mut u16,
-    ) -> ptpm_told;
+    ) -> ptpm_reported;
     pub fn ptpm_session_stop(session: *mut ptpm_session);
     pub fn ptpm_survey_start(survey: *mut ptpm_survey, settings: *const ptpm_survey_settings) -> ptpm_started;
     pub fn ptpm_survey_start_at(
@@ -344,7 +344,7 @@ extern "C" {
         room: usize,
         size: *mut usize,
         error: *mut u16,
-    ) -> ptpm_told;
+    ) -> ptpm_reported;
     pub fn ptpm_survey_stop(survey: *mut ptpm_survey);
     pub fn ptpm_passed_on_is_first(table: *mut ptpm_passed_on, message: *const u8, size: usize, now: u64, time: u64) -> bool;
     pub fn ptpm_rate_start(rate: *mut ptpm_rate, tokens: u64, now: u64);

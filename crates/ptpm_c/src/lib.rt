@@ -267,6 +267,3 @@ pub extern "C" fn ptpm_clock_stop(alloc: Global, handle: &mut Handle)
 {
     handle.end(alloc);
 }
-
-#[cfg(test)]
-mod tests;

@@ -2,8 +2,6 @@
 #![tactic(auto)]
 
 mod command;
-#[cfg(test)]
-mod tests;
 
 use std::io;
 use std::io::BufWriter;

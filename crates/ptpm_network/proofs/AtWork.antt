@@ -1,6 +1,6 @@
 -- A session whose own messages come in time and that gives up now and then. What its own acts, what it hears and the turns of its
 -- target make of it.
-use Rattle.ptpm_network.proofs.Common.{arith, ◌≡◌, ℕ, ◌+◌, ◌-◌, ◌<◌, ◌≤◌, inl, inr, is_some, nat_le, not, Bool, List, [], ◌∷◌, ◌++◌, length, length-append, Option, Some, None, true, false, refl, sym, ◌∙◌, ap, subst, ⊎_elim, false≢true, slice_get, all_append, all_weaker, AllByRecursion, PortIdentity, reading, Answer, RequestValue, Accepted, greatest, kept_reply, State, Report, received_of, reports_by, reports_of, IsAsked, IsNetwork, Network, manager, ports, Held, Origin, ReplyTo, SessionValue, answered, begun, is_waiting, get_last, first_of-none}
+use Rattle.ptpm_network.proofs.Common.{arith, ◌≡◌, ℕ, ◌+◌, ◌-◌, ◌<◌, ◌≤◌, is_some, nat_le, not, Bool, List, [], ◌∷◌, ◌++◌, length, length-append, Option, Some, None, true, false, refl, sym, ◌∙◌, ap, subst, ⊎_elim, false≢true, slice_get, all_append, all_weaker, AllByRecursion, PortIdentity, reading, Answer, RequestValue, Accepted, greatest, kept_reply, State, Report, received_of, reports_by, reports_of, IsAsked, IsNetwork, Network, manager, ports, Held, Origin, ReplyTo, SessionValue, answered, begun, is_waiting, get_last, first_of-none}
 use Rattle.std.proofs.lemmas.Bool.{leb-false}
 use Rattle.ptpm_manager.specs.declared.error.GiveUpRefusal.{GiveUpRefusal}
 use Rattle.ptpm_manager.specs.declared.error.GiveUpRefusal.TheVariants as give_ups
@@ -10,7 +10,7 @@ use Rattle.ptpm_manager.specs.Receiving.{left_by}
 use Rattle.ptpm_manager.specs.Session.{IsInReach, give_up_refusal, given_up, reach_limit}
 use Rattle.ptpm_network.specs.ByManager.{Account}
 use Rattle.ptpm_network.specs.GivingUp.{AreRising, IsKeptReport, RiseFrom}
-use Rattle.ptpm_network.proofs.Accepting.{IsToldOf, greatest-grows, kept-le, report_of}
+use Rattle.ptpm_network.proofs.Accepting.{IsToldOf, greatest-grows, kept-le}
 use Rattle.ptpm_network.proofs.Arriving.{Gains, kept-gained}
 use Rattle.ptpm_network.proofs.Origins.{IsTrue}
 use Rattle.ptpm_network.proofs.Owned.{IsHeld, IsSaid, held-begun, reports_with, told_of}

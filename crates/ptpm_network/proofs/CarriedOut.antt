@@ -1,5 +1,5 @@
 -- Nothing but the requests that a clock carries out changes it, whatever happens in its network.
-use Rattle.ptpm_network.proofs.Common.{arith, ◌≡◌, ℕ, List, [], ◌∷◌, ◌++◌, Option, Some, None, refl, eqb-true, Result, Ok, Err, Deliver, Event, Stranger, Refusal, Held, RunningNetwork, after_turn, network_run, reaches, AtPort, AtSession, End, Network, Frame, strange_frame, seen}
+use Rattle.ptpm_network.proofs.Common.{frame_at, Replay, replays, no_end, no_room, arith, ◌≡◌, ℕ, List, [], ◌∷◌, ◌++◌, Option, Some, None, refl, eqb-true, Result, Ok, Err, Deliver, Event, Stranger, Refusal, Held, RunningNetwork, after_turn, network_run, reaches, AtPort, AtSession, End, Network, Frame, strange_frame, seen}
 use Rattle.std.specs.Prelude.{IfOk}
 use Rattle.ptpm_agent.specs.CarriedOut.{after_requests}
 use Rattle.ptpm_agent.specs.Turn.{NumberedRequest}
@@ -31,11 +31,19 @@ pub if_not_refused : (o : Option Refusal) (x : Result Happened Refusal) (P : Hap
 if_not_refused None x P p = p
 if_not_refused (Some reason) x P p = tt
 
+-- where a frame is replayed, no clock carries anything out yet
+replays-carried : (N : Network) (r : RunningNetwork) (c : ℕ) (end : End) (o : Option Held)
+    → IfOk (replays N r o end) (HasCarried N r c [])
+replays-carried N r c end None = tt
+replays-carried N r c end (Some h) =
+    if_not_refused (no_end N end) _ (HasCarried N r c []) (if_not_refused (no_room r.frames) _ (HasCarried N r c []) refl)
+
 -- one event
 pub event-carried : (N : Network) (r : RunningNetwork) (c : ℕ) (e : Event)
     → IfOk (network_event N r e) (HasCarried N r c (carried_by_event N r c e))
 unfolding carried_by_event network_event
 event-carried N r c (Deliver n) = grind (arith, if_not_refused, reaches-carried)
+event-carried N r c (Replay n end) = replays-carried N r c end (frame_at r.frames n)
 event-carried N r c (Stranger d port datagram) = search (if_not_refused, after_turn-carried N r c d port (strange_frame d port datagram))
 event-carried N r c _ = search if_not_refused
 

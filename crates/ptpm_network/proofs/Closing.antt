@@ -1,5 +1,5 @@
 -- Which events leave a way: all but those of the session's own and requests for DOMAIN and DISABLE_PORT at its clocks.
-use Rattle.ptpm_network.proofs.Common.{by_test, suc, zero, arith, ◌≡◌, ℕ, ◌<◌, ◌≤◌, ◌+◌, ◌-◌, ◌==◌, ◌||◌, ◌⊎◌, not, Bool, true, false, List, [], ◌∷◌, Option, Some, None, refl, sym, ◌∙◌, ap, map, slice_get, find, and_parts, cond-true, cond-false, eq-eqb, eqb-true, not-true, or_cases, true≢false, AllByRecursion, DataSetsValue, is_forwarding_port, may_forward, is_named, set_members, row_of, changed_by, RequestValue, after_arrival, History, RequestCopy, Clock, Begin, Deliver, Event, IsInRange, Resume, Retune, Send, Stranger, refusal, IsReached, arrives, delivery, happens, strange_frame, with_place, IsNetwork, Network, Frame, NetworkState, greatest_accepted, history, issued, Hop, at_place, with_place-other, with_place-same}
+use Rattle.ptpm_network.proofs.Common.{Replay, by_test, suc, zero, arith, ◌≡◌, ℕ, ◌<◌, ◌≤◌, ◌+◌, ◌-◌, ◌==◌, ◌||◌, ◌⊎◌, not, Bool, true, false, List, [], ◌∷◌, Option, Some, None, refl, sym, ◌∙◌, ap, map, slice_get, find, and_parts, cond-true, cond-false, eq-eqb, eqb-true, not-true, or_cases, true≢false, AllByRecursion, DataSetsValue, is_forwarding_port, may_forward, is_named, set_members, row_of, changed_by, RequestValue, after_arrival, History, RequestCopy, Clock, Begin, Deliver, Event, IsInRange, Resume, Retune, Send, Stranger, refusal, IsReached, arrives, delivery, happens, strange_frame, with_place, IsNetwork, Network, Frame, NetworkState, greatest_accepted, history, issued, Hop, at_place, with_place-other, with_place-same}
 use Rattle.std.specs.List.{enumerate_from, list_all}
 use Rattle.ptpm_data.specs.declared.rights.Rights.{Rights}
 use Rattle.ptpm_data.specs.declared.data_sets.PortDataSet.{PortDataSet}
@@ -161,6 +161,7 @@ module _ (N : Network) (w : NetworkState) (s : ℕ) where
   happens-same (Resume t attempts) n = attempts-same w (happens N w (Resume t attempts)) t s attempts refl
   happens-same (Retune t domain) n = same-session w (happens N w (Retune t domain)) s (with_place-other w.session t _ s (flipped t s n))
   happens-same (Deliver k) n = grind (arith, after-delivery, same-session, eqb-true, with_place-same, eq-eqb, cond-false, with_place-other, flipped)
+  happens-same (Replay k end) n = same-session w (happens N w (Replay k end)) s refl
   happens-same (Stranger c port datagram) n = same-session w (happens N w (Stranger c port datagram)) s refl
 
 -- ---- the way

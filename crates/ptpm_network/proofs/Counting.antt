@@ -1,5 +1,5 @@
 -- How many frames an event makes.
-use Rattle.ptpm_network.proofs.Common.{by_test, arith, ◌≡◌, ℕ, ◌+◌, ◌<◌, ◌≤◌, List, [], ◌∷◌, ◌++◌, Option, Some, None, refl, subst, length, length-append, ltb-false, length-map, nat_lt, AllByRecursion, list_any, first_of-none, option_or-none, ClockIdentity, Message, canonical, boundary_hops, message_of, DataSetsValue, ReplyValue, Heard, rendered, forwarded, forwarded_by, is_forwarded, due_messages, RequestCopy, copy_of, due_reply, Deliver, Event, FramesAtMaximum, IsInRange, Send, Stranger, forged, frame_at, frames_limit, no_frame, no_port, no_room, no_session, refusal, send_refused, IsReached, answer_messages, answer_origin, answering_frames, arrives, delivery, forwarded_frames, happens, made_frames, run, sent_frames, step, strange_frame, AtPort, AtSession, End, HasEnd, IsLink, IsNetwork, Network, peers, ports, same_end, Frame, NetworkState, Origin, frames_to, history, filter-fewer, flat-few}
+use Rattle.ptpm_network.proofs.Common.{Replay, no_end, to_end, by_test, arith, ◌≡◌, ℕ, ◌+◌, ◌<◌, ◌≤◌, List, [], ◌∷◌, ◌++◌, Option, Some, None, refl, subst, length, length-append, ltb-false, length-map, nat_lt, AllByRecursion, list_any, first_of-none, option_or-none, ClockIdentity, Message, canonical, boundary_hops, message_of, DataSetsValue, ReplyValue, Heard, rendered, forwarded, forwarded_by, is_forwarded, due_messages, RequestCopy, copy_of, due_reply, Deliver, Event, FramesAtMaximum, IsInRange, Send, Stranger, forged, frame_at, frames_limit, no_frame, no_port, no_room, no_session, refusal, send_refused, IsReached, answer_messages, answer_origin, answering_frames, arrives, delivery, forwarded_frames, happens, made_frames, run, sent_frames, step, strange_frame, AtPort, AtSession, End, HasEnd, IsLink, IsNetwork, Network, peers, ports, same_end, Frame, NetworkState, Origin, frames_to, history, filter-fewer, flat-few}
 use Rattle.ptpm_agent.proofs.Egress.{copies_up_to-all, length-copies_up_to_but_one}
 use Rattle.ptpm_network.proofs.Answering.{keeps_due}
 use Rattle.ptpm_network.proofs.Arriving.{IsCopyOf, arrives-reached, is_copy_of}
@@ -94,6 +94,10 @@ made-few N w c port f n r end i =
 more : {X : Type 0} (xs ys : List X) → length ys ≤ 225 → length (xs ++ ys) ≤ length xs + 225
 more xs ys few = omega (arith, length-append xs ys, few)
 
+to_end-few : (end : End) (o : Option Frame) → length (to_end end o) ≤ 225
+to_end-few end None = omega arith
+to_end-few end (Some f) = omega arith
+
 pub happens-few : (N : Network) (w : NetworkState) (e : Event)
     → IsNetwork N → IsReached N w → IsInRange e → refusal N w e ≡ None
     → length (happens N w e).frames ≤ length w.frames + 225
@@ -103,6 +107,7 @@ happens-few N w (Deliver k) n r i none =
     after-delivery (λ (u : NetworkState). length u.frames ≤ length w.frames + 225) N w k (omega arith)
     (λ f at c port end. let is = frame_at-is N w k f r at in more w.frames _ (made-few N w c port f n r (subst (HasEnd N) end is.end) (heard-frame N w f.octets f.origin is.origin)))
     (λ f at s end. omega arith)
+happens-few N w (Replay k end) n r i none = more w.frames _ (to_end-few end (frame_at w.frames k))
 happens-few N w (Stranger c port datagram) n r octets none =
     let there = strange-comes N w c port datagram octets none in
     more w.frames _ (made-few N w c port (strange_frame c port datagram) n r there.0 there.1)
@@ -128,6 +133,10 @@ happens-within N w (Send s) n r i none within =
 happens-within N w (Deliver k) n r i none within =
     let p = option_or-none (no_frame (frame_at w.frames k)) (no_room w.frames) none in
     filled (length w.frames) _ (room w.frames p.1) (happens-few N w (Deliver k) n r i none)
+happens-within N w (Replay k end) n r i none within =
+    let p = option_or-none (no_frame (frame_at w.frames k)) _ none in
+    let q = option_or-none (no_end N end) (no_room w.frames) p.1 in
+    filled (length w.frames) _ (room w.frames q.1) (happens-few N w (Replay k end) n r i none)
 happens-within N w (Stranger c port datagram) n r i none within =
     let p = option_or-none (no_port N c port) _ none in
     let q = option_or-none (forged N datagram) (no_room w.frames) p.1 in

@@ -1,5 +1,5 @@
 -- A manager whose own messages come in time is served in order, whatever it gives up, and whatever others do.
-use Rattle.ptpm_network.proofs.Common.{arith, by_test, ◌≡◌, ℕ, ◌+◌, ◌-◌, ◌<◌, ◌≤◌, ◌==◌, ◌^◌, ◌&&◌, is_some, nat_lt, Bool, List, [], ◌∷◌, length, Option, Some, None, Result, Ok, Err, true, false, refl, sym, ◌∙◌, ap, subst, and_cases, and_from, and_parts, eq-eqb, eqb-true, ltb-false, true≢false, slice_get, same_Some, all_append, frame_at-all, AllByRecursion, Message, Fits, IsForeign, message_of, with_session_value, canonical, is_copy, received_of, IsAsked, strange_frame, with_place, AtPort, AtSession, End, HasEnd, IsNetwork, Network, manager, ports, Held, Frame, seen, Origin, RequestOf, ReplyTo, SessionValue, Happened, Refusal, network_event, after_turn, reaches, hears, RunningNetwork, begun, resumed, retuned, sent, due_message, Ask, begin_refusal, Event, Begin, Deliver, Stranger, IsInRange, frame_at, is_late_at, sends_in, StandsAfter, session_value, PortIdentity, Accepted, greatest, kept_reply, Report, same_identity, Clock, State, cond-true, cond-false, if◌then◌else◌, le_trans}
+use Rattle.ptpm_network.proofs.Common.{◌++◌, arith, by_test, ◌≡◌, ℕ, ◌+◌, ◌<◌, ◌≤◌, ◌==◌, ◌^◌, ◌&&◌, is_some, nat_lt, Bool, List, [], ◌∷◌, length, Option, Some, None, Result, Ok, Err, true, false, refl, sym, ◌∙◌, ap, subst, and_from, eq-eqb, eqb-true, ltb-false, same_Some, all_append, frame_at-all, AllByRecursion, Message, canonical, is_copy, received_of, IsAsked, strange_frame, with_place, AtPort, AtSession, End, HasEnd, IsNetwork, Network, manager, ports, Held, Frame, seen, Origin, RequestOf, ReplyTo, SessionValue, Happened, Refusal, network_event, after_turn, reaches, hears, RunningNetwork, begun, resumed, retuned, sent, due_message, Ask, begin_refusal, Event, Begin, IsInRange, frame_at, is_late_at, sends_in, StandsAfter, session_value, PortIdentity, Accepted, greatest, kept_reply, Report, same_identity, Clock, State, cond-true, cond-false, if◌then◌else◌, le_trans}
 use Rattle.std.proofs.lemmas.Bool.{ltb-true}
 use Rattle.ptpm_agent.specs.Turn.{NumberedRequest, after_request, entry_of}
 use Rattle.ptpm_manager.specs.Ask as ask
@@ -18,7 +18,7 @@ use Rattle.ptpm_network.specs.State.{initial_session_state}
 use Rattle.ptpm_network.proofs.Accepting.{greatest-grows, kept-joined}
 use Rattle.ptpm_network.proofs.AtWork.{IsAtWork, reach-waiting, reach-within, work-begun, work-gained, work-given, work-given_up, work-hears, work-set}
 use Rattle.ptpm_network.proofs.EachEvent.{HoldsAfterEach, holds_after}
-use Rattle.ptpm_network.proofs.Honest.{IsHonest, IsSentBy, IsTrueFrame, Then, begins-honest, frame-true, moved-honest, reaches-honest, sends-honest, sent-all, sent_by, session-honest, turns-honest}
+use Rattle.ptpm_network.proofs.Honest.{replayed-honest, IsHonest, IsSentBy, IsTrueFrame, begins-honest, frame-true, moved-honest, reaches-honest, sends-honest, sent-all, sent_by, session-honest, turns-honest}
 use Rattle.ptpm_network.proofs.Origins.{IsTrue}
 use Rattle.ptpm_network.proofs.Own.{TurnsOwn, turns_own}
 use Rattle.ptpm_network.proofs.Owned.{IsOwnFrame, IsSaid, own-held, reports_with, sent-says}
@@ -145,6 +145,24 @@ module _ (N : Network) (n : IsNetwork N) (s : ℕ) (place : s < N.sessions) (r :
       (work-hears N s (r.session s) (r.reports s) (r.clock (N.session s).target) r.frames a at x.octets x.origin (received_of (r.session s) x.octets) n place i.says said
       (λ k o. in-time x (AtSession t) late k (ReplyTo s k) o (and_from _ _ (eq-eqb s s refl) (eq-eqb t s ts)) refl) refl))
 
+  work-replayed : (k : ℕ) (x : Held) (end : End) → frame_at r.frames k ≡ Some x
+      → AtWork N s (record r { frames = r.frames ++ record x { end = end } ∷ [] }) a
+  work-replayed k x end e = record {
+    setup = at.setup;
+    issued = at.issued;
+    last_begun = at.last_begun;
+    reach = at.reach;
+    told = at.told;
+    rising = at.rising;
+    kept = at.kept;
+    order = at.order;
+    held = record {
+      keeps = at.held.keeps;
+      last = at.held.last;
+      frames_say = all_append (IsOwnFrame N s a) r.frames _ at.held.frames_say (frame_at-all (IsOwnFrame N s a) r.frames k x at.held.frames_say e, tt);
+    };
+  }
+
   each-works : HoldsAfterEach N r (λ e x. is_late_for N s r e ≡ false → Works N s x (account_after N s r (Happens e) a))
   unfolding carried_by_event
   each-works = record {
@@ -162,6 +180,7 @@ module _ (N : Network) (n : IsNetwork N) (s : ℕ) (place : s < N.sessions) (r :
         (sym e)
         (λ late. works _ _ (reaches-honest N n r h x x.end i.says i.end)
         (work-reaches x x.end i (frame_at-all (IsOwnFrame N s a) r.frames k x at.held.frames_say e) i.end late));
+    replays = λ k end x e there late. works _ _ (replayed-honest N n r h k x end e there) (work-replayed k x end e);
     intrudes = λ c port datagram end says late. works _ _ (turns-honest N r c port (strange_frame c port datagram) n h end says)
         (work-turned port (strange_frame c port datagram) says tt c end (λ k o here. absurd (cc)));
   }

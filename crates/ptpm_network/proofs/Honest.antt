@@ -1,6 +1,6 @@
 -- What holds of a running network after every list of events, however late others come. Each frame is true to whom it is
 -- of, and clocks and sessions can send what they keep.
-use Rattle.ptpm_network.proofs.Common.{by_test, arith, map, reading, Turned, all_weaker, sends_in, sent, IsMessage, IsForeignFrame, ◌≡◌, ℕ, ◌<◌, ◌^◌, List, Option, Some, None, Result, Ok, refl, sym, ◌∙◌, ap, subst, length, same_Some, option_map, AllByRecursion, PortIdentity, Message, canonical, same_identity, Fits, message_of, ReplyValue, RequestValue, read_reply_to, reply_to, Entry, reply_messages, RequestCopy, copy_of, delivers_copy, heard_of, request_of, Clock, State, turn, judged, reply_by, turn-message, Verdict, Answers, AreDataSets, same_identity-true, answer_origin, delivery, reply_origin, AtPort, AtSession, End, HasEnd, IsNetwork, Network, peers, ports, Frame, Held, held, seen, turn_frames, after_turn, Origin, RequestOf, ReplyTo, Neither, Happened, unless_refused, reaches, hears, sent_posted, with_session_value, RunningNetwork, SessionValue, initial_history, DataSetsValue, Stands, initial_state, answered, begun, due_message, received_of, request_message, Ask, ask_refusal, begin_refusal, Refusal, frame_at, IsAsked, all_append, frame_at-all, all_made, at_place}
+use Rattle.ptpm_network.proofs.Common.{◌++◌, ◌∷◌, [], by_test, arith, map, reading, Turned, all_weaker, sends_in, sent, IsMessage, IsForeignFrame, ◌≡◌, ℕ, ◌<◌, ◌^◌, List, Option, Some, None, Result, Ok, refl, sym, ◌∙◌, ap, subst, length, same_Some, option_map, AllByRecursion, PortIdentity, Message, canonical, same_identity, Fits, message_of, ReplyValue, RequestValue, read_reply_to, reply_to, Entry, reply_messages, RequestCopy, copy_of, delivers_copy, heard_of, request_of, Clock, State, turn, judged, reply_by, turn-message, Verdict, Answers, AreDataSets, same_identity-true, answer_origin, delivery, reply_origin, AtPort, AtSession, End, HasEnd, IsNetwork, Network, peers, ports, Frame, Held, held, seen, turn_frames, after_turn, Origin, RequestOf, ReplyTo, Neither, Happened, unless_refused, reaches, hears, sent_posted, with_session_value, RunningNetwork, SessionValue, initial_history, DataSetsValue, Stands, initial_state, answered, begun, due_message, received_of, request_message, Ask, ask_refusal, begin_refusal, Refusal, frame_at, IsAsked, all_append, frame_at-all, all_made, at_place}
 use Rattle.std.specs.FinMap.{get, insert}
 use Rattle.ptpm_manager.specs.declared.receiving.Received.{Received}
 use Rattle.ptpm_manager.specs.declared.receiving.Received.TheVariants as received
@@ -236,6 +236,14 @@ begins-honest N r t a n h place id e =
 module _ (N : Network) (n : IsNetwork N) (r : RunningNetwork) (h : IsHonest N r) where
   pub frame-true : (k : ℕ) (x : Held) → frame_at r.frames k ≡ Some x → IsTrueFrame N x
   frame-true k x e = frame_at-all (IsTrueFrame N) r.frames k x h.frames e
+
+  pub replayed-honest : (k : ℕ) (x : Held) (end : End) → frame_at r.frames k ≡ Some x → HasEnd N end
+      → IsHonest N (record r { frames = r.frames ++ record x { end = end } ∷ [] })
+  replayed-honest k x end e there = record {
+    clocks = h.clocks;
+    sessions = h.sessions;
+    frames = all_append (IsTrueFrame N) r.frames _ h.frames (record { end = there; says = (frame-true k x e).says }, tt);
+  }
 
   pub reaches-honest : (x : Held) (end : End) → IsTrue N x.octets x.origin → HasEnd N end → IsHonest N (reaches N r x end).network
   reaches-honest x (AtPort c port) i end = turns-honest N r c port (seen x) n h end i

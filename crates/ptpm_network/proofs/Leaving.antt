@@ -1,5 +1,5 @@
 -- What events leave as it was: frames stay, and a way stays one if its clocks and its session do.
-use Rattle.ptpm_network.proofs.Common.{arith, ◌≡◌, ℕ, List, [], ◌∷◌, Deliver, Event, Send, Stranger, happens, run, step, Network, NetworkState, Frame, history, issued, Hop, all_weaker}
+use Rattle.ptpm_network.proofs.Common.{arith, ◌≡◌, ℕ, List, [], ◌∷◌, Replay, Deliver, Event, Send, Stranger, happens, run, step, Network, NetworkState, Frame, history, issued, Hop, all_weaker}
 use Rattle.ptpm_network.specs.Way.{IsWayIn}
 use Rattle.ptpm_network.proofs.Carrying.{IsIn, in_left}
 use Rattle.ptpm_network.proofs.RoundTrip.{Hears}
@@ -13,6 +13,7 @@ module _ (N : Network) (w : NetworkState) (x : Frame) where
   happens-frames (Send s) p = in_left w.frames _ x p
   happens-frames (Deliver n) p =
       after-delivery (λ (u : NetworkState). IsIn u.frames x) N w n p (λ f at c port end. in_left w.frames _ x p) (λ f at s end. p)
+  happens-frames (Replay n end) p = in_left w.frames _ x p
   happens-frames (Stranger c port datagram) p = in_left w.frames _ x p
   happens-frames _ p = p
 

@@ -1,5 +1,5 @@
 -- What a session has and what its target keeps of it, if its own messages came in time.
-use Rattle.ptpm_network.proofs.Common.{Bool, inr, true≢false, ◌⊎◌, arith, ◌≡◌, ℕ, ◌+◌, ◌-◌, ◌<◌, ◌≤◌, List, [], ◌∷◌, length, Option, Some, None, true, false, refl, sym, ◌∙◌, ap, subst, ⊎_elim, and_from, cond-true, eq-eqb, same_Some, slice_get, PortIdentity, Message, same_identity, message_of, reading-message_of, RequestValue, Entry, look_at, look_by, same_request, InWindow, reply_messages, Accepted, greatest, kept_reply, heard_of, request_of, Clock, State, turn, turn-message, judged, Verdict, reply_by, same_identity-refl, number_of, Answers, HasOneAnswer}
+use Rattle.ptpm_network.proofs.Common.{Bool, inr, true≢false, ◌⊎◌, arith, ◌≡◌, ℕ, ◌-◌, ◌<◌, ◌≤◌, List, [], ◌∷◌, length, Option, Some, None, true, false, refl, sym, ◌∙◌, ap, subst, ⊎_elim, and_from, cond-true, eq-eqb, same_Some, slice_get, PortIdentity, Message, same_identity, message_of, reading-message_of, RequestValue, Entry, look_at, look_by, same_request, InWindow, reply_messages, Accepted, greatest, kept_reply, heard_of, request_of, Clock, State, turn, turn-message, judged, Verdict, reply_by, same_identity-refl, number_of, Answers, HasOneAnswer}
 use Rattle.std.specs.FinMap.{get}
 use Rattle.std.proofs.lemmas.Bool.{cases_order}
 use Rattle.std.proofs.Math.Nat.{ne_of_gt, ne_of_lt}

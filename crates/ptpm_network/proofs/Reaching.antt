@@ -1,11 +1,11 @@
 -- Every event keeps the invariant, and so it holds after every schedule.
-use Rattle.ptpm_network.proofs.Common.{arith, ◌≡◌, ℕ, ◌<◌, ◌^◌, nat_lt, not, List, [], ◌∷◌, Option, Some, None, true, refl, subst, length, and_parts, cond-true, cond-false, eqb-true, eqb-false, leb-true, ltb-true, not-false, not-true, same_Some, nat_le, AllByRecursion, first_of-none, option_or-none, Message, message_of, kept_reply, Ask, Report, ask_refusal, outcome_in, begin_refusal, BeginRefused, Begin, Deliver, Event, Forged, IsInRange, NoSuchName, Resume, Retune, Send, Stranger, begin_refused, forged, frame_at, is_forged, no_port, no_room, no_session, refusal, IsAsked, IsFrame, IsOfOrigin, IsReached, delivered, happens, is_answer, report_from, reported, run, step, strange_frame, told_by, with_session, AtPort, AtSession, HasEnd, IsNetwork, Network, manager, ports, Frame, NetworkState, Origin, RequestOf, ReplyTo, Neither, SessionState, accepted_at_target, initial_state, issued, session_value, frame_at-all, get_append, le_trans, octet, delivered_at_clock}
+use Rattle.ptpm_network.proofs.Common.{arith, ◌≡◌, ℕ, ◌<◌, ◌^◌, nat_lt, not, List, [], ◌∷◌, Option, Some, None, true, refl, subst, length, and_parts, cond-true, cond-false, eqb-true, eqb-false, leb-true, ltb-true, not-false, not-true, same_Some, nat_le, AllByRecursion, first_of-none, option_or-none, Message, message_of, kept_reply, Ask, Report, ask_refusal, outcome_in, begin_refusal, BeginRefused, Begin, Replay, no_end, no_frame, to_end, End, Deliver, Event, Forged, IsInRange, NoSuchName, Resume, Retune, Send, Stranger, begin_refused, forged, frame_at, is_forged, no_port, no_room, no_session, refusal, IsAsked, IsFrame, IsOfOrigin, IsReached, delivered, happens, is_answer, report_from, reported, run, step, strange_frame, told_by, with_session, AtPort, AtSession, HasEnd, IsNetwork, Network, manager, ports, Frame, NetworkState, Origin, RequestOf, ReplyTo, Neither, SessionState, accepted_at_target, initial_state, issued, session_value, frame_at-all, get_append, le_trans, octet, delivered_at_clock}
 use Rattle.ptpm_manager.specs.Ask as ask
 use Rattle.ptpm_network.proofs.Accepting.{IsToldOf, in_step-begun, in_step-reported}
 use Rattle.ptpm_network.proofs.Frames.{heard-frame, says_reply, IsHeard}
 use Rattle.ptpm_network.proofs.Messages.{reply_at}
 use Rattle.ptpm_network.proofs.Refusals.{asked-not_refused, begin-not_refused, idle-not_waiting, option_map-none}
-use Rattle.ptpm_network.proofs.Steps.{sends-reached, session-changes, session-set}
+use Rattle.ptpm_network.proofs.Steps.{more-frames, sends-reached, session-changes, session-set}
 use Rattle.ptpm_network.proofs.Strangers.{strange-message}
 use Rattle.ptpm_network.proofs.Unnumbered.{delivered_at_clock-reached}
 use Rattle.ptpm_network.specs.Machine.{delivered_at_session}
@@ -82,6 +82,18 @@ session-exists N s e = ltb-true s N.sessions (not-false _ (first_of-none (not (n
 pub port-exists : (N : Network) (c port : ℕ) → no_port N c port ≡ None → HasEnd N (AtPort c port)
 port-exists N c port e = grind (arith, and_parts, nat_lt, not-false, first_of-none, nat_le, ltb-true, leb-true)
 
+pub end-exists : (N : Network) (end : End) → no_end N end ≡ None → HasEnd N end
+end-exists N (AtPort c port) e = port-exists N c port e
+end-exists N (AtSession s) e = session-exists N s e
+
+-- a frame that is replayed at an end says what it said
+replayed-frames : (N : Network) (w : NetworkState) (end : End) (k : ℕ) (o : Option Frame)
+    → IsReached N w → HasEnd N end → frame_at w.frames k ≡ o
+    → AllByRecursion (IsFrame N w) (to_end end o)
+replayed-frames N w end k None r there e = tt
+replayed-frames N w end k (Some f) r there e =
+    let is = frame_at-is N w k f r e in (record { end = there; origin = is.origin; hops = is.hops }, tt)
+
 begins-reached : (N : Network) (w : NetworkState) (s : ℕ) (a : Ask)
     → IsNetwork N → IsReached N w → s < N.sessions → a.id < 2 ^ 16 → begin_refused N w s a ≡ None
     → IsReached N (happens N w (Begin s a))
@@ -125,6 +137,10 @@ happens-reached N w (Deliver k) n r i e =
     (λ f at c port end. let is = frame_at-is N w k f r at in
     delivered_at_clock-reached N w c port f n r (subst (HasEnd N) end is.end) (heard-frame N w f.octets f.origin is.origin) is.hops)
     (λ f at s end. let is = frame_at-is N w k f r at in reported-reached N w s f (report_from s (w.session s) f) n r (subst (HasEnd N) end is.end) is.origin refl)
+happens-reached N w (Replay k end) n r i e =
+    let p = option_or-none (no_frame (frame_at w.frames k)) _ e in
+    let q = option_or-none (no_end N end) (no_room w.frames) p.1 in
+    more-frames N w _ (replayed-frames N w end k (frame_at w.frames k) r (end-exists N end q.0) refl) r
 happens-reached N w (Stranger c port datagram) n r i e =
     let there = strange-comes N w c port datagram i e in
     delivered_at_clock-reached N w c port (strange_frame c port datagram) n r there.0 there.1 (omega arith)

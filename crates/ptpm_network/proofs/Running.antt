@@ -1,6 +1,6 @@
 -- A running network makes of every event what the machine does. It refuses what that refuses, for the same reason, and
 -- otherwise it takes the same step.
-use Rattle.ptpm_network.proofs.Common.{arith, by_test, result_err, Result, Ok, Err, Happened, unless_refused, network_event, delivers, goes_on, ◌≡◌, ℕ, ◌<◌, ◌≤◌, nat_lt, not, List, [], ◌∷◌, ◌++◌, Option, Some, None, false, refl, sym, ◌∙◌, ap, subst, is_none, if◌then◌else◌, option_map, option_or, AllByRecursion, first_of, length, length-map, PortIdentity, received_of, SessionValue, send_refusal, is_waiting, begun, Begin, Deliver, Event, FramesAtMaximum, IsInRange, Refusal, Resume, Retune, Send, SendRefused, Stranger, begin_refused, send_refused, forged, frame_at, frames_limit, no_frame, no_port, no_room, no_session, refusal, Held, RunningNetwork, held, network_run, reaches, IsFrame, IsReached, AreInTime, begun_in, delivered, delivered_at, delivered_at_clock, happens, is_late_delivery, is_late_frame, report_from, run, step, step_by, strange_frame, taken, AtPort, AtSession, End, HasEnd, IsNetwork, Network, AreFirsts, Stands, Frame, NetworkState, initial_state, is_late, is_idle, session_value, le_trans}
+use Rattle.ptpm_network.proofs.Common.{arith, by_test, result_err, Result, Ok, Err, Happened, unless_refused, network_event, delivers, goes_on, ◌≡◌, ℕ, ◌<◌, ◌≤◌, nat_lt, not, List, [], ◌∷◌, ◌++◌, Option, Some, None, false, refl, sym, ◌∙◌, ap, subst, is_none, if◌then◌else◌, option_map, option_or, AllByRecursion, first_of, length, length-map, PortIdentity, received_of, SessionValue, send_refusal, is_waiting, begun, Begin, Replay, replays, no_end, to_end, map, map-append, with_frames, Deliver, Event, FramesAtMaximum, IsInRange, Refusal, Resume, Retune, Send, SendRefused, Stranger, begin_refused, send_refused, forged, frame_at, frames_limit, no_frame, no_port, no_room, no_session, refusal, Held, RunningNetwork, held, network_run, reaches, IsFrame, IsReached, AreInTime, begun_in, delivered, delivered_at, delivered_at_clock, happens, is_late_delivery, is_late_frame, report_from, run, step, step_by, strange_frame, taken, AtPort, AtSession, End, HasEnd, IsNetwork, Network, AreFirsts, Stands, Frame, NetworkState, initial_state, is_late, is_idle, session_value, le_trans}
 use Rattle.ptpm_manager.specs.Ask as ask
 use Rattle.ptpm_network.proofs.Frames.{heard-frame}
 use Rattle.ptpm_network.proofs.Hearing.{begun-value, hears-stands, sends-stand, session-stands}
@@ -80,6 +80,25 @@ module _ (N : Network) (first : PortIdentity → ℕ) (r : RunningNetwork) (w : 
       let i = frame_at-is N w k f known e in
       by_last _ (no_room r.frames) (no_room w.frames) (reaches N r (held f) f.end) room (λ fine firsts range late. reaches-stands N first r w f f.end firsts n known at i i.end late)
 
+  replayed-stands : (fs : List Frame)
+      → Stands N first (record r { frames = r.frames ++ map held fs }) (with_frames w fs)
+  replayed-stands fs = record {
+    clocks = at.clocks;
+    sessions = at.sessions;
+    reports = at.reports;
+    frames = grind (arith, at.frames, map-append);
+  }
+
+  replays-follows : (k : ℕ) (end : End) (o : Option Frame)
+      → frame_at w.frames k ≡ o
+      → Follows (replays N r (option_map held o) end) (option_or (no_frame o) (option_or (no_end N end) (no_room w.frames)))
+      (λ x. AreFirsts N first → Unit {0} → false ≡ false → Stands N first x (with_frames w (to_end end o)))
+  replays-follows k end None e = record { reason = refl; next = λ g is. absurd (cc) }
+  replays-follows k end (Some f) e =
+      by_reason (no_end N end) (no_end N end) (no_room w.frames) _ refl
+      (λ there. by_last _ (no_room r.frames) (no_room w.frames) _ room
+      (λ fine firsts range late. replayed-stands (record f { end = end } ∷ [])))
+
   pub follows : (e : Event)
       → Follows (network_event N r e) (refusal N w e)
       (λ x. AreFirsts N first → IsInRange e → is_late_delivery w e ≡ false → Stands N first x (happens N w e))
@@ -101,6 +120,11 @@ module _ (N : Network) (first : PortIdentity → ℕ) (r : RunningNetwork) (w : 
       subst (λ (o : Option Held). Follows (delivers N r o) (option_or (no_frame (frame_at w.frames k)) (no_room w.frames))
       (λ x. AreFirsts N first → Unit {0} → is_late_frame w (frame_at w.frames k) ≡ false → Stands N first x (delivered N w (frame_at w.frames k)))) (sym same)
       (delivers-follows k (frame_at w.frames k) refl)
+  follows (Replay k end) =
+      let same : frame_at r.frames k ≡ option_map held (frame_at w.frames k) = grind (arith, frame_at-map) in
+      subst (λ (o : Option Held). Follows (replays N r o end) (option_or (no_frame (frame_at w.frames k)) (option_or (no_end N end) (no_room w.frames)))
+      (λ x. AreFirsts N first → Unit {0} → false ≡ false → Stands N first x (with_frames w (to_end end (frame_at w.frames k))))) (sym same)
+      (replays-follows k end (frame_at w.frames k) refl)
   follows (Stranger c port datagram) =
       by_reason (no_port N c port) (no_port N c port) _ _ refl
       (λ there. by_reason (forged N datagram) (forged N datagram) (no_room w.frames) _ refl

@@ -1,5 +1,5 @@
 -- A session whose own messages come in time is served, after every list of events, whatever comes late of others.
-use Rattle.ptpm_network.proofs.Common.{arith, by_test, ◌≡◌, ℕ, ◌+◌, ◌<◌, ◌≤◌, ◌==◌, ◌^◌, ◌&&◌, Bool, List, [], ◌∷◌, reading, length, Option, Some, None, Result, Ok, Err, true, false, refl, sym, ◌∙◌, ap, subst, and_cases, and_from, eq-eqb, eqb-true, ltb-false, true≢false, all_append, frame_at-all, AllByRecursion, Message, Fits, IsForeign, message_of, with_session_value, canonical, is_copy, received_of, IsAsked, strange_frame, with_place, AtPort, AtSession, End, HasEnd, IsNetwork, Network, manager, ports, Held, seen, Origin, SessionValue, Happened, network_event, network_run, goes_on, delivers, reaches, hears, RunningNetwork, begun, resumed, retuned, sent, due_message, Ask, begin_refusal, BeginRefused, SendRefused, Refusal, Event, Begin, Send, Resume, Retune, Deliver, Stranger, IsInRange, Forged, is_forged, forged, frame_at, first_of-none, no_port, no_room, no_session, nothing_to_resume, send_refusal, option_map, is_late_at, sends_in, PortIdentity, DataSetsValue, Entry, initial_history, StandsAfter, session_value, Clock, greatest, Frame, State, RequestOf, Verdict, DecodeError, Accepted, after_turn, judged, if◌then◌else◌}
+use Rattle.ptpm_network.proofs.Common.{◌++◌, arith, by_test, ◌≡◌, ℕ, ◌+◌, ◌<◌, ◌≤◌, ◌==◌, ◌^◌, ◌&&◌, Bool, List, [], ◌∷◌, reading, length, Option, Some, None, Result, Ok, Err, true, false, refl, sym, ap, subst, and_cases, and_from, eq-eqb, eqb-true, ltb-false, true≢false, all_append, frame_at-all, AllByRecursion, Message, canonical, is_copy, received_of, IsAsked, strange_frame, with_place, AtPort, AtSession, End, HasEnd, IsNetwork, Network, manager, ports, Held, seen, Origin, SessionValue, Happened, network_event, network_run, goes_on, reaches, hears, RunningNetwork, begun, resumed, retuned, sent, due_message, Ask, begin_refusal, Refusal, Event, Begin, IsInRange, frame_at, is_late_at, sends_in, PortIdentity, DataSetsValue, Entry, initial_history, StandsAfter, session_value, Clock, greatest, Frame, State, RequestOf, Verdict, DecodeError, Accepted, after_turn, judged, if◌then◌else◌}
 use Rattle.ptpm_agent.specs.CarriedOut.{carried_by, carried_in, carried_of}
 use Rattle.ptpm_agent.specs.declared.verdict.Verdict.TheVariants as verdicts
 use Rattle.ptpm_agent.specs.Laws.{IsKept}
@@ -15,16 +15,15 @@ use Rattle.ptpm_network.specs.GivingUp.{carried_as}
 use Rattle.ptpm_network.proofs.Accepting.{in_order, in_step-window}
 use Rattle.ptpm_network.proofs.Arriving.{step-gained}
 use Rattle.ptpm_network.proofs.EachEvent.{HoldsAfterEach, holds_after}
-use Rattle.ptpm_network.proofs.Honest.{IsHonest, IsSentBy, IsTrueFrame, Then, begins-honest, first-honest, frame-true, moved-honest, nothing_kept, reaches-honest, sends-honest, sent-all, sent_by, session-honest, then_ok, then_unless, turns-honest}
+use Rattle.ptpm_network.proofs.Honest.{replayed-honest, IsHonest, IsSentBy, IsTrueFrame, Then, begins-honest, first-honest, frame-true, moved-honest, nothing_kept, reaches-honest, sends-honest, sent-all, sent_by, session-honest, turns-honest}
 use Rattle.ptpm_network.specs.Invariant.{IsRequestFrame}
 use Rattle.ptpm_network.proofs.Origins.{IsTrue}
 use Rattle.ptpm_network.proofs.Own.{IsLastOf, TurnsOwn, turns_own}
 use Rattle.ptpm_network.proofs.Owned.{IsOwn, IsOwnFrame, IsSaid, own-begun, own-hears, own-held, own-message, own-resumed, own-retuned, own-sent, reports_with, state_of}
 use Rattle.ptpm_network.proofs.Promise.{first_of_sessions, firsts}
-use Rattle.ptpm_network.proofs.Reaching.{first-reached, port-exists, session-exists}
-use Rattle.ptpm_network.proofs.Refusals.{begin-not_refused, option_map-none}
+use Rattle.ptpm_network.proofs.Reaching.{first-reached}
+use Rattle.ptpm_network.proofs.Refusals.{begin-not_refused}
 use Rattle.ptpm_network.proofs.Serving.{IsGiven, comes_own, held-turned, with_accepted}
-use Rattle.ptpm_network.proofs.Strangers.{strange-message}
 use Rattle.ptpm_network.proofs.Lists.{flipped}
 
 -- ---- what is in time
@@ -154,6 +153,15 @@ module _ (N : Network) (n : IsNetwork N) (s : ℕ) (place : s < N.sessions) (r :
   stays : (x : RunningNetwork) (b : Account) → IsHonest N x → Own N s x b → Stays N s x b
   stays x b honest own = record { network = n; place = place; honest = honest; own = own }
 
+  own-replayed : (k : ℕ) (x : Held) (end : End) → frame_at r.frames k ≡ Some x
+      → Own N s (record r { frames = r.frames ++ record x { end = end } ∷ [] }) a
+  own-replayed k x end e = record {
+    value_is = at.value_is;
+    step = at.step;
+    last = at.last;
+    frames_say = all_append (IsOwnFrame N s a) r.frames _ at.frames_say (frame_at-all (IsOwnFrame N s a) r.frames k x at.frames_say e, tt);
+  }
+
   each-stays : HoldsAfterEach N r (λ e x. is_late_for N s r e ≡ false → Stays N s x (account_with N s r e a))
   unfolding carried_by_event
   each-stays = record {
@@ -171,6 +179,7 @@ module _ (N : Network) (n : IsNetwork N) (s : ℕ) (place : s < N.sessions) (r :
         (sym e)
         (λ late. stays _ _ (reaches-honest N n r h x x.end i.says i.end)
         (own-reaches x x.end i (frame_at-all (IsOwnFrame N s a) r.frames k x at.frames_say e) i.end late));
+    replays = λ k end x e there late. stays _ _ (replayed-honest N n r h k x end e there) (own-replayed k x end e);
     intrudes = λ c port datagram end says late. stays _ _ (turns-honest N r c port (strange_frame c port datagram) n h end says)
         (own-turned N n s place r h a at port (strange_frame c port datagram) says tt c end (λ k o here. absurd (cc)));
   }

@@ -2,7 +2,7 @@
 use Rattle.std.specs.Prelude.{ℕ, List, [], ◌∷◌, ◌++◌, ◌==◌, Option, Some, None, Result, Ok, Err, if◌then◌else◌}
 use Rattle.ptpm_agent.specs.CarriedOut.{carried_in}
 use Rattle.ptpm_agent.specs.Turn.{NumberedRequest}
-use Rattle.ptpm_network.specs.Events.{Event, Begin, Send, Resume, Retune, Deliver, Stranger, Refusal, frame_at}
+use Rattle.ptpm_network.specs.Events.{Event, Begin, Send, Resume, Retune, Deliver, Replay, Stranger, Refusal, frame_at}
 use Rattle.ptpm_network.specs.Network.{End, AtPort, AtSession, Network}
 use Rattle.ptpm_network.specs.RunningNetwork.{Happened, Held, RunningNetwork, network_event}
 
@@ -23,6 +23,7 @@ carried_by_event N r c (Send s) = []
 carried_by_event N r c (Resume s attempts) = []
 carried_by_event N r c (Retune s domain) = []
 carried_by_event N r c (Deliver n) = carried_of_frame N r c (frame_at r.frames n)
+carried_by_event N r c (Replay n end) = []
 carried_by_event N r c (Stranger d port datagram) = carried_at N r c (AtPort d port) datagram
 
 -- if an event happens, this and what others carry out from where it leads

@@ -12,7 +12,7 @@ use Rattle.ptpm_manager.specs.declared.error.SendError.{SendError}
 use Rattle.ptpm_manager.specs.declared.error.SendError.TheVariants as sends
 use Rattle.ptpm_codec.specs.Ordered.{first_of}
 use Rattle.ptpm_manager.specs.Session.{begin_refusal, send_refusal}
-use Rattle.ptpm_network.specs.Network.{Network, manager}
+use Rattle.ptpm_network.specs.Network.{AtPort, AtSession, End, Network, manager}
 use Rattle.ptpm_network.specs.State.{NetworkState, is_idle, session_value}
 
 pub data Event : Type 0 where
@@ -26,6 +26,8 @@ pub data Event : Type 0 where
   Retune : (session : ℕ) → (domain : ℕ) → Event
   -- a frame comes in at its end, by its number from 1 on; any frame, any number of times
   Deliver : (frame : ℕ) → Event
+  -- anybody who heard a frame sends a copy of it to an end: to its own again, or to any other
+  Replay : (frame : ℕ) → (end : End) → Event
   -- a stranger sends a datagram to a port of a clock
   Stranger : (clock : ℕ) → (port : ℕ) → (datagram : List ℕ) → Event
 
@@ -43,6 +45,10 @@ no_session N s = first_of ((not (nat_lt s N.sessions), NoSuchName) ∷ [])
 abbrev pub no_port : Network → ℕ → ℕ → Option Refusal
 no_port N c port =
     first_of ((not (nat_lt c N.clocks && has_port port (N.start c)), NoSuchName) ∷ [])
+
+abbrev pub no_end : Network → End → Option Refusal
+no_end N (AtPort c port) = no_port N c port
+no_end N (AtSession s) = no_session N s
 
 -- frame n, counted from 1
 abbrev pub frame_at : {A : Type 0} → List A → ℕ → Option A
@@ -90,6 +96,8 @@ refusal N w (Send s) = option_or (no_session N s) (option_or (no_room w.frames) 
 refusal N w (Resume s attempts) = option_or (no_session N s) (resume_refused w s)
 refusal N w (Retune s domain) = no_session N s
 refusal N w (Deliver n) = option_or (no_frame (frame_at w.frames n)) (no_room w.frames)
+refusal N w (Replay n end) =
+    option_or (no_frame (frame_at w.frames n)) (option_or (no_end N end) (no_room w.frames))
 refusal N w (Stranger c port datagram) =
     option_or (no_port N c port) (option_or (forged N datagram) (no_room w.frames))
 

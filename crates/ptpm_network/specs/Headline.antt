@@ -1,7 +1,8 @@
--- What a network promises, on one page. It may lose, repeat, reorder or duplicate messages in any way. Let none arrive after
--- more than 32,768 later requests of its manager. Then each clock's data sets are those after its managers' delivered requests,
--- each applied once in order of first acceptance. Repeats of the latest request get the one reply that is kept, and repeats of
--- older ones get none. Each manager reports those replies. Strangers and refused SETs change no data set.
+-- What a network promises, on one page. It may lose, repeat, reorder or duplicate messages in any way, and anybody may replay
+-- them anywhere. Let none arrive after more than 32,768 later requests of its manager. Then each clock's data sets are those
+-- after its managers' delivered requests, each applied once in order of first acceptance. Repeats of the latest request get the
+-- one reply that is kept, and repeats of older ones get none. Each manager reports those replies. Strangers and refused SETs
+-- change no data set.
 use Rattle.std.specs.Prelude.{◌≡◌, ℕ, ◌+◌, ◌<◌, ◌≤◌, List, ◌++◌, length, map, None}
 use Rattle.std.specs.List.{AllByRecursion}
 use Rattle.ptpm_agent.specs.Laws.{due_messages}

@@ -19,7 +19,7 @@ use Rattle.ptpm_manager.specs.Report.{outcome_in}
 use Rattle.ptpm_manager.specs.Session.{due_message}
 use Rattle.ptpm_network.specs.Network.{End, AtPort, AtSession, Network, SessionStart, peers, ports}
 use Rattle.ptpm_network.specs.State.{Frame, Neither, NetworkState, Origin, ReplyTo, RequestOf, SessionState, frames_to, history, initial_state, is_idle, is_late, new_frames, session_value}
-use Rattle.ptpm_network.specs.Events.{Event, Begin, Send, Resume, Retune, Deliver, Stranger, Refusal, frame_at, refusal}
+use Rattle.ptpm_network.specs.Events.{Event, Begin, Send, Resume, Retune, Deliver, Replay, Stranger, Refusal, frame_at, refusal}
 
 -- one place has another value
 abbrev pub with_place : {A : Type 0} → (ℕ → A) → ℕ → A → ℕ → A
@@ -150,6 +150,11 @@ abbrev pub delivered : Network → NetworkState → Option Frame → NetworkStat
 delivered N w None = w
 delivered N w (Some f) = delivered_at N w f f.end
 
+-- a copy of a frame, on its way to an end; it belongs to what the frame belongs to
+abbrev pub to_end : End → Option Frame → List Frame
+to_end end None = []
+to_end end (Some f) = record f { end = end } ∷ []
+
 -- a stranger's datagram belongs to nothing
 abbrev pub strange_frame : ℕ → ℕ → List ℕ → Frame
 strange_frame c port datagram = record {
@@ -166,6 +171,7 @@ happens N w (Send s) = sends N w s
 happens N w (Resume s attempts) = with_session w s (record (w.session s) { attempts_left = attempts })
 happens N w (Retune s domain) = with_session w s (record (w.session s) { domain = domain })
 happens N w (Deliver n) = delivered N w (frame_at w.frames n)
+happens N w (Replay n end) = with_frames w (to_end end (frame_at w.frames n))
 happens N w (Stranger c port datagram) =
     delivered_at_clock N w c port (strange_frame c port datagram)
 

@@ -14,7 +14,7 @@ use Rattle.ptpm_manager.specs.declared.receiving.Received.TheVariants as receive
 use Rattle.ptpm_manager.specs.Ask.{request_of}
 use Rattle.ptpm_manager.specs.Receiving.{received_of}
 use Rattle.ptpm_manager.specs.Session.{SessionValue, answered, begin_refusal, begun, due_message, is_waiting, resumed, retuned, send_refusal, sent}
-use Rattle.ptpm_network.specs.Events.{Event, Begin, Send, Resume, Retune, Deliver, Stranger, Refusal, BeginRefused, SendRefused, NoSuchFrame, forged, frame_at, no_port, no_room, no_session}
+use Rattle.ptpm_network.specs.Events.{Event, Begin, Send, Resume, Retune, Deliver, Replay, Stranger, Refusal, BeginRefused, SendRefused, NoSuchFrame, forged, frame_at, no_end, no_port, no_room, no_session}
 use Rattle.ptpm_network.specs.Machine.{answer_origin, delivery, forwarded_frames, reply_frames, strange_frame, with_place}
 use Rattle.ptpm_network.specs.Network.{End, AtPort, AtSession, Network, peers}
 use Rattle.ptpm_network.specs.State.{Frame, Origin, RequestOf, initial_session_state, session_value}
@@ -141,6 +141,13 @@ abbrev pub delivers : Network → RunningNetwork → Option Held → Result Happ
 delivers N r None = Err NoSuchFrame
 delivers N r (Some h) = unless_refused (no_room r.frames) (Ok (reaches N r h h.end))
 
+-- a copy of a frame is on its way to an end, whoever sent it there
+abbrev pub replays : Network → RunningNetwork → Option Held → End → Result Happened Refusal
+replays N r None end = Err NoSuchFrame
+replays N r (Some h) end =
+    unless_refused (no_end N end)
+    (unless_refused (no_room r.frames) (becomes (record r { frames = r.frames ++ record h { end = end } ∷ [] })))
+
 -- What a running network makes of an event: it happens, or is refused for the first reason that holds. Want of memory is none.
 unfoldable pub network_event : Network → RunningNetwork → Event → Result Happened Refusal
 network_event N r (Begin s a) =
@@ -153,6 +160,7 @@ network_event N r (Send s) =
     (unless_refused (no_room r.frames)
     (unless_refused (option_map SendRefused (send_refusal (r.session s))) (becomes (sends_in N r s))))
 network_event N r (Deliver n) = delivers N r (frame_at r.frames n)
+network_event N r (Replay n end) = replays N r (frame_at r.frames n) end
 network_event N r (Stranger c port datagram) =
     unless_refused (no_port N c port)
     (unless_refused (forged N datagram)

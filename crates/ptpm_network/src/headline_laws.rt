@@ -20,10 +20,10 @@ ghost use Rattle.ptpm_network.specs.Network.{IsNetwork, Network, ports};
 ghost use Rattle.ptpm_network.specs.Stands.{StandsAfter};
 ghost use Rattle.ptpm_network.specs.State.{Frame, NetworkState, history};
 
-/// The headline. A network may lose, repeat, reorder or duplicate messages in any way. Let none arrive after more than 32,768
-/// later requests of its manager. Then each clock's data sets are those after its managers' delivered requests, each applied once
-/// in order of first acceptance. Repeats of the latest request get the one reply that is kept, and repeats of older ones get
-/// none. Each manager reports those replies. Strangers and refused SETs change no data set.
+/// The headline. A network may lose, repeat, reorder or duplicate messages in any way, and anybody may replay them anywhere. Let
+/// none arrive after more than 32,768 later requests of its manager. Then each clock's data sets are those after its managers'
+/// delivered requests, each applied once in order of first acceptance. Repeats of the latest request get the one reply that is
+/// kept, and repeats of older ones get none. Each manager reports those replies. Strangers and refused SETs change no data set.
 pub fn headline()
     ensures { (N : Network) (events : List Event) (r : RunningNetwork) →
         StandsAfter N events r → Headline N (state_after N events) r }

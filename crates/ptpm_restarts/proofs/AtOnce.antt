@@ -1,5 +1,5 @@
 -- If no frame waits and each change is saved at once, an event does what it does in a network that runs.
-use Rattle.ptpm_network.proofs.Common.{by_test, arith, ◌≡◌, ℕ, ◌==◌, ◌<◌, Bool, true, false, not, List, [], ◌∷◌, ◌++◌, map, append-nil, Option, Some, None, option_map, option_or, refl, sym, ◌∙◌, ap, subst, true≢false, eqb-true, eq-eqb, cond-true, cond-false, first_of, filter, Ok, Err, Result, result_err, State, turn, Verdict, SessionValue, Report, begin_refusal, begun, resumed, retuned, send_refusal, sent, answered, received_of, is_waiting, Event, Begin, Send, Resume, Retune, Deliver, Stranger, Refusal, BeginRefused, SendRefused, forged, frame_at, no_frame, no_port, no_room, no_session, strange_frame, with_place, with_place-other, with_place-same, at_place, End, AtPort, AtSession, Network, Held, Happened, Frame, RunningNetwork, after_turn, delivers, held, hears, network_event, nothing_to_resume, reaches, seen, sends_in, turn_frames, unless_refused, with_session_value}
+use Rattle.ptpm_network.proofs.Common.{by_test, arith, ◌≡◌, ℕ, ◌==◌, ◌<◌, Bool, true, false, not, List, [], ◌∷◌, ◌++◌, map, append-nil, Option, Some, None, option_map, option_or, refl, sym, ◌∙◌, ap, subst, true≢false, eqb-true, eq-eqb, cond-true, cond-false, first_of, filter, Ok, Err, Result, result_err, State, turn, Verdict, SessionValue, Report, begin_refusal, begun, resumed, retuned, send_refusal, sent, answered, received_of, is_waiting, Event, Begin, Send, Resume, Retune, Deliver, Replay, Stranger, Refusal, BeginRefused, SendRefused, forged, frame_at, no_end, no_frame, no_port, no_room, no_session, strange_frame, with_place, with_place-other, with_place-same, at_place, End, AtPort, AtSession, Network, Held, Happened, Frame, RunningNetwork, after_turn, replays, delivers, held, hears, network_event, nothing_to_resume, reaches, seen, sends_in, turn_frames, unless_refused, with_session_value}
 use Rattle.ptpm_manager.specs.Ask as ask
 use Rattle.ptpm_manager.specs.declared.error.SendError.TheVariants as send_errors
 use Rattle.ptpm_manager.specs.declared.receiving.Received.{Received}
@@ -8,7 +8,7 @@ use Rattle.ptpm_agent.specs.declared.verdict.Verdict.TheVariants as verdicts
 use Rattle.ptpm_network.specs.RunningNetwork as running_network
 use Rattle.ptpm_network.proofs.Worth.{session-named}
 use Rattle.ptpm_restarts.specs.GoingOn.{IsCalm, save_at, save_due, save_of_frame}
-use Rattle.ptpm_restarts.specs.Incidents.{CrashSession, Happens, SaveClock, SaveSession, after_incidents, comes_in, delivered, happens, incident, no_room_for, refused, saves_clock, unless}
+use Rattle.ptpm_restarts.specs.Incidents.{CrashSession, Happens, SaveClock, SaveSession, after_incidents, replayed, comes_in, delivered, happens, incident, no_room_for, refused, saves_clock, unless}
 use Rattle.ptpm_restarts.specs.Restarting as restarting
 use Rattle.ptpm_restarts.specs.Restarting.{RestartingNetwork, SessionLog, after_verdict, held_frames, log_of, log_told, log_with, running, sent_or_waiting, takes_turn, waiting_at, waiting_elsewhere, with_log}
 use Rattle.ptpm_restarts.specs.Storage.{Stored, changed, noted, restored, saved, saved_as}
@@ -49,6 +49,11 @@ by-frame : (N : Network) (r : RunningNetwork) (q : Option Held) → option_or (r
 by-frame N r None = refl
 by-frame N r (Some x) = at-room (no_room r.frames) (Ok (reaches N r x x.end))
 
+by-replayed : (N : Network) (r : RunningNetwork) (q : Option Held) (end : End)
+    → option_or (result_err (replays N r q end)) (no_room r.frames) ≡ result_err (replays N r q end)
+by-replayed N r None end = refl
+by-replayed N r (Some x) end = again (no_end N end) _ _ (at-room (no_room r.frames) _)
+
 module _ (N : Network) (k : RestartingNetwork) (calm : k.waiting ≡ []) where
   pub held-sent : held_frames k ≡ k.frames
   held-sent = ap (λ (ws : List (ℕ × Held)). k.frames ++ map (λ (w : ℕ × Held). w.1) ws) calm ∙ append-nil k.frames
@@ -64,6 +69,7 @@ module _ (N : Network) (k : RestartingNetwork) (calm : k.waiting ≡ []) where
   refused-as (Resume s attempts) = no-more _
   refused-as (Retune s domain) = no-more _
   refused-as (Deliver n) = as-sent (Deliver n) (by-frame N (running k) (frame_at k.frames n))
+  refused-as (Replay n end) = as-sent (Replay n end) (by-replayed N (running k) (frame_at k.frames n) end)
   refused-as (Stranger c port datagram) = as-sent (Stranger c port datagram) (again (no_port N c port) _ _ (again (forged N datagram) _ _ (at-room (no_room k.frames) _)))
 
 -- ---- a turn, and the save after it
@@ -193,6 +199,15 @@ module _ (N : Network) (k : RestartingNetwork) (calm : IsCalm k) where
   frame-once (Some x) h e =
       subst (Is k _) (network-of _ _ h refl (cleared (no_room k.frames) _ h e)) (comes-once N k calm.waiting x x.end)
 
+  replayed-once : (q : Option Held) (end : End) (h : Happened)
+      → replays N (running k) q end ≡ Ok h
+      → Is k (replayed k q end) h.network
+  replayed-once None end h e = absurd (cc)
+  replayed-once (Some x) end h e =
+      let next : RestartingNetwork = record k { frames = k.frames ++ record x { end = end } ∷ [] } in
+      subst (Is k _) (network-of _ _ h refl (cleared (no_room k.frames) _ h (cleared (no_end N end) _ h e)))
+      (record { running = same-running next (running next) (λ c. refl) (λ s. refl) refl; waiting = calm.waiting; closed = λ all s. all s })
+
   once : (e : Event) (h : Happened) → network_event N (running k) e ≡ Ok h → Once e h
   unfolding network_event
   once (Begin s a) h e =
@@ -207,6 +222,7 @@ module _ (N : Network) (k : RestartingNetwork) (calm : IsCalm k) where
   once (Retune s domain) h e =
       subst (Is k _) (network-of _ _ h refl (cleared (no_session N s) _ h e)) (notes-once N k calm.waiting s _ k.frames _ (λ c. refl) (log-other N k calm.waiting s _) refl)
   once (Deliver n) h e = frame-once (frame_at k.frames n) h e
+  once (Replay n end) h e = replayed-once (frame_at k.frames n) end h e
   once (Stranger c port datagram) h e =
       subst (Is k _) (network-of _ _ h refl (cleared (no_room k.frames) _ h (cleared (forged N datagram) _ h (cleared (no_port N c port) _ h e))))
       (takes-once N k calm.waiting c port (strange_frame c port datagram))

@@ -1,6 +1,6 @@
 -- One incident after another: what a network that never crashes does meanwhile, and the state that it
 -- comes to.
-use Rattle.ptpm_network.proofs.Common.{State, true≢false, arith, ◌≡◌, ℕ, ◌<◌, ◌&&◌, Bool, true, false, List, [], ◌∷◌, ◌++◌, Option, Some, None, append_assoc, append-nil, refl, sym, ◌∙◌, ap, subst, is_none, cond-true, result_err, all_weaker, AllByRecursion, Contains, Ok, Result, Report, SessionValue, received_of, Event, Begin, Send, Resume, Retune, Deliver, Stranger, Refusal, IsInRange, frame_at, no_room, run, step, taken, initial_state, with_place, AtSession, HasEnd, IsNetwork, Network, Held, Happened, RunningNetwork, goes_on, initial_network, network_event, network_run, StandsAfter, IsReached, IsWorth, NetworkState, all_append, at_place}
+use Rattle.ptpm_network.proofs.Common.{State, true≢false, arith, ◌≡◌, ℕ, ◌<◌, ◌&&◌, Bool, true, false, List, [], ◌∷◌, ◌++◌, Option, Some, None, append_assoc, append-nil, refl, sym, ◌∙◌, ap, subst, is_none, cond-true, result_err, all_weaker, AllByRecursion, Contains, Ok, Result, Report, SessionValue, received_of, Event, Begin, Send, Resume, Retune, Deliver, Replay, Stranger, Refusal, IsInRange, frame_at, no_room, run, step, taken, initial_state, with_place, AtSession, HasEnd, IsNetwork, Network, Held, Happened, RunningNetwork, goes_on, initial_network, network_event, network_run, StandsAfter, IsReached, IsWorth, NetworkState, all_append, at_place}
 use Rattle.ptpm_manager.specs.declared.receiving.Received.TheVariants as received
 use Rattle.ptpm_network.specs.Events.{refusal}
 use Rattle.ptpm_network.proofs.Promise.{stands-event, stands-first, stands-judged}
@@ -55,6 +55,7 @@ module _ (lc ls : ℕ → Bool) (N : Network) (past : List Event) (k : Restartin
     begins = λ s q. worth;
     notes = λ s v a b c. worth;
     sends = λ s. worth;
+    replays = λ n end x is. worth;
     hears = λ n s x report is end timely room e t.
         at_place (λ i (told : List Report). i < N.sessions → AllByRecursion (IsWorth N (run N (initial_state N) past) i) told) k.told s (k.told s ++ report ∷ []) t
         (λ place. all_append (IsWorth N (run N (initial_state N) past) s) (k.told s) (report ∷ []) (worth s place) (worth-hears n s x report is end timely room e place, tt)) (worth t);
@@ -95,6 +96,7 @@ Goes-on N past r k is = (events : List Event) × Went N past r k is events (netw
 
 same-later : (xs ys us vs : List Held) (e f : Event) → Stay xs us → Stay ys vs → IsSame xs ys e f → IsSame us vs e f
 same-later xs ys us vs (Deliver n) (Deliver m) a b (h, p, q) = (h, a n h p, b m h q)
+same-later xs ys us vs (Replay n end) (Replay m other) a b (h, p, q, e) = (h, a n h p, b m h q, e)
 same-later xs ys us vs _ _ a b is = is
 
 module _ (N : Network) (past : List Event) (k : RestartingNetwork) (r : RunningNetwork) (i : Incident) (is : List Incident) (timely : IsTimely N k i) where

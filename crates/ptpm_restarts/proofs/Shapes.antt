@@ -1,10 +1,10 @@
 -- The few things that an event comes to here, and what each keeps.
-use Rattle.ptpm_network.proofs.Common.{arith, ◌≡◌, ℕ, ◌<◌, Bool, true, false, List, [], ◌∷◌, ◌++◌, Option, Some, None, refl, option_or-none, no_room, AllByRecursion, Report, RequestValue, SessionValue, State, begun, received_of, Event, Begin, Send, Resume, Retune, Deliver, Stranger, Refusal, frame_at, with_place, AtPort, AtSession, End, Network, Held, at_place, at_places}
+use Rattle.ptpm_network.proofs.Common.{arith, ◌≡◌, ℕ, ◌<◌, Bool, true, false, List, [], ◌∷◌, ◌++◌, Option, Some, None, refl, option_or-none, no_room, AllByRecursion, Report, RequestValue, SessionValue, State, begun, received_of, Event, Begin, Send, Resume, Retune, Deliver, Replay, Stranger, Refusal, frame_at, with_place, AtPort, AtSession, End, Network, Held, at_place, at_places}
 use Rattle.ptpm_manager.specs.Ask as ask
 use Rattle.ptpm_manager.specs.declared.receiving.Received.{Received}
 use Rattle.ptpm_manager.specs.declared.receiving.Received.TheVariants as received
 use Rattle.ptpm_restarts.specs.AsIfNever.{IsTimely, is_late_event, is_late_held, is_late_in}
-use Rattle.ptpm_restarts.specs.Incidents.{CrashClock, CrashSession, Happens, Incident, SaveClock, SaveSession, comes_in, delivered, happens, incident, no_room_for, refused, unless}
+use Rattle.ptpm_restarts.specs.Incidents.{CrashClock, CrashSession, Happens, Incident, SaveClock, SaveSession, replayed, comes_in, delivered, happens, incident, no_room_for, refused, unless}
 use Rattle.ptpm_restarts.specs.Restarting as restarting
 use Rattle.ptpm_restarts.specs.Restarting.{RestartingNetwork, SessionLog, held_frames, sent_or_waiting, with_log}
 use Rattle.ptpm_restarts.specs.Storage.{Stored, changed, restored, saved}
@@ -18,6 +18,7 @@ pub record ByShape (N : Network) (k : RestartingNetwork) (P : RestartingNetwork 
   pub notes : (s : ℕ) (v : SessionValue) → v.setup ≡ (k.session s).live.session.setup → v.issued ≡ (k.session s).live.session.issued
       → v.unanswered ≡ (k.session s).live.session.unanswered → P (restarting.notes k s v)
   pub sends : (s : ℕ) → P (restarting.sends false N k s)
+  pub replays : (n : ℕ) (end : End) (x : Held) → frame_at k.frames n ≡ Some x → P (record k { frames = k.frames ++ record x { end = end } ∷ [] })
   pub hears : (n s : ℕ) (x : Held) (report : Report) → frame_at k.frames n ≡ Some x → x.end ≡ AtSession s → is_late_in k x.origin ≡ false
       → no_room (held_frames k) ≡ None → received_of (k.session s).live.session x.octets ≡ received.Answered report → P (restarting.hears k s (received.Answered report))
 
@@ -51,12 +52,17 @@ module _ (N : Network) (k : RestartingNetwork) (P : RestartingNetwork → Type 0
   delivered-as n None is timely room = h.same
   delivered-as n (Some x) is timely room = comes-as n x x.end is refl timely room
 
+  replayed-as : (n : ℕ) (end : End) (q : Option Held) → frame_at k.frames n ≡ q → P (replayed k q end)
+  replayed-as n end None is = h.same
+  replayed-as n end (Some x) is = h.replays n end x is
+
   happens-as : (e : Event) → is_late_event k e ≡ false → no_room_for k e ≡ None → P (happens N k e)
   happens-as (Begin s a) timely room = h.begins s (ask.request_of a)
   happens-as (Send s) timely room = sends-as s (k.session s).is_unsaved
   happens-as (Resume s attempts) timely room = h.notes s _ refl refl refl
   happens-as (Retune s domain) timely room = h.notes s _ refl refl refl
   happens-as (Deliver n) timely room = delivered-as n (frame_at k.frames n) refl timely room
+  happens-as (Replay n end) timely room = replayed-as n end (frame_at k.frames n) refl
   happens-as (Stranger c port datagram) timely room = h.turns c _ _ _
 
   -- what each shape keeps an event keeps
@@ -82,6 +88,7 @@ module _ (N : Network) (k : RestartingNetwork) (h : AreSound N k) where
     turns = turns-sound;
     begins = λ s q. logged-sound s _ (sound-begun (N.session s).setup (k.told s) (k.session s) (h s) q);
     notes = λ s v a b c. logged-sound s _ (sound-noted (N.session s).setup (k.told s) (k.session s) (h s) v a b c);
+    replays = λ n end x is. h;
     sends = λ s. logged-sound s _ (sound-noted (N.session s).setup (k.told s) (k.session s) (h s) _ refl refl refl);
     hears = λ n s x report is end timely room e t.
         at_places (λ i told z. IsSound (N.session i).setup told z) k.told k.session s (k.told s ++ report ∷ []) _ t (sound-told (N.session s).setup (k.told s) (k.session s) (h s) report) (h t);
@@ -111,6 +118,7 @@ module _ (N : Network) (k : RestartingNetwork) where
     begins = λ s q n y is. is;
     notes = λ s v a b c n y is. is;
     sends = λ s. stay-append k.frames _;
+    replays = λ n end x is. stay-append k.frames _;
     hears = λ m s x report at end timely room e n y is. is;
   }
 

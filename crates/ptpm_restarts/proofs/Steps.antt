@@ -1,5 +1,5 @@
 -- What a network that never crashes does while one event happens here: nothing, or the same event.
-use Rattle.ptpm_network.proofs.Common.{by_test, arith, ◌≡◌, ℕ, ◌+◌, ◌-◌, ◌<◌, ◌≤◌, ◌==◌, ◌&&◌, ◌⊎◌, Bool, true, false, nat_lt, List, [], ◌∷◌, ◌++◌, map, length, length-append, length-map, Option, Some, None, option_map, option_or, refl, sym, ◌∙◌, ap, subst, ⊎_elim, inl, inr, eqb-true, ltb-true, ltb-false, cond-true, cond-false, true≢false, first_of, first_of-none, option_or-none, slice_get_within, slice_get, Contains, Ok, Err, Result, result_err, State, SessionValue, Report, begin_refusal, begun, resumed, retuned, send_refusal, sent, due_message, received_of, Event, Begin, Send, Resume, Retune, Deliver, Stranger, Refusal, BeginRefused, FramesAtMaximum, IsInRange, SendRefused, forged, frame_at, frames_limit, no_frame, no_port, no_room, no_session, is_late_delivery, is_late_frame, run, initial_state, strange_frame, with_place, End, AtPort, AtSession, HasEnd, Network, IsNetwork, peers, Held, Happened, RunningNetwork, after_turn, delivers, held, hears, network_event, nothing_to_resume, reaches, seen, sends_in, sent_posted, turn_frames, unless_refused, with_session_value, StandsAfter, Stands, Frame, Neither, Origin, ReplyTo, RequestOf, is_late, is_late_at, NetworkState, issued, IsOfOrigin, IsReached, get_append, at_places, with_place-same, with_place-other, same_Some, and_parts, reading, number_of, Message, answered, turn, Verdict, Clock}
+use Rattle.ptpm_network.proofs.Common.{by_test, arith, ◌≡◌, ℕ, ◌+◌, ◌-◌, ◌<◌, ◌≤◌, ◌==◌, ◌&&◌, ◌⊎◌, Bool, true, false, nat_lt, List, [], ◌∷◌, ◌++◌, map, length, length-append, length-map, Option, Some, None, option_map, option_or, refl, sym, ◌∙◌, ap, subst, ⊎_elim, inl, inr, eqb-true, ltb-true, ltb-false, cond-true, cond-false, true≢false, first_of, first_of-none, option_or-none, slice_get_within, slice_get, Contains, Ok, Err, Result, result_err, State, SessionValue, Report, begin_refusal, begun, resumed, retuned, send_refusal, sent, due_message, received_of, Event, Begin, Send, Resume, Retune, Deliver, Replay, Stranger, Refusal, BeginRefused, FramesAtMaximum, IsInRange, SendRefused, forged, frame_at, frames_limit, no_end, no_frame, no_port, no_room, no_session, is_late_delivery, is_late_frame, run, initial_state, strange_frame, with_place, End, AtPort, AtSession, HasEnd, Network, IsNetwork, peers, Held, Happened, RunningNetwork, after_turn, replays, delivers, held, hears, network_event, nothing_to_resume, reaches, seen, sends_in, sent_posted, turn_frames, unless_refused, with_session_value, StandsAfter, Stands, Frame, Neither, Origin, ReplyTo, RequestOf, is_late, is_late_at, NetworkState, issued, IsOfOrigin, IsReached, get_append, at_places, with_place-same, with_place-other, same_Some, and_parts, reading, number_of, Message, answered, turn, Verdict, Clock}
 use Rattle.std.proofs.lemmas.Option.{slice_get-get_or, get_or_from_slice_get}
 use Rattle.std.proofs.lemmas.List.Elements.{Contains-get_or}
 use Rattle.ptpm_manager.specs.Ask as ask
@@ -17,7 +17,7 @@ use Rattle.ptpm_network.proofs.Origins.{heard-true}
 use Rattle.ptpm_network.proofs.Receiving.{takes-by, takes-last, takes-own}
 use Rattle.ptpm_manager.specs.declared.setup.Setup.{Setup}
 use Rattle.ptpm_restarts.specs.AsIfNever.{IsSame, is_late_event, is_late_held, is_late_in}
-use Rattle.ptpm_restarts.specs.Incidents.{comes_in, delivered, happens, no_room_for, refused}
+use Rattle.ptpm_restarts.specs.Incidents.{replayed, comes_in, delivered, happens, no_room_for, refused}
 use Rattle.ptpm_restarts.specs.Restarting.{RestartingNetwork, SessionLog, begins, held_frames, log_of, log_told, log_with, notes, running, sends, takes_turn, turned, with_log}
 use Rattle.ptpm_restarts.specs.Restarting as restarting
 use Rattle.ptpm_restarts.specs.Storage.{Stored, changed, noted}
@@ -299,6 +299,22 @@ module _ (lc ls : ℕ → Bool) (N : Network) (past : List Event) (k : Restartin
       let m = numbered r.frames x (all_contains (Contains r.frames) k.frames x h.frames.sent (among k.frames n x is)) in
       comes n m.0 x x.end is m.1 refl fits timely
 
+  -- ---- a frame is replayed
+
+  replays-on : (n : ℕ) (end : End) (q : Option Held)
+      → frame_at k.frames n ≡ q → result_err (replays N (running k) q end) ≡ None → no_room r.frames ≡ None
+      → Goal (Replay n end) (replayed k q end)
+  unfolding network_event
+  replays-on n end None is none fits = Stays h
+  replays-on n end (Some x) is none fits =
+      let m = numbered r.frames x (all_contains (Contains r.frames) k.frames x h.frames.sent (among k.frames n x is)) in
+      let made : List Held = record x { end = end } ∷ [] in
+      let exists : no_end N end ≡ None = (clear (no_end N end) _ none).0 in
+      Goes (Replay m.0 end) (record { deed = Done; network = record r { frames = r.frames ++ made } })
+      (ap (λ (o : Option Held). replays N r o end) m.1 ∙ passes (no_end N end) _ exists ∙ passes (no_room r.frames) _ fits)
+      tt refl (x, is, m.1, refl) (stay-append r.frames made)
+      (record { clocks = h.clocks; sessions = h.sessions; frames = sent-both lc k.frames k.waiting r.frames made h.frames })
+
   -- ---- any event
 
   pub event-step : (e : Event)
@@ -321,6 +337,9 @@ module _ (lc ls : ℕ → Bool) (N : Network) (past : List Event) (k : Restartin
       acts (Retune s domain) s (retuned (k.session s).live.session domain) _ (noted-act (ls s) (k.session s) (log_of r s) _ (h.sessions s))
       (λ same. grind (arith, clear, passes, option_or-none)) range refl refl
   event-step (Deliver n) range timely none = came n (frame_at k.frames n) refl (room-there (option_or-none _ (no_room (held_frames k)) none).1) timely
+  event-step (Replay n end) range timely none =
+      let all = option_or-none _ (no_room (held_frames k)) none in
+      replays-on n end (frame_at k.frames n) refl all.0 (room-there all.1)
   event-step (Stranger c port datagram) range timely none =
       let all = option_or-none _ (no_room (held_frames k)) none in
       let one = clear (no_port N c port) _ all.0 in

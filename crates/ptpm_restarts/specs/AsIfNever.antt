@@ -4,7 +4,7 @@
 -- worth a report there.
 use Rattle.std.specs.Prelude.{◌≡◌, ℕ, ◌<◌, false, Bool, List, [], ◌∷◌, Option, Some, None}
 use Rattle.std.specs.List.{AllByRecursion, Contains}
-use Rattle.ptpm_network.specs.Events.{Event, Deliver, IsInRange, frame_at}
+use Rattle.ptpm_network.specs.Events.{Event, Replay, Deliver, IsInRange, frame_at}
 use Rattle.ptpm_network.specs.Machine.{state_after, taken}
 use Rattle.ptpm_network.specs.Network.{IsNetwork, Network}
 use Rattle.ptpm_network.specs.RunningNetwork.{Held, RunningNetwork, initial_network, network_run}
@@ -51,9 +51,10 @@ pub record IsPromisedRestarting (N : Network) (is : List Incident) : Type 0 wher
 
 -- ---- some of what happened, in its order
 
--- the same event; a frame that comes in may bear another number among the frames there
+-- the same event; a frame that comes in or is replayed may bear another number among the frames there
 abbrev pub IsSame : List Held → List Held → Event → Event → Type 0
 IsSame here there (Deliver n) (Deliver m) = (h : Held) × (frame_at here n ≡ Some h) × (frame_at there m ≡ Some h)
+IsSame here there (Replay n end) (Replay m other) = (h : Held) × (frame_at here n ≡ Some h) × (frame_at there m ≡ Some h) × (end ≡ other)
 IsSame here there e f = e ≡ f
 
 pub data AreSomeOf (here there : List Held) : List Event → List Incident → Type 0 where

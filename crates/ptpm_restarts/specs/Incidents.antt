@@ -5,7 +5,7 @@ use Rattle.std.specs.Result.{result_err}
 use Rattle.ptpm_manager.specs.Ask.{request_of}
 use Rattle.ptpm_manager.specs.Receiving.{received_of}
 use Rattle.ptpm_manager.specs.Session.{begun, resumed, retuned}
-use Rattle.ptpm_network.specs.Events.{Event, Begin, Send, Resume, Retune, Deliver, Stranger, Refusal, frame_at, no_room}
+use Rattle.ptpm_network.specs.Events.{Event, Begin, Send, Resume, Retune, Deliver, Replay, Stranger, Refusal, frame_at, no_room}
 use Rattle.ptpm_network.specs.Machine.{strange_frame, with_place}
 use Rattle.ptpm_network.specs.Network.{AtPort, AtSession, End, Network}
 use Rattle.ptpm_network.specs.RunningNetwork.{Held, network_event, seen}
@@ -59,12 +59,18 @@ abbrev pub delivered : Network → RestartingNetwork → Option Held → Restart
 delivered N k None = k
 delivered N k (Some h) = comes_in N k h h.end
 
+-- a copy of a frame that was sent is on its way to an end
+abbrev pub replayed : RestartingNetwork → Option Held → End → RestartingNetwork
+replayed k None end = k
+replayed k (Some h) end = record k { frames = k.frames ++ record h { end = end } ∷ [] }
+
 abbrev pub happens : Network → RestartingNetwork → Event → RestartingNetwork
 happens N k (Begin s ask) = begins k s (begun (k.session s).live.session (request_of ask))
 happens N k (Send s) = sends (k.session s).is_unsaved N k s
 happens N k (Resume s attempts) = notes k s (resumed (k.session s).live.session attempts)
 happens N k (Retune s domain) = notes k s (retuned (k.session s).live.session domain)
 happens N k (Deliver n) = delivered N k (frame_at k.frames n)
+happens N k (Replay n end) = replayed k (frame_at k.frames n) end
 happens N k (Stranger c port datagram) = takes_turn N k c port (strange_frame c port datagram)
 
 abbrev pub unless : Option Refusal → RestartingNetwork → RestartingNetwork → RestartingNetwork

@@ -3,6 +3,7 @@ pub mod ImageLemmas
 pub mod RestoringLemmas
 pub mod ReadingLemmas
 pub mod KeptAll
+pub mod OneImage
 pub mod BodyLemmas
 pub mod SavingLaws
 pub mod SavingClockLaws

@@ -249,7 +249,7 @@ request_fits e fits octets = record { id = fits.id; port = fits.port; octets = l
 
 -- ---- replies
 
-of_port_by : (b : Bool) (action : Action) (a : Answer) → FitsAnswer b action a → IsOfPort b a
+pub of_port_by : (b : Bool) (action : Action) (a : Answer) → FitsAnswer b action a → IsOfPort b a
 of_port_by false action a fits = ap is_some fits.0
 of_port_by true action a fits = ap is_some fits.0.1
 

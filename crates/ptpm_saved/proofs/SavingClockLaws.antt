@@ -68,7 +68,11 @@ clock_sound c = record {
   noted_can_be = λ s o can. observed-consistent o.clock o.ports s.sets can;
 }
 
+-- a clock reports nothing before it saves
+abbrev no_reports : State → Datagram → List ℕ
+no_reports s x = []
+
 pub clock_as_if_powered : (c : Clock) (s : State) (es : List (Event Datagram Observation))
     → IsConsistent s.sets
     → IsAsIfPowered (clock_process c) s es (happen_all (clock_process c) (started s) es)
-clock_as_if_powered c s es can = as_if_powered (clock_process c) CanBe (clock_sound c) s can es
+clock_as_if_powered c s es can = as_if_powered (clock_process c) no_reports CanBe (clock_sound c) s can es

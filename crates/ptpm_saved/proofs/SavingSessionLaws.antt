@@ -9,9 +9,9 @@ use Rattle.ptpm_manager.specs.declared.receiving.Received.{Received}
 use Rattle.ptpm_manager.specs.declared.receiving.Received.TheVariants as received
 use Rattle.ptpm_manager.specs.Receiving.{left_by, received_of}
 use Rattle.ptpm_manager.specs.Session.{SessionValue, begin_refusal, give_up_refusal}
-use Rattle.ptpm_saved.specs.Saving.{Event, IsAsIfPowered, happen_all, noted_each, started}
-use Rattle.ptpm_saved.specs.SavingSession.{Begins, GivesUp, Hears, IsToSend, SessionInput, SessionNote, begun_unless, given_up_unless, is_answer, session_changes, session_after, session_process}
-use Rattle.ptpm_saved.proofs.SavingLaws.{as_if_powered}
+use Rattle.ptpm_saved.specs.Saving.{Event, IsAsIfPowered, IsSound, ReportsAsIfPowered, happen_all, noted_each, started}
+use Rattle.ptpm_saved.specs.SavingSession.{Begins, GivesUp, Hears, IsToSend, SessionInput, SessionNote, begun_unless, given_up_unless, is_answer, session_changes, session_after, session_process, session_reports}
+use Rattle.ptpm_saved.proofs.SavingLaws.{as_if_powered, reports_as_if_powered}
 
 abbrev AnySession : SessionValue → Type 0
 AnySession s = Unit {0}
@@ -40,13 +40,18 @@ last_note : (notes : List SessionNote) (s : SessionValue) (n : SessionNote)
 last_note [] s n = refl
 last_note (m ∷ notes) s n = last_note notes (session_process.noted s m) n
 
+session_sound : IsSound session_process AnySession
+session_sound = record {
+  unchanged = unchanged;
+  goes_back = λ t notes can. last_note notes t (session_process.back t);
+  after_can_be = λ t x can. tt;
+  noted_can_be = λ t n can. tt;
+}
+
 pub session_as_if_powered : (s : SessionValue) (es : List (Event SessionInput SessionNote))
     → IsAsIfPowered session_process s es (happen_all session_process (started s) es)
-session_as_if_powered s es =
-    as_if_powered session_process AnySession
-    (record {
-      unchanged = unchanged;
-      goes_back = λ t notes can. last_note notes t (session_process.back t);
-      after_can_be = λ t x can. tt;
-      noted_can_be = λ t n can. tt;
-    }) s tt es
+session_as_if_powered s es = as_if_powered session_process session_reports AnySession session_sound s tt es
+
+pub session_reports_as_if_powered : (s : SessionValue) (es : List (Event SessionInput SessionNote))
+    → ReportsAsIfPowered session_reports session_process s es
+session_reports_as_if_powered s es = reports_as_if_powered session_process session_reports AnySession session_sound s tt es

@@ -1,6 +1,6 @@
 -- A session that saves before it asks. Its inputs are what it is asked, when it is to send or to give up, and the datagrams that
--- it hears. Its domain, and how often it may still send, are notes: no image needs them to be as they are. A report is handed out
--- before it is saved, and is none of the messages here.
+-- it hears. Its domain, and how often it may still send, are notes: no image needs them to be as they are. A report is reported at
+-- once, before it is saved, and is none of the messages here.
 use Rattle.std.specs.Prelude.{ℕ, Bool, true, false, not, if◌then◌else◌, List, [], ◌∷◌, is_some, Option, Some, None}
 use Rattle.ptpm_codec.specs.declared.message.Message.{Message}
 use Rattle.ptpm_codec.specs.Canonical.{canonical}
@@ -9,6 +9,7 @@ use Rattle.ptpm_manager.specs.declared.error.BeginError.{BeginError}
 use Rattle.ptpm_manager.specs.declared.error.GiveUpRefusal.{GiveUpRefusal}
 use Rattle.ptpm_manager.specs.declared.receiving.Received.{Received}
 use Rattle.ptpm_manager.specs.declared.receiving.Received.TheVariants as received
+use Rattle.ptpm_manager.specs.declared.report.Report.{Report}
 use Rattle.ptpm_manager.specs.Ask.{request_of}
 use Rattle.ptpm_manager.specs.Receiving.{left_by, received_of}
 use Rattle.ptpm_manager.specs.Session.{SessionValue, begin_refusal, begun, due_message, give_up_refusal, given_up, resumed, retuned, send_refusal}
@@ -48,6 +49,17 @@ session_messages s (Begins a) = []
 session_messages s IsToSend = if is_some (send_refusal s) then [] else datagrams_of (due_message s)
 session_messages s GivesUp = []
 session_messages s (Hears datagram) = []
+
+abbrev pub reports_in : Received → List Report
+reports_in (received.Answered report) = report ∷ []
+reports_in (received.Ignored reason) = []
+
+-- what its owner is reported at once
+abbrev pub session_reports : SessionValue → SessionInput → List Report
+session_reports s (Begins a) = []
+session_reports s IsToSend = []
+session_reports s GivesUp = []
+session_reports s (Hears datagram) = reports_in (received_of s datagram)
 
 abbrev pub is_answer : Received → Bool
 is_answer (received.Answered report) = true

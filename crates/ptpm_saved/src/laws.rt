@@ -9,11 +9,11 @@ ghost use Rattle.ptpm_agent.specs.Turn.{State};
 ghost use Rattle.ptpm_data.specs.Members.{IsConsistent};
 ghost use Rattle.ptpm_data.specs.ObservationBack.{Observation};
 ghost use Rattle.ptpm_table.specs.Managers.{Clock};
-ghost use Rattle.ptpm_saved.specs.Saving.{Event, IsAsIfPowered, happen_all, started};
+ghost use Rattle.ptpm_saved.specs.Saving.{Event, IsAsIfPowered, ReportsAsIfPowered, happen_all, started};
 ghost use Rattle.ptpm_manager.specs.Session.{SessionValue};
-ghost use Rattle.ptpm_saved.specs.SavingSession.{SessionInput, SessionNote, session_process};
+ghost use Rattle.ptpm_saved.specs.SavingSession.{SessionInput, SessionNote, session_process, session_reports};
 ghost use Rattle.ptpm_saved.specs.SavingClock.{Datagram, clock_process};
-ghost use Rattle.ptpm_saved.specs.Image.{AreEntries, IsSaved, saved_of};
+ghost use Rattle.ptpm_saved.specs.Image.{AreEntries, IsSaved, clock_image, saved_of};
 
 use ptpm_agent::Agent;
 use ptpm_data::{data_sets_law, fits_law};
@@ -31,19 +31,29 @@ pub fn clock_law<T: LendingTable + Drop>(agent: &Agent<T>)
     entries_law(agent.table());
 }
 
-/// A clock that saves before it answers may lose its power at any moment and as often as it likes. Some of its datagrams and
-/// observations then count. It has what these make of its start, as if its power had never failed. What it sent is some of what
-/// it sends then. A restart is one observation.
+/// No two clocks have the same image. Every clock is one that can be saved, by `clock_law`.
+pub fn image_law()
+    ensures { (s t : State) → IsSaved (saved_of s) → IsSaved (saved_of t)
+        → clock_image s ≡ clock_image t → s ≡ t }
+{}
+
+/// A clock that saves before it answers may lose its power at any moment and as often as it likes. It is as one whose power never
+/// failed, and which heard and observed what counts. That is all that happened, in its order, except this: a failure loses what
+/// came since a change that was not saved. And a failure counts as one observation, of what was saved last. What the clock sent
+/// is some of what the other one sends.
 pub fn saving_clock_law()
     ensures { (c : Clock) (s : State) (es : List (Event Datagram Observation)) → IsConsistent s.sets
         → IsAsIfPowered (clock_process c) s es (happen_all (clock_process c) (started s) es) }
 {}
 
-/// The same for a session that saves before it asks. What it sent is some of what it would send if its manager's power never
-/// failed.
+/// The same for a session that saves before it asks. So each request is sent in a domain that its owner gave it, or that was
+/// saved. What the other one reports was reported here, in its order. Whatever was reported here, also before a failure, the other
+/// one reports too, after some of what happened.
 pub fn saving_session_law()
-    ensures { (s : SessionValue) (es : List (Event SessionInput SessionNote))
+    ensures powered { (s : SessionValue) (es : List (Event SessionInput SessionNote))
         → IsAsIfPowered session_process s es (happen_all session_process (started s) es) }
+    ensures reports { (s : SessionValue) (es : List (Event SessionInput SessionNote))
+        → ReportsAsIfPowered session_reports session_process s es }
 {}
 
 /// The entries of a table are sixteen at most, in the order of their managers. Their managers are those of the table, and the

@@ -1,9 +1,11 @@
 -- What the lines of a trace say of the machine, if no delivery is late.
-use Rattle.ptpm_world.proofs.Common.{arith, ◌≡◌, ◌∙◌, ℕ, ◌<◌, ◌+◌, ◌++◌, ◌⊎◌, inl, inr, Bool, false, List, [], ◌∷◌, length, map, None, Some, Ok, Err, Option, Result, refl, sym, ap, subst, append_assoc, append-nil, length-append, length-map, same_Some, eq-eqb, option_map, result_err, AllByRecursion, Report, Deliver, IsInRange, Refusal, Retune, frame_at, refusal, AreInTime, is_late_delivery, step, AtSession, HasEnd, Network, Happened, Held, RunningNetwork, held, network_after, network_event, StandsAfter, Frame, NetworkState, initial_state, Names, placed, placed_all, Played, event_of, played, played_by, unless_fault, line_fault, after, answer, answer_of, error_of, took_of, event_line, event_text}
+use Rattle.ptpm_world.proofs.Common.{arith, ◌≡◌, ◌∙◌, ℕ, ◌<◌, ◌+◌, ◌++◌, ◌⊎◌, inl, inr, Bool, false, List, [], ◌∷◌, length, map, None, Some, Ok, Err, Option, Result, refl, sym, ap, subst, append_assoc, append-nil, length-append, length-map, same_Some, eq-eqb, option_map, result_err, AllByRecursion, Report, Deliver, IsInRange, Refusal, Retune, frame_at, no_room, refusal, AreInTime, is_late_delivery, step, AtSession, HasEnd, Network, Happened, Held, RunningNetwork, held, network_after, network_event, StandsAfter, Frame, NetworkState, initial_state, Names, placed, placed_all, Played, event_of, played, played_by, unless_fault, line_fault, after, answer, answer_of, error_of, took_of, event_line, event_text}
 use Rattle.std.specs.Prelude.{IfOk, ◌↔◌}
 use Rattle.ptpm_network.specs.Events as machine
-use Rattle.ptpm_network.specs.Events.{forged, no_session}
+use Rattle.ptpm_network.specs.Events.{Replay, forged, no_end, no_session}
 use Rattle.ptpm_network.specs.Machine.{state_after}
+use Rattle.ptpm_network.specs.Network.{End}
+use Rattle.ptpm_network.specs.RunningNetwork.{replays}
 use Rattle.ptpm_network.proofs.CarriedOut.{if_not_refused}
 use Rattle.ptpm_network.proofs.Held.{frame_at-map}
 use Rattle.ptpm_network.proofs.Lists.{with_place-same}
@@ -39,9 +41,15 @@ record IsSilent (r : RunningNetwork) (h : Happened) : Type 0 where
 abbrev DidTell : RunningNetwork → Happened → Type 0
 DidTell r h = Answers r h ⊎ IsSilent r h
 
+replay-told : (N : Network) (r : RunningNetwork) (end : End) (o : Option Held) → IfOk (replays N r o end) (DidTell r)
+replay-told N r end None = tt
+replay-told N r end (Some h) =
+    if_not_refused (no_end N end) _ (DidTell r) (if_not_refused (no_room r.frames) _ (DidTell r) (inr (record { other = λ e. absurd (cc); same = refl })))
+
 event-told : (N : Network) (r : RunningNetwork) (e : machine.Event) → IfOk (network_event N r e) (DidTell r)
 unfolding network_event
 event-told N r (Deliver n) = grind (arith, if_not_refused, with_place-same, eq-eqb)
+event-told N r (Replay n end) = replay-told N r end (frame_at r.frames n)
 event-told N r (Retune s domain) = if_not_refused (no_session N s) _ (DidTell r) (inr (record { other = λ e. absurd (cc); same = refl }))
 event-told N r e = grind (arith, if_not_refused, option_map)
 

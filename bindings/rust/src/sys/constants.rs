@@ -309,7 +309,7 @@ pub const PTPM_FULL: u32 = 28;
 pub const PTPM_SURVEY_NO_MEMORY: u32 = 35;
 pub const PTPM_SURVEY_NO_SURVEY: u32 = 46;
 
-// `enum ptpm_told`.
+// `enum ptpm_reported`.
 pub const PTPM_VALUE: u32 = 0;
 pub const PTPM_DONE: u32 = 25;
 pub const PTPM_REFUSED: u32 = 26;

@@ -1,0 +1,119 @@
+"""Answers that are not what was asked, and who may give one."""
+
+from __future__ import annotations
+
+import os
+import resource
+import socket
+import subprocess
+import sys
+import threading
+import time
+import unittest
+from typing import Callable, Optional
+
+import ptpm
+from ptpm.asking import carry_out
+
+from . import CLOCK, MANAGER, Folder
+
+Answers = Callable[[bytes], bytes]
+
+
+def response(request: bytes, tlv: bytes, kind: int = 1, port: int = 1) -> bytes:
+    """A message of a port of the clock that answers a request by what is in a TLV after its length (IEEE 1588-2019, 15.4)."""
+    head = bytearray(request[:48])
+    head[2:4] = (52 + len(tlv)).to_bytes(2, "big")
+    head[20:30], head[34:44], head[46] = bytes.fromhex(CLOCK) + port.to_bytes(2, "big"), request[20:30], 2
+    return bytes(head) + kind.to_bytes(2, "big") + len(tlv).to_bytes(2, "big") + tlv
+
+
+class Way(ptpm.Transport):
+    """A way to a clock that answers each request so."""
+
+    def __init__(self, answers: Answers) -> None:  # it has no socket of its own
+        self._answers = answers
+        self._datagram: Optional[bytes] = None
+
+    def send(self, octets: bytes) -> bool:
+        self._datagram = self._answers(octets)
+        return True
+
+    def receive(self, until: float) -> Optional[bytes]:
+        datagram, self._datagram = self._datagram, None
+        if datagram is None:
+            time.sleep(max(until - time.monotonic(), 0))
+        return datagram
+
+
+def by(field: bytes) -> Answers:
+    return lambda request: response(request, request[52:54] + field)
+
+
+class AnswersOfOthers(Folder):
+    def ask(self, answers: Answers, named: str, value: ptpm.DataField, port: int = 0) -> ptpm.Report:
+        with ptpm.Session(ptpm.SessionSettings(MANAGER, CLOCK, 7, attempts=2), wait=0) as session:
+            return session.ask(Way(answers), ptpm.Action.SET, named, value, port, timeout=0.05)
+
+    def test_a_set_is_done_if_it_is_answered_by_what_it_asked(self) -> None:
+        for field, is_as_asked in ((b"\x64\0", True), (b"\x64\x09", True), (b"\x07\0", False), (b"", False)):
+            self.assertEqual((field, self.ask(by(field), "PRIORITY1", 100).is_as_asked), (field, is_as_asked))
+        self.assertFalse(self.ask(by(b"\x02ac\0"), "USER_DESCRIPTION", "ab").is_as_asked)
+        self.assertTrue(ptpm.get(Way(by(b"\x07\0")), CLOCK, "PRIORITY1").is_as_asked)
+
+    def test_a_set_of_an_earlier_run_too(self) -> None:
+        settings = ptpm.SessionSettings(MANAGER, CLOCK, 7)
+        session = ptpm.Requests(settings)
+        session.begin(ptpm.Action.SET, "PRIORITY1", b"\x64\0")
+        later = ptpm.Requests(settings)
+        later.restore(session.image())
+        self.assertFalse(carry_out(later, Way(by(b"\x07\0")), 1).is_as_asked)
+
+    def test_an_error_from_another_port_is_an_answer(self) -> None:
+        def error(request: bytes) -> bytes:
+            if request[46] == 0:
+                return response(request, request[52:54] + bytes(26), 1, 2)
+            return response(request, b"\0\x06" + request[52:54] + bytes(4), 2)
+
+        self.assertEqual(str(self.ask(error, "LOG_SYNC_INTERVAL", 1, 2)), "refused NOT_SUPPORTED")
+
+    def test_the_command_line(self) -> None:
+        path = f"{self.folder}/liar"
+        with socket.socket(socket.AF_UNIX, socket.SOCK_DGRAM) as liar:
+            liar.bind(path)
+
+            def answer() -> None:
+                request, peer = liar.recvfrom(2048)
+                liar.sendto(by(b"\x07\0")(request), peer)
+
+            clock = threading.Thread(target=answer)
+            clock.start()
+            words = [sys.executable, "-m", "ptpm", "-u", path, "set", "PRIORITY1", "100", "--target", CLOCK]
+            ran = subprocess.run(words, capture_output=True, text=True, check=False)
+            clock.join()
+        said = "ptpm: the answer is not what was asked: priority1 100\n"
+        self.assertEqual((ran.returncode, ran.stdout, ran.stderr), (5, "priority1 7\n", said))
+
+    def test_a_socket_of_a_high_number_is_read(self) -> None:
+        least, most = resource.getrlimit(resource.RLIMIT_NOFILE)
+        if most != resource.RLIM_INFINITY and most < 2048:
+            self.skipTest("no such number may be had")
+        resource.setrlimit(resource.RLIMIT_NOFILE, (2048, most))
+        self.addCleanup(resource.setrlimit, resource.RLIMIT_NOFILE, (least, most))
+        held = [os.open("/dev/null", os.O_RDONLY) for _ in range(1100)]
+        try:
+            path = f"{self.folder}/clock"
+            with socket.socket(socket.AF_UNIX, socket.SOCK_DGRAM) as clock:
+                clock.bind(path)
+                with ptpm.UnixTransport(path) as way:
+                    self.assertGreater(way._socket.fileno(), 1023)
+                    self.assertTrue(way.send(b"asked"))
+                    clock.sendto(b"answered", clock.recvfrom(100)[1])
+                    self.assertEqual(way.receive(time.monotonic() + 1), b"answered")
+        finally:
+            for number in held:
+                os.close(number)
+
+
+if __name__ == "__main__":
+    unittest.main()

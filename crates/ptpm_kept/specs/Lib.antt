@@ -1,2 +1,0 @@
-pub mod ErrorText
-pub mod Kept

@@ -1,0 +1,38 @@
+#include "as_asked.h"
+#include "field_text.h"
+#include "notices.h"
+#include <string.h>
+
+/* The next member of what was asked that the answer has otherwise, or lacks; whether there is one. */
+static bool next_other(struct field_lines *asked, struct field_lines *answered, struct member *member) {
+    struct member other;
+    while (next_member(asked, member)) {
+        if (!next_member(answered, &other) || !is_named(&other, member->name) || strcmp(other.value, member->value) != 0) return true;
+    }
+    return false;
+}
+
+static void start_both(struct field_lines *asked, struct field_lines *answered, const struct task *task, const struct answer *answer) {
+    start_lines(asked, task->id, task->octets, task->size);
+    start_lines(answered, task->id, answer->octets, answer->size);
+}
+
+bool is_other(const struct task *task, const struct answer *answer) {
+    static struct field_lines asked, answered;
+    struct member member;
+    if (task->action != PTPM_SET || answer->told != PTPM_VALUE) return false;
+    if (task->size == answer->size && memcmp(task->octets, answer->octets, task->size) == 0) return false;
+    start_both(&asked, &answered, task, answer);
+    return next_other(&asked, &answered, &member);
+}
+
+void say_other(const struct task *task, const struct answer *answer) {
+    static struct field_lines asked, answered;
+    struct member member;
+    start_both(&asked, &answered, task, answer);
+    while (next_other(&asked, &answered, &member)) {
+        complain("the answer is not what was asked: %s %s", member.name, member.value);
+    }
+    complain("a get shows what the clock has%s", task->is_kept ? ": a run with a copy of the session's file may have asked under the "
+             "same number" : "");
+}

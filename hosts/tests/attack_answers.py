@@ -1,0 +1,162 @@
+"""What a clock may answer to what manage.c asks it alone: another value than was asked, or an error from another of its ports. What a
+run reports as done is what it asked."""
+import os
+import shutil
+import subprocess
+import time
+
+from attack_collect import Site
+from attacking import MANAGER, ME, SLOW, check, response, start, work
+
+NOT_AS_ASKED = 5
+
+
+def by(field):
+    """What answers each request by this dataField."""
+    return lambda request: [response(request, request[52:54] + field)]
+
+
+def sets(answers, *words):
+    return Site(answers, "--target", ME, *words)
+
+
+def values_that_were_not_asked():
+    """A SET is done if it is answered by what it asked: each member of it, and no reserved octet."""
+    said = "ptpm-manage: the answer is not what was asked: "
+    one = ("set", "PRIORITY1", "100")
+    utc = ("set", "UTC_PROPERTIES", "currentUtcOffset", "38", "leap61", "false", "leap59", "false", "currentUtcOffsetValid", "true")
+    for words, field, status, others in [
+            (one, b"\x64\x00", 0, []), (one, b"\x64\x09", 0, []),
+            (one, b"\x07\x00", NOT_AS_ASKED, ["priority1 100"]), (one, b"", NOT_AS_ASKED, ["priority1 100"]),
+            (one, b"\x64\x00\x00\x00", NOT_AS_ASKED, ["priority1 100"]),
+            (("-x", "set", "PRIORITY1", "6400"), b"\x64\x01", 0, []),
+            (("set", "SLAVE_ONLY", "true"), b"\x02\x00", 0, []),            # as a ptp4l has the flag
+            (("set", "SLAVE_ONLY", "true"), b"\x00\x00", NOT_AS_ASKED, ["slaveOnly true"]),
+            (("set", "USER_DESCRIPTION", "--text", "ab"), b"\x02ab\x07", 0, []),
+            (("set", "USER_DESCRIPTION", "--text", "ab"), b"\x02ac\x00", NOT_AS_ASKED, ["userDescription ab"]),
+            (utc, b"\x00\x26\x04\x01", 0, []),
+            (utc, b"\x00\x25\x00\x00", NOT_AS_ASKED, ["currentUtcOffset 38", "currentUtcOffsetValid true"]),
+            (("set", "c001", "0102"), b"\x01\x02", 0, []), (("set", "c001", "0102"), b"\x01\x03", NOT_AS_ASKED, ["value 0102"]),
+            (("get", "PRIORITY1"), b"\x07\x00", 0, [])]:
+        site = sets(by(field), *words)
+        told = [line[len(said):] for line in site.said().splitlines() if line.startswith(said)]
+        check(f"{words} that is answered by {field.hex() or 'nothing'}", (site.status, told) == (status, others) and len(site.lines()) > 0)
+    site = sets(by(b"\x07\x00"), "--json", *one)
+    check("the object says it", site.status == NOT_AS_ASKED and '"members":{"priority1":7},"isAsAsked":false}' in site.read(0))
+    check("and only then", "isAsAsked" not in sets(by(b"\x64\x00"), "--json", *one).read(0))
+
+
+def values_of_an_earlier_run():
+    """What is sent again for an earlier run is judged too, and the session goes on after an answer that was not asked."""
+    number = os.path.join(work, "number")
+    words = ("-m", MANAGER + "/1", "-w", "0", "-k", number)
+    lost = Site(lambda request: by(bytes(20))(request) if request[52:54] == b"\x20\0" else [], *words, "-a", "1", "-t", "50", "--target", ME,
+                "set", "PRIORITY1", "100")
+    check("a SET has no answer", lost.status == 3)
+    site = Site(by(b"\x07\x00"), *words, "--target", ME, "get", "PRIORITY1")
+    check("another value is said of an earlier run's SET", site.status == 0
+          and "ptpm-manage: priority1 7\nptpm-manage: the answer is not what was asked: priority1 100\n" in site.said())
+    for _ in range(2):
+        site = Site(by(b"\x07\x00"), *words, "--target", ME, "set", "PRIORITY1", "100")
+        check("a request that was answered otherwise is over", site.status == NOT_AS_ASKED and "earlier run" not in site.said()
+              and "a get shows what the clock has: a run with a copy of the session's file" in site.said())
+
+
+class OneManager:
+    """A clock beyond a port that takes each number of its one manager once, keeps the answer, and answers to the group."""
+
+    def __init__(self, port):
+        self.port, self.latest, self.kept, self.value = port, None, None, bytes(2)
+
+    def hear(self):
+        for request in self.port.sent():
+            if request[46] > 2 or request[34:42].hex() != ME:
+                continue
+            number, asked = int.from_bytes(request[30:32], "big"), request[46:47] + request[52:]
+            if self.latest is not None and number == self.latest and asked == self.kept[0]:
+                self.port.come_in(self.kept[1])
+            elif self.latest is None or 0 < (number - self.latest) % 65536 < 32768:
+                if request[46] == 1:
+                    self.value = request[54:56]
+                field = self.value if request[52:54] == b"\x20\x05" else bytes(20)
+                self.latest, self.kept = number, (asked, response(request, request[52:54] + field))
+                self.port.come_in(self.kept[1])
+
+    def hears_until(self, runs):
+        """Answers until these runs have ended: what each printed, and its status."""
+        while any(one.poll() is None for one in runs):
+            self.hear()
+            time.sleep(0.001)
+        return [(one.communicate()[0], one.returncode) for one in runs]
+
+
+def copies_at_once(port):
+    """Two runs at a time, one with a session's file and one with its copy: none ends with 0 that was answered for the other."""
+    clock, wrong, told, both = OneManager(port), [], 0, 0
+    files = [os.path.join(work, name) for name in ("number", "copy")]
+    port.sent()
+
+    def begins(file, value):
+        return start("manage", "-m", MANAGER + "/1", "-w", "0", "-i", port.name, "-a", "5", "-t", "40", "--give-up", "-k", file, "--target",
+                     ME, "set", "PRIORITY1", str(value), stdout=subprocess.PIPE, stderr=subprocess.DEVNULL, text=True)
+    for turn in range(20):
+        if turn == 0 or not os.path.exists(files[0]):
+            clock.hears_until([begins(files[0], 1)])
+        shutil.copy(files[0], files[1])
+        values = (2 * turn + 10, 2 * turn + 11)
+        ends = clock.hears_until([begins(file, value) for file, value in zip(files, values)])
+        wrong += [(value, end) for value, end in zip(values, ends) if end[1] == 0 and end[0] != f"priority1 {value}\n"]
+        told += any(status == NOT_AS_ASKED for _, status in ends)
+        both += all(status == 0 for _, status in ends)
+    check(f"of two runs with a file and its copy none has the other's answer as its own: {wrong}", wrong == [])
+    print(f"of 20 pairs with a file and its copy {told} had a run that was answered for the other, and {both} ended with 0 both")
+
+
+def errors_of_other_ports():
+    """A boundary clock that refuses at the port where the request came in: it is the answer, and an earlier run's too."""
+    def reply(request, place=1, status=b"\x00\x06"):
+        octets = bytearray(response(request, status + request[52:54] + bytes(4), 2))
+        octets[28:30] = place.to_bytes(2, "big")
+        return bytes(octets)
+    site = Site(lambda request: [reply(request)], "--target", ME + "-2", "set", "LOG_SYNC_INTERVAL", "1")
+    check("an error from port 1 answers what port 2 was asked", site.status == 1 and site.lines() == ["refused NOT_SUPPORTED"]
+          and site.took < 2 * SLOW and len(site.requests) == 1)
+    for what, change in [("to another number", (30, b"\x12\x34")), ("of another clock", (20, bytes(7) + b"\1")),
+                         ("for another manager", (34, bytes(7) + b"\1")), ("of another domain", (4, b"\1")),
+                         ("of another id", (54, b"\x20\x09"))]:
+        site = Site(lambda request: [reply(request)[:change[0]] + change[1] + reply(request)[change[0] + len(change[1]):]],
+                    "--target", ME + "-2", "-a", "2", "-t", "50", "set", "LOG_SYNC_INTERVAL", "1")
+        check(f"an error {what} from there is none", site.status == 3)
+    site = Site(lambda request: [response(request, request[52:54] + b"\1\0")], "--target", ME + "-2", "-a", "2", "-t", "50", "set",
+                "LOG_SYNC_INTERVAL", "1")
+    check("nor is a value of another port", site.status == 3)
+
+
+def ports_above_eight():
+    """A switch with 24 ports: one of them is named, answers, and refuses."""
+    def reply(request, port):
+        octets = bytearray(response(request, request[52:54] + (request[54:] or b"\x03\0")))
+        octets[28:30] = port.to_bytes(2, "big")
+        return [bytes(octets)]
+    for words, printed in [(("-T", ME + "-20", "get", "LOG_SYNC_INTERVAL"), "logSyncInterval 3"), (("--target", ME, "-p", "20", "set",
+                            "LOG_SYNC_INTERVAL", "-2"), "logSyncInterval -2"), (("--target", ME + "-65534", "set", "LOG_SYNC_INTERVAL", "1"), "logSyncInterval 1")]:
+        site = Site(lambda request: reply(request, int.from_bytes(request[42:44], "big")), *words)
+        named = {int.from_bytes(request[42:44], "big") for request in site.requests}
+        check(f"{words} is asked of that port", (site.status, site.lines()) == (0, [printed]) and named == {65534 if "65534" in str(words) else 20})
+    for port in [1, 8, 21]:
+        site = Site(lambda request: reply(request, port), "--target", ME + "-20", "-a", "2", "-t", "50", "get", "LOG_SYNC_INTERVAL")
+        check(f"an answer of port {port} is none of port 20", site.status == 3)
+        site = Site(lambda request: reply(request, port), "--target", ME + "-20", "get", "PRIORITY1")
+        check("but it is for an id of the clock", site.status == 0 and site.lines() == ["priority1 3"])
+
+    def refusal(request):
+        octets = bytearray(response(request, b"\0\6" + request[52:54] + bytes(4), 2))
+        octets[46] = 4                                              # ACKNOWLEDGE
+        return [bytes(octets)]
+    site = Site(refusal, "-m", MANAGER + "/1", "--target", ME + "-20", "command", "DISABLE_PORT")
+    check("a refusal of a manager's COMMAND there counts", (site.status, site.lines()) == (1, ["refused NOT_SUPPORTED"]))
+    site = Site(lambda request: [], "--target", ME + "-20", "-k", os.path.join(work, "number"), "get", "LOG_SYNC_INTERVAL")
+    check("no session is kept of it", site.status == 2 and site.requests == [] and os.listdir(work).count("number") == 0)
+
+
+ATTACKS = [values_that_were_not_asked, values_of_an_earlier_run, errors_of_other_ports, ports_above_eight]

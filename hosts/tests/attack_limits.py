@@ -1,0 +1,184 @@
+"""How much a clock answers, takes and saves for those who ask without end, and what it still does for others."""
+import os
+import re
+import signal
+import time
+
+from attack_wire import STATION, STRANGER, Wire, frame_four, message
+from attacking import MANAGER, ME, OTHER, Clock, Peer, check, path, run, wait_until, work
+
+TOOL = "0a0b0c0d0e0f10aa"
+
+
+def set_of(number, value, source=MANAGER):
+    """A SET of PRIORITY1 (IEEE 1588-2019, 15.4 and 15.5)."""
+    octets = bytearray(message(number, source, ME))
+    octets[2:4], octets[46], octets[50:52] = b"\0\x38", 1, b"\0\4"
+    return bytes(octets) + bytes([value, 0])
+
+
+def rates():
+    """How much a stranger has sent by how little, and what a manager is still answered."""
+    first, second = Wire("clk0", 10), Wire("clk1", 11)
+    clock = Clock("-u", path, "--rate", "20", "-m", MANAGER + "/1", ME, first.name, second.name)
+    for number in range(200):
+        first.come_in(message(number, target=ME))
+    check("a stranger's answers have a rate", 20 <= len(first.sent(0.5)) <= 40)
+    for number in range(100):
+        first.come_in(message(number, source=MANAGER, target=ME))
+    answers = []
+    wait_until(lambda: answers.extend(first.sent(0.2)) or len(answers) >= 100)
+    check("a manager's requests have another one", len(answers) == 100)
+    peer = Peer("peer")
+    check("nor those of programs of this host", all(peer.is_answered(number) for number in range(100, 200)))
+    for number in range(200):
+        first.come_in(message(number, target=OTHER))
+    check("what is passed on has a rate", 20 <= len(second.sent(0.5)) <= 40)
+    clock.end()
+    text = clock.text()
+    check("what is held back is counted", "not answered over the rate: 1" in text and "not passed on over the rate: 1" in text)
+    clock = Clock("-u", path, ME, first.name, second.name)
+    for _ in range(3):
+        first.come_in(message(1, target=OTHER))
+    second.come_in(message(1, target=OTHER))
+    check("what was passed on is not passed on again", len(second.sent()) == 1 and first.sent(0) == [])
+    first.come_in(message(2, target=OTHER))
+    check("but the next message is", len(second.sent()) == 1)
+    time.sleep(1)
+    first.come_in(message(1, target=OTHER))
+    check("and the same one a second later", len(second.sent()) == 1)
+    clock.end()
+    check("that is counted", "not passed on again: 3\n" in clock.text())
+    peer.close()
+    first.remove(), second.remove()
+
+
+def at_neighbours(wire, *ends):
+    """Addresses of further neighbours."""
+    found = [f"10.7.{wire.number}.{end}" for end in ends]
+    for address in found:
+        run("ip", "neigh", "replace", address, "lladdr", STATION.hex(":"), "dev", wire.name)
+    return found
+
+
+def answered_beside(wire, flood, ask, at_once, count=8):
+    """Of this many requests that are asked beside a flood, so many of it each 10 ms, those that are answered, and how many others are."""
+    found, number, begin = [], 0, time.monotonic()
+    for step in range(25 * count):
+        for _ in range(at_once):
+            flood(number)
+            number += 1
+        if step % 25 == 24:
+            ask(step // 25)
+        found += wire.sent(max(begin + step / 100 - time.monotonic(), 0.001))
+    found += wire.sent(0.3)
+    own = [one for one in found if one[34:42].hex() in (TOOL, OTHER)]
+    return {one[30:32] for one in own}, len(found) - len(own)
+
+
+def strangers_beside_each_other():
+    """One address sends 400 GETs a second where 40 may be answered: a tool at another one is answered all the same."""
+    wire = Wire("clk0", 10)
+    (address,) = at_neighbours(wire, 20)
+    clock = Clock("--rate", "40", ME, wire.name)
+    answered, others = answered_beside(wire, lambda number: wire.come_in(message(number, target=ME)),
+                                       lambda number: wire.come_in(message(number, TOOL, ME), address), 4)
+    check(f"a stranger that sends without end leaves another its answers: {len(answered)} of 8, and {others}", len(answered) >= 2 and others < 180)
+    clock.end()
+    clock = Clock("--rate", "640", ME, wire.name)
+    answered, others = answered_beside(wire, lambda number: wire.come_in(message(number, target=ME)),
+                                       lambda number: wire.come_in(message(number, TOOL, ME), address), 20)
+    check(f"and each of them at a higher rate: {len(answered)} of 8", len(answered) == 8)
+    clock.end()
+    clock = Clock("-2", "--rate", "640", ME, wire.name)
+
+    def frame(station, octets):
+        wire.put(bytes.fromhex("011b19000000") + station + b"\x88\xf7" + octets)
+    answered, _ = answered_beside(wire, lambda number: frame(STATION, message(number, target=ME)),
+                                  lambda number: frame(bytes.fromhex("020000000077"), message(number, TOOL, ME)), 20)
+    check(f"also over Ethernet: {len(answered)} of 8", len(answered) == 8)
+    clock.end()
+    wire.remove()
+
+
+def addresses_without_end():
+    """An address of its own for each GET: a tool that asked before keeps its place, and the answers have an end."""
+    wire = Wire("clk0", 10)
+    (address,) = at_neighbours(wire, 20)
+    clock, ends = Clock("--rate", "640", ME, wire.name), at_neighbours(wire, *range(30, 230))
+
+    def flood(number):
+        wire.put(frame_four(message(number, target=ME), ends[number % len(ends)]))
+    wire.come_in(message(99, TOOL, ME), address)
+    wire.sent(0.1)
+    answered, others = answered_beside(wire, flood, lambda number: wire.come_in(message(number, TOOL, ME), address), 20)
+    check(f"200 addresses leave one that came before its answers: {len(answered)} of 8, and {others}", len(answered) == 8 and others < 3300)
+    clock.end()
+    wire.remove()
+
+
+def forged_managers():
+    """Whoever claims to be a manager is answered at a rate too, and a manager at another address beside him."""
+    wire = Wire("clk0", 10)
+    (address,) = at_neighbours(wire, 20)
+    clock = Clock("-u", path, "-m", MANAGER + "/1", "-m", OTHER + "/1", ME, wire.name)
+    taken = 0
+    for number in range(500):
+        wire.come_in(message(number, MANAGER, ME))
+        taken += len(wire.sent(0.02)) if number % 100 == 99 else 0
+    taken += len(wire.sent(0.5))
+    check(f"of 500 requests under a manager's identity {taken} are answered", 100 <= taken <= 200)
+    answered, others = answered_beside(wire, lambda number: wire.come_in(message(1000 + number, MANAGER, ME)),
+                                       lambda number: wire.come_in(message(number, OTHER, ME), address), 4)
+    check(f"a manager at another address is answered {len(answered)} of 8 times, and {others} others", len(answered) == 8 and others < 400)
+    peer = Peer("peer")
+    check("a program of this host may ask as it likes", all(peer.is_answered(number) for number in range(2000, 2200)))
+    clock.end()
+    check("what is not taken is counted", re.search(r"^not taken of managers over their rate: [1-9]\d\d", clock.text(), re.M) is not None)
+    clock = Clock("--manager-rate", "1000", "-m", MANAGER + "/1", ME, wire.name)
+    answers = []
+    for number in range(500):
+        wire.come_in(message(number, MANAGER, ME))
+        if number % 100 == 99:
+            answers += wire.sent(0.1)
+    wait_until(lambda: answers.extend(wire.sent(0.2)) or len(answers) >= 500)
+    check("the rate is that of the option", len(answers) == 500)
+    clock.end()
+    peer.close()
+    wire.remove()
+
+
+def saves_without_end():
+    """1,200 requests under a manager's identity in three seconds, each of which is to be saved: so many saves there are not."""
+    wire, state = Wire("clk0", 10), os.path.join(work, "limited")
+    clock, begin = Clock("-s", state, "-m", MANAGER + "/1", ME, wire.name), time.monotonic()
+    for number in range(1200):
+        wire.come_in(message(number, MANAGER, ME))
+        time.sleep(max(begin + number / 400 - time.monotonic(), 0))
+    answered = len(wire.sent(0.5))
+    most = 21 + 20 * (time.monotonic() - begin)
+    clock.end()
+    saves = int(re.search(r"^saved: (\d+)", clock.text(), re.M)[1])
+    check(f"they are saved by {saves} saves, and {answered} are answered", saves <= most and 150 < answered <= 600)
+    wire.remove()
+
+
+def answers_before_a_save():
+    """What shows no change is not kept waiting by the save of what came in before it."""
+    wire, state = Wire("clk0", 10), os.path.join(work, "limited")
+    clock = Clock("-s", state, "-m", MANAGER + "/1", ME, wire.name)
+    wire.frames(0.1)
+    clock.process.send_signal(signal.SIGSTOP)
+    for octets in [set_of(7, 100), message(1, STRANGER, ME), set_of(8, 50), message(2, STRANGER, ME)]:
+        wire.come_in(octets)
+    clock.process.send_signal(signal.SIGCONT)
+    answers = [(one[34:42].hex(), one[30:32], one[54]) for one in wire.sent(0.5)]
+    check(f"strangers are answered first, by what is saved: {answers}", answers == [
+        (STRANGER, b"\0\1", 128), (STRANGER, b"\0\2", 128), (MANAGER, b"\0\7", 100), (MANAGER, b"\0\x08", 50)])
+    wire.come_in(message(3, STRANGER, ME))
+    check("and then by what the manager set", [one[54] for one in wire.sent()] == [50])
+    clock.end()
+    wire.remove()
+
+
+ATTACKS = [rates, strangers_beside_each_other, addresses_without_end, forged_managers, saves_without_end, answers_before_a_save]

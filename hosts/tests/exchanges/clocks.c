@@ -1,0 +1,172 @@
+/* Commands of a clock. Each datagram comes in at a second clock too, which is restored from the image of the first. Both have to
+   answer, send and become the same. */
+#include "commands.h"
+#include "refusing.h"
+#include "words.h"
+#include <stdio.h>
+#include <string.h>
+
+struct ptpm_clock clock_of_page;
+struct start start_of_page;
+
+/* What came of a datagram. */
+struct turn { uint32_t answer; size_t count; struct ptpm_sent sent[PTPM_MOST_SENT]; };
+
+static struct turn turn;
+static struct ptpm_changed changed;
+
+void stop_clock(void) { ptpm_clock_stop(&clock_of_page); }
+
+static uint32_t start(void *given) {
+    const struct start *as = given;
+    return ptpm_clock_start_sized(&clock_of_page, &as->clock, as->ports, as->port_count, as->managers.of, as->managers.count);
+}
+
+static void run_start(char *words) {
+    read_start(&words, &start_of_page);
+    say("%s\n", answer_name(refusing(start, &start_of_page, NULL), "STARTED"));
+}
+
+static size_t image_of(const struct ptpm_clock *clock, uint8_t *octets) {
+    size_t size;
+    return ptpm_clock_image(clock, octets, MOST_OCTETS, &size) == PTPM_SAVED ? size : 0;
+}
+
+static size_t state(uint8_t *octets) { return image_of(&clock_of_page, octets); }
+
+/* Starts the second clock from the first one's image; whether there is one. */
+static bool restores_second(struct ptpm_clock *second) {
+    static uint8_t image[MOST_OCTETS];
+    const struct start *as = &start_of_page;
+    size_t gone, size = state(image);
+    return size > 0 && ptpm_clock_restore(second, as->clock.identity, as->port_count, as->managers.of, as->managers.count, image, size,
+                                          &gone) == PTPM_RESTORED && gone == 0;
+}
+
+static bool is_same_turn(const struct turn *one, const struct turn *other) {
+    if (one->answer != other->answer || one->count != other->count) return false;
+    for (size_t i = 0; i < one->count; i++) {
+        const struct ptpm_sent *sent = &one->sent[i], *again = &other->sent[i];
+        if (sent->port != again->port || sent->size != again->size || memcmp(sent->octets, again->octets, sent->size) != 0) return false;
+    }
+    return true;
+}
+
+static bool is_same_clock(const struct ptpm_clock *other) {
+    static uint8_t one[MOST_OCTETS], two[MOST_OCTETS];
+    size_t size = state(one);
+    return image_of(other, two) == size && memcmp(one, two, size) == 0;
+}
+
+/* Hands a datagram in at both clocks. */
+static void handle(uint16_t port, const struct octets *datagram, size_t places) {
+    static struct turn again;
+    struct ptpm_clock second = { 0 };
+    bool is_twice = restores_second(&second);
+    turn.count = again.count = 1;
+    turn.answer = ptpm_clock_handle_changed(&clock_of_page, port, datagram->at, datagram->size, turn.sent, places, &turn.count, &changed);
+    if (is_twice) {
+        again.answer = ptpm_clock_handle(&second, port, datagram->at, datagram->size, again.sent, places, &again.count);
+        if (!is_same_turn(&turn, &again) || !is_same_clock(&second)) say("the clock that was restored does something else\n");
+    }
+    ptpm_clock_stop(&second);
+}
+
+static void run_in(char *words) {
+    static struct octets datagram;
+    size_t places = next_room(&words, PTPM_MOST_SENT);
+    uint16_t port = (uint16_t)next_number(&words, 0);
+    read_octets(&words, &datagram);
+    handle(port, &datagram, places);
+    note_message(datagram.at, datagram.size);
+    say("%s\n", answer_name(turn.answer, "0"));
+    for (size_t i = 0; i < turn.count; i++) {
+        say("%u: ", turn.sent[i].port);
+        say_message(turn.sent[i].octets, turn.sent[i].size);
+        note_message(turn.sent[i].octets, turn.sent[i].size);
+    }
+}
+
+/* The members whose bits are set, by the names that the refusals of a start give them after BAD_. */
+static void say_members(uint32_t members, uint32_t first) {
+    for (uint32_t bit = 0; bit < 32; bit++) {
+        if (members >> bit & 1) say(" %s", answer_name(first + bit, "") + strlen("BAD_"));
+    }
+    say("\n");
+}
+
+static void run_changed(char *words) {
+    (void)words;
+    if (changed.clock != 0) {
+        say("clock:");
+        say_members(changed.clock, PTPM_BAD_IDENTITY);
+    }
+    for (unsigned port = 0; port < sizeof changed.ports; port++) {
+        if (changed.ports[port] == 0) continue;
+        say("port %u:", port + 1);
+        say_members(changed.ports[port], PTPM_BAD_STATE);
+    }
+}
+
+static void run_observe(char *words) {
+    struct observation seen;
+    uint8_t left = 0xee;
+    read_observation(&words, &seen);
+    uint32_t answer = ptpm_clock_observe(&clock_of_page, &seen.clock, seen.ports, seen.port_count, &left);
+    say("%s\n", answer_name(answer, "OBSERVED"));
+    if (left != 0) say("left: %u\n", left);
+}
+
+static void run_read(char *words) {
+    size_t size = 1, octets = next_room(&words, PTPM_MOST_READ);
+    uint16_t id = next_hex(&words), port = (uint16_t)next_number(&words, 0);
+    clear_room();
+    uint32_t answer = ptpm_clock_read(&clock_of_page, id, port, room, octets, &size);
+    say_written(answer, "READ", size, say_octets);
+}
+
+static void run_image(char *words) {
+    size_t size = 1, octets = next_room(&words, PTPM_CLOCK_IMAGE_OCTETS);
+    clear_room();
+    uint32_t answer = ptpm_clock_image(&clock_of_page, room, octets, &size);
+    put_name("IMAGE", room, size);
+    say_written(answer, "SAVED", size, say_octets);
+}
+
+struct restore { uint8_t identity[8]; size_t ports; struct managers managers; struct octets image; size_t gone; };
+
+static uint32_t restore(void *given) {
+    struct restore *from = given;
+    from->gone = 0xee;
+    uint32_t answer = ptpm_clock_restore(&clock_of_page, from->identity, from->ports, from->managers.of, from->managers.count,
+                                         from->image.at, from->image.size, &from->gone);
+    if (answer != PTPM_RESTORED && from->gone != 0) say("it is refused, and lets %zu go\n", from->gone);
+    return answer;
+}
+
+/* `restore K 2 manager M 0001 7 from OCTETS`. */
+static void run_restore(char *words) {
+    static struct restore from;
+    read_exactly(next_word(&words), from.identity, 8);
+    from.ports = (size_t)next_number(&words, 0);
+    read_managers(&words, &from.managers);
+    if (!takes_word(&words, "from")) say_misspelt(words);
+    read_octets(&words, &from.image);
+    uint32_t answer = refusing(restore, &from, state);
+    say("%s\n", answer_name(answer, "RESTORED"));
+    if (answer != PTPM_RESTORED) return;
+    if (from.gone != 0) say("gone: %zu\n", from.gone);
+    memcpy(start_of_page.clock.identity, from.identity, 8);
+    start_of_page.port_count = from.ports;
+    start_of_page.managers = from.managers;
+}
+
+static void run_stop(char *words) {
+    (void)words;
+    stop_clock();
+}
+
+const struct command clock_commands[] = {
+    { "clock", run_start }, { "in", run_in }, { "changed", run_changed }, { "observe", run_observe }, { "read", run_read },
+    { "image", run_image }, { "restore", run_restore }, { "stop", run_stop }, { NULL, NULL },
+};

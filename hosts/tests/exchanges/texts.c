@@ -1,0 +1,124 @@
+/* Commands of names and of dataFields as text, of the messages that are passed on, and of a bucket of tokens. */
+#include "commands.h"
+#include "words.h"
+#include <string.h>
+
+static struct ptpm_passed_on passed_on;
+static struct ptpm_rate rate;
+
+void stop_network(void) { memset(&passed_on, 0, sizeof passed_on); }
+
+/* A name that a call wrote, or a minus sign for none. */
+static void say_name(size_t size) {
+    if (!wrote_alone(size)) say("it writes more than that\n");
+    say("%.*s\n", size == 0 ? 1 : (int)size, size == 0 ? "-" : (const char *)room);
+}
+
+static void say_id(const void *name, size_t size) {
+    uint32_t id = ptpm_id_named(name, size);
+    if (id == PTPM_NO_ID) say("-\n");
+    else say("%04x\n", id);
+}
+
+/* `id NAME`; `id-of OCTETS` of a name as octets. */
+static void run_id(char *words) { say_id(words == NULL ? "" : words, words == NULL ? 0 : strlen(words)); }
+
+static void run_id_of(char *words) {
+    static struct octets name;
+    read_octets(&words, &name);
+    say_id(name.at, name.size);
+}
+
+static void run_id_name(char *words) {
+    size_t octets = next_room(&words, PTPM_MOST_NAME);
+    uint16_t id = next_hex(&words);
+    clear_room();
+    say_name(ptpm_id_name(id, (char *)room, octets));
+}
+
+static void run_answer_name(char *words) {
+    clear_room();
+    say_name(ptpm_answer_name((uint32_t)next_number(&words, 0), (char *)room, PTPM_MOST_NAME));
+}
+
+static void run_error_name(char *words) {
+    size_t octets = next_room(&words, PTPM_MOST_NAME);
+    uint16_t error = next_hex(&words);
+    clear_room();
+    say_name(ptpm_error_name(error, (char *)room, octets));
+}
+
+static void run_ids(char *words) {
+    (void)words;
+    for (size_t place = 0; ptpm_id_at(place) != PTPM_NO_ID; place++) say("%s%04x", place == 0 ? "" : " ", ptpm_id_at(place));
+    say("\n");
+}
+
+/* `text ID OCTETS`: the members of a dataField. */
+static void run_text(char *words) {
+    static struct octets field;
+    size_t octets = next_room(&words, PTPM_MOST_FIELD_TEXT);
+    uint16_t id = next_hex(&words);
+    read_octets(&words, &field);
+    clear_room();
+    size_t size = ptpm_field_text(id, field.at, field.size, (char *)room, octets);
+    say("%.*s", size == 0 ? 2 : (int)size, size == 0 ? "-\n" : (const char *)room);
+    if (size > 0 && !wrote_alone(size)) say("it writes more than that\n");
+}
+
+/* `parse ID WORD|WORD|..`: the dataField of what is typed; `raw ID OCTETS` of octets that may be no words. */
+static void parse(uint16_t id, const uint8_t *typed, size_t typed_size, size_t octets) {
+    size_t size = 1, member = 0xee;
+    clear_room();
+    uint32_t answer = ptpm_field_parse(id, (const char *)typed, typed_size, room, octets, &size, &member);
+    say_written(answer, "PARSED", size, say_octets);
+    if (member != 0 || answer == PTPM_OTHER_NAME || answer == PTPM_NO_VALUE) say("member: %zu\n", member);
+}
+
+static void run_parse(char *words) {
+    uint8_t typed[MOST_OCTETS / 8];
+    size_t size = 0, octets = next_room(&words, PTPM_MOST_READ);
+    uint16_t id = next_hex(&words);
+    for (char *word; (word = strsep(&words, "|")) != NULL;) {
+        size_t length = strlen(word) + 1;
+        if (size + length > sizeof typed) return;
+        memcpy(typed + size, word, length);
+        size += length;
+    }
+    parse(id, typed, size, octets);
+}
+
+static void run_raw(char *words) {
+    static struct octets typed;
+    size_t octets = next_room(&words, PTPM_MOST_READ);
+    uint16_t id = next_hex(&words);
+    read_octets(&words, &typed);
+    parse(id, typed.at, typed.size, octets);
+}
+
+/* `first NOW TIME OCTETS`: whether the message is to be passed on. */
+static void run_first(char *words) {
+    static struct octets message;
+    uint64_t now = (uint64_t)next_number(&words, 0), time = (uint64_t)next_number(&words, 0);
+    read_octets(&words, &message);
+    say("%s\n", ptpm_passed_on_is_first(&passed_on, message.at, message.size, now, time) ? "yes" : "no");
+}
+
+/* `bucket TOKENS NOW` makes one; `tokens NOW ASKED` says how many of some it gives. */
+static void run_bucket(char *words) {
+    uint64_t tokens = (uint64_t)next_number(&words, 0);
+    ptpm_rate_start(&rate, tokens, (uint64_t)next_number(&words, 0));
+}
+
+static void run_tokens(char *words) {
+    uint64_t now = (uint64_t)next_number(&words, 0);
+    long long asked = next_number(&words, 0), given = 0;
+    for (long long i = 0; i < asked; i++) given += ptpm_rate_take(&rate, now);
+    say("%lld\n", given);
+}
+
+const struct command text_commands[] = {
+    { "id", run_id }, { "id-of", run_id_of }, { "id-name", run_id_name }, { "answer-name", run_answer_name }, { "error-name", run_error_name },
+    { "ids", run_ids }, { "text", run_text }, { "parse", run_parse }, { "raw", run_raw }, { "first", run_first },
+    { "bucket", run_bucket }, { "tokens", run_tokens }, { NULL, NULL },
+};
