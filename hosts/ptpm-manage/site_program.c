@@ -82,7 +82,7 @@ static void read_all(int from, struct report *report) {
     for (size_t room = 0; !stopped;) {
         struct pollfd waits = { from, POLLIN, 0 };
         if (wait_for(&waits, 1, TURN) <= 0) continue;
-        if (room - report->size < PART) {
+        if (room - report->size <= PART) {
             char *more = realloc(report->text, room + 2 * PART + room / 2);
             if (more == NULL) give_up("what the program ptpm prints");
             report->text = more;
@@ -91,7 +91,7 @@ static void read_all(int from, struct report *report) {
         ssize_t size = read(from, report->text + report->size, PART);
         if (size <= 0) return;
         report->size += (size_t)size;
-        report->text[report->size] = '\0';      /* there is room for it: a part is left */
+        report->text[report->size] = '\0';      /* there is room for it: more than a part was left */
     }
 }
 
