@@ -203,12 +203,17 @@ one_entry e f r s sound sound' same =
     sound.keepable.fits.answers suits sound.fits.answers sound'.fits.answers (same_tails _ _ _ _ request.1) in
     let action : e.1.reply.action ≡ f.1.reply.action =
     sound.keepable.fits.action ∙ ap (λ (z : RequestValue). reply_action z.action) request.0 ∙ sym sound'.keepable.fits.action in
-    let id : e.1.reply.id ≡ f.1.reply.id = sound.keepable.fits.id ∙ ap (λ (z : RequestValue). z.id) request.0 ∙ sym sound'.keepable.fits.id in
-    ((λ i. (manager.0 i, record {
-      number = number.0 i;
-      request = request.0 i;
-      reply = record { action = action i; id = id i; answers = answers.0 i };
-    })), answers.1)
+    let id : e.1.reply.id ≡ f.1.reply.id = sound.keepable.fits.id ∙ ap (λ (z : RequestValue). z.id) request.0 ∙ sym sound'.keepable.fits.id in (
+      (λ i. (
+        manager.0 i,
+        record {
+          number = number.0 i;
+          request = request.0 i;
+          reply = record { action = action i; id = id i; answers = answers.0 i };
+        },
+      )),
+      answers.1,
+    )
 
 same_entries : (es fs : List Pair)
     → length es ≡ length fs
