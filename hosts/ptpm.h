@@ -125,12 +125,12 @@ struct ptpm_port_settings {
     int8_t log_min_pdelay;              /* logMinPdelayReqInterval, -8 to 5 */
 };
 
-/* What a host observes of its clock. Its servo, its port state machines and its best master clock algorithm find it (clause 8.2 of
+/* What a host observes about its clock. Its servo, its port state machines and its best master clock algorithm find it (clause 8.2 of
    IEEE 1588-2019). Start from all zeros, struct ptpm_observed_clock observed = { 0 }; a member without its has_ flag
-   stays. A flag is set if it is not 0. A grandmaster is observed whole. If is_grandmaster is set it is the clock itself, and the
+   stays. A flag is set if it is not 0. A grandmaster is observed as a whole. If is_grandmaster is set it is the clock itself, and the
    members of a grandmaster and of the parent port do not count. Otherwise, if has_grandmaster is set, it is the one that they name.
-   If neither is set, the quality of a clock that is its own grandmaster is shown as its grandmaster's too. What only
-   managers set can't be observed. clock_accuracy, utc_offset, the two leaps and utc_valid are both set and observed, and the later
+   If neither is set, the quality of a clock that is its own grandmaster is shown as its grandmaster's too. What only managers
+   set can't be observed. clock_accuracy, utc_offset, the two leaps and utc_valid are both set and observed, and the later
    value counts. */
 struct ptpm_observed_clock {
     int64_t offset_from_master;         /* in nanoseconds times 2^16 */
@@ -240,9 +240,9 @@ enum {
 /* A session of a manager, about 1,600 octets at one pointer. All zeros hold no session. */
 struct ptpm_session { void *at; bool live; };
 
-/* One manager, the clock that it manages, and how its requests are numbered and sent. A clock takes a request for new if its number
-   is up to 32,767 ahead of the latest that it took from this manager. So a manager that starts again goes on from the number after
-   the last that it began. */
+/* One manager, the clock that it manages, and how its requests are numbered and sent. A clock treats a request as new if its
+   number is up to 32,767 ahead of the latest that it accepted from this manager. So a manager that starts again continues with
+   the number after the last that it began. */
 struct ptpm_session_settings {
     uint16_t port;                      /* portNumber of the manager */
     uint16_t target_ports;              /* how many ports the managed clock has, 1 to 8 */
@@ -254,7 +254,7 @@ struct ptpm_session_settings {
     uint8_t attempts;                   /* how often a request may be sent before it is given up */
 };
 
-/* What may be asked of a clock: the actionField of a request. */
+/* What a clock may be asked for: the actionField of a request. */
 enum { PTPM_GET = 0, PTPM_SET = 1, PTPM_COMMAND = 3 };
 
 /* A survey of a manager: what it asks and its answers, at one pointer. All zeros hold no survey. */
@@ -425,11 +425,11 @@ __extension__ enum PTPM_FOUR_OCTETS(ptpm_handled) {
     PTPM_OWN_MESSAGE = 2,               /* the clock sent it */
     PTPM_NOT_ADDRESSED = 3,             /* it is for other clocks */
     PTPM_NOT_A_REQUEST = 4,             /* it is an answer */
-    PTPM_ANSWERED_NEW = 5,              /* a new request of a manager */
+    PTPM_ANSWERED_NEW = 5,              /* a new request from a manager */
     PTPM_ANSWERED_REPEAT = 6,           /* the latest request of a manager again */
     PTPM_DROPPED_OLD = 7,               /* a manager's request older than its latest */
-    PTPM_DROPPED_CONFLICT = 8,          /* another request under the number of its latest */
-    PTPM_ANSWERED_UNNUMBERED = 9,       /* a request of anybody else, or to every clock */
+    PTPM_DROPPED_CONFLICT = 8,          /* another request with the number of its latest */
+    PTPM_ANSWERED_UNNUMBERED = 9,       /* a request from anyone else, or to every clock */
     PTPM_HANDLE_TOO_SHORT = PTPM_TOO_SHORT,
     PTPM_HANDLE_NOT_MANAGEMENT = PTPM_NOT_MANAGEMENT,
     PTPM_HANDLE_BAD_VERSION = PTPM_BAD_VERSION,
@@ -655,9 +655,9 @@ void ptpm_clock_defaults(struct ptpm_clock_settings *settings);
    Writes:  all of *settings. */
 void ptpm_port_defaults(struct ptpm_port_settings *settings);
 
-/* Starts a clock in place of what the handle holds, which is freed first.
-   Takes:   one to eight ports, and at most sixteen managers. The first port is port 1. All port_count settings are read, also if
-            they are too many.
+/* Starts a clock instead of what the handle holds, which is freed first.
+   Takes:   one to eight ports, and at most sixteen managers. The first port is port 1. All port_count settings are read, even
+            if they are too many.
    Answers: PTPM_STARTED; or why not, and then the handle holds nothing.
    Memory:  the clock, 472 octets and 2,136 for each manager, until it is stopped, and a copy of the ports until the call returns.
    Owed:    the caller stops the clock. */
@@ -691,7 +691,7 @@ enum ptpm_handled ptpm_clock_handle(struct ptpm_clock *clock, uint16_t port, con
 enum ptpm_handled ptpm_clock_handle_changed(struct ptpm_clock *clock, uint16_t port, const uint8_t *datagram, size_t size,
                                             struct ptpm_sent *sent, size_t room, size_t *count, struct ptpm_changed *changed);
 
-/* Sets exactly what the host observed of its clock and of its ports. Judges the data sets as they would be afterwards.
+/* Sets exactly what the host observed about its clock and its ports. Judges the data sets as they would be afterwards.
    Takes:   port_count places, from port 1 on: as many as the clock has ports, or fewer, or none.
    Answers: PTPM_OBSERVED; or why not, and then nothing changes.
    Writes:  *left: the disabled ports at which a state was observed, and which stay disabled. 1 is port 1, 2 is port 2, 4 is
@@ -700,32 +700,32 @@ enum ptpm_handled ptpm_clock_handle_changed(struct ptpm_clock *clock, uint16_t p
 enum ptpm_observed ptpm_clock_observe(struct ptpm_clock *clock, const struct ptpm_observed_clock *observed,
                                       const struct ptpm_observed_port *ports, size_t port_count, uint8_t *left);
 
-/* Reads what a GET of a managementId is answered.
+/* Reads the answer that a GET of a managementId would get.
    Takes:   the id; a port of the clock, which matters only for an id of a port; and room octets, PTPM_MOST_READ or more.
    Answers: PTPM_READ, or why not.
    Writes:  *size, and as many octets from octets on: the dataField. *size is 0 if the call is refused. */
 enum ptpm_read ptpm_clock_read(const struct ptpm_clock *clock, uint16_t id, uint16_t port, uint8_t *octets, size_t room,
                                size_t *size);
 
-/* Makes the clock's image: what a host saves before it sends the messages of an answer PTPM_ANSWERED_NEW. From it the clock goes
-   on after a restart. It has its data sets, the latest request of each manager and the reply to it. The managers and what each
-   of them may change are not in it.
+/* Makes the clock's image: what a host saves before it sends the messages of an answer PTPM_ANSWERED_NEW. From it the clock
+   continues after a restart. It has the clock's data sets, the latest request of each manager and the reply to it. The managers
+   and what each of them may change are not in it.
    Takes:   room octets; PTPM_CLOCK_IMAGE_OCTETS are enough for every clock.
    Answers: PTPM_SAVED, or why not.
    Writes:  *size, and that number of octets from octets on: the image. If the call is refused, *size is 0 and no octet is written. */
 enum ptpm_saved ptpm_clock_image(const struct ptpm_clock *clock, uint8_t *octets, size_t room, size_t *size);
 
-/* Puts the clock of an image in the handle, in place of what it holds, which is then freed.
+/* Puts the clock of an image in the handle, instead of what it holds, which is then freed.
    Takes:   the identity and the number of ports that the clock of the image must have; at most sixteen managers; and size octets.
-            Managers and what each of them may change are those that are given. All else is that of the image. A manager that is
-            given and has no request in the image begins anew.
-   Answers: PTPM_RESTORED; or why not, and then the handle holds what it held. The first that holds of PTPM_TOO_MANY_MANAGERS,
+            Managers and what each of them may change are those that are given. All else comes from the image. A manager that is
+            given and has no request in the image begins afresh.
+   Answers: PTPM_RESTORED; or why not, and then the handle holds what it held. The first of these that holds: PTPM_TOO_MANY_MANAGERS,
             PTPM_MANAGER_TWICE, PTPM_IDENTITY_IS_ZERO, PTPM_NOT_AN_IMAGE, PTPM_OTHER_VERSION, PTPM_OTHER_KIND, PTPM_DAMAGED,
-            PTPM_OTHER_CLOCK, PTPM_OTHER_PORTS and PTPM_NO_MEMORY. A restore that is refused is no reason to start the clock anew.
-            It would then take requests for new ones that it has carried out.
-   Writes:  *gone: the number of requests of the image whose managers are not among those that are given. They are let go. If the
-            call is refused it is 0.
-   Memory:  the clock, until it is stopped, as much as of a start.
+            PTPM_OTHER_CLOCK, PTPM_OTHER_PORTS and PTPM_NO_MEMORY. A restore that is refused is no reason to start a fresh
+            clock. It would carry out requests again that were carried out before.
+   Writes:  *gone: the number of requests of the image whose managers are not among those that are given. They are forgotten. If
+            the call is refused it is 0.
+   Memory:  the clock, until it is stopped, as much as for a start.
    Owed:    the caller stops the clock. */
 enum ptpm_restored ptpm_clock_restore(struct ptpm_clock *clock, const uint8_t identity[8], size_t port_count,
                                       const struct ptpm_manager_settings *managers, size_t manager_count,
@@ -734,7 +734,7 @@ enum ptpm_restored ptpm_clock_restore(struct ptpm_clock *clock, const uint8_t id
 /* Ends what the handle holds, if it holds anything. The handle then holds nothing, and may be started again. */
 void ptpm_clock_stop(struct ptpm_clock *clock);
 
-/* Starts a session in place of what the handle holds, which is freed first.
+/* Starts a session instead of what the handle holds, which is freed first.
    Answers: PTPM_STARTED; or why not, and then the handle holds nothing.
    Memory:  the session, until it is stopped.
    Owed:    the caller stops the session. */
@@ -748,7 +748,7 @@ static inline enum ptpm_started ptpm_session_start_sized(struct ptpm_session *ha
     return answer != PTPM_STARTED ? answer : ptpm_session_start(handle, settings);
 }
 
-/* Begins a request, and lets the answer to the one before go.
+/* Begins a request, and discards the answer to the one before.
    Takes:   PTPM_GET, PTPM_SET or PTPM_COMMAND; the id; a port of the managed clock; and the dataField, of size octets. The
             port matters only for an id of a port.
    Answers: PTPM_BEGUN; or why not, and then nothing changes.
@@ -757,7 +757,7 @@ static inline enum ptpm_started ptpm_session_start_sized(struct ptpm_session *ha
 enum ptpm_begun ptpm_session_begin(struct ptpm_session *session, uint8_t action, uint16_t id, uint16_t port,
                                    const uint8_t *octets, size_t size);
 
-/* Does what ptpm_session_begin does, at the port that is named whatever the id. Some clocks answer only if one of their ports is
+/* Does what ptpm_session_begin does, but names the port for any id. Some clocks answer only if one of their ports is
    named, for an id of the clock too. Any port of the clock may answer for such an id.
    Takes:   what ptpm_session_begin takes. The port is 1 to the number of the managed clock's ports.
    Answers: what ptpm_session_begin answers.
@@ -771,19 +771,19 @@ enum ptpm_begun ptpm_session_begin_at(struct ptpm_session *session, uint8_t acti
    Takes:   room octets, PTPM_MOST_OCTETS or more.
    Answers: PTPM_SENT; or why not, and then no attempt is used.
    Writes:  *size, and as many octets from octets on: the message. *size is 0 if the call is refused.
-   Owed:    the caller sends the message, and hands in what comes in. */
+   Owed:    the caller sends the message, and passes in what comes in. */
 enum ptpm_sending ptpm_session_send(struct ptpm_session *session, uint8_t *octets, size_t room, size_t *size);
 
 /* Gives the unanswered request this many attempts, whatever was left.
    Answers: PTPM_RESUMED; or why not, and then nothing changes. */
 enum ptpm_resumed ptpm_session_resume(struct ptpm_session *session, uint8_t attempts);
 
-/* Lets the unanswered request go, so that the next can be begun. Its number is used for no other, and no answer to it is taken any
-   more. The clock may have carried it out, once, or may still: until it takes a later request of this session. So once a later
-   one is answered, the one that was given up was carried out before it, or never will be.
+/* Gives up the unanswered request, so that the next can be begun. Its number is used for no other, and an answer to it is
+   ignored from then on. The clock may have carried it out, once, or may still: until it accepts a later request of this session.
+   So once a later one is answered, the one that was given up was carried out before it, or never will be.
    Answers: PTPM_GIVEN_UP; or PTPM_IDLE or PTPM_OUT_OF_REACH, and then nothing changes. After PTPM_OUT_OF_REACH send the request
-            until it is answered: the clock might take a number further ahead for an old one.
-   Owed:    the caller begins the next request before it ends, or saves the session's image. Otherwise a restart goes on with
+            until it is answered: the clock might treat a number further ahead as an old one.
+   Owed:    the caller begins the next request before it ends, or saves the session's image. Otherwise a restart continues with
             the request that was given up. */
 enum ptpm_given_up ptpm_session_give_up(struct ptpm_session *session);
 
@@ -798,18 +798,18 @@ enum ptpm_retuned ptpm_session_retune(struct ptpm_session *session, uint8_t doma
 enum ptpm_session_received ptpm_session_receive(struct ptpm_session *session, const uint8_t *datagram, size_t size);
 
 /* Makes the session's image: what a host saves before it sends a request, and after it has reported an answer. From it a
-   session goes on after a restart. How many attempts are left, and the answer to the latest request, are not in it.
+   session continues after a restart. How many attempts are left, and the answer to the latest request, are not in it.
    Takes:   room octets; PTPM_SESSION_IMAGE_OCTETS are enough for every session.
    Answers: PTPM_SAVED, or why not.
    Writes:  *size, and that number of octets from octets on: the image. If the call is refused, *size is 0 and no octet is written. */
 enum ptpm_saved ptpm_session_image(const struct ptpm_session *session, uint8_t *octets, size_t room, size_t *size);
 
-/* Puts the session of an image in the handle, in place of what it holds, which is then freed. A request that was not answered
-   goes on, with all its attempts: send it again.
+/* Puts the session of an image in the handle, instead of what it holds, which is then freed. A request that was not answered
+   stays open, with all its attempts: send it again.
    Takes:   size octets, and the settings of the session. Its manager, managed clock, number of ports and first number must be
             those of the image. Domain, hops and attempts are those of the image.
-   Answers: PTPM_RESTORED; or why not, and then the handle holds what it held. A restore that is refused is no reason to start
-            the session anew. The clock would then take its requests for old ones, or for others.
+   Answers: PTPM_RESTORED; or why not, and then the handle holds what it held. A restore that is refused is no reason to start a
+            fresh session. The clock would then treat its requests as old, or as others.
    Memory:  the session, until it is stopped, and a copy of the dataField of its request.
    Owed:    the caller stops the session. */
 enum ptpm_restored ptpm_session_restore(struct ptpm_session *session, const struct ptpm_session_settings *settings,
@@ -830,7 +830,7 @@ enum ptpm_reported ptpm_session_report(const struct ptpm_session *session, uint8
 /* Ends what the handle holds, if it holds anything. The handle then holds nothing, and may be started again. */
 void ptpm_session_stop(struct ptpm_session *session);
 
-/* Starts a survey without answers in place of what the handle holds, which is freed first.
+/* Starts a survey without answers instead of what the handle holds, which is freed first.
    Answers: PTPM_STARTED; or why not, and then the handle holds nothing.
    Memory:  the survey, until it is stopped.
    Owed:    the caller stops the survey. */
@@ -843,9 +843,10 @@ static inline enum ptpm_started ptpm_survey_start_sized(struct ptpm_survey *hand
     return answer != PTPM_STARTED ? answer : ptpm_survey_start(handle, settings);
 }
 
-/* Starts a survey of one clock, without answers, in place of what the handle holds, which is freed first. Every port of the clock
-   is asked, and another clock's answer is ignored (PTPM_OTHER_SOURCE). A clock takes such a GET of one of its managers for a
-   numbered request, like one of a session. So the manager here is none of them, for example another port of the same identity.
+/* Starts a survey of one clock, without answers, instead of what the handle holds, which is freed first. Every port of the
+   clock is asked, and another clock's answer is ignored (PTPM_OTHER_SOURCE). A clock treats such a GET from one of its managers
+   as a numbered request, like one of a session. So the manager here must not be one of them, for example another port number of
+   the same clockIdentity.
    Takes:   the identity of the clock: another one than the manager's, and neither all ones nor all zeros.
    Answers: PTPM_STARTED; or why not, and then the handle holds nothing.
    Memory:  the survey, until it is stopped.
@@ -865,7 +866,7 @@ static inline enum ptpm_started ptpm_survey_start_at_sized(struct ptpm_survey *h
    Takes:   room octets, PTPM_MOST_OCTETS or more.
    Answers: PTPM_SENT, or why not.
    Writes:  *size, and as many octets from octets on: the message. *size is 0 if the call is refused.
-   Owed:    the caller sends the message, and hands in what comes in. */
+   Owed:    the caller sends the message, and passes in what comes in. */
 enum ptpm_sending ptpm_survey_send(const struct ptpm_survey *survey, uint8_t *octets, size_t room, size_t *size);
 
 /* Judges a datagram that came in, and keeps it if it is the first answer of its port.
@@ -891,22 +892,22 @@ enum ptpm_reported ptpm_survey_answer(const struct ptpm_survey *survey, size_t p
 /* Ends what the handle holds, if it holds anything. The handle then holds nothing, and may be started again. */
 void ptpm_survey_stop(struct ptpm_survey *survey);
 
-/* Says whether a message is to be passed on, and if it is, notes it. It is if none is noted that has its sourcePortIdentity,
-   sequenceId, targetPortIdentity, actionField and managementId, and there is a place to note it. So a message that comes round is
-   passed on once. One that keeps coming is passed on once in each such time.
-   Takes:   the message, of size octets; a time; and for how long it is noted, in the unit of that time. Both are the host's.
-   Answers: whether it is to be passed on; false too for what is no management message.
+/* Says whether a message is to be forwarded, and if it is, records it. It is if none is recorded that has its
+   sourcePortIdentity, sequenceId, targetPortIdentity, actionField and managementId, and there is a place to record it. So a
+   message that circulates is forwarded once. One that keeps coming is forwarded once in each such time.
+   Takes:   the message, of size octets; a time; and for how long it is recorded, in the unit of that time. Both are the host's.
+   Answers: whether it is to be forwarded; false too for what is no management message.
    Writes:  one of the places of *table, if it answers true. */
 bool ptpm_passed_on_is_first(struct ptpm_passed_on *table, const uint8_t *message, size_t size, uint64_t now, uint64_t time);
 
-/* Makes a full bucket of a number of tokens a second.
+/* Makes a full bucket with a number of tokens per second.
    Takes:   how many; those over 1,000,000 do not count. And a time in milliseconds.
    Writes:  all of *rate. */
 void ptpm_rate_start(struct ptpm_rate *rate, uint64_t tokens, uint64_t now);
 
-/* Takes a token from a bucket, if there is one. In any stretch of time it gives at most the tokens of a second, and those of the
-   time that has passed.
-   Takes:   a time in milliseconds. One that is before the latest counts as that.
+/* Takes a token from a bucket, if there is one. In any stretch of time it gives at most the tokens of one second, and those for
+   the time that has passed.
+   Takes:   a time in milliseconds. A time before the latest counts as the latest.
    Answers: whether there was one.
    Writes:  *rate. */
 bool ptpm_rate_take(struct ptpm_rate *rate, uint64_t now);

@@ -15,7 +15,7 @@ struct kept_file {
     int folder;
     char name[KEPT_NAME], new_name[KEPT_NAME], lock_name[KEPT_NAME];
     mode_t mode;                        /* that a new file gets */
-    struct stat before;                 /* of a file whose owner and mode it gets in place of that; st_nlink is 0 if of none */
+    struct stat before;                 /* of a file whose owner and mode it gets instead of that; st_nlink is 0 if of none */
 };
 
 /* Opens the folder of a path. It is made if it is missing; what is above it is not. Whether it could; if not, errno says why, and
@@ -47,7 +47,7 @@ enum kept_found read_kept(const struct kept_file *file, uint8_t *octets, size_t 
 /* Tries whether there is room for this many octets; if not, errno says why. What the file holds stays. */
 bool try_room(const struct kept_file *file, const uint8_t *octets, size_t size);
 
-/* What became of the file. If it is in doubt it is the new one, but may be the old one again after a loss of power. */
+/* What became of the file. If this is uncertain it is the new one, but may be the old one again after a loss of power. */
 enum replaced { NOT_REPLACED, IN_DOUBT, REPLACED };
 
 /* Replaces it by one with these octets: synchronized, renamed, and its folder synchronized. If it isn't replaced for sure, errno

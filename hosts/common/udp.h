@@ -8,11 +8,11 @@
 /* UDP port of all messages except those of events. */
 enum { GENERAL_PORT = 320 };
 
-/* A socket at UDP port 320 of an interface, in the group of PTP there (IEEE 1588-2019, annexes C and D). Management messages alone
-   come in there, and nothing of what this host sends. -1 if it can't be made: errno says why, and *what at which step. */
+/* A socket at UDP port 320 of an interface, in the group of PTP there (IEEE 1588-2019, annexes C and D). Only management
+   messages come in there, and nothing of what this host sends. -1 if it can't be made: errno says why, and *what at which step. */
 int open_udp(const char *interface, bool is_six, const char **what);
 
-/* Has a socket hear management messages alone, or every message; whether it does. The kernel drops the rest before the program
+/* Has a socket hear only management messages, or every message; whether it does. The kernel drops the rest before the program
    wakes, and counts it as errors of UDP. */
 bool filter_udp(int socket, bool is_management_alone);
 

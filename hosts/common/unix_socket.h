@@ -11,7 +11,7 @@ void remove_left_over(const char *path);
 /* A Unix socket at a path where nothing is. */
 int bind_unix(const char *path, mode_t mode);
 
-/* A Unix socket at a path, in place of one that a program left there and no program listens at. When the program ends it is
+/* A Unix socket at a path, instead of one that a program left there and no program listens on. When the program ends it is
    removed. One a program. */
 int open_unix_as(const char *path, mode_t mode);
 

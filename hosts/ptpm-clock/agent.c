@@ -108,8 +108,8 @@ static void print_all_changed(const struct ptpm_changed *changed) {
     }
 }
 
-/* A message to who asked at the Unix socket goes back there, at once if nothing is to be saved. Any other goes out with the
-   round. How many messages were not taken. */
+/* A message to a program that asked on the Unix socket goes back there, at once if nothing is to be saved. Any other goes out
+   with the round. How many messages were not taken. */
 static unsigned long send_out(const struct ptpm_sent *message, const struct heard *heard, const struct port *port,
                               uint16_t ingress) {
     if (message->port != ingress) send_later(message, NULL);
@@ -155,7 +155,7 @@ static unsigned long take_verbose_turn(const struct heard *heard, const struct p
     return lost;
 }
 
-/* What becomes of a datagram; port is NULL at the Unix socket. How many messages were not taken. */
+/* What becomes of a datagram; port is NULL for the Unix socket. How many messages were not taken. */
 static unsigned long take_turn(struct heard *heard, const struct port *port) {
     size_t count, left;
     uint16_t ingress = port == NULL ? 1 : (uint16_t)(port - ports + 1);

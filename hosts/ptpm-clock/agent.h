@@ -18,7 +18,7 @@ void report_twin(void);
 /* A line on standard error: its identity, its interfaces, the states of its ports, and how many managers it has. */
 void say_started(void);
 
-/* Takes the datagrams that have come in at a port, or at the Unix socket if there is none. Sends their answers, and what is
+/* Takes the datagrams that have come in at a port, or on the Unix socket if there is none. Sends their answers, and what is
    passed on. */
 void take_round(const struct port *port, int socket);
 

@@ -11,7 +11,7 @@ struct meeting { const char *path; mode_t mode; gid_t group; };
 
 enum { WAYS_BACK = 64 };
 
-/* What is to be polled. It comes in place of one that a program left there, and goes when this program ends. Ends the program with
+/* What is to be polled. It replaces one that a program left there, and is removed when this program ends. Ends the program with
    status 2 if it can't be had. */
 int open_peers(const struct meeting *meeting);
 

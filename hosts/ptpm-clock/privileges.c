@@ -34,7 +34,7 @@ static void let_go_of_bounds(uint32_t kept) {
     }
 }
 
-/* Whoever asks at the Unix socket has a socket of its group, and others can't answer there. Without CAP_SETGID the program is
+/* A program that asks on the Unix socket has a socket of its group, and others can't answer there. Without CAP_SETGID the program is
    in the groups that it was started with. */
 static void join(gid_t group) {
     static gid_t groups[NGROUPS_MAX + 1];
@@ -70,7 +70,7 @@ void let_go_of_rights(const struct privileges *privileges, enum needs needs) {
     if (prctl(PR_SET_NO_NEW_PRIVS, 1L, 0L, 0L, 0L)) give_up("PR_SET_NO_NEW_PRIVS");
 }
 
-/* What the program and its C library call of the system when the filter is on. They use sockets, and open a port anew. They use
+/* What the program and its C library call of the system when the filter is on. They use sockets, and open a port again. They use
    the file of the state, the source of observations, and the Unix socket at its end. They use threads, memory and time, and
    they end. Each machine lacks some of these calls. */
 static const int allowed[] = {

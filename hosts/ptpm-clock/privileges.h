@@ -13,7 +13,7 @@ struct privileges {
     bool is_unfiltered;         /* it may call all of the system */
 };
 
-/* What it takes to open a port's socket once more, if its interface is made anew. */
+/* What it takes to open a port's socket once more, if its interface is made again. */
 enum needs { NEEDS_NOTHING, NEEDS_LOW_PORT, NEEDS_FRAMES };
 
 /* Drops every capability except the one that is needed, for good, and becomes the user. Ends the program with status 2 if that

@@ -101,7 +101,7 @@ static void put_control(struct cmsghdr *at, int level, int type, const void *val
     memcpy(CMSG_DATA(at), value, size);
 }
 
-/* The address that a datagram goes to, and, if it answers one that came to this host alone, the address that it comes from. */
+/* The address that a datagram goes to, and, if it answers one that came only to this host, the address that it comes from. */
 static void address_datagram(struct msghdr *head, const struct heard *answered, union sender *to, struct control *control) {
     head->msg_name = to;
     if (answered == NULL) {

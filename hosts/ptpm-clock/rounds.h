@@ -29,12 +29,12 @@ struct heard {
     union sender sender;
     socklen_t sender_size;
     const uint8_t *station;             /* who sent it over Ethernet */
-    bool is_unicast;                    /* it was sent to this host alone, and so is what is answered */
+    bool is_unicast;                    /* it was sent only to this host, and the answer goes only to its sender */
     struct in_pktinfo own_four;         /* the address that it was sent to */
     struct in6_pktinfo own_six;
 };
 
-/* Takes what has come in at a port, or, if there is none, at the Unix socket; how many datagrams. They stay until the next
+/* Takes what has come in at a port, or, if there is none, on the Unix socket; how many datagrams. They stay until the next
    round. */
 size_t hear_round(const struct port *port, int socket, struct heard heard[ROUND]);
 
@@ -45,7 +45,7 @@ struct ptpm_sent *places_to_send(void);
    came by unicast, and otherwise to the group. */
 void send_later(const struct ptpm_sent *message, const struct heard *answered);
 
-/* The same of a message for the peer at the Unix socket that sent what is answered. */
+/* The same for a message to the peer on the Unix socket that sent what is answered. */
 void answer_later(const struct ptpm_sent *message, const struct heard *answered);
 
 /* The first `count` places are used. */

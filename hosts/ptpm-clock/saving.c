@@ -157,7 +157,7 @@ void save_at_start(struct ptpm_clock *clock) {
 
 void note_change(void) { is_unsaved = options->state != NULL; }
 
-/* After a save in doubt the store holds what was to be saved, but may lose it with the power. So no message leaves before it is
+/* After an uncertain save the store holds what was to be saved, but may lose it with the power. So no message leaves before it is
    saved. */
 bool save_changes(struct ptpm_clock *clock) {
     size_t size;

@@ -7,7 +7,7 @@
 /* Opens it, and answers what is to be polled. Ends the program with status 2 if there is no such file. */
 int open_source(const char *path);
 
-/* Watches what leads to it by now: a folder may have been made anew, and a link may lead elsewhere. Whether it is another file than
+/* Watches what leads to it by now: a folder may have been made again, and a link may lead elsewhere. Whether it is another file than
    the one that was read, and so is to be read although nothing was polled. */
 bool follow_source(void);
 

@@ -15,7 +15,7 @@
 #include <string.h>
 
 /* One request each 50 ms: all at once lose answers in the buffers of the clocks, which hear each other's answers too. A burst
-   of requests to one clock alone has fewer answers than such a buffer holds, unless that would take more bursts than this. */
+   of requests to only one clock has fewer answers than such a buffer holds, unless that would take more bursts than this. */
 enum { STEP = 50, BURST = 128, MOST_BURSTS = 16, DOMAINS_AT_ONCE = 32 };
 
 /* A socket without room is tried again this often, this many milliseconds apart. A silence that never comes is waited for this

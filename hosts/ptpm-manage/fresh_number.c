@@ -36,7 +36,7 @@ static bool is_of_port(const struct task *task) {
     return needs_port;
 }
 
-/* The question that is asked before the task's request, with octets drawn anew. */
+/* The question that is asked before the task's request, with newly drawn octets. */
 static struct task question_of(const struct task *task) {
     struct task question = *task;
     bool is_port = is_of_port(task);
@@ -70,7 +70,7 @@ static bool hear_answer(const struct task *task, int *readings) {
     return false;
 }
 
-/* Asks under a number until it is answered, or enough reads beside it are; what went out of it is counted. */
+/* Asks with a number until it is answered, or enough reads that run with it are; its messages that went out are counted. */
 static enum tried ask_under_number(const struct task *task, uint16_t number, int enough, long *sent) {
     int readings = 0;
     struct task question = question_of(task);

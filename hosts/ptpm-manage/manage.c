@@ -1,5 +1,5 @@
 /* ptpm-manage: one request to one clock by a session of the library, a survey of all clocks, or a whole site. It goes over UDP
-   port 320 (IEEE 1588-2019, annexes C and D), over Ethernet (annex E) or at a Unix socket. How it is used is in
+   port 320 (IEEE 1588-2019, annexes C and D), over Ethernet (annex E) or on a Unix socket. How it is used is in
    docs/ptpm-manage.md. The library decides which answer is a request's, and what is wrong with a site is found by `ptpm site`.
    What is here and in the files beside it is not proved. It reads words, moves octets, measures time and prints. It chooses the
    number of a session's first request, and when a request goes out again. It judges which answers of a site are copies of others,
@@ -23,8 +23,8 @@ const char program[] = "ptpm-manage";
 
 _Noreturn void usage(void) { refuse("see ptpm-manage --help"); }
 
-/* Asks in the manager's session, which goes on from run to run. It has its turn before its socket: an answer to this host alone
-   comes in at the latest socket there, which has to be heard. */
+/* Asks in the manager's session, which goes on from run to run. It has its turn before its socket: a unicast answer comes in at
+   the latest socket there, which has to be heard. */
 static int ask_in_session(struct session *session, const struct task *task) {
     static struct task earlier;
     int status = ANSWERED;

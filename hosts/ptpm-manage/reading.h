@@ -9,7 +9,7 @@
 /* The portNumber at which nobody asks on behalf of this process; not the one that is given. */
 uint16_t port_of_nobody(uint16_t managers);
 
-/* Begins a GET of this id, at the task's clock and port, under a drawn number; whether it is begun. Its session takes the place
+/* Begins a GET of this id, at the task's clock and port, with a drawn number; whether it is begun. Its session takes the place
    of the one that the handle holds. */
 bool begin_reading(struct ptpm_session *session, const struct task *task, uint16_t id);
 

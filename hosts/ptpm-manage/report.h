@@ -29,7 +29,7 @@ void read_report(struct report *report);
 /* Frees what a report holds, which then holds nothing. */
 void free_report(struct report *report);
 
-/* Whether a report has a finding that may be of one moment alone: while a change goes through a site its clocks do not agree. */
+/* Whether a report has a finding that may be only momentary: while a change goes through a site its clocks do not agree. */
 bool has_passing_finding(const struct report *report);
 
 /* Leaves out of a report each such finding whose key is not in an earlier one. */

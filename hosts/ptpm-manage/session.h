@@ -16,14 +16,14 @@ struct session {
 /* What the file has. */
 enum kept { NO_FILE, AT_REST, UNDER_WAY };
 
-/* Takes the file of the task's session for this run alone. The session goes on from its image, in the task's domain. If a request
+/* Takes the file of the task's session only for this run. The session goes on from its image, in the task's domain. If a request
    is under way, `earlier` becomes the task of it, and the session is in its domain. That is the one in which it was asked, but
-   the task's if it is a GET, or a SET of DOMAIN to that one. A file may have a number in place of an image: the session starts
+   the task's if it is a GET, or a SET of DOMAIN to that one. A file may have a number instead of an image: the session starts
    there. If there is no file, no session is started. Ends the program, status 2, if the file has anything else, or another
    session. */
 enum kept open_session(struct session *session, const struct task *task, struct task *earlier);
 
-/* Starts a session of the task, in place of what the handle holds, with this number for its first request. */
+/* Starts a session of the task, instead of what the handle holds, with this number for its first request. */
 void start_session(struct session *session, const struct task *task, uint16_t first);
 
 /* The session sends what it sends in the task's domain from now on. */

@@ -32,7 +32,7 @@ static bool is_shown(uint32_t number) {
     return true;
 }
 
-/* Whether the user's locale reads UTF-8. Any other may take an octet from 0x80 to 0x9f for a control character. */
+/* Whether the user's locale reads UTF-8. Any other may treat an octet from 0x80 to 0x9f as a control character. */
 static bool reads_utf8(void) {
     static bool is_read, is_asked;
     if (is_asked) return is_read;

@@ -1,4 +1,4 @@
-/* The transport to the clocks that are asked, over UDP, over Ethernet or at a Unix socket: sockets, and where messages go from
+/* The transport to the clocks that are asked, over UDP, over Ethernet or on a Unix socket: sockets, and where messages go from
    them. */
 #ifndef TRANSPORT_H
 #define TRANSPORT_H
@@ -9,7 +9,7 @@
 #include <stdint.h>
 
 /* Finds the transport that the task names. If the task names no manager, its settings get the transport's own. Over UDP and
-   Ethernet that is the interface's hardware address with ff and fe in its middle. At a Unix socket it is clock 0, like that of
+   Ethernet that is the interface's hardware address with ff and fe in its middle. On a Unix socket it is clock 0, like that of
    pmc. Its port is 1, or, if no numbers are kept, one of this process. Ends the program with status 2 if there is none. */
 void find_transport(struct task *task);
 
@@ -19,10 +19,10 @@ void open_transport(const struct task *task);
 /* Gives its socket room for the answers of many clocks, 4 MiB as far as the system allows. */
 void widen_transport(void);
 
-/* Opens it anew at each interface that was removed and made again under its name. What is sent at one that is gone says so. */
+/* Opens it again at each interface that was removed and made again under its name. What is sent at one that is gone says so. */
 void renew_transport(void);
 
-/* Over UDP and Ethernet, has messages of every type come in, or, as at first, management messages alone. */
+/* Over UDP and Ethernet, has messages of every type come in, or, as at first, only management messages. */
 void receive_every_type(bool is_every);
 
 /* Says which of its interfaces are gone, or have no address to ask from. */
