@@ -129,7 +129,7 @@ class Task:
             raise ValueError("--target is missing: the clock that is asked; survey asks every clock")
 
     def way(self) -> Transport:
-        """The socket that it goes by."""
+        """The socket that it uses."""
         words = self.words
         return UnixTransport(words.unix) if words.unix is not None else UdpTransport(words.interface, words.udp, ipv6=words.ipv6)
 

@@ -77,7 +77,7 @@ _PLAIN = tuple(name for name in ObservedClock.__dataclass_fields__ if name not i
 
 @dataclass
 class ObservedPort:
-    """What a host observes of a port. DISABLED is entered and left by commands of managers alone."""
+    """What a host observes of a port. DISABLED is entered and left only by commands of managers."""
 
     state: Optional[int] = None
     peer_delay: Optional[int] = None

@@ -10,7 +10,7 @@ from ._library import library
 
 
 class PassedOn:
-    """Which messages were passed on last, 4,096 at most. A message that comes round is passed on once. The seed is drawn, so that
+    """Which messages were passed on last, 4,096 at most. A message that circulates is forwarded once. The seed is drawn, so that
     nobody else can say where a message is noted."""
 
     def __init__(self, seed: int) -> None:

@@ -51,8 +51,8 @@ class SessionSettings:
 
 
 class Requests(Handle):
-    """One request at a time to one clock. Whoever uses these calls by themselves sees to the numbers. What is asked under one that
-    was used before is answered by what the clock kept."""
+    """One request at a time to one clock. A caller that uses these calls directly is responsible for the numbers. What is asked
+    under one that was used before is answered by what the clock kept."""
 
     def __init__(self, settings: SessionSettings) -> None:
         super().__init__(header.ptpm_session, library.ptpm_session_stop)
@@ -60,13 +60,13 @@ class Requests(Handle):
         self._start(settings)
 
     def _start(self, settings: SessionSettings) -> None:
-        """Starts anew: no request is begun."""
+        """Starts afresh: no request is begun."""
         struct = settings.as_in_c()
         done(self._call(library.ptpm_session_start, ctypes.byref(struct)))
         self.settings = settings
 
     def begin(self, action: int, named: IdLike, data: bytes = b"", port: int = 0) -> None:
-        """Begins a request, and lets the answer to the one before go. The port matters for an id of a port alone."""
+        """Begins a request, and discards the answer to the one before. The port matters only for an id of a port."""
         octets = bytes(data)
         done(self._call(library.ptpm_session_begin, Action(action), id_of(named), port_number(port), octets, len(octets)))
 
@@ -126,9 +126,9 @@ class Requests(Handle):
         return bytes(room[: size.value])
 
     def restore(self, image: bytes) -> None:
-        """Goes on as the session of an image of the same manager, clock, number of ports and first number, in place of this one.
+        """Continues as the session of an image of the same manager, clock, number of ports and first number, instead of this one.
         Its domain, hops and attempts are those of the image. A request that was not answered goes on: send it again. What is
-        refused is no reason to start the session anew: the clock would take its requests for old ones, or for others."""
+        refused is no reason to start a fresh session: the clock would treat its requests as old, or as others."""
         octets, struct = bytes(image), self.settings.as_in_c()
         done(self._call(library.ptpm_session_restore, ctypes.byref(struct), octets, len(octets)))
 

@@ -132,7 +132,7 @@ class Session(Requests):
         probe.close()
 
     def finish(self, way: Transport, *, timeout: float = 0.2) -> Report:
-        """Sends the request of an earlier run until it is answered, and answers what came of it. `ask` does so too, but the file is
+        """Sends the request of an earlier run until it is answered, and answers what came of it. `ask` also does so, but the file is
         then kept without that request before `earlier` can be read."""
         with self._asking:
             self.resume(self.settings.attempts)

@@ -44,8 +44,8 @@ def usual_path(manager: PortIdentityLike, target: IdentityLike) -> str:
 
 
 class SessionFile:
-    """The octets of a session's file, or None if there is none yet. Whoever holds the file has its turn: others wait a minute. It
-    is held until it is closed, or its `with` ends."""
+    """The octets of a session's file, or None if there is none yet. The process that holds the file has its turn: others wait a
+    minute. It is held until it is closed, or its `with` ends."""
 
     def __init__(
         self, manager: PortIdentityLike, target: IdentityLike, path: Union[str, "os.PathLike[str]", None] = None
@@ -170,7 +170,7 @@ class SessionFile:
 
     def write(self, octets: bytes) -> None:
         """Has the file have these octets, whatever becomes of the program or the machine: they are on the disk when the call
-        returns. Only whoever holds it may write it."""
+        returns. Only the process that holds it may write it."""
         if not self.is_open:
             raise SessionFileError(f"{self.path}: it is closed here, and another program may hold it")
         os.replace(self._write_new(octets), self.path)

@@ -145,7 +145,7 @@ def _destination(interface: Optional[str], address: Optional[str], ipv6: bool) -
 
 class UdpTransport(Transport):
     """UDP port 320 at an interface, to the group of all clocks there, or to one address. It takes root, or the capability
-    CAP_NET_BIND_SERVICE. An answer to this host alone comes in at the socket that was opened last there. So a session has its turn
+    CAP_NET_BIND_SERVICE. A unicast answer comes in at the socket that was opened last there. So a session has its turn
     at its file before its way is opened."""
 
     def __init__(self, interface: Optional[str] = None, address: Optional[str] = None, *, ipv6: bool = False) -> None:
@@ -166,7 +166,7 @@ def _filter(opened: socket.socket) -> None:
 
 
 def _opened(interface: str, family: socket.AddressFamily) -> socket.socket:
-    """A socket that hears and sends management messages at this interface alone."""
+    """A socket that hears and sends management messages only on this interface."""
     opened = socket.socket(family, socket.SOCK_DGRAM | socket.SOCK_CLOEXEC)
     try:
         _filter(opened)  # before it is bound, since it hears nothing until then

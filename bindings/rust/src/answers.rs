@@ -85,13 +85,13 @@ answers! {
         NotAddressed = PTPM_NOT_ADDRESSED,
         /// It is an answer.
         NotARequest = PTPM_NOT_A_REQUEST,
-        /// A new request of a manager. It alone may have changed the data sets.
+        /// A new request of a manager. Only this one may have changed the data sets.
         AnsweredNew = PTPM_ANSWERED_NEW,
         /// The latest request of a manager again.
         AnsweredRepeat = PTPM_ANSWERED_REPEAT,
         /// A manager's request before its latest.
         DroppedOld = PTPM_DROPPED_OLD,
-        /// Another request under the number of a manager's latest.
+        /// Another request with the number of a manager's latest.
         DroppedConflict = PTPM_DROPPED_CONFLICT,
         /// A request of anybody else, or to every clock.
         AnsweredUnnumbered = PTPM_ANSWERED_UNNUMBERED,

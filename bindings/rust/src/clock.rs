@@ -91,16 +91,16 @@ impl Clock {
         Ok(clock)
     }
 
-    /// Starts the clock of an image, which has this identity and this number of ports. Says how many managers' latest requests were
-    /// let go, since these managers are not among those that are given. Managers and their rights are those that are given; all
-    /// else is that of the image.
+    /// Starts the clock of an image, which has this identity and this number of ports. Says how many managers' latest requests
+    /// were forgotten, since these managers are not among those that are given. Managers and their rights are those that are
+    /// given; all else comes from the image.
     ///
     /// # Errors
     ///
     /// The first of [`Error::TooManyManagers`], [`Error::ManagerTwice`], [`Error::IdentityIsZero`], [`Error::NotAnImage`],
     /// [`Error::OtherVersion`], [`Error::OtherKind`], [`Error::Damaged`], [`Error::OtherClock`], [`Error::OtherPorts`] and
-    /// [`Error::NoMemory`] that holds. That is no reason to start the clock anew: it would then take requests for new ones that it has
-    /// carried out.
+    /// [`Error::NoMemory`] that holds. That is no reason to start a fresh clock: it would carry out requests again that were
+    /// carried out before.
     pub fn restore(identity: Identity, ports: usize, managers: &[Manager], image: &[u8]) -> Result<(Self, usize), Error> {
         done(sys::ptpm_header_agrees())?;
         let mut clock = Self::none();
@@ -203,8 +203,8 @@ impl Clock {
         Ok(Ports(left))
     }
 
-    /// Reads what a GET of a managementId is answered: the dataField, in the room that it is given. The port matters for an id of a
-    /// port alone.
+    /// Reads what a GET of a managementId is answered: the dataField, in the room that it is given. The port matters only for
+    /// an id of a port.
     ///
     /// # Errors
     ///

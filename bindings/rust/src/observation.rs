@@ -45,7 +45,7 @@ pub struct ObservedClock {
     pub time_source: Option<u8>,
 }
 
-/// What a host observes of a port. [`PortState::Disabled`] is entered and left by commands of managers alone.
+/// What a host observes of a port. [`PortState::Disabled`] is entered and left only by commands of managers.
 #[derive(Clone, Copy, Debug, Default, PartialEq, Eq)]
 #[allow(missing_docs)] // the members of portDS (8.2.15), by the header's names
 pub struct ObservedPort {

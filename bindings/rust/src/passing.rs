@@ -6,8 +6,8 @@ use alloc::vec;
 use core::fmt;
 use core::mem::{align_of, size_of, MaybeUninit};
 
-/// Which messages were passed on last, 4,096 at most, in about 197,000 octets of the heap. A message that comes round is passed on
-/// once.
+/// Which messages were passed on last, 4,096 at most, in about 197,000 octets of the heap. A message that circulates is
+/// forwarded once.
 pub struct PassedOn {
     /// The octets of the library's table.
     words: Box<[u64]>,

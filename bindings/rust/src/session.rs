@@ -22,8 +22,8 @@ pub enum Action {
     Command = sys::PTPM_COMMAND,
 }
 
-/// One manager, the clock that it manages, and how its requests are numbered and sent. A clock takes a request for new if its
-/// number is up to 32,767 ahead of the latest that it took from this manager. So a manager that starts again goes on from the
+/// One manager, the clock that it manages, and how its requests are numbered and sent. A clock treats a request as new if its
+/// number is up to 32,767 ahead of the latest that it accepted from this manager. So a manager that starts again goes on from the
 /// number after the last that it began.
 #[derive(Clone, Copy, Debug, PartialEq, Eq)]
 pub struct SessionSettings {
@@ -124,8 +124,8 @@ impl Session {
     /// # Errors
     ///
     /// The first of [`Error::NotAnImage`], [`Error::OtherVersion`], [`Error::OtherKind`], [`Error::Damaged`],
-    /// [`Error::OtherSession`] and [`Error::NoMemory`] that holds. That is no reason to start the session anew: the clock would
-    /// take its requests for old ones, or for others.
+    /// [`Error::OtherSession`] and [`Error::NoMemory`] that holds. That is no reason to start a fresh session: the clock would
+    /// treat its requests as old, or as others.
     pub fn restore(settings: &SessionSettings, image: &[u8]) -> Result<Self, Error> {
         done(sys::ptpm_header_agrees())?;
         let mut session = Self::none();
@@ -149,7 +149,7 @@ impl Session {
         Ok(&room[..size])
     }
 
-    /// Begins a request, and lets the answer to the one before go. The port matters for an id of a port alone. The caller keeps the
+    /// Begins a request, and discards the answer to the one before. The port matters only for an id of a port. The caller keeps the
     /// number of the next request for a restart: the first one and [`Session::issued`], added up.
     ///
     /// # Errors

@@ -60,7 +60,7 @@ fn set<T: ?Sized>(socket: &OwnedFd, level: c_int, option: c_int, value: &T) -> i
     Ok(())
 }
 
-/// A socket that hears and sends at this interface alone.
+/// A socket that hears and sends only on this interface.
 pub fn open(interface: &str) -> io::Result<UdpSocket> {
     let name = CString::new(interface)?;
     // SAFETY: the name ends with a zero.
