@@ -1,6 +1,6 @@
 /* noise INTERFACE junk|announce|foreign|all RATE SECONDS
 
-   For trials: sends RATE datagrams a second to the group of PTP, over UDP and IPv4, at even times. Prints how many went out. 
+   For trials: sends RATE datagrams a second to the group of PTP, over UDP and IPv4, at even times. Prints how many went out.
    They are random octets, Announce messages of one master, GETs for clocks that are not there, or GETs for every clock. No manager
    sends these. It reads nothing. */
 #define _GNU_SOURCE
