@@ -19,7 +19,7 @@ void report_twin(void);
 void say_started(void);
 
 /* Takes the datagrams that have come in at a port, or on the Unix socket if there is none. Sends their answers, and what is
-   passed on. */
+   forwarded. */
 void take_round(const struct port *port, int socket);
 
 /* The clock observes what a text says, all of it or nothing. */

@@ -1,5 +1,5 @@
-/* What ptpm-clock keeps from the network of what its agent would send. It limits how far messages are passed on, which of them,
-   and how many a second. So no message goes round for good, and a stranger who sends little can't have much sent. */
+/* What ptpm-clock keeps from the network of what its agent would send. It limits how far messages are forwarded, which of them,
+   and how many per second. So no message circulates forever, and a stranger that sends little can't cause much to be sent. */
 #ifndef NETWORK_LIMITS_H
 #define NETWORK_LIMITS_H
 
@@ -9,9 +9,9 @@
 #include <stdbool.h>
 
 struct limits {
-    long hops;                          /* by how many clocks a message is passed on at most, this one included */
-    long rate;                          /* how many messages a port passes on a second, and how many answers strangers get there */
-    bool is_passed_on;                  /* messages are passed on between the ports */
+    long hops;                          /* how many clocks forward a message at most, this one included */
+    long rate;                          /* how many messages a port forwards per second, and how many answers strangers get there */
+    bool is_passed_on;                  /* messages are forwarded between the ports */
     bool is_passed_on_from_host;        /* and those of programs of this host */
     bool is_any_source;                 /* also from addresses that are not on the link */
     const struct ptpm_manager_settings *managers;
@@ -29,12 +29,12 @@ void say_deaf_ports(void);
 /* Whether a datagram from a port is heard at all: it comes from an address on the link, or any may. One that is not is counted. */
 bool admit_datagram(const struct heard *heard, const struct port *port);
 
-/* Lowers boundaryHops (octet 45) to the most that there may be, and startingBoundaryHops (octet 44) by as much. So an answer
-   has as many hops as it would have (15.4.1), and what is passed on has fewer. */
+/* Lowers boundaryHops (octet 45) to the limit, and startingBoundaryHops (octet 44) by the same amount. So an answer has as many
+   hops as it would have otherwise (15.4.1), and what is forwarded has fewer. */
 void lower_hops(struct heard *heard);
 
-/* Which of the messages that the agent made of a datagram are to go out. Those at `ingress` answer it, and the others pass it
-   on. Keeps them in their order at the head of the places; how many there are. If the datagram is of a program of this host,
+/* Which of the messages that the agent made of a datagram are to go out. Those at `ingress` answer it, and the others forward
+   it. Keeps them in their order at the head of the places; how many there are. If the datagram is of a program of this host,
    port is NULL. */
 size_t keep_back(const struct heard *heard, const struct port *port, uint16_t ingress, uint32_t answer,
                  const struct ptpm_sent *sent, size_t count, const struct ptpm_sent *kept[PTPM_MOST_SENT]);

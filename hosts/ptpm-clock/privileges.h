@@ -6,11 +6,11 @@
 #include <sys/types.h>
 
 struct privileges {
-    const char *user_name;      /* whom the program is to be, or NULL: it stays who it is */
+    const char *user_name;      /* the user that the program becomes, or NULL: it stays the same */
     uid_t user;
     gid_t group;
-    gid_t socket_group;         /* that of the Unix socket, in which it is then too; -1 if none was given */
-    bool is_unfiltered;         /* it may call all of the system */
+    gid_t socket_group;         /* the group of the Unix socket, which it then has too; -1 if none was given */
+    bool is_unfiltered;         /* it may make every system call */
 };
 
 /* What it takes to open a port's socket once more, if its interface is made again. */
@@ -20,7 +20,7 @@ enum needs { NEEDS_NOTHING, NEEDS_LOW_PORT, NEEDS_FRAMES };
    can't be done. Comes before any thread. */
 void let_go_of_rights(const struct privileges *privileges, enum needs needs);
 
-/* From now on all calls of the system fail except those that the program makes. It does nothing if the kernel has no filters.
+/* From now on all system calls fail except those that the program makes. Does nothing if the kernel has no filters.
    Comes before any thread. */
 void filter_calls(const struct privileges *privileges);
 

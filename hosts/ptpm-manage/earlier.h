@@ -1,4 +1,4 @@
-/* What an earlier run asked in the session, and has no answer yet. That run was killed, was ended by a signal, lost its
+/* A request that an earlier run made in the session, and that has no answer yet. That run was killed, was ended by a signal, lost its
    machine's power, or had no answer. */
 #ifndef EARLIER_H
 #define EARLIER_H

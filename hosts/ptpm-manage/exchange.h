@@ -6,7 +6,7 @@
 #include "transport.h"
 
 /* Begins the task's request at the port that it names, for an id of the clock too: some clocks answer only then. If it names
-   none, or every port, such an id is asked of every port. What the library answers. */
+   none, or every port, every port is asked for such an id. What the library answers. */
 enum ptpm_begun begin_of_task(struct ptpm_session *session, const struct task *task);
 
 /* Sends the session's request once more, which uses one of its attempts: NONE_LEFT if there is none. */

@@ -38,7 +38,7 @@ void leave_out_passing(struct report *report, const struct report *earlier);
 /* How many findings are not left out. */
 size_t findings_left(const struct report *report);
 
-/* Prints it without what is left out, its findings in colour if so wished. */
+/* Prints it without what is left out, its findings in colour if that is wanted. */
 void print_report_text(FILE *to, const struct report *report, bool is_coloured);
 
 /* Prints the findings that came since an earlier report, and those that went, a line each after `lead`. */

@@ -30,7 +30,7 @@ struct task {
     uint8_t octets[PTPM_MOST_OCTETS];           /* the dataField */
     struct ptpm_session_settings settings;      /* the number of the first request is 0 until one is drawn */
     bool has_manager;                           /* whether settings name the manager */
-    bool is_kept;                               /* by a manager who is the same in each run: a file keeps his session */
+    bool is_kept;                               /* by a manager that is the same in each run: a file keeps its session */
     bool is_letting_go;                         /* what an earlier run asked without an answer is not finished */
     const char *interfaces[MOST_INTERFACES];    /* the way: interfaces; only `collect` and `status` may have several, */
     int interface_count;

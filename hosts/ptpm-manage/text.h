@@ -11,8 +11,8 @@
    not read UTF-8, so are the octets of each character with one that could be read there as a control character. */
 void print_text(FILE *to, const uint8_t *octets, size_t size);
 
-/* Prints lines of `ptpm site`, which have no control character of UTF-8. If the locale does not read UTF-8, characters whose octets
-   could be taken for one are printed as above. */
+/* Prints lines of `ptpm site`, which have no control character of UTF-8. If the locale does not read UTF-8, characters whose
+   octets could be read as one are printed as above. */
 void print_lines(FILE *to, const char *text, size_t size);
 
 /* Prints JSON of `ptpm site`, which has characters other than ASCII only in its strings. Those that a terminal does not show as

@@ -31,10 +31,10 @@ void tell_missing_addresses(void);
 /* What it is called in a notice. */
 const char *transport_name(void);
 
-/* What became of a message: of a request NONE_LEFT, if its attempts are used. */
+/* What became of a message: of a request NONE_LEFT, if its attempts are used up. */
 enum sending { OUT, NO_ROOM, NO_TRANSPORT, NONE_LEFT };
 
-/* Hands a message to the socket, and waits for no room there. If it answers NO_TRANSPORT, errno says why. */
+/* Passes a message to the socket, and does not wait for room there. If it answers NO_TRANSPORT, errno says why. */
 enum sending send_message(const uint8_t *octets, size_t size);
 
 /* The next message that comes in before a time. It stays until the next call, and octets may follow it. NULL if none does, or a
