@@ -38,15 +38,15 @@ extern "C" {
 /* Gives the library its memory, before the first call that needs some, and again only while no handle holds anything.
    Takes:   size octets, which are the library's from then on. They count from the first multiple of 16, so a block is best
             aligned to that.
-   Answers: whether they are the library's now; false if something is held in those that it has, or if they are fewer than 32. */
+   Returns: whether they are the library's now; false if something is held in those that it has, or if they are fewer than 32. */
 bool ptpm_memory_give(void *block, size_t size);
 
 /* Reports how much of the block is taken.
-   Answers: how many octets, including those that the library keeps for itself. */
+   Returns: how many octets, including those that the library keeps for itself. */
 size_t ptpm_memory_taken(void);
 
 /* Reports how much of the block was taken at once, at most, since it was given.
-   Answers: the most octets. */
+   Returns: the most octets. */
 size_t ptpm_memory_most_taken(void);
 
 #ifdef __cplusplus
