@@ -1,6 +1,6 @@
 """A number that is new to a clock. What is asked with a number that was used before is answered with what the clock kept, or
 not at all. So a session first sends, with its number, a GET with octets that it draws. They are part of what makes a repeat, and the
-clock ignores them otherwise. It is answered if the number is new, and never by an answer that was kept."""
+clock ignores them otherwise. It is answered if the number is new, and never with an answer that was kept."""
 
 from __future__ import annotations
 

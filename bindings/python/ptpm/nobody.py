@@ -1,4 +1,4 @@
-"""Requests of no manager: a clock answers them whatever numbers it took, and keeps nothing of them."""
+"""Requests of no manager: a clock answers them whatever numbers it accepted, and keeps nothing of them."""
 
 from __future__ import annotations
 

@@ -1,5 +1,5 @@
-"""What this module itself reads of a session's image, and of the number that earlier versions kept in its place. Whether octets
-are an image the library judges."""
+"""What this module itself reads of a session's image, and of the number that earlier versions kept in its place. The library
+decides whether octets are an image."""
 
 from __future__ import annotations
 
