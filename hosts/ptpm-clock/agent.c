@@ -84,7 +84,7 @@ void say_started(void) {
     say("%s %zu manager%s", text, options->manager_count, options->manager_count == 1 ? "" : "s");
 }
 
-/* Prints the names of members that changed. Each has the place of the answer which refuses its value, `first` and on. */
+/* Prints the names of members that changed. Each has the place of the answer that refuses its value, from `first` on. */
 static void print_changed(const char *where, uint32_t first, uint32_t members) {
     char line[1024];
     int size = snprintf(line, sizeof line, "%s", where);
@@ -126,7 +126,7 @@ static unsigned long send_saved(void) {
     return save_changes(&clock_held) ? send_all() : drop_round();
 }
 
-/* Sends what a turn sends, or lets it wait, except what is kept from the network. `left` is how many messages that leaves. How
+/* Sends what a turn sends, or has it wait, except what is kept from the network. `left` is how many messages that leaves. How
    many of these were not taken. */
 static inline unsigned long hand_on(const struct heard *heard, const struct port *port, uint16_t ingress, enum ptpm_handled answer,
                                     const struct ptpm_sent *places, size_t count, size_t *left) {

@@ -9,7 +9,7 @@
 #include <string.h>
 #include <sys/random.h>
 
-enum { NOTED = 1000 };     /* for how many milliseconds a message is not passed on again */
+enum { NOTED = 1000 };     /* for how many milliseconds a message is not forwarded again */
 
 static struct limits limits;
 static struct kept_back kept_back;
@@ -57,7 +57,7 @@ static bool is_of_manager(const struct heard *heard) {
     return false;
 }
 
-/* Whether a message is to be passed on at all. It is asked once of each, since it is noted. */
+/* Whether a message is to be forwarded at all. It is asked once for each, since it is recorded. */
 static bool admit_copies(const struct heard *heard, const struct port *port, uint64_t now) {
     if (!limits.is_passed_on || limits.hops == 0 || (port == NULL && !limits.is_passed_on_from_host)) return false;
     if (ptpm_passed_on_is_first(&passed_on, heard->octets, heard->size, now, NOTED)) return true;

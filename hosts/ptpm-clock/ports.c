@@ -20,7 +20,7 @@ enum transport transport;
 
 static bool is_hurried;         /* the kernel reported a change */
 
-/* With UDP the kernel is to report of each datagram the address that it was sent to. */
+/* With UDP the kernel is to report for each datagram the address that it was sent to. */
 static int open_socket(struct port *port, const char **what) {
     int one = 1;
     if (transport == ETHERNET) return open_ethernet(port->name, port->station, what);
@@ -51,7 +51,7 @@ void open_port(const char *interface) {
     port->mtu = mtu_at(port->socket, port->index);
 }
 
-/* Two ports at one interface would pass on to its link what comes from there. */
+/* Two ports at one interface would forward to its link what comes from there. */
 static const struct port *other_at(unsigned index, const struct port *port) {
     for (size_t i = 0; i < port_count; i++) {
         if (&ports[i] != port && ports[i].index == index) return &ports[i];

@@ -104,7 +104,7 @@ static void tell_gone(size_t gone) {
         gone == 1 ? "" : "s", gone == 1 ? "is" : "are", gone == 1 ? "its requests" : "their requests");
 }
 
-/* What the command line says of the data sets is for a clock that starts afresh. */
+/* What the command line says about the data sets is for a clock that starts afresh. */
 static void tell_domain(const struct ptpm_clock *clock) {
     uint8_t field[PTPM_MOST_READ];
     size_t size;

@@ -19,7 +19,7 @@ enum { OF_CLOCK = 20, OF_PORT = 26 };
 /* Of four numbers this far apart at least one is new, whatever the latest of this manager is. */
 enum { APART = 16384, NUMBERS = 4 };
 
-/* This many answers to reads, and none to the question beside them, show that its number is not new. */
+/* This many answers to reads, and none to the question that runs with them, show that its number is not new. */
 enum { ENOUGH = 5 };
 
 enum tried { NEW, NOT_NEW, SILENT, NOT_OUT };
@@ -60,7 +60,7 @@ int ask_whether_new(struct session *session, const struct task *task) {
     return status == NOT_ANSWERED ? no_answer(task, NUMBER, latest_number(session), sent) : status;
 }
 
-/* Whether the question is answered in time; answers to a read beside it are counted. */
+/* Whether the question is answered in time; answers to a read that runs with it are counted. */
 static bool hear_answer(const struct task *task, int *readings) {
     long end = milliseconds() + task->timeout;
     for (int place; (place = first_answered(&asking.handle, &reading, end)) >= 0;) {

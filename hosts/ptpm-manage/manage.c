@@ -23,7 +23,7 @@ const char program[] = "ptpm-manage";
 
 _Noreturn void usage(void) { refuse("see ptpm-manage --help"); }
 
-/* Asks in the manager's session, which goes on from run to run. It has its turn before its socket: a unicast answer comes in at
+/* Asks in the manager's session, which continues from run to run. It has its turn before its socket: a unicast answer comes in at
    the latest socket there, which has to be heard. */
 static int ask_in_session(struct session *session, const struct task *task) {
     static struct task earlier;

@@ -225,7 +225,7 @@ static void read_id(struct task *task, const char *text) {
     task->id = (uint16_t)id;
 }
 
-/* What else is said of a value that is no dataField. */
+/* What else is said about a value that is no dataField. */
 static const char *hint(const struct task *task) {
     if (has_text(task->id)) return "; a text takes --text";
     return task->action == PTPM_SET && can_only_be_read(task->id) ? "; the id can only be read" : "";
@@ -266,7 +266,7 @@ static void read_value(struct task *task, const struct words *words) {
     else read_octets_of(task, value[0]);
 }
 
-/* Whether what is said of the clock and the way to it is whole, and said once. */
+/* Whether what is said about the clock and the way to it is complete, and said once. */
 static void judge(const struct task *task, const struct words *words) {
     if (task->path == NULL && task->interface_count == 0 && task->address == NULL) {
         refuse("the way to the clock is missing: --interface NAME, --udp ADDRESS or --unix PATH");
@@ -293,7 +293,7 @@ static void judge_json(const struct task *task) {
     if (task->times > 1) refuse("--json and --times exclude each other");
 }
 
-/* Whether who asks is the same in each run, so that a clock may have kept an answer of his. It never keeps one to a GET to
+/* Whether the manager is the same in each run, so that a clock may have kept an answer to it. It never keeps one to a GET to
    every clock. A GET by nobody needs none. On a Unix socket clock 0 asks with another port number each time. */
 static bool is_by_one_manager(const struct task *task) {
     if (task->is_survey) return false;

@@ -155,7 +155,7 @@ static void open_at_interface(struct end *end) {
     if (!open_end(end, &what)) refuse("nothing was sent: %s: %s%s", what, strerror(errno), right_needed(is_ethernet));
 }
 
-/* If the kernel can't be asked, each interface is taken to have one. */
+/* If the kernel can't be asked, each interface is assumed to have one. */
 static bool has_address(const char *interface, int family) {
     struct ifaddrs *all;
     bool is_found = false;
