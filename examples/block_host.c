@@ -1,5 +1,5 @@
-/* An agent with a port at each of two interfaces (UDP over IPv4, annex C), for a device without malloc: its clock lives in a static
-   block. What a manager changes is not acted on here, and nothing is kept across a restart. It is C, and C++ too:
+/* An agent for a device without malloc: its clock lives in a static block. It has a port at each of two interfaces (UDP over
+   IPv4, annex C). What a manager changes is not acted on here, and nothing is kept across a restart. It is C, and C++ too:
        cc block_host.c -Wl,-Bstatic -lptpm_memory -Wl,-Bdynamic && sudo ./a.out eth0 eth1 */
 #define _DEFAULT_SOURCE
 #include <arpa/inet.h>
@@ -24,7 +24,7 @@ static uint8_t datagram[65536];
 static struct sockaddr_in group;
 static struct pollfd sockets[PORTS];
 
-/* Says why the agent does not start, by the name of the library's answer. */
+/* Says why the agent does not start, with the name of the library's answer. */
 static int refused(enum ptpm_started answer) {
     char name[PTPM_MOST_NAME + 1];
     size_t size = ptpm_answer_name(answer, name, PTPM_MOST_NAME);
@@ -47,7 +47,7 @@ static int open_port(const char *interface) {
            && setsockopt(at, IPPROTO_IP, IP_MULTICAST_LOOP, &none, sizeof none) == 0 ? at : -1;
 }
 
-/* The block is given before the first call that takes memory. */
+/* The block is given before the first call that allocates memory. */
 static enum ptpm_started start(void) {
     struct ptpm_clock_settings settings;
     struct ptpm_port_settings ports[PORTS];

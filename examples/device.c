@@ -1,5 +1,5 @@
-/* A device without hardware, for the host of embedding.md ("In C"): it observes nothing, and prints what its manager changes. Its words
-   are its clockIdentity, its manager, and two interfaces; two_ports.c is the text of that host:
+/* A simulated device, for the host of embedding.md ("In C"): it observes nothing, and prints what its manager changes. Its
+   arguments are its clockIdentity, its manager, and two interfaces; two_ports.c is the text of that host:
        cc two_ports.c device.c $(pkg-config --cflags --libs ptpm) -o two_ports
        sudo ./two_ports aabbccfffeddee01 020000fffe000010/1 eth0 eth1 */
 #include <ptpm.h>
@@ -8,7 +8,7 @@
 
 enum { PORTS = 2 };
 
-/* The host's own functions, which it calls, and the one by which it begins. */
+/* The functions that the host calls, and the one that starts it. */
 void observe_device(struct ptpm_observed_clock *clock, struct ptpm_observed_port ports[PORTS]);
 void stop_port(int port);
 void start_port(int port);
@@ -34,7 +34,7 @@ void tell_operator(uint32_t answer) {
     printf("%.*s\n", (int)ptpm_answer_name(answer, name, sizeof name), name);
 }
 
-/* The octets of the sixteen hexadecimal digits that a text begins with; whether there are that many. */
+/* The octets of the sixteen hexadecimal digits at the head of a text; whether there are that many. */
 static int read_identity(const char *text, uint8_t identity[8]) {
     for (int i = 0; i < 8; i++) {
         unsigned octet;

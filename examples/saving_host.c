@@ -1,5 +1,6 @@
-/* A clock that outlasts its power: it carries out one SET of PRIORITY1, and says what became of it and which value it has. Run again, it
-   knows the request for a repeat, and has the value still. The state is in clock.state, or in the file that is named:
+/* A clock that survives a loss of power. It carries out one SET of PRIORITY1, and says what became of it and which value it
+   has. Run again, it recognises the request as a repeat, and still has the value. The state is in clock.state, or in the file
+   that is named:
        cc saving_host.c $(pkg-config --cflags --libs ptpm) && ./a.out && ./a.out */
 #define _POSIX_C_SOURCE 200809L
 #include <errno.h>
@@ -19,8 +20,8 @@ static struct ptpm_sent sent[PTPM_MOST_SENT];
 static struct ptpm_clock device;                /* all zeros: no clock is held yet */
 static uint8_t image[PTPM_CLOCK_IMAGE_OCTETS + 1];
 
-/* Whether the clock is in the file, whatever happens to the power from now on: a new file in place of the old one, each step of which is
-   on the disk before the next. The file lies in the folder that the program is in. */
+/* Whether the clock is in the file, whatever happens to the power from now on. A new file replaces the old one, and each step
+   is on the disk before the next. The file is in the folder that the program runs in. */
 static int save(const char *file) {
     size_t size;
     if (ptpm_clock_image(&device, image, sizeof image, &size) != PTPM_SAVED) return 0;

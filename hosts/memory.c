@@ -1,5 +1,5 @@
-/* The memory of libptpm_memory.a: what dist/c/heap.c asks of malloc, realloc and free, out of one block that the host gives. The block
-   is pieces that lie side by side; each begins with its size and that of the piece below it. Two free pieces are never adjacent. A
+/* The memory of libptpm_memory.a: what dist/c/heap.c asks of malloc, realloc and free, from one block that the host gives. The
+   block consists of adjacent pieces; each begins with its size and that of the piece below it. Two free pieces are never adjacent. A
    clock has two pieces: its managers' slots, and then itself. They are taken from the lowest place that has room, and all others from
    the highest. So what lies between clocks is room for clocks, and a clock that was stopped can be started again. */
 #include "ptpm_memory.h"

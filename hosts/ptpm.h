@@ -70,7 +70,7 @@ struct ptpm_clock_settings {
     uint16_t observed_variance;         /* observedParentOffsetScaledLogVariance */
     uint16_t grandmaster_variance;      /* offsetScaledLogVariance of grandmasterClockQuality */
     uint16_t parent_port_number;
-    int16_t utc_offset;                 /* currentUtcOffset: TAI less UTC, in seconds */
+    int16_t utc_offset;                 /* currentUtcOffset: TAI minus UTC, in seconds */
     uint8_t identity[8];                /* neither all ones nor all zeros */
     uint8_t parent_port_clock[8];
     uint8_t grandmaster[8];
@@ -125,12 +125,12 @@ struct ptpm_port_settings {
     int8_t log_min_pdelay;              /* logMinPdelayReqInterval, -8 to 5 */
 };
 
-/* What a host observes of its clock. Its servo, its port state machines and its best master clock algorithm find it (clause 8.2 of
+/* What a host observes about its clock. Its servo, its port state machines and its best master clock algorithm find it (clause 8.2 of
    IEEE 1588-2019). Start from all zeros, struct ptpm_observed_clock observed = { 0 }; a member without its has_ flag
-   stays. A flag is set if it is not 0. A grandmaster is observed whole. If is_grandmaster is set it is the clock itself, and the
+   stays. A flag is set if it is not 0. A grandmaster is observed as a whole. If is_grandmaster is set it is the clock itself, and the
    members of a grandmaster and of the parent port do not count. Otherwise, if has_grandmaster is set, it is the one that they name.
-   If neither is set, the quality of a clock that is its own grandmaster is shown as its grandmaster's too. What only
-   managers set can't be observed. clock_accuracy, utc_offset, the two leaps and utc_valid are both set and observed, and the later
+   If neither is set, the quality of a clock that is its own grandmaster is shown as its grandmaster's too. What only managers
+   set can't be observed. clock_accuracy, utc_offset, the two leaps and utc_valid are both set and observed, and the later
    value counts. */
 struct ptpm_observed_clock {
     int64_t offset_from_master;         /* in nanoseconds times 2^16 */
@@ -141,7 +141,7 @@ struct ptpm_observed_clock {
     uint16_t observed_variance;         /* observedParentOffsetScaledLogVariance */
     uint16_t grandmaster_variance;      /* offsetScaledLogVariance of grandmasterClockQuality */
     uint16_t parent_port_number;
-    int16_t utc_offset;                 /* currentUtcOffset: TAI less UTC, in seconds */
+    int16_t utc_offset;                 /* currentUtcOffset: TAI minus UTC, in seconds */
     uint8_t parent_port_clock[8];
     uint8_t grandmaster[8];
     uint8_t clock_class;
@@ -240,9 +240,9 @@ enum {
 /* A session of a manager, about 1,600 octets at one pointer. All zeros hold no session. */
 struct ptpm_session { void *at; bool live; };
 
-/* One manager, the clock that it manages, and how its requests are numbered and sent. A clock takes a request for new if its number
-   is up to 32,767 ahead of the latest that it took from this manager. So a manager that starts again goes on from the number after
-   the last that it began. */
+/* One manager, the clock that it manages, and how its requests are numbered and sent. A clock treats a request as new if its
+   number is up to 32,767 ahead of the latest that it accepted from this manager. So a manager that starts again continues with
+   the number after the last that it began. */
 struct ptpm_session_settings {
     uint16_t port;                      /* portNumber of the manager */
     uint16_t target_ports;              /* how many ports the managed clock has, 1 to 8 */
@@ -254,7 +254,7 @@ struct ptpm_session_settings {
     uint8_t attempts;                   /* how often a request may be sent before it is given up */
 };
 
-/* What may be asked of a clock: the actionField of a request. */
+/* What a clock may be asked for: the actionField of a request. */
 enum { PTPM_GET = 0, PTPM_SET = 1, PTPM_COMMAND = 3 };
 
 /* A survey of a manager: what it asks and its answers, at one pointer. All zeros hold no survey. */
@@ -278,23 +278,23 @@ struct ptpm_source {
     uint16_t port;
 };
 
-/* Which messages were passed on last, 4,096 at most, about 197,000 octets. All zeros note none. The host then draws a seed, so that
-   nobody else can say where a message is noted. It writes nothing else inside. */
+/* Which messages were forwarded last, 4,096 at most, about 197,000 octets. All zeros record none. The host then draws a seed,
+   so that nobody else can predict where a message is recorded. It writes nothing else inside. */
 struct ptpm_passed_on {
     uint64_t seed;
     uint64_t places[4096][6];
 };
 
-/* A bucket of tokens: N a second, and what a second brings at once. ptpm_rate_start makes it, and the host writes nothing inside
-   it. */
+/* A bucket of tokens: N per second, and at most those of one second at once. ptpm_rate_start makes it. The host writes nothing
+   inside it. */
 struct ptpm_rate {
-    uint64_t rate;                      /* tokens a second */
+    uint64_t rate;                      /* tokens per second */
     uint64_t left;                      /* thousandths of a token */
     uint64_t time;                      /* the latest that it was asked at, in milliseconds */
 };
 
-/* No flag of the compiler may lay a struct out otherwise than the library has it. If one does, the compiler refuses an array with
-   the name of the struct, since its size is negative. C99 has no static assertion. */
+/* No compiler flag may lay a struct out differently from the library. If one does, the compiler refuses an array with the name
+   of the struct, since its size is negative. C99 has no static assertion. */
 #define PTPM_HAS_SIZE(name, size) typedef char name##_is_laid_out_otherwise[sizeof(struct name) == (size) ? 1 : -1]
 PTPM_HAS_SIZE(ptpm_clock, 16);
 PTPM_HAS_SIZE(ptpm_clock_settings, 216);
@@ -321,13 +321,13 @@ enum { PTPM_CLOCK_IMAGE_OCTETS = 27185 };
 /* The most ports whose answers a survey keeps. */
 enum { PTPM_MOST_ANSWERS = 512 };
 
-/* What calls answer. 0 says that the call was done. 1 to 31 say what became of a datagram or of a request. From 32 on the call was
+/* What calls return. 0 says that the call was done. 1 to 31 say what became of a datagram or of a request. From 32 on the call was
    refused (ptpm_is_refusal). 48 to 63 say why nothing starts, or an observation is refused. 64 to 101 say which member is out of
    its range. 104 to 110 say why a restore is refused. 112 says that a request can't be given up. 113 to 117 say why words are no
    dataField.
 
    Each kind of call has a type for its answers. With -Wenum-compare gcc, g++ and clang++ warn if an answer is compared with a
-   name of another kind's. A name that several kinds of calls answer is a plain number, and compares with each type. Each type has
+   name of another kind. A name that several kinds of calls return is a plain number, and compares with each type. Each type has
    it again with the kind in front, such as PTPM_HANDLE_NO_CLOCK for PTPM_NO_CLOCK, so that -Wswitch and debuggers know it. A
    uint32_t holds any answer. */
 
@@ -341,7 +341,7 @@ enum { PTPM_MOST_ANSWERS = 512 };
 #define PTPM_OTHER_NUMBER 14            /* its sequenceId is not that of the request */
 #define PTPM_OTHER_CONTENT 15           /* it has another managementId, or its action answers no request of this action */
 
-/* Why a datagram holds no management message of this profile. The first that holds is answered, in this order. */
+/* Why a datagram holds no management message of this profile. The first that holds is returned, in this order. */
 #define PTPM_TOO_SHORT 16               /* it has under 54 octets */
 #define PTPM_NOT_MANAGEMENT 17          /* its messageType is not 0xD */
 #define PTPM_BAD_VERSION 18             /* its versionPTP is not 2 */
@@ -376,11 +376,11 @@ enum { PTPM_MOST_ANSWERS = 512 };
 #define PTPM_FOUR_OCTETS(name) __attribute__((__mode__(__SI__))) name
 #endif
 
-/* The starts. A session is refused by PTPM_MANAGER_IS_EVERY, PTPM_TARGET_IS_EVERY, PTPM_SAME_CLOCK, PTPM_NO_PORTS,
-   PTPM_TOO_MANY_PORTS, PTPM_TARGET_IS_ZERO or PTPM_NO_MEMORY, in this order. A survey of every clock is refused by the first or the
-   last of these. A survey of one clock is refused by all of them except the two of ports. A clock is refused by all others,
-   PTPM_IDENTITY_IS_ZERO last, and by PTPM_NO_PORTS, PTPM_TOO_MANY_PORTS and PTPM_NO_MEMORY. PTPM_OTHER_SIZES comes before all of
-   them, and only for ptpm_clock_start_sized and its like. */
+/* The starts. A session is refused with PTPM_MANAGER_IS_EVERY, PTPM_TARGET_IS_EVERY, PTPM_SAME_CLOCK, PTPM_NO_PORTS,
+   PTPM_TOO_MANY_PORTS, PTPM_TARGET_IS_ZERO or PTPM_NO_MEMORY, in this order. A survey of every clock is refused with the first
+   or the last of these. A survey of one clock is refused with any of them except the two about ports. A clock is refused with
+   all others, PTPM_IDENTITY_IS_ZERO last, and with PTPM_NO_PORTS, PTPM_TOO_MANY_PORTS and PTPM_NO_MEMORY. PTPM_OTHER_SIZES
+   comes before all of them, and only for ptpm_clock_start_sized and the like. */
 __extension__ enum PTPM_FOUR_OCTETS(ptpm_started) {
     PTPM_STARTED = 0,
     PTPM_START_NO_MEMORY = PTPM_NO_MEMORY,
@@ -407,7 +407,7 @@ __extension__ enum PTPM_FOUR_OCTETS(ptpm_started) {
     PTPM_BAD_LOG_MIN_PDELAY = 101
 };
 
-/* The members that are never out of range, since every value of their types is one of theirs. No call answers these names;
+/* The members that are never out of range, since every value of their types is one of theirs. No call returns these names;
    ptpm_answer_name knows them. */
 enum {
     PTPM_BAD_DOMAIN = 65, PTPM_BAD_TWO_STEP = 67, PTPM_BAD_PRIORITY1, PTPM_BAD_CLOCK_CLASS, PTPM_BAD_VARIANCE = 71,
@@ -425,11 +425,11 @@ __extension__ enum PTPM_FOUR_OCTETS(ptpm_handled) {
     PTPM_OWN_MESSAGE = 2,               /* the clock sent it */
     PTPM_NOT_ADDRESSED = 3,             /* it is for other clocks */
     PTPM_NOT_A_REQUEST = 4,             /* it is an answer */
-    PTPM_ANSWERED_NEW = 5,              /* a new request of a manager */
+    PTPM_ANSWERED_NEW = 5,              /* a new request from a manager */
     PTPM_ANSWERED_REPEAT = 6,           /* the latest request of a manager again */
     PTPM_DROPPED_OLD = 7,               /* a manager's request older than its latest */
-    PTPM_DROPPED_CONFLICT = 8,          /* another request under the number of its latest */
-    PTPM_ANSWERED_UNNUMBERED = 9,       /* a request of anybody else, or to every clock */
+    PTPM_DROPPED_CONFLICT = 8,          /* another request with the number of its latest */
+    PTPM_ANSWERED_UNNUMBERED = 9,       /* a request from anyone else, or to every clock */
     PTPM_HANDLE_TOO_SHORT = PTPM_TOO_SHORT,
     PTPM_HANDLE_NOT_MANAGEMENT = PTPM_NOT_MANAGEMENT,
     PTPM_HANDLE_BAD_VERSION = PTPM_BAD_VERSION,
@@ -619,19 +619,19 @@ PTPM_IS_WIDE(ptpm_parsed);
 
 /* Whether a call with this answer was refused. It then changed nothing, except that a start leaves nothing in its handle.
    PTPM_REFUSED is no such answer: it says that the clock which was asked refused the request.
-   Takes:   what a call with one of these types answered. */
+   Takes:   what a call with one of these types returned. */
 static inline bool ptpm_is_refusal(uint32_t answer) { return answer >= 32; }
 
-/* Each call below says what it takes, and what it answers. It says what of the host's memory it writes beside its handle, what
-   memory it asks of malloc, and what the caller then owes. If a line is missing, there is none of it. */
+/* Each call below says what it takes, and what it returns. It says which of the host's memory it writes besides its handle, and
+   what memory it gets from malloc. "Caller" is what the caller has to do then. A line that is missing would say "nothing". */
 
 /* Reports the version of the library that is linked: PTPM_VERSION_NUMBER of its own header.
-   Answers: the number. */
+   Returns: the number. */
 uint32_t ptpm_version(void);
 
 /* Compares the sizes of a caller's structs with those of the library, so that a header of another version is found.
    Takes:   count sizes, one for each struct of this file, in its order.
-   Answers: PTPM_STARTED if the library has these structs, of these sizes, and no others; or PTPM_OTHER_SIZES. */
+   Returns: PTPM_STARTED if the library has these structs, of these sizes, and no others; or PTPM_OTHER_SIZES. */
 enum ptpm_started ptpm_sizes_agree(const size_t *sizes, size_t count);
 
 /* Compares the sizes of the file that the caller was compiled with. */
@@ -648,25 +648,26 @@ static inline enum ptpm_started ptpm_header_agrees(void) {
 
 /* Makes the settings of a clock of identity 0 in domain 0 that is its own grandmaster, with this profile's defaults.
    Writes:  all of *settings.
-   Owed:    the caller writes the identity, and what else its clock has, over them. No clock starts with an identity of zeros. */
+   Caller:  writes the identity, and the other values of its clock, over them. No clock starts with an identity of
+            zeros. */
 void ptpm_clock_defaults(struct ptpm_clock_settings *settings);
 
 /* Makes the settings of a port that is MASTER, with this profile's defaults.
    Writes:  all of *settings. */
 void ptpm_port_defaults(struct ptpm_port_settings *settings);
 
-/* Starts a clock in place of what the handle holds, which is freed first.
-   Takes:   one to eight ports, and at most sixteen managers. The first port is port 1. All port_count settings are read, also if
-            they are too many.
-   Answers: PTPM_STARTED; or why not, and then the handle holds nothing.
+/* Starts a clock instead of what the handle holds, which is freed first.
+   Takes:   one to eight ports, and at most sixteen managers. The first port is port 1. All port_count settings are read, even
+            if they are too many.
+   Returns: PTPM_STARTED; or why not, and then the handle holds nothing.
    Memory:  the clock, 472 octets and 2,136 for each manager, until it is stopped, and a copy of the ports until the call returns.
-   Owed:    the caller stops the clock. */
+   Caller:  stops the clock. */
 enum ptpm_started ptpm_clock_start(struct ptpm_clock *clock, const struct ptpm_clock_settings *settings,
                                    const struct ptpm_port_settings *ports, size_t port_count,
                                    const struct ptpm_manager_settings *managers, size_t manager_count);
 
 /* Does what ptpm_clock_start does if this file is that of the library.
-   Answers: what ptpm_clock_start answers; or PTPM_OTHER_SIZES, and then the handle holds what it held. */
+   Returns: what ptpm_clock_start returns; or PTPM_OTHER_SIZES, and then the handle holds what it held. */
 static inline enum ptpm_started ptpm_clock_start_sized(struct ptpm_clock *handle, const struct ptpm_clock_settings *settings,
                                                        const struct ptpm_port_settings *of_ports, size_t all_ports,
                                                        const struct ptpm_manager_settings *of_managers, size_t all_managers) {
@@ -676,57 +677,57 @@ static inline enum ptpm_started ptpm_clock_start_sized(struct ptpm_clock *handle
 
 /* Judges a datagram that came in at a port, carries its request out, and makes what is to be sent.
    Takes:   the port, counted from 1; size octets; and room places, PTPM_MOST_SENT or more.
-   Answers: what became of the datagram; or why it was not judged, and then *count is 0.
+   Returns: what became of the datagram; or why it was not judged, and then *count is 0.
    Writes:  *count, and the first *count places of sent: of each its port, its size, and as many octets.
-   Owed:    the caller sends these messages in their order, whatever is answered, each at its port. */
+   Caller:  sends these messages in their order, whatever the call returns, each at its port. */
 enum ptpm_handled ptpm_clock_handle(struct ptpm_clock *clock, uint16_t port, const uint8_t *datagram, size_t size,
                                     struct ptpm_sent *sent, size_t room, size_t *count);
 
 /* Like ptpm_clock_handle. It also reports exactly the members that the turn changed; none unless the answer is PTPM_ANSWERED_NEW.
    Takes:   what ptpm_clock_handle takes.
-   Answers: what ptpm_clock_handle answers.
+   Returns: what ptpm_clock_handle returns.
    Writes:  what ptpm_clock_handle writes, and *changed: the members that have another value after the call than before it. It
             is all zeros after every answer except PTPM_ANSWERED_NEW, and after a GET or a request that was refused.
-   Owed:    what ptpm_clock_handle leaves owed; and the device acts on each change. ptpm_clock_read reads the new values. */
+   Caller:  does what ptpm_clock_handle asks of it, and acts on each change. ptpm_clock_read reads the new values. */
 enum ptpm_handled ptpm_clock_handle_changed(struct ptpm_clock *clock, uint16_t port, const uint8_t *datagram, size_t size,
                                             struct ptpm_sent *sent, size_t room, size_t *count, struct ptpm_changed *changed);
 
-/* Sets exactly what the host observed of its clock and of its ports. Judges the data sets as they would be afterwards.
+/* Sets exactly what the host observed about its clock and its ports. Judges the data sets as they would be afterwards.
    Takes:   port_count places, from port 1 on: as many as the clock has ports, or fewer, or none.
-   Answers: PTPM_OBSERVED; or why not, and then nothing changes.
+   Returns: PTPM_OBSERVED; or why not, and then nothing changes.
    Writes:  *left: the disabled ports at which a state was observed, and which stay disabled. 1 is port 1, 2 is port 2, 4 is
             port 3, and so on, summed up; 0 if the call is refused.
-   Owed:    the host stops these ports. */
+   Caller:  stops these ports. */
 enum ptpm_observed ptpm_clock_observe(struct ptpm_clock *clock, const struct ptpm_observed_clock *observed,
                                       const struct ptpm_observed_port *ports, size_t port_count, uint8_t *left);
 
-/* Reads what a GET of a managementId is answered.
+/* Reads the answer that a GET of a managementId would get.
    Takes:   the id; a port of the clock, which matters only for an id of a port; and room octets, PTPM_MOST_READ or more.
-   Answers: PTPM_READ, or why not.
+   Returns: PTPM_READ, or why not.
    Writes:  *size, and as many octets from octets on: the dataField. *size is 0 if the call is refused. */
 enum ptpm_read ptpm_clock_read(const struct ptpm_clock *clock, uint16_t id, uint16_t port, uint8_t *octets, size_t room,
                                size_t *size);
 
-/* Makes the clock's image: what a host saves before it sends the messages of an answer PTPM_ANSWERED_NEW. From it the clock goes
-   on after a restart. It has its data sets, the latest request of each manager and the reply to it. The managers and what each
-   of them may change are not in it.
+/* Makes the clock's image: what a host saves before it sends the messages of an answer PTPM_ANSWERED_NEW. From it the clock
+   continues after a restart. It has the clock's data sets, the latest request of each manager and the reply to it. The managers
+   and what each of them may change are not in it.
    Takes:   room octets; PTPM_CLOCK_IMAGE_OCTETS are enough for every clock.
-   Answers: PTPM_SAVED, or why not.
+   Returns: PTPM_SAVED, or why not.
    Writes:  *size, and that number of octets from octets on: the image. If the call is refused, *size is 0 and no octet is written. */
 enum ptpm_saved ptpm_clock_image(const struct ptpm_clock *clock, uint8_t *octets, size_t room, size_t *size);
 
-/* Puts the clock of an image in the handle, in place of what it holds, which is then freed.
+/* Puts the clock of an image in the handle, instead of what it holds, which is then freed.
    Takes:   the identity and the number of ports that the clock of the image must have; at most sixteen managers; and size octets.
-            Managers and what each of them may change are those that are given. All else is that of the image. A manager that is
-            given and has no request in the image begins anew.
-   Answers: PTPM_RESTORED; or why not, and then the handle holds what it held. The first that holds of PTPM_TOO_MANY_MANAGERS,
+            Managers and what each of them may change are those that are given. All else comes from the image. A manager that is
+            given and has no request in the image begins afresh.
+   Returns: PTPM_RESTORED; or why not, and then the handle holds what it held. The first of these that holds: PTPM_TOO_MANY_MANAGERS,
             PTPM_MANAGER_TWICE, PTPM_IDENTITY_IS_ZERO, PTPM_NOT_AN_IMAGE, PTPM_OTHER_VERSION, PTPM_OTHER_KIND, PTPM_DAMAGED,
-            PTPM_OTHER_CLOCK, PTPM_OTHER_PORTS and PTPM_NO_MEMORY. A restore that is refused is no reason to start the clock anew.
-            It would then take requests for new ones that it has carried out.
-   Writes:  *gone: the number of requests of the image whose managers are not among those that are given. They are let go. If the
-            call is refused it is 0.
-   Memory:  the clock, until it is stopped, as much as of a start.
-   Owed:    the caller stops the clock. */
+            PTPM_OTHER_CLOCK, PTPM_OTHER_PORTS and PTPM_NO_MEMORY. A restore that is refused is no reason to start a fresh
+            clock. It would carry out requests again that were carried out before.
+   Writes:  *gone: the number of requests of the image whose managers are not among those that are given. They are forgotten. If
+            the call is refused it is 0.
+   Memory:  the clock, until it is stopped, as much as for a start.
+   Caller:  stops the clock. */
 enum ptpm_restored ptpm_clock_restore(struct ptpm_clock *clock, const uint8_t identity[8], size_t port_count,
                                       const struct ptpm_manager_settings *managers, size_t manager_count,
                                       const uint8_t *image, size_t size, size_t *gone);
@@ -738,91 +739,91 @@ void ptpm_clock_stop(struct ptpm_clock *clock);
    clock under the manager's portIdentity: no survey does, and no other program.
    Answers: PTPM_STARTED; or why not, and then the handle holds nothing.
    Memory:  the session, until it is stopped.
-   Owed:    the caller stops the session. */
+   Caller:  stops the session. */
 enum ptpm_started ptpm_session_start(struct ptpm_session *session, const struct ptpm_session_settings *settings);
 
 /* Does what ptpm_session_start does if this file is that of the library.
-   Answers: what ptpm_session_start answers; or PTPM_OTHER_SIZES, and then the handle holds what it held. */
+   Returns: what ptpm_session_start returns; or PTPM_OTHER_SIZES, and then the handle holds what it held. */
 static inline enum ptpm_started ptpm_session_start_sized(struct ptpm_session *handle,
                                                          const struct ptpm_session_settings *settings) {
     enum ptpm_started answer = ptpm_header_agrees();
     return answer != PTPM_STARTED ? answer : ptpm_session_start(handle, settings);
 }
 
-/* Begins a request, and lets the answer to the one before go.
+/* Begins a request, and discards the answer to the one before.
    Takes:   PTPM_GET, PTPM_SET or PTPM_COMMAND; the id; a port of the managed clock; and the dataField, of size octets. The
             port matters only for an id of a port.
-   Answers: PTPM_BEGUN; or why not, and then nothing changes.
+   Returns: PTPM_BEGUN; or why not, and then nothing changes.
    Memory:  a copy of the dataField, until the request is answered or given up.
-   Owed:    the caller saves the session's image in a place where a restart finds it, and then sends the request. */
+   Caller:  saves the session's image in a place where a restart finds it, and then sends the request. */
 enum ptpm_begun ptpm_session_begin(struct ptpm_session *session, uint8_t action, uint16_t id, uint16_t port,
                                    const uint8_t *octets, size_t size);
 
-/* Does what ptpm_session_begin does, at the port that is named whatever the id. Some clocks answer only if one of their ports is
+/* Does what ptpm_session_begin does, but names the port for any id. Some clocks answer only if one of their ports is
    named, for an id of the clock too. Any port of the clock may answer for such an id.
    Takes:   what ptpm_session_begin takes. The port is 1 to the number of the managed clock's ports.
-   Answers: what ptpm_session_begin answers.
+   Returns: what ptpm_session_begin returns.
    Memory:  a copy of the dataField, until the request is answered or given up.
-   Owed:    what ptpm_session_begin leaves owed. */
+   Caller:  does what ptpm_session_begin asks of it. */
 enum ptpm_begun ptpm_session_begin_at(struct ptpm_session *session, uint8_t action, uint16_t id, uint16_t port,
                                       const uint8_t *octets, size_t size);
 
 /* Makes the message of the unanswered request, and uses one of its attempts. The message has the same octets each time, until
    the session is retuned.
    Takes:   room octets, PTPM_MOST_OCTETS or more.
-   Answers: PTPM_SENT; or why not, and then no attempt is used.
+   Returns: PTPM_SENT; or why not, and then no attempt is used.
    Writes:  *size, and as many octets from octets on: the message. *size is 0 if the call is refused.
-   Owed:    the caller sends the message, and hands in what comes in. */
+   Caller:  sends the message, and passes in what comes in. */
 enum ptpm_sending ptpm_session_send(struct ptpm_session *session, uint8_t *octets, size_t room, size_t *size);
 
 /* Gives the unanswered request this many attempts, whatever was left.
-   Answers: PTPM_RESUMED; or why not, and then nothing changes. */
+   Returns: PTPM_RESUMED; or why not, and then nothing changes. */
 enum ptpm_resumed ptpm_session_resume(struct ptpm_session *session, uint8_t attempts);
 
-/* Lets the unanswered request go, so that the next can be begun. Its number is used for no other, and no answer to it is taken any
-   more. The clock may have carried it out, once, or may still: until it takes a later request of this session. So once a later
-   one is answered, the one that was given up was carried out before it, or never will be.
-   Answers: PTPM_GIVEN_UP; or PTPM_IDLE or PTPM_OUT_OF_REACH, and then nothing changes. After PTPM_OUT_OF_REACH send the request
-            until it is answered: the clock might take a number further ahead for an old one.
-   Owed:    the caller begins the next request before it ends, or saves the session's image. Otherwise a restart goes on with
+/* Gives up the unanswered request, so that the next can be begun. Its number is used for no other, and an answer to it is
+   ignored from then on. The clock may have carried it out, once, or may still: until it accepts a later request of this session.
+   So once a later one is answered, the one that was given up was carried out before it, or never will be.
+   Returns: PTPM_GIVEN_UP; or PTPM_IDLE or PTPM_OUT_OF_REACH, and then nothing changes. After PTPM_OUT_OF_REACH send the request
+            until it is answered: the clock might treat a number further ahead as an old one.
+   Caller:  begins the next request before it ends, or saves the session's image. Otherwise a restart continues with
             the request that was given up. */
 enum ptpm_given_up ptpm_session_give_up(struct ptpm_session *session);
 
 /* Has requests sent, and replies expected, in this domain from now on, the unanswered request among them.
-   Answers: PTPM_RETUNED, or why not. */
+   Returns: PTPM_RETUNED, or why not. */
 enum ptpm_retuned ptpm_session_retune(struct ptpm_session *session, uint8_t domain);
 
 /* Judges a datagram that came in. If it answers the unanswered request, the next one can be begun.
    Takes:   size octets.
-   Answers: PTPM_ANSWERED; or why the datagram is ignored or not judged, and then nothing changes.
+   Returns: PTPM_ANSWERED; or why the datagram is ignored or not judged, and then nothing changes.
    Memory:  a copy of the dataField of the answer, until the next request is begun. */
 enum ptpm_session_received ptpm_session_receive(struct ptpm_session *session, const uint8_t *datagram, size_t size);
 
 /* Makes the session's image: what a host saves before it sends a request, and after it has reported an answer. From it a
-   session goes on after a restart. How many attempts are left, and the answer to the latest request, are not in it.
+   session continues after a restart. How many attempts are left, and the answer to the latest request, are not in it.
    Takes:   room octets; PTPM_SESSION_IMAGE_OCTETS are enough for every session.
-   Answers: PTPM_SAVED, or why not.
+   Returns: PTPM_SAVED, or why not.
    Writes:  *size, and that number of octets from octets on: the image. If the call is refused, *size is 0 and no octet is written. */
 enum ptpm_saved ptpm_session_image(const struct ptpm_session *session, uint8_t *octets, size_t room, size_t *size);
 
-/* Puts the session of an image in the handle, in place of what it holds, which is then freed. A request that was not answered
-   goes on, with all its attempts: send it again.
+/* Puts the session of an image in the handle, instead of what it holds, which is then freed. A request that was not answered
+   stays open, with all its attempts: send it again.
    Takes:   size octets, and the settings of the session. Its manager, managed clock, number of ports and first number must be
             those of the image. Domain, hops and attempts are those of the image.
-   Answers: PTPM_RESTORED; or why not, and then the handle holds what it held. A restore that is refused is no reason to start
-            the session anew. The clock would then take its requests for old ones, or for others.
+   Returns: PTPM_RESTORED; or why not, and then the handle holds what it held. A restore that is refused is no reason to start a
+            fresh session. The clock would then treat its requests as old, or as others.
    Memory:  the session, until it is stopped, and a copy of the dataField of its request.
-   Owed:    the caller stops the session. */
+   Caller:  stops the session. */
 enum ptpm_restored ptpm_session_restore(struct ptpm_session *session, const struct ptpm_session_settings *settings,
                                         const uint8_t *image, size_t size);
 
 /* Counts the requests that were begun.
-   Answers: how many they are; 0 if the handle holds no session. */
+   Returns: how many they are; 0 if the handle holds no session. */
 uint64_t ptpm_session_issued(const struct ptpm_session *session);
 
 /* Gives what the answer to the latest request says.
    Takes:   room octets, as many as the dataField has or more: 1,418 are always enough.
-   Answers: PTPM_VALUE, PTPM_DONE or PTPM_REFUSED; or why nothing is given.
+   Returns: PTPM_VALUE, PTPM_DONE or PTPM_REFUSED; or why nothing is given.
    Writes:  *size, and as many octets from octets on: the dataField, after PTPM_VALUE. *size is 0 after every other answer.
             *error: the managementErrorId after PTPM_REFUSED, and 0 after every other answer. */
 enum ptpm_reported ptpm_session_report(const struct ptpm_session *session, uint8_t *octets, size_t room, size_t *size,
@@ -835,28 +836,29 @@ void ptpm_session_stop(struct ptpm_session *session);
    an answer to its GET for its own. So the manager here has no session: for example, it is another port of the same identity.
    Answers: PTPM_STARTED; or why not, and then the handle holds nothing.
    Memory:  the survey, until it is stopped.
-   Owed:    the caller stops the survey. */
+   Caller:  stops the survey. */
 enum ptpm_started ptpm_survey_start(struct ptpm_survey *survey, const struct ptpm_survey_settings *settings);
 
 /* Does what ptpm_survey_start does if this file is that of the library.
-   Answers: what ptpm_survey_start answers; or PTPM_OTHER_SIZES, and then the handle holds what it held. */
+   Returns: what ptpm_survey_start returns; or PTPM_OTHER_SIZES, and then the handle holds what it held. */
 static inline enum ptpm_started ptpm_survey_start_sized(struct ptpm_survey *handle, const struct ptpm_survey_settings *settings) {
     enum ptpm_started answer = ptpm_header_agrees();
     return answer != PTPM_STARTED ? answer : ptpm_survey_start(handle, settings);
 }
 
-/* Starts a survey of one clock, without answers, in place of what the handle holds, which is freed first. Every port of the clock
-   is asked, and another clock's answer is ignored (PTPM_OTHER_SOURCE). A clock takes such a GET of one of its managers for a
-   numbered request, like one of a session. So the manager here is none of them, for example another port of the same identity.
+/* Starts a survey of one clock, without answers, instead of what the handle holds, which is freed first. Every port of the
+   clock is asked, and another clock's answer is ignored (PTPM_OTHER_SOURCE). A clock treats such a GET from one of its managers
+   as a numbered request, like one of a session. So the manager here must not be one of them, for example another port number of
+   the same clockIdentity.
    Takes:   the identity of the clock: another one than the manager's, and neither all ones nor all zeros.
-   Answers: PTPM_STARTED; or why not, and then the handle holds nothing.
+   Returns: PTPM_STARTED; or why not, and then the handle holds nothing.
    Memory:  the survey, until it is stopped.
-   Owed:    the caller stops the survey. */
+   Caller:  stops the survey. */
 enum ptpm_started ptpm_survey_start_at(struct ptpm_survey *survey, const struct ptpm_survey_settings *settings,
                                        const uint8_t target[8]);
 
 /* Does what ptpm_survey_start_at does if this file is that of the library.
-   Answers: what ptpm_survey_start_at answers; or PTPM_OTHER_SIZES, and then the handle holds what it held. */
+   Returns: what ptpm_survey_start_at returns; or PTPM_OTHER_SIZES, and then the handle holds what it held. */
 static inline enum ptpm_started ptpm_survey_start_at_sized(struct ptpm_survey *handle, const struct ptpm_survey_settings *settings,
                                                            const uint8_t target[8]) {
     enum ptpm_started answer = ptpm_header_agrees();
@@ -865,25 +867,25 @@ static inline enum ptpm_started ptpm_survey_start_at_sized(struct ptpm_survey *h
 
 /* Makes the message of the GET, the same each time.
    Takes:   room octets, PTPM_MOST_OCTETS or more.
-   Answers: PTPM_SENT, or why not.
+   Returns: PTPM_SENT, or why not.
    Writes:  *size, and as many octets from octets on: the message. *size is 0 if the call is refused.
-   Owed:    the caller sends the message, and hands in what comes in. */
+   Caller:  sends the message, and passes in what comes in. */
 enum ptpm_sending ptpm_survey_send(const struct ptpm_survey *survey, uint8_t *octets, size_t room, size_t *size);
 
 /* Judges a datagram that came in, and keeps it if it is the first answer of its port.
    Takes:   size octets.
-   Answers: PTPM_TAKEN; or PTPM_AGAIN, PTPM_FULL, or why the datagram is ignored or not judged, and then nothing changes.
+   Returns: PTPM_TAKEN; or PTPM_AGAIN, PTPM_FULL, or why the datagram is ignored or not judged, and then nothing changes.
    Memory:  the answer that is kept, until the survey is stopped. */
 enum ptpm_survey_received ptpm_survey_receive(struct ptpm_survey *survey, const uint8_t *datagram, size_t size);
 
 /* Counts the answers that are kept.
-   Answers: how many they are; 0 if the handle holds no survey. */
+   Returns: how many they are; 0 if the handle holds no survey. */
 size_t ptpm_survey_count(const struct ptpm_survey *survey);
 
 /* Gives what an answer says, and who gave it.
    Takes:   its place, counted from 0 in the order in which the answers came. And room octets, as many as the dataField has or
             more: 1,418 are always enough.
-   Answers: PTPM_VALUE, PTPM_DONE or PTPM_REFUSED; or why nothing is given.
+   Returns: PTPM_VALUE, PTPM_DONE or PTPM_REFUSED; or why nothing is given.
    Writes:  *size, and as many octets from octets on: the dataField, after PTPM_VALUE. *size is 0 after every other answer.
             *error: the managementErrorId after PTPM_REFUSED, and 0 after every other answer.
             *source: the port that gave the answer. It stays as it was if nothing is given. */
@@ -893,54 +895,54 @@ enum ptpm_reported ptpm_survey_answer(const struct ptpm_survey *survey, size_t p
 /* Ends what the handle holds, if it holds anything. The handle then holds nothing, and may be started again. */
 void ptpm_survey_stop(struct ptpm_survey *survey);
 
-/* Says whether a message is to be passed on, and if it is, notes it. It is if none is noted that has its sourcePortIdentity,
-   sequenceId, targetPortIdentity, actionField and managementId, and there is a place to note it. So a message that comes round is
-   passed on once. One that keeps coming is passed on once in each such time.
-   Takes:   the message, of size octets; a time; and for how long it is noted, in the unit of that time. Both are the host's.
-   Answers: whether it is to be passed on; false too for what is no management message.
-   Writes:  one of the places of *table, if it answers true. */
+/* Says whether a message is to be forwarded, and if it is, records it. It is if none is recorded that has its
+   sourcePortIdentity, sequenceId, targetPortIdentity, actionField and managementId, and there is a place to record it. So a
+   message that circulates is forwarded once. One that keeps coming is forwarded once in each such time.
+   Takes:   the message, of size octets; a time; and for how long it is recorded, in the unit of that time. Both are the host's.
+   Returns: whether it is to be forwarded; false too for what is no management message.
+   Writes:  one of the places of *table, if it returns true. */
 bool ptpm_passed_on_is_first(struct ptpm_passed_on *table, const uint8_t *message, size_t size, uint64_t now, uint64_t time);
 
-/* Makes a full bucket of a number of tokens a second.
+/* Makes a full bucket with a number of tokens per second.
    Takes:   how many; those over 1,000,000 do not count. And a time in milliseconds.
    Writes:  all of *rate. */
 void ptpm_rate_start(struct ptpm_rate *rate, uint64_t tokens, uint64_t now);
 
-/* Takes a token from a bucket, if there is one. In any stretch of time it gives at most the tokens of a second, and those of the
-   time that has passed.
-   Takes:   a time in milliseconds. One that is before the latest counts as that.
-   Answers: whether there was one.
+/* Takes a token from a bucket, if there is one. In any stretch of time it gives at most the tokens of one second, and those for
+   the time that has passed.
+   Takes:   a time in milliseconds. A time before the latest counts as the latest.
+   Returns: whether there was one.
    Writes:  *rate. */
 bool ptpm_rate_take(struct ptpm_rate *rate, uint64_t now);
 
-/* The number that ptpm_id_named answers if no id has the name, and how many octets a name has at most. */
+/* The number that ptpm_id_named returns if no id has the name, and how many octets a name has at most. */
 enum { PTPM_NO_ID = 65536, PTPM_MOST_NAME = 27 };
 
 /* Finds the managementId of a name, such as PRIORITY1 or priority1 (15.5.2.3).
    Takes:   the name in ASCII, of size octets and in either case, without a zero after it.
-   Answers: the id, which fits a uint16_t; or PTPM_NO_ID if no id of this profile has the name. */
+   Returns: the id, which fits a uint16_t; or PTPM_NO_ID if no id of this profile has the name. */
 uint32_t ptpm_id_named(const char *name, size_t size);
 
 /* Gives the managementIds of this profile, one after another.
    Takes:   a place from 0 on. The ids are in ascending order.
-   Answers: the id, which fits a uint16_t; or PTPM_NO_ID past the last. */
+   Returns: the id, which fits a uint16_t; or PTPM_NO_ID past the last. */
 uint32_t ptpm_id_at(size_t place);
 
 /* Gives the standard's name of a managementId.
    Takes:   the id; and room octets, for which PTPM_MOST_NAME is enough.
-   Answers: how many octets the name has; 0 if this profile lacks the id, or room is too small for the whole name.
+   Returns: how many octets the name has; 0 if this profile lacks the id, or room is too small for the whole name.
    Writes:  as many octets from text on: the name, with no zero after it. */
 size_t ptpm_id_name(uint16_t id, char *text, size_t room);
 
-/* Gives the name of the number that a call answered, such as NO_ROOM for PTPM_NO_ROOM. 0 has none, since each call answers it.
+/* Gives the name of the number that a call returned, such as NO_ROOM for PTPM_NO_ROOM. 0 has none, since each call returns it.
    Takes:   the number; and room octets, for which PTPM_MOST_NAME is enough.
-   Answers: how many octets the name has; 0 if the number has none, or room is too small for the whole name.
+   Returns: how many octets the name has; 0 if the number has none, or room is too small for the whole name.
    Writes:  as many octets from text on: the name, with no zero after it. */
 size_t ptpm_answer_name(uint32_t number, char *text, size_t room);
 
 /* Gives the standard's name of a managementErrorId (15.5.4.3, table 109), such as WRONG_VALUE for 4.
    Takes:   the number; and room octets, for which PTPM_MOST_NAME is enough.
-   Answers: how many octets the name has. 0 if the table reserves the number or leaves it to an implementation, or room is too
+   Returns: how many octets the name has. 0 if the table reserves the number or leaves it to an implementation, or room is too
             small for the whole name.
    Writes:  as many octets from text on: the name, with no zero after it. */
 size_t ptpm_error_name(uint16_t error, char *text, size_t room);
@@ -948,22 +950,23 @@ size_t ptpm_error_name(uint16_t error, char *text, size_t room);
 /* The most octets that ptpm_field_text writes, of a dataField that a message can have. */
 enum { PTPM_MOST_FIELD_TEXT = 2843 };
 
-/* Gives the members of a dataField as text, a line each: its name in the standard (15.5.3), a space and its value, such as
+/* Gives the members of a dataField as text, one per line: its name in the standard (15.5.3), a space and its value, such as
    "priority1 128". How each kind of value is written is in docs/ptpm.md. There is only one line if the octets are no dataField
    of the id, or it has no member. That is "value" and the octets in hexadecimal, or "value -" for none.
    Takes:   the managementId; a dataField of size octets; and room octets, for which PTPM_MOST_FIELD_TEXT is enough.
-   Answers: how many octets the lines have; 0 if room is too small for all of them.
-   Writes:  as many octets from text on: each line with its newline, and no zero after the last. If it answers 0, anything. */
+   Returns: how many octets the lines have; 0 if room is too small for all of them.
+   Writes:  as many octets from text on: each line with its newline, and no zero after the last. If it returns 0, anything may be
+            there. */
 size_t ptpm_field_text(uint16_t id, const uint8_t *octets, size_t size, char *text, size_t room);
 
 /* Gives the dataField of a SET from what a person types: the name of each member in the standard, in either case, and its value.
    They are in the order of ptpm_field_text. The name of a sole member may be left out: "100" and "priority1", "100" are the same. A
    value is written as ptpm_field_text writes it. A number of one octet without a sign may be decimal, or 0x and two hexadecimal
    digits; a flag also 1 or 0. A delayMechanism has its name in either case or its number. In a text, \xHH is an octet in
-   hexadecimal. Whether a clock takes the value is the clock's to say.
+   hexadecimal. The clock decides whether it accepts the value.
    Takes:   the managementId; and words in UTF-8 with a zero octet after each, of size octets with all of these. And room octets,
             for which PTPM_MOST_READ is enough.
-   Answers: PTPM_PARSED; or the first of these in this order: PTPM_NOT_WORDS, PTPM_UNKNOWN_ID, PTPM_WORD_COUNT, that of a member,
+   Returns: PTPM_PARSED; or the first of these in this order: PTPM_NOT_WORDS, PTPM_UNKNOWN_ID, PTPM_WORD_COUNT, that of a member,
             PTPM_NO_ROOM. That of a member is PTPM_OTHER_NAME or PTPM_NO_VALUE, of the first member that has one of them.
    Writes:  *count, how many octets the dataField has, and as many octets from octets on. If it is refused, *count is 0 and no octet
             is written. *member, the place of the member with PTPM_OTHER_NAME or PTPM_NO_VALUE, from 0 on, and else 0. */

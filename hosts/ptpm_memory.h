@@ -1,11 +1,11 @@
-/* The library in a block of the host's own, for a device without malloc. Link libptpm_memory.a in place of libptpm.a: it has
-   the same calls (ptpm.h), and takes all its memory from the block that ptpm_memory_give names. It calls no malloc, realloc or
-   free, only memcpy, memmove and memset of the host. A call that finds too little of the block left answers PTPM_NO_MEMORY, as
-   ptpm.h says.
+/* The library in a block that the host provides, for a device without malloc. Link libptpm_memory.a instead of libptpm.a: it
+   has the same calls (ptpm.h), and takes all its memory from the block that ptpm_memory_give names. It calls no malloc, realloc
+   or free, only the host's memcpy, memmove and memset. A call that finds too little of the block left returns PTPM_NO_MEMORY,
+   as ptpm.h says.
 
-   One thread at a time is in a call that takes or gives back memory, also if the handles differ: the library has no lock. These
-   calls are the starts, the restores, the stops, ptpm_session_begin, ptpm_session_receive, ptpm_survey_receive and the three
-   below. All others take none, and may run beside them with handles of their own, ptpm_clock_handle among them. */
+   Only one thread at a time may be in a call that allocates or frees memory, even if the handles differ. The library has no lock.
+   These calls are the starts, the restores, the stops, ptpm_session_begin, ptpm_session_receive, ptpm_survey_receive and the
+   three below. All others allocate none, and may run in parallel with handles of their own, including ptpm_clock_handle. */
 #ifndef PTPM_MEMORY_H
 #define PTPM_MEMORY_H
 
@@ -17,8 +17,8 @@ extern "C" {
 #endif
 
 /* What a clock takes that has this many managers, 0 to 16, and any ports, from its start or its restore on. PTPM_CLOCK_MEMORY is
-   enough for any clock. Clocks alone fit a block of the sum, whatever the order of their starts and stops, if all have as many
-   managers. A restore in a live handle has both clocks for a moment. */
+   enough for any clock. A block that holds only clocks needs no more than the sum, if all have the same number of managers. They
+   may start and stop in any order. A restore in a live handle has both clocks for a moment. */
 #define PTPM_CLOCK_MEMORY_OF(managers) ((size_t)528 + ((managers) > 0 ? ((size_t)(managers) * 2136 + 31) / 16 * 16 : 0))
 #define PTPM_CLOCK_MEMORY 34720
 
@@ -26,7 +26,7 @@ extern "C" {
    moment. */
 #define PTPM_SESSION_MEMORY 5984
 
-/* The most that a survey takes that has kept a number of answers, 1 to 512, with a number of octets of dataField each. Its
+/* The most that a survey takes that has kept a number of answers, 1 to 512, each with a number of octets of dataField. Its
    tables have room for a power of two of answers, and move as they grow. How much of the gaps is used again depends on the
    answers. */
 #define PTPM_SURVEY_MEMORY(answers, octets) \
@@ -36,17 +36,17 @@ extern "C" {
      (answers) > 16 ? (size_t)32 : (answers) > 8 ? (size_t)16 : (size_t)8)
 
 /* Gives the library its memory, before the first call that needs some, and again only while no handle holds anything.
-   Takes:   size octets, which are the library's from then on. They count from the first multiple of 16 on, so a block is best
+   Takes:   size octets, which are the library's from then on. They count from the first multiple of 16, so a block is best
             aligned to that.
-   Answers: whether they are the library's now; false if something is held in those that it has, or if they are fewer than 32. */
+   Returns: whether they are the library's now; false if something is held in those that it has, or if they are fewer than 32. */
 bool ptpm_memory_give(void *block, size_t size);
 
 /* Reports how much of the block is taken.
-   Answers: how many octets, those that the library keeps for itself among them. */
+   Returns: how many octets, including those that the library keeps for itself. */
 size_t ptpm_memory_taken(void);
 
 /* Reports how much of the block was taken at once, at most, since it was given.
-   Answers: the most octets. */
+   Returns: the most octets. */
 size_t ptpm_memory_most_taken(void);
 
 #ifdef __cplusplus

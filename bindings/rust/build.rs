@@ -16,7 +16,7 @@ fn main() {
     println!("cargo:rustc-link-lib=static=ptpm");
 }
 
-/// The folder of a library that is there. A later one in its place is linked anew.
+/// The folder of a library that is there. A later one in its place is linked again.
 fn named(folder: PathBuf) -> PathBuf {
     let library = folder.join("libptpm.a");
     assert!(library.exists(), "PTPM_LIB_DIR: there is no {}", library.display());

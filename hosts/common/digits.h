@@ -5,10 +5,10 @@
 #include <stddef.h>
 #include <stdint.h>
 
-/* A number of decimal digits alone, at most `most`; -1 if the text is none. */
+/* A number of only decimal digits, at most `most`; -1 if the text is none. */
 long decimal(const char *text, long most);
 
-/* Two hexadecimal digits in either case an octet, as many as there are up to `most`; how many octets they are. */
+/* Reads octets of two hexadecimal digits each, in either case, at most `most`; how many octets they are. */
 size_t read_octets(const char **text, uint8_t *octets, size_t most);
 
 #endif

@@ -10,19 +10,19 @@
 /* What comes before the message in a frame that is sent, how many octets that frame has at least, and how many parts. */
 enum { STATION = 6, ETHERNET_HEAD = 14, ETHERNET_LEAST = 60, FRAME_PARTS = 3 };
 
-/* A socket of an interface. Frames with management messages alone come in there, to the group and to the interface's own
+/* A socket of an interface. Only frames with management messages come in there, to the group and to the interface's own
    address. It hears nothing of what this host sends. own gets the interface's address. -1 if it can't be made: errno says why,
    and *what at which step. */
 int open_ethernet(const char *interface, uint8_t own[STATION], const char **what);
 
-/* Has a socket hear frames with management messages alone, or with every message; whether it does. */
+/* Has a socket hear only frames with management messages, or frames with every message; whether it does. */
 bool filter_ethernet(int socket, bool is_management_alone);
 
 /* The place at which the message begins in a frame, after the tags of a VLAN. 0 if the frame has none for the group or this
    address. The frame may be padded after the message. */
 size_t message_in(const uint8_t *frame, size_t size, const uint8_t own[STATION]);
 
-/* Whether a frame is to this address alone. */
+/* Whether a frame is only to this address. */
 bool is_to_station(const uint8_t *frame, const uint8_t own[STATION]);
 
 /* Who sent a frame. */

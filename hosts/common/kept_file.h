@@ -1,5 +1,5 @@
-/* A file that is replaced whole, so that it is the old one or the new one whatever becomes of the program or the machine. Beside it
-   in its folder are NAME.new while it is written, and NAME.lock, whose lock one process at a time has. */
+/* A file that is replaced whole, so that it is the old one or the new one whatever becomes of the program or the machine. In
+   the same folder are NAME.new while it is written, and NAME.lock, whose lock only one process at a time has. */
 #ifndef KEPT_FILE_H
 #define KEPT_FILE_H
 
@@ -29,29 +29,29 @@ const char *kept_fault(void);
 /* The file of the lock, which is made if it is missing; -1 if it can't be had, as errno says. */
 int open_kept_lock(const struct kept_file *file);
 
-/* Takes the lock if no process has it. Whether it could; if not, errno says why, EAGAIN or EACCES if another has it. It goes when
-   this process ends. */
+/* Takes the lock if no process has it. Whether it could; if not, errno says why, EAGAIN or EACCES if another has it. It is
+   released when this process ends. */
 bool take_kept_lock(int lock);
 
 /* The process that has the lock; 0 if it is not known. */
 pid_t kept_lock_owner(int lock);
 
-/* Whether this is still the file of the lock: the process that had it before may have removed it. */
+/* Whether this is still the lock file: the process that had it before may have removed it. */
 bool is_kept_lock(const struct kept_file *file, int lock);
 
-/* Removes the file of the lock if there is no file that it is for. */
+/* Removes the lock file if the file that it is for does not exist. */
 void leave_no_lock(const struct kept_file *file);
 
 /* What is at the place of the file. */
 enum kept_found { KEPT_FILE, KEPT_NONE, KEPT_LINK, KEPT_OTHER, KEPT_UNREADABLE };
 
-/* Reads up to `most` octets of it; how many there are, and what is known of it. If it can't be read, errno says why. */
+/* Reads up to `most` octets of it; how many there are, and what is known about it. If it can't be read, errno says why. */
 enum kept_found read_kept(const struct kept_file *file, uint8_t *octets, size_t most, size_t *size, struct stat *found);
 
 /* Tries whether there is room for this many octets; if not, errno says why. What the file holds stays. */
 bool try_room(const struct kept_file *file, const uint8_t *octets, size_t size);
 
-/* What became of the file. If it is in doubt it is the new one, but may be the old one again after a loss of power. */
+/* What became of the file. If this is uncertain it is the new one, but may be the old one again after a loss of power. */
 enum replaced { NOT_REPLACED, IN_DOUBT, REPLACED };
 
 /* Replaces it by one with these octets: synchronized, renamed, and its folder synchronized. If it isn't replaced for sure, errno

@@ -1,4 +1,4 @@
-/* The places of members in a message, as octets from its begin. They are in the header of all messages (IEEE 1588-2019, 13.3), in
+/* The places of members in a message, as octets from its beginning. They are in the header of all messages (IEEE 1588-2019, 13.3), in
    the head of a management message (15.4), and in its TLV (15.5). */
 #ifndef MESSAGE_PLACES_H
 #define MESSAGE_PLACES_H

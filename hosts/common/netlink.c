@@ -33,7 +33,7 @@ int open_netlink(void) {
     return netlink_socket;
 }
 
-/* The MTU that the kernel reports of an interface; 0 if it reports none. */
+/* The MTU that the kernel reports for an interface; 0 if it reports none. */
 static unsigned mtu_of(const struct nlmsghdr *message) {
     unsigned mtu = 0;
     const char *first = (const char *)message, *end = first + message->nlmsg_len;

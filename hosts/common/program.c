@@ -11,7 +11,8 @@ _Noreturn void give_up(const char *what) {
     exit(2);
 }
 
-/* What is opened gets the least number that is free. It is opened the wrong way round, so a read or a write there still fails. */
+/* What is opened gets the lowest descriptor that is free. It is opened the wrong way round, so a read or a write there still
+   fails. */
 void hold_streams(void) {
     for (int stream = STDIN_FILENO; stream <= STDERR_FILENO; stream++) {
         if (fcntl(stream, F_GETFD) >= 0) continue;

@@ -1,18 +1,18 @@
-/* What each program has of its own, and how it ends if something went wrong. */
+/* What each program defines itself, and how it ends if something went wrong. */
 #ifndef PROGRAM_H
 #define PROGRAM_H
 
 /* The program's own: its name, which comes before what it says on standard error. */
 extern const char program[];
 
-/* The program's own: it says how the program is called, and ends it with status 2. */
+/* The program's own: it says how to call the program, and ends it with status 2. */
 _Noreturn void usage(void);
 
 /* Says what went wrong, with the text of errno, and ends the program with status 2. */
 _Noreturn void give_up(const char *what);
 
-/* Holds the numbers of standard input, output and error that are closed. No file or socket of the program then gets one of them,
-   and nothing that is printed comes into it. */
+/* Occupies the descriptors of standard input, output and error that are closed. No file or socket of the program then gets one
+   of them, and nothing that is printed goes into it. */
 void hold_streams(void);
 
 #endif

@@ -1,4 +1,4 @@
-/* An option of a socket, for whoever reports which one was refused. */
+/* An option of a socket, for code that reports which one was refused. */
 #ifndef SOCKET_OPTION_H
 #define SOCKET_OPTION_H
 

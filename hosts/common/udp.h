@@ -5,7 +5,7 @@
 #include <stdbool.h>
 #include <sys/socket.h>
 
-/* UDP port of all messages except those of events. */
+/* The UDP port for all messages except event messages. */
 enum { GENERAL_PORT = 320 };
 
 /* A socket at UDP port 320 of an interface, in the group of PTP there (IEEE 1588-2019, annexes C and D). Management messages to the
@@ -21,7 +21,7 @@ int open_asking_udp(const char *interface, bool is_six, const char **what);
    wakes, and counts it as errors of UDP. */
 bool filter_udp(int socket, bool is_management_alone);
 
-/* Which right it takes to open such a socket, or one of Ethernet, as a text that follows that of errno. It is empty if errno is
+/* Which right is needed to open such a socket, or one for Ethernet, as a text that follows that of errno. It is empty if errno is
    about no right. */
 const char *right_needed(bool is_ethernet);
 

@@ -24,7 +24,7 @@ static bool is_socket(const char *path) {
     return lstat(path, &found) == 0 && S_ISSOCK(found.st_mode);
 }
 
-/* Whether there is a socket at the path, and no program listens at it. */
+/* Whether there is a socket at the path, and no program listens on it. */
 static bool is_unheard(const char *path) {
     struct sockaddr_un address = { .sun_family = AF_UNIX };
     if (strlen(path) >= sizeof address.sun_path || !is_socket(path)) return false;
@@ -48,7 +48,7 @@ static bool is_of_gone_process(const char *name, const char *base) {
     return process > 0 && kill((pid_t)process, 0) != 0 && errno == ESRCH;
 }
 
-/* Removes the sockets that programs which are gone left beside the one at a path. */
+/* Removes the sockets that programs which are gone left next to the one at a path. */
 static void remove_beside(const char *path) {
     char folder[PATH_MAX], name[PATH_MAX], beside[2 * PATH_MAX];
     if (strlen(path) >= PATH_MAX) return;

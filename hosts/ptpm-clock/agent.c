@@ -92,7 +92,7 @@ void say_started(void) {
     say("%s %zu manager%s", text, options->manager_count, options->manager_count == 1 ? "" : "s");
 }
 
-/* Prints the names of members that changed. Each has the place of the answer which refuses its value, `first` and on. */
+/* Prints the names of members that changed. Each has the place of the answer that refuses its value, from `first` on. */
 static void print_changed(const char *where, uint32_t first, uint32_t members) {
     char line[1024];
     int size = snprintf(line, sizeof line, "%s", where);
@@ -116,8 +116,8 @@ static void print_all_changed(const struct ptpm_changed *changed) {
     }
 }
 
-/* A message to who asked at the Unix socket goes back there, at once if nothing is to be saved. Any other goes out with the
-   round. How many messages were not taken. */
+/* A message to a program that asked on the Unix socket goes back there, at once if nothing is to be saved. Any other goes out
+   with the round. How many messages were not taken. */
 static unsigned long send_out(const struct ptpm_sent *message, const struct heard *heard, const struct port *port,
                               uint16_t ingress) {
     if (message->port != ingress) send_later(message, NULL);
@@ -134,7 +134,7 @@ static unsigned long send_saved(void) {
     return save_changes(&clock_held) ? send_all() : drop_round();
 }
 
-/* Sends what a turn sends, or lets it wait, except what is kept from the network. `left` is how many messages that leaves. How
+/* Sends what a turn sends, or has it wait, except what is kept from the network. `left` is how many messages that leaves. How
    many of these were not taken. */
 static inline unsigned long hand_on(const struct heard *heard, const struct port *port, uint16_t ingress, enum ptpm_handled answer,
                                     const struct ptpm_sent *places, size_t count, size_t *left) {
@@ -163,7 +163,7 @@ static unsigned long take_verbose_turn(const struct heard *heard, const struct p
     return lost;
 }
 
-/* What becomes of a datagram; port is NULL at the Unix socket. How many messages were not taken. */
+/* What becomes of a datagram; port is NULL for the Unix socket. How many messages were not taken. */
 static unsigned long take_turn(struct heard *heard, const struct port *port) {
     size_t count, left;
     uint16_t ingress = port == NULL ? 1 : (uint16_t)(port - ports + 1);

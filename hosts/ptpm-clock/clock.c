@@ -1,9 +1,10 @@
 /* ptpm-clock: a clock. Its management messages come in by UDP or Ethernet (IEEE 1588-2019, annexes C, D and E) at its
-   interfaces, the ports 1, 2 and on. They also come in at a Unix socket, which counts as port 1. There it is asked as pmc asks
-   a ptp4l. How it is used is in docs/ptpm-clock.md. It has no servo: what one would observe comes from a file or a pipe. The
-   library decides what becomes of a request that it is handed. What is here and in the files beside it is not proved. It moves
-   octets and prints. It also decides which datagrams reach the library, with how many hops, and which messages go out ("What the
-   hosts decide" in docs/architecture.md). It waits for nobody except the disk: what a peer doesn't take at once is dropped. */
+   interfaces, ports 1, 2 and so on. They also come in on a Unix socket, which counts as port 1. There it is asked as
+   pmc asks a ptp4l. How it is used is in docs/ptpm-clock.md. It has no servo: what one would observe comes from a file or a pipe.
+   The library decides what becomes of a request that it is handed. What is here and in the files beside it is not proved. It
+   moves octets and prints. It also decides which datagrams reach the library, with how many hops, and which messages go out
+   ("What the hosts decide" in docs/architecture.md). It waits for nobody except the disk: what a peer doesn't take at once is
+   dropped. */
 #define _GNU_SOURCE
 #include "agent.h"
 #include "counts.h"

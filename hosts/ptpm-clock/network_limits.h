@@ -45,8 +45,8 @@ void count_manager_dropped(void);
    has as many hops as it would have (15.4.1), and what is passed on has fewer. */
 void lower_hops(struct heard *heard);
 
-/* Which of the messages that the agent made of a datagram are to go out. Those at `ingress` answer it, and the others pass it
-   on. Keeps them in their order at the head of the places; how many there are. If the datagram is of a program of this host,
+/* Which of the messages that the agent made of a datagram are to go out. Those at `ingress` answer it, and the others forward
+   it. Keeps them in their order at the head of the places; how many there are. If the datagram is of a program of this host,
    port is NULL. */
 size_t keep_back(const struct heard *heard, const struct port *port, uint16_t ingress, uint32_t answer,
                  const struct ptpm_sent *sent, size_t count, const struct ptpm_sent *kept[PTPM_MOST_SENT]);

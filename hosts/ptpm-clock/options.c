@@ -189,7 +189,7 @@ static void take_option(struct options *options, int option) {
 
 size_t ports_of(const struct options *options) { return options->interface_count > 0 ? options->interface_count : 1; }
 
-/* Two ports at one interface would pass on to its link what comes from there. It may be named by another of its names. */
+/* Two ports at one interface would forward to its link what comes from there. The interface may be given by another of its names. */
 static void refuse_twice(char *const *given, size_t count) {
     for (size_t i = 1; i < count; i++) {
         unsigned index = if_nametoindex(given[i]);
@@ -201,7 +201,7 @@ static void refuse_twice(char *const *given, size_t count) {
     }
 }
 
-/* A clock drops what has its own identity as its source: it takes it for a message of its own that came back. */
+/* A clock drops what has its own identity as its source: it treats that as a message of its own that came back. */
 static void refuse_itself(const struct options *options) {
     char identity[IDENTITY_TEXT];
     for (size_t i = 0; i < options->manager_count; i++) {

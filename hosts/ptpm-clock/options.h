@@ -28,7 +28,7 @@ struct options {
     long end;                           /* when it ends by itself, in milliseconds; 0 if it doesn't */
 };
 
-/* How many ports the clock has. One that is heard at its Unix socket alone has a port too. */
+/* How many ports the clock has. One that is heard only on its Unix socket has a port too. */
 size_t ports_of(const struct options *options);
 
 /* Reads it whole, or ends the program: with status 2 if something is wrong, which is said. */

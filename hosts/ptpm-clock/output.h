@@ -13,13 +13,13 @@ __attribute__((format(printf, 1, 2))) void print_line(const char *format, ...);
 /* A line on standard error, after the program's name. */
 __attribute__((format(printf, 1, 2))) void say(const char *format, ...);
 
-/* Says what is wrong with something that may be wrong again and again: ten lines a second, and how many there were beyond. */
+/* Reports a fault that may come again and again: at most ten lines a second, and how many more there were. */
 __attribute__((format(printf, 1, 2))) void say_at_times(const char *format, ...);
 
 /* How many lines found no room. */
 unsigned long lines_lost(void);
 
-/* Waits for who reads them, a second at most. */
+/* Waits for their readers, at most a second. */
 void end_output(void);
 
 #endif

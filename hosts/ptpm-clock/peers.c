@@ -12,7 +12,7 @@
 enum {
     ROOM = 1 << 20,             /* octets of what nobody has read yet, at one socket */
     SHARE = 32768,              /* and how many of them one peer may add */
-    UNCHECKED = 8,              /* messages after which it is seen how much was read */
+    UNCHECKED = 8,              /* messages after which it is checked how much was read */
 };
 
 /* A socket to send from, and the peer that has it. */

@@ -11,15 +11,16 @@ struct meeting { const char *path; mode_t mode; gid_t group; };
 
 enum { WAYS_BACK = 64 };
 
-/* What is to be polled. It comes in place of one that a program left there, and goes when this program ends. Ends the program with
+/* What is to be polled. It replaces one that a program left there, and is removed when this program ends. Ends the program with
    status 2 if it can't be had. */
 int open_peers(const struct meeting *meeting);
 
-/* One of the sockets that peers are answered from. Who found it at the path while the others were made may have sent something
-   there. */
+/* One of the sockets that peers are answered from. A program that found it at the path while the others were made may have sent
+   something there. */
 int way_back_socket(size_t place);
 
-/* Sends a message to who sent what it answers; whether it was taken. All that is sent comes from the path of the Unix socket. */
+/* Sends a message to the sender of what it answers; whether it was accepted. All that is sent comes from the path of the Unix
+   socket. */
 bool answer_peer(const struct ptpm_sent *message, const struct heard *answered);
 
 void close_peers(void);

@@ -45,7 +45,7 @@ void open_port(const char *interface) {
     port->mtu = mtu_at(port->socket, port->index);
 }
 
-/* Two ports at one interface would pass on to its link what comes from there. */
+/* Two ports at one interface would forward to its link what comes from there. */
 static const struct port *other_at(unsigned index, const struct port *port) {
     for (size_t i = 0; i < port_count; i++) {
         if (&ports[i] != port && ports[i].index == index) return &ports[i];

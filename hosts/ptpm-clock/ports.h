@@ -34,7 +34,7 @@ void open_port(const char *interface);
 const struct port *port_at(unsigned index);
 
 /* Once a second, and when the kernel reports a change, sees which interface has the name of each port. If it is another one, it
-   opens the port anew. What can't be opened is said once, and tried again each second. */
+   opens the port again. What can't be opened is said once, and tried again each second. */
 void renew_ports(long now);
 
 /* Takes what the kernel has reported of interfaces. */

@@ -34,7 +34,7 @@ static void let_go_of_bounds(uint32_t kept) {
     }
 }
 
-/* Whoever asks at the Unix socket has a socket of its group, and others can't answer there. Without CAP_SETGID the program is
+/* A program that asks on the Unix socket has a socket of its group, and others can't answer there. Without CAP_SETGID the program is
    in the groups that it was started with. */
 static void join(gid_t group) {
     static gid_t groups[NGROUPS_MAX + 1];
@@ -70,7 +70,7 @@ void let_go_of_rights(const struct privileges *privileges, enum needs needs) {
     if (prctl(PR_SET_NO_NEW_PRIVS, 1L, 0L, 0L, 0L)) give_up("PR_SET_NO_NEW_PRIVS");
 }
 
-/* What the program and its C library call of the system when the filter is on. They use sockets, and open a port anew. They use
+/* The system calls that the program and its C library make when the filter is on. They use sockets, and open a port again. They use
    the file of the state, the source of observations, and the Unix socket at its end. They use threads, memory and time, and
    they end. Each machine lacks some of these calls. */
 static const int allowed[] = {
@@ -102,7 +102,7 @@ static struct sock_filter branches(int at, uint32_t number, int where_equal, int
     return (struct sock_filter)BPF_JUMP(BPF_JMP | BPF_JEQ | BPF_K, number, by, by_not);
 }
 
-/* A call of this machine's whose number is allowed, or an ioctl whose second word is; its first half on a little-endian machine.
+/* A system call of this machine whose number is allowed, or an ioctl whose second word is; its first half on a little-endian machine.
    Any other fails with EPERM. */
 static void write_filter(struct sock_filter filter[SIZE]) {
     filter[0] = loads(offsetof(struct seccomp_data, arch));

@@ -6,7 +6,7 @@
 #include <sys/types.h>
 
 struct privileges {
-    const char *user_name;      /* whom the program is to be, or NULL: it stays who it is */
+    const char *user_name;      /* the user that the program becomes, or NULL: it stays the same */
     uid_t user;
     gid_t group;
     bool is_by_default;         /* it is root, and --user does not say whom it becomes */
@@ -14,14 +14,14 @@ struct privileges {
     bool is_unfiltered;         /* it may call all of the system */
 };
 
-/* What it takes to open a port's socket once more, if its interface is made anew. */
+/* What it takes to open a port's socket once more, if its interface is made again. */
 enum needs { NEEDS_NOTHING, NEEDS_LOW_PORT, NEEDS_FRAMES };
 
 /* Drops every capability except the one that is needed, for good, and becomes the user. Ends the program with status 2 if that
    can't be done. Comes before any thread. */
 void let_go_of_rights(const struct privileges *privileges, enum needs needs);
 
-/* From now on all calls of the system fail except those that the program makes. It does nothing if the kernel has no filters.
+/* From now on all system calls fail except those that the program makes. Does nothing if the kernel has no filters.
    Comes before any thread. */
 void filter_calls(const struct privileges *privileges);
 

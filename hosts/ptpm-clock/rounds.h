@@ -35,7 +35,7 @@ struct heard {
     struct in6_pktinfo own_six;
 };
 
-/* Takes what has come in at a port, or, if there is none, at the Unix socket; how many datagrams. They stay until the next
+/* Takes what has come in at a port, or, if there is none, on the Unix socket; how many datagrams. They stay until the next
    round. */
 size_t hear_round(const struct port *port, int socket, struct heard heard[ROUND]);
 
@@ -46,20 +46,20 @@ size_t hear_host(int socket, bool is_copied, struct heard heard[ROUND]);
 /* The places of a turn's messages, PTPM_MOST_SENT of them. NULL if there are fewer: then what is to go out has to go first. */
 struct ptpm_sent *places_to_send(void);
 
-/* A message that is in the next place, or after others, is to go out at its port. It goes to who sent what it answers, if that
-   came by unicast, and otherwise to the group. */
+/* A message that is in the next place, or after others, is to go out at its port. It goes to the sender of what it answers, if
+   that came by unicast, and otherwise to the group. */
 void send_later(const struct ptpm_sent *message, const struct heard *answered);
 
-/* The same of a message for the peer at the Unix socket that sent what is answered. */
+/* The same for a message to the peer on the Unix socket that sent what is answered. */
 void answer_later(const struct ptpm_sent *message, const struct heard *answered);
 
 /* The first `count` places are used. */
 void use_places(size_t count);
 
-/* Sends what is to go out at the ports; how many messages were not taken. What a socket doesn't take at once is dropped. */
+/* Sends what is to go out at the ports; how many messages were not accepted. What a socket doesn't accept at once is dropped. */
 unsigned long send_round(void);
 
-/* The same, and before it of what is for peers. */
+/* The same, and before it what is for peers. */
 unsigned long send_all(void);
 
 /* Drops what is to go out; how many messages that are. */

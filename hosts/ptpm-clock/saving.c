@@ -116,7 +116,7 @@ static void tell_gone(size_t gone) {
         gone == 1 ? "" : "s", gone == 1 ? "is" : "are", gone == 1 ? "its requests" : "their requests");
 }
 
-/* What the command line says of the data sets is for a clock that starts afresh. */
+/* What the command line says about the data sets is for a clock that starts afresh. */
 static void tell_domain(const struct ptpm_clock *clock) {
     uint8_t field[PTPM_MOST_READ];
     size_t size;
@@ -178,7 +178,7 @@ bool may_save(void) {
 
 void note_change(void) { is_unsaved = options->state != NULL; }
 
-/* After a save in doubt the store holds what was to be saved, but may lose it with the power. So no message leaves before it is
+/* After an uncertain save the store holds what was to be saved, but may lose it with the power. So no message leaves before it is
    saved. */
 bool save_changes(struct ptpm_clock *clock) {
     size_t size;

@@ -1,5 +1,6 @@
-/* The state of the clock in a file (-s FILE): its data sets, and what is kept of each manager. So a start goes on where the
-   clock was. What a turn changed is saved before any message leaves. Without a file nothing is saved, and all leaves at once. */
+/* The state of the clock in a file (-s FILE): its data sets, and what is kept for each manager. So a start continues where the
+   clock was. What a turn changed is saved before any message leaves. Without a file nothing is saved, and everything leaves at
+   once. */
 #ifndef SAVING_H
 #define SAVING_H
 
@@ -7,7 +8,7 @@
 #include "ptpm.h"
 #include <stdbool.h>
 
-/* Takes the file for this program alone, and reads it: whether there was one, so that its clock is in the handle. Ends the
+/* Takes the file only for this program, and reads it: whether there was one, so that its clock is in the handle. Ends the
    program with status 1, and says why, if the library refuses what the file has. It does so with status 2 if the file is a link
    or no file, is another program's, or can't be read or written. What the file has stays then. */
 bool restore_clock(struct ptpm_clock *clock, const struct options *options);
@@ -15,8 +16,8 @@ bool restore_clock(struct ptpm_clock *clock, const struct options *options);
 /* Saves the clock once, with the rights that the program keeps; ends it with status 2 if it can't. */
 void save_at_start(struct ptpm_clock *clock);
 
-/* Whether there is something to save: a turn has changed it, or the last save is in doubt. Each turn looks at it, so it is no
-   call. */
+/* Whether there is something to save: a turn has changed it, or the last save is uncertain. Each turn looks at it, so it is not
+   a call. */
 extern bool is_unsaved;
 
 /* Notes that a turn has changed what is to be saved. */

@@ -1,4 +1,5 @@
-/* What is reported to the manager of services, if one started this program (sd_notify(3)): that it is ready, goes on, and ends. */
+/* What is reported to the service manager, if one started this program (sd_notify(3)): that it is ready, is still running, and
+   ends. */
 #ifndef SERVICE_H
 #define SERVICE_H
 
@@ -8,12 +9,12 @@ void open_service(void);
 /* Reports that its sockets are open. */
 void report_ready(void);
 
-/* Reports that it goes on, when half of the time has passed in which it has to. */
+/* Reports that it is still running, when half of the time has passed in which it has to. */
 void report_alive(long now);
 
 void report_stopping(void);
 
-/* In how many milliseconds it has to be reported again that the program goes on, at most `most`. */
+/* In how many milliseconds it has to be reported again that the program is still running, at most `most`. */
 long until_alive(long now, long most);
 
 #endif

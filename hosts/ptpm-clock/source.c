@@ -17,7 +17,7 @@
 enum { MOST_HELD = 65536 };
 
 /* What has come in and is not taken yet: `size` octets from `first` on. How much of it has no empty line, and how much was the
-   latest text. Whether its end has come, and whether its head was let go. */
+   latest text. Whether its end has come, and whether its head was dropped. */
 static char held[MOST_HELD + 1];
 static size_t first, size, searched, taken;
 static bool is_ended, is_too_long;
@@ -35,7 +35,7 @@ static ino_t file_read;         /* what was read last */
 
 static void complain(const char *what) { say_at_times("%s: %s", path, what); }
 
-/* Whoever owns a name in a folder, or the folder, may let the path lead anywhere. So another's file is read only if everybody
+/* The owner of a name in a folder, or of the folder, may let the path lead anywhere. So another's file is read only if everybody
    may read it. */
 static bool may_choose(const struct stat *owned, const struct stat *file) {
     return owned->st_uid == 0 || owned->st_uid == geteuid() || owned->st_uid == file->st_uid;
@@ -155,7 +155,7 @@ static void open_again(void) {
     polled = is_there ? again : -1;
 }
 
-/* The pipe is opened anew for the next program that writes to it, and is never without a reader. */
+/* The pipe is opened again for the next program that writes to it, and is never without a reader. */
 static void read_pipe(void) {
     memmove(held, held + first, size);
     first = 0;
@@ -176,7 +176,7 @@ int read_source(void) {
     return polled;
 }
 
-/* Empty lines at the head, which are let go together. */
+/* Empty lines at the head, which are dropped together. */
 static size_t blank_lines(void) {
     size_t count = 0;
     while (count < size && held[first + count] == '\n') count++;
@@ -194,7 +194,7 @@ static size_t size_of_text(void) {
     return is_ended ? size : 0;
 }
 
-/* Whether the text that was found is let go: it is the rest of one that is too long, or empty lines. */
+/* Whether the text that was found is dropped: it is the rest of one that is too long, or empty lines. */
 static bool let_go_text(void) {
     bool is_rest = is_too_long;
     is_too_long = false;
@@ -221,7 +221,7 @@ bool next_text(char **text) {
         taken = size_of_text();
     } while (taken > 0 && let_go_text());
     if (taken > 0) {
-        held[first + (taken < size ? taken - 1 : taken)] = '\0';      /* in place of an empty line, or after all */
+        held[first + (taken < size ? taken - 1 : taken)] = '\0';      /* over the end of an empty line, or after all */
         *text = held + first;
         return true;
     }

@@ -1,5 +1,5 @@
 /* What wakes ptpm-clock besides its sockets, as something to poll: signals, and a time. SIGHUP, SIGINT and SIGTERM ask it to end,
-   SIGUSR1 for its counts. A time-out of each wait would cost a timer of the kernel's for each datagram. */
+   SIGUSR1 for its counts. A time-out for each wait would cost a kernel timer for each datagram. */
 #ifndef WAKING_H
 #define WAKING_H
 

@@ -65,7 +65,7 @@ static void print_own_answer(const struct task *task) {
     else print_answer(stdout, task, "", &answer);
 }
 
-/* Names the manager as a clock is started with it. Without a session its port is another one in each run. */
+/* Names the manager in the form with which a clock is started. Without a session its port is another one in each run. */
 static void say_not_supported(const struct session *session) {
     char identity[IDENTITY_TEXT], manager[IDENTITY_TEXT + 16] = "whoever gives no --manager";
     write_identity(identity, session->settings.clock);
@@ -86,7 +86,7 @@ static int print_report(struct session *session, const struct task *task) {
     return answer.told == PTPM_REFUSED ? REFUSED : ANSWERED;
 }
 
-/* Keeps the session without the latest request: its answer was reported, or nothing was sent of it. */
+/* Keeps the session without the latest request: its answer was reported, or nothing of it was sent. */
 static void keep_at_rest(struct session *session) {
     if (!session->is_kept || save_session(session)) return;
     complain("%s: %s: the next run asks this again", session_path(), strerror(errno));

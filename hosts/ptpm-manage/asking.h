@@ -20,7 +20,7 @@ int send_until_answered(struct session *session, const struct task *task, long *
    or its attempts are used. Prints what each answer says; the program's status. */
 int ask_clock(struct session *session, const struct task *task);
 
-/* Asks every port of every clock, or of the task's clock alone. It ends if two rounds bring no new answer, or the attempts are
+/* Asks every port of every clock, or only of the task's clock. It ends if two rounds bring no new answer, or the attempts are
    used. Prints what each answer says, after the port that gave it; the program's status. */
 int ask_every_port(const struct task *task);
 

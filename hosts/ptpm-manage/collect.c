@@ -88,7 +88,7 @@ static uint64_t sum_of(const uint8_t *message, size_t size) {
     return sum;
 }
 
-/* Notes an answer that the library took, and prints it unless it is a copy. Octets may follow the message. */
+/* Records an answer that the library accepted, and prints it unless it is a copy. Octets may follow the message. */
 static void take_answer(const struct request *request, const uint8_t *message) {
     size_t size = two_octets(message + LENGTH_AT);
     struct seen_answer answer = {

@@ -25,7 +25,7 @@ static void say_let_go(struct session *session, const struct task *earlier, cons
     else complain("%s, is let go: a get%s shows whether it was carried out", words, where);
 }
 
-/* The clock might take a further number for an old one. */
+/* The clock might treat a number further ahead as an old one. */
 _Noreturn static void refuse_to_let_go(uint32_t refusal, const char *words) {
     refuse("nothing was sent: %s: %s, is not let go: too many before it had no answer. Without --give-up it is sent again",
            answer_name(refusal), words);

@@ -50,7 +50,7 @@ bool is_member(uint16_t id, const char *word) {
     return false;
 }
 
-/* Whether a word alone is the value of the one member of an id. */
+/* Whether a single word is the value of the one member of an id. */
 static bool is_value(uint16_t id, const char *word) {
     uint8_t octets[PTPM_MOST_READ];
     size_t count, place;

@@ -16,7 +16,7 @@ bool has_text(uint16_t id);
 /* Whether an id has one member, which is no text, so that a SET takes its value as a word. */
 bool takes_value(uint16_t id);
 
-/* Whether the standard has a GET of the id alone. */
+/* Whether the standard has only a GET of the id. */
 bool can_only_be_read(uint16_t id);
 
 /* Whether a SET of the id has a dataField without octets. */
@@ -28,7 +28,7 @@ bool is_member(uint16_t id, const char *word);
 /* How many words a SET of the id takes at most: one, or a name and a value for each member. The first of them decides. */
 size_t most_words(uint16_t id, const char *first);
 
-/* The dataField of a SET for words: each member's name and its value, or the value of the one member alone. `named` is the id as
+/* The dataField of a SET for words: each member's name and its value, or only the value of the one member. `named` is the id as
    it was typed. How many octets it has. Ends the program if the words are none, and says which member is at fault. */
 size_t read_field(uint16_t id, const char *named, const char *const *words, size_t count, uint8_t octets[PTPM_MOST_READ]);
 

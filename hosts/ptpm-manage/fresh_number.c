@@ -19,7 +19,7 @@ enum { OF_CLOCK = 20, OF_PORT = 26 };
 /* Of four numbers this far apart at least one is new, whatever the latest of this manager is. */
 enum { APART = 16384, NUMBERS = 4 };
 
-/* This many answers to reads, and none to the question beside them, show that its number is not new. */
+/* This many answers to reads, and none to the question that runs with them, show that its number is not new. */
 enum { ENOUGH = 5 };
 
 enum tried { NEW, NOT_NEW, SILENT, NOT_OUT };
@@ -36,7 +36,7 @@ static bool is_of_port(const struct task *task) {
     return needs_port;
 }
 
-/* The question that is asked before the task's request, with octets drawn anew. */
+/* The question that is asked before the task's request, with newly drawn octets. */
 static struct task question_of(const struct task *task) {
     struct task question = *task;
     bool is_port = is_of_port(task);
@@ -60,7 +60,7 @@ int ask_whether_new(struct session *session, const struct task *task) {
     return status == NOT_ANSWERED ? no_answer(task, NUMBER, latest_number(session), sent) : status;
 }
 
-/* Whether the question is answered in time; answers to a read beside it are counted. */
+/* Whether the question is answered in time; answers to a read that runs with it are counted. */
 static bool hear_answer(const struct task *task, int *readings) {
     long end = milliseconds() + task->timeout;
     for (int place; (place = first_answered(&asking.handle, &reading, end)) >= 0;) {
@@ -70,7 +70,7 @@ static bool hear_answer(const struct task *task, int *readings) {
     return false;
 }
 
-/* Asks under a number until it is answered, or enough reads beside it are; what went out of it is counted. */
+/* Asks with a number until it is answered, or enough reads that run with it are; its messages that went out are counted. */
 static enum tried ask_under_number(const struct task *task, uint16_t number, int enough, long *sent) {
     int readings = 0;
     struct task question = question_of(task);

@@ -11,7 +11,7 @@ _Noreturn __attribute__((format(printf, 1, 2))) void refuse(const char *format, 
 /* From now on no progress is shown. */
 void be_quiet(void);
 
-/* Shows a line of progress in place of the one before it, if standard error is a terminal. What has no room there is cut off. */
+/* Shows a line of progress instead of the one before it, if standard error is a terminal. What has no room there is cut off. */
 __attribute__((format(printf, 1, 2))) void show_progress(const char *format, ...);
 
 /* Takes that line away. It comes before what is printed otherwise. */

@@ -1,4 +1,4 @@
-/* A line in place of a session's image: the number of its next request. After it the manager and the clock may follow, such as in
+/* A line instead of a session's image: the number of its next request. After it the manager and the clock may follow, such as in
    `40214 020000fffe000010/1 aabbccfffeddee01`. */
 #ifndef NUMBER_LINE_H
 #define NUMBER_LINE_H

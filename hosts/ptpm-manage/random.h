@@ -5,7 +5,7 @@
 #include <stddef.h>
 #include <stdint.h>
 
-/* Fills them by the kernel's generator. Ends the program with status 2 if there is none. */
+/* Fills them from the kernel's generator. Ends the program with status 2 if there is none. */
 void draw_octets(uint8_t *octets, size_t size);
 
 /* A sequenceId of 16 such bits. */

@@ -1,15 +1,15 @@
-/* A GET of a clock's value by nobody, that is by no manager. So it takes no number of his, and the clock answers it from its
-   data sets as they are. */
+/* A GET of a clock's value by nobody, that is by no manager. So it uses up no manager's number, and the clock answers it from
+   its data sets as they are. */
 #ifndef READING_H
 #define READING_H
 
 #include "task.h"
 #include <stdbool.h>
 
-/* The portNumber at which nobody asks on behalf of this process; not the one that is given. */
+/* The portNumber with which this process asks as nobody; not the one that is given. */
 uint16_t port_of_nobody(uint16_t managers);
 
-/* Begins a GET of this id, at the task's clock and port, under a drawn number; whether it is begun. Its session takes the place
+/* Begins a GET of this id, at the task's clock and port, with a drawn number; whether it is begun. Its session takes the place
    of the one that the handle holds. */
 bool begin_reading(struct ptpm_session *session, const struct task *task, uint16_t id);
 

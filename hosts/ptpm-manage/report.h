@@ -29,7 +29,7 @@ void read_report(struct report *report);
 /* Frees what a report holds, which then holds nothing. */
 void free_report(struct report *report);
 
-/* Whether a report has a finding that may be of one moment alone: while a change goes through a site its clocks do not agree. */
+/* Whether a report has a finding that may be only momentary: while a change goes through a site its clocks do not agree. */
 bool has_passing_finding(const struct report *report);
 
 /* Leaves out of a report each such finding whose key is not in an earlier one. */
@@ -38,7 +38,7 @@ void leave_out_passing(struct report *report, const struct report *earlier);
 /* How many findings are not left out. */
 size_t findings_left(const struct report *report);
 
-/* Prints it without what is left out, its findings in colour if so wished. */
+/* Prints it without what is left out, its findings in colour if that is wanted. */
 void print_report_text(FILE *to, const struct report *report, bool is_coloured);
 
 /* Prints the findings that came since an earlier report, and those that went, a line each after `lead`. */

@@ -16,7 +16,7 @@ enum collected { DEFAULT_SET, CURRENT_SET, PARENT_SET, TIME_SET, PORT_SET, DESCR
 struct seen_clock {
     uint8_t identity[8], domain;
     uint8_t answered;                   /* a bit for each of what is collected: an answer or a refusal came */
-    bool are_ports_refused;             /* by an error in place of a PORT_DATA_SET */
+    bool are_ports_refused;             /* by an error instead of a PORT_DATA_SET */
     uint16_t port_count, ports;         /* numberPorts, 0 until it is known; how many of them gave a PORT_DATA_SET */
     uint8_t answered_before;            /* the answers that it had given when it was asked alone the last time */
     uint16_t ports_before;

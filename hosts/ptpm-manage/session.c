@@ -40,7 +40,7 @@ _Noreturn static void refuse_image(const struct session_image *image, const stru
     refuse_other(owner, settings);
 }
 
-/* The file has no session that this program can go on with. */
+/* The file has no session that this program can continue. */
 _Noreturn static void refuse_octets(enum ptpm_restored refusal) {
     const char *why = "no memory is left";
     switch (refusal) {
@@ -125,7 +125,7 @@ void see_to_hops(struct session *session, const struct task *task) {
     if (session->settings.hops != task->settings.hops) start_session(session, task, (uint16_t)(latest_number(session) + 1));
 }
 
-/* A session that has begun as many requests as one can goes on as a new one, at its next number. */
+/* A session that has begun as many requests as it can continues as a new one, with its next number. */
 void begin_request(struct session *session, const struct task *task) {
     uint32_t refusal = begin_of_task(&session->handle, task);
     if (refusal == PTPM_COUNT_AT_MAXIMUM) {

@@ -56,7 +56,7 @@ _Noreturn static void refuse_turn(int lock) {
     refuse("nothing was sent: %s: another run, process %ld, has held it for %ld s", path, owner, held_for(lock));
 }
 
-/* The file of the lock, with the lock on it, until a time. Another run that had it may have removed it meanwhile. */
+/* The lock file, with the lock on it, until a time. Another run that had it may have removed it in the meantime. */
 static int lock_until(long end) {
     int lock = open_kept_lock(&file);
     if (lock < 0) refuse_place();
@@ -73,7 +73,7 @@ static int lock_until(long end) {
 /* If no session is kept, for example of a clock that is not there, no lock stays either. */
 static void leave_nothing(void) { leave_no_lock(&file); }
 
-/* The lock goes when the program ends. Its time is that of this turn. */
+/* The lock is released when the program ends. Its time is that of this turn. */
 static void take_turn(void) {
     long end = milliseconds() + TURN;
     int lock = lock_until(end);

@@ -10,10 +10,10 @@
 /* A file with a session has at most this many octets; of a larger one these are read. */
 enum { MOST_SESSION_OCTETS = PTPM_SESSION_IMAGE_OCTETS + 1 };
 
-/* Takes the file at this path for this run alone, and reads it; whether there is one. If there is none, none is made, but it is
-   seen to that one can be. The file's folder is made if it is missing. A manager has one request on its way at a time. So runs
-   take turns, by a lock on the file PATH.lock, which stays if there is a file at the end. Ends the program, status 2, if the
-   file is a link or no file, or if its turn does not come within a minute. It ends by a signal that comes in before. `is_named`
+/* Takes the file at this path only for this run, and reads it; whether there is one. If there is none, none is made, but the
+   call makes sure that one can be. The file's folder is made if it is missing. A manager has one request on its way at a time. So
+   runs take turns, by a lock on the file PATH.lock, which stays if there is a file at the end. Ends the program, status 2, if the
+   file is a link or no file, or if its turn does not come within a minute. It also ends if a signal comes in before. `is_named`
    says that the command line names the file. */
 bool open_session_file(const char *path, bool is_named, uint8_t octets[MOST_SESSION_OCTETS], size_t *size);
 

@@ -2,7 +2,7 @@
 #include <stdbool.h>
 #include <string.h>
 
-/* The places of the members, from the mark at the head on. Numbers of two octets have the higher one first. */
+/* The places of the members, from the mark at the head on. Numbers of two octets are big-endian. */
 enum {
     MANAGER = 12, MANAGER_PORT = 20, TARGET = 22, PORTS = 30, FIRST = 31, HOPS = 33, DOMAIN = 35, IS_UNDER_WAY = 52, ACTION = 53,
     ID = 54, PORT = 56, SIZE = 58, OCTETS = 60,

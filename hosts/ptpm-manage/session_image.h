@@ -1,5 +1,5 @@
-/* What this program itself reads of a session's image (ptpm_session_image): whose it is, and what is under way. Whether octets are
-   an image the library judges. */
+/* What this program itself reads of a session's image (ptpm_session_image): whose it is, and what is under way. The library
+   decides whether octets are an image. */
 #ifndef SESSION_IMAGE_H
 #define SESSION_IMAGE_H
 

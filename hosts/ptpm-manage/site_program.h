@@ -11,8 +11,7 @@ enum shown_as { AS_TEXT, AS_JSON, AS_DRAWING };
 /* Finds the program: beside this one, or else in the PATH. Ends the program with status 2 if it is nowhere. */
 void find_site_program(void);
 
-/* Has it show these lines; what it printed is read into the report. Its status, or 1 if it did not come to its end, which is
-   said. */
+/* Has it show these lines; what it printed is read into the report. Its status, or 1 if it did not end normally, which is said. */
 int run_site_program(const struct site_options *options, enum shown_as as, const struct piece *lines, size_t count, struct report *report);
 
 #endif

@@ -54,7 +54,7 @@ static bool is_of_seen_clock(const char *line, size_t size) {
     return read_octets(&domain_text, &domain, 1) == 1 && read_octets(&clock_text, clock, 8) == 8 && is_seen(domain, clock);
 }
 
-/* Leaves of the lines of a look those of clocks that answered this time. */
+/* Keeps only those lines of a look whose clocks answered this time. */
 static void leave_seen(struct look *look) {
     size_t left = 0;
     for (size_t at = 0, next; at < look->size; at = next) {
@@ -104,7 +104,7 @@ static void look_twice(struct look *look, const struct task *task, struct domain
     *look = second;
 }
 
-/* Whether colour is wished for: on a terminal, unless the environment says that it is not. */
+/* Whether colour is wanted: on a terminal, unless the environment says that it is not. */
 static bool is_coloured(void) {
     const char *without = getenv("NO_COLOR"), *terminal = getenv("TERM");
     if (without != NULL && *without != '\0') return false;
@@ -156,7 +156,7 @@ static void keep_clocks(void) {
     for (size_t i = 0; i < count_before; i++) clocks_before[i] = *seen_clock(i);
 }
 
-/* What is other than in the look before, each line after the time. */
+/* What differs from the look before, each line after the time. */
 static void print_difference(const struct look *look, const struct look *earlier, const struct task *task) {
     char lead[TIME_TEXT];
     time_t now = time(NULL);

@@ -17,12 +17,12 @@
 /* Options without a letter of their own, and a word that is none: getopt's for a string that begins with a hyphen. */
 enum { WORD = 1, UDP = 256, TEXT, VERSION, GIVE_UP, JSON, ANY_SOURCE };
 
-/* The same of `collect` and `status` alone. */
+/* The same, only for `collect` and `status`. */
 enum site_option { LISTEN = 512, DRAW, MAX_OFFSET, MAX_DELAY, ONCE, WATCH };
 
 enum { MOST_WORDS = 2 + MOST_FIELD_WORDS, MOST_FIELD = 1418, NOT_NAMED = -1 };
 
-/* What holds if no option says otherwise. Each request to one clock alone is repeated for two seconds. */
+/* What holds if no option says otherwise. A request to only one clock is repeated for two seconds. */
 enum { HOPS = 1, ATTEMPTS = 30, SITE_HOPS = 7, SITE_ATTEMPTS = 10, LISTENED = 4000 };
 
 enum { SECOND = 1000, MOST_SECONDS = 86400 };
@@ -210,7 +210,8 @@ static void read_verb(struct task *task, const char *verb) {
     if (!task->is_survey) refuse("%s: it is none of get, set, command, survey, collect and status", verb);
 }
 
-/* A get of every port is a survey of one clock. It asks by nobody, since a clock numbers what its managers ask of it alone. */
+/* A get of every port is a survey of one clock. It asks as nobody, since a clock numbers the requests that its managers send only
+   to it. */
 static void read_every_port(struct task *task, const struct words *words) {
     if (!words->is_every_port) return;
     if (task->is_survey || task->action != PTPM_GET) refuse("--port all goes with get alone");
@@ -226,7 +227,7 @@ static void read_id(struct task *task, const char *text) {
     task->id = (uint16_t)id;
 }
 
-/* What else is said of a value that is no dataField. */
+/* What else is said about a value that is no dataField. */
 static const char *hint(const struct task *task) {
     if (has_text(task->id)) return "; a text takes --text";
     return task->action == PTPM_SET && can_only_be_read(task->id) ? "; the id can only be read" : "";
@@ -268,7 +269,7 @@ static void read_value(struct task *task, const struct words *words) {
     else read_octets_of(task, value[0]);
 }
 
-/* Whether what is said of the clock and the way to it is whole, and said once. */
+/* Whether what is said about the clock and the way to it is complete, and said once. */
 static void judge(const struct task *task, const struct words *words) {
     if (task->path == NULL && task->interface_count == 0 && task->address == NULL) {
         refuse("the way to the clock is missing: --interface NAME, --udp ADDRESS or --unix PATH");
@@ -295,8 +296,8 @@ static void judge_json(const struct task *task) {
     if (task->times > 1) refuse("--json and --times exclude each other");
 }
 
-/* Whether who asks is the same in each run, so that a clock may have kept an answer of his. It never keeps one to a GET to
-   every clock. A GET by nobody needs none. At a Unix socket clock 0 asks at another port each time. */
+/* Whether the manager is the same in each run, so that a clock may have kept an answer to it. It never keeps one to a GET to
+   every clock. A GET by nobody needs none. On a Unix socket clock 0 asks with another port number each time. */
 static bool is_by_one_manager(const struct task *task) {
     if (task->is_survey) return false;
     return task->numbers != NULL || task->has_manager || (task->path == NULL && task->action != PTPM_GET);

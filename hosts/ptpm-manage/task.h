@@ -16,7 +16,7 @@ struct site_options {
     long listen, watch;                         /* in milliseconds: for such messages, or -1 by default; between two looks, or 0 */
     bool is_drawn, is_once;
     const char *max_offset, *max_delay;         /* as they are written, or NULL */
-    const char *given;                          /* an option of `status` alone that was given, or NULL */
+    const char *given;                          /* an option only of `status` that was given, or NULL */
 };
 
 struct task {
@@ -30,9 +30,9 @@ struct task {
     uint8_t octets[PTPM_MOST_OCTETS];           /* the dataField */
     struct ptpm_session_settings settings;      /* the number of the first request is 0 until one is drawn */
     bool has_manager;                           /* whether settings name the manager */
-    bool is_kept;                               /* by a manager who is the same in each run: a file keeps his session */
+    bool is_kept;                               /* by a manager that is the same in each run: a file keeps its session */
     bool is_letting_go;                         /* what an earlier run asked without an answer is not finished */
-    const char *interfaces[MOST_INTERFACES];    /* the way: interfaces; `collect` and `status` alone may have several, */
+    const char *interfaces[MOST_INTERFACES];    /* the way: interfaces; only `collect` and `status` may have several, */
     int interface_count;
     const char *address, *path;                 /* an address, with one of these or none, or a Unix socket */
     bool is_six, is_ethernet;                   /* at an interface IPv6, or IEEE 802.3, in place of IPv4 */
@@ -40,7 +40,7 @@ struct task {
     const char *numbers;                        /* the file that keeps the session, or NULL */
     long wait;                                  /* how long a session waits that has no such file yet, in milliseconds */
     long timeout;                               /* how long an answer is waited for, in milliseconds */
-    long times;                                 /* how often the request is made anew */
+    long times;                                 /* how often the request is made again */
     bool is_in_octets, is_json;                 /* answers are printed as octets; as objects of JSON */
 };
 

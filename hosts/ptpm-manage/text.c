@@ -19,7 +19,7 @@ static size_t character(const uint8_t *octets, size_t size, uint32_t *number) {
     return *number < least[count] || *number > 0x10ffff || (*number >= 0xd800 && *number < 0xe000) ? 0 : count;
 }
 
-/* Control characters, and those that are unseen, such as fillers, or turn the direction of what follows them. */
+/* Control characters, and those that are unseen, such as fillers, or change the direction of what follows them. */
 static bool is_shown(uint32_t number) {
     static const struct { uint32_t first, last; } hidden[] = {
         { 0, 0x1f }, { '\\', '\\' }, { 0x7f, 0x9f }, { 0xad, 0xad }, { 0x34f, 0x34f }, { 0x61c, 0x61c }, { 0x115f, 0x1160 },
@@ -32,7 +32,7 @@ static bool is_shown(uint32_t number) {
     return true;
 }
 
-/* Whether the user's locale reads UTF-8. Any other may take an octet from 0x80 to 0x9f for a control character. */
+/* Whether the user's locale reads UTF-8. Any other may treat an octet from 0x80 to 0x9f as a control character. */
 static bool reads_utf8(void) {
     static bool is_read, is_asked;
     if (is_asked) return is_read;

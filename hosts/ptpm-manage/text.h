@@ -8,14 +8,14 @@
 
 /* Prints a text of UTF-8 so that it stays on its line and moves nothing on a terminal. A backslash is printed as \x and two
    hexadecimal digits. So is each octet that is no UTF-8, or of a character that controls, formats or fills. If the locale does
-   not read UTF-8, so are the octets of each character with one that could be taken there for a control character. */
+   not read UTF-8, so are the octets of each character with one that could be read there as a control character. */
 void print_text(FILE *to, const uint8_t *octets, size_t size);
 
-/* Prints lines of `ptpm site`, which have no control character of UTF-8. If the locale does not read UTF-8, characters whose octets
-   could be taken for one are printed as above. */
+/* Prints lines of `ptpm site`, which have no control character of UTF-8. If the locale does not read UTF-8, characters whose
+   octets could be read as one are printed as above. */
 void print_lines(FILE *to, const char *text, size_t size);
 
-/* Prints JSON of `ptpm site`, which has characters that are no ASCII in its strings alone. Those that a terminal does not show as
+/* Prints JSON of `ptpm site`, which has characters other than ASCII only in its strings. Those that a terminal does not show as
    they are come as \u and their number. */
 void print_json(FILE *to, const char *text, size_t size);
 

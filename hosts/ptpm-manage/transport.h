@@ -1,4 +1,4 @@
-/* The transport to the clocks that are asked, over UDP, over Ethernet or at a Unix socket: sockets, and where messages go from
+/* The transport to the clocks that are asked, over UDP, over Ethernet or on a Unix socket: sockets, and where messages go from
    them. */
 #ifndef TRANSPORT_H
 #define TRANSPORT_H
@@ -9,7 +9,7 @@
 #include <stdint.h>
 
 /* Finds the transport that the task names. If the task names no manager, its settings get the transport's own. Over UDP and
-   Ethernet that is the interface's hardware address with ff and fe in its middle. At a Unix socket it is clock 0, like that of
+   Ethernet that is the interface's hardware address with ff and fe in its middle. On a Unix socket it is clock 0, like that of
    pmc. Its port is 1, or, if no numbers are kept, one of this process. Ends the program with status 2 if there is none. */
 void find_transport(struct task *task);
 
@@ -19,10 +19,10 @@ void open_transport(const struct task *task);
 /* Gives its socket room for the answers of many clocks, 4 MiB as far as the system allows. */
 void widen_transport(void);
 
-/* Opens it anew at each interface that was removed and made again under its name. What is sent at one that is gone says so. */
+/* Opens it again at each interface that was removed and made again under its name. What is sent at one that is gone says so. */
 void renew_transport(void);
 
-/* Over UDP and Ethernet, has messages of every type come in, or, as at first, management messages alone. */
+/* Over UDP and Ethernet, has messages of every type come in, or, as at first, only management messages. */
 void receive_every_type(bool is_every);
 
 /* Says what clock isn't heard, if the program may hear no copies of what comes to UDP port 320 of this host alone. */
@@ -34,10 +34,10 @@ void tell_missing_addresses(void);
 /* What it is called in a notice. */
 const char *transport_name(void);
 
-/* What became of a message: of a request NONE_LEFT, if its attempts are used. */
+/* What became of a message: of a request NONE_LEFT, if its attempts are used up. */
 enum sending { OUT, NO_ROOM, NO_TRANSPORT, NONE_LEFT };
 
-/* Hands a message to the socket, and waits for no room there. If it answers NO_TRANSPORT, errno says why. */
+/* Passes a message to the socket, and does not wait for room there. If it answers NO_TRANSPORT, errno says why. */
 enum sending send_message(const uint8_t *octets, size_t size);
 
 /* The next message that comes in before a time. It stays until the next call, and octets may follow it. NULL if none does, or a

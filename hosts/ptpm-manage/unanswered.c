@@ -48,7 +48,7 @@ static void say_reason(const struct task *task, enum unanswered what, uint16_t n
     }
 }
 
-/* Who asks every clock or every port waits for a few answers' time. An answer that takes longer is not heard. */
+/* A request to every clock or every port waits for the time of a few answers. An answer that takes longer is not heard. */
 void advise_on_time(const struct task *task) {
     if (task->path == NULL) complain("over a slow link --timeout waits longer for each answer, %ld ms here", task->timeout);
 }
@@ -78,7 +78,7 @@ static void say_rest(const struct task *task, enum unanswered what, uint16_t num
     }
 }
 
-/* What is said of the request at the end of the first line. */
+/* What is said about the request at the end of the first line. */
 static const char *request_clause(const struct task *task, enum unanswered what) {
     bool may_change = !task->is_survey && task->action != PTPM_GET;
     if (what == REQUEST) return may_change ? ": the request may have been carried out" : "";

@@ -9,7 +9,7 @@
    or which number of a new session is. */
 enum unanswered { REQUEST, EARLIER_REQUEST, EARLIER_ELSEWHERE, NUMBER, FIRST_NUMBER };
 
-/* Says what is known of it, after this many messages of it went out under the number. Nobody knows which of them came in. If a
+/* Says what is known about it, after this many messages of it went out with the number. Nobody knows which of them came in. If a
    clock may have dropped them, nobody reads its value, and what it has is said. The program's status. */
 int no_answer(const struct task *task, enum unanswered what, uint16_t number, long sent);
 

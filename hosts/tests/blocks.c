@@ -145,7 +145,7 @@ static void exact_clocks(int all) {
     stop_all();
 }
 
-/* Clocks that are started, started anew, restored and stopped without end, in a block for just this many. */
+/* Clocks that are started, started again, restored and stopped without end, in a block for just this many. */
 static void endless_clocks(void) {
     unsigned refused = 0;
     ptpm_memory_give(block, CLOCKS * clock_room());

@@ -1,6 +1,6 @@
 /* fields: whether the dataField of a SET comes back from its text. The lines of ptpm_field_text are words for ptpm_field_parse.
    Tried are each value of an id with one member, each of UTC_PROPERTIES, and texts that are drawn. Reserved bits are 0 (IEEE
-   1588-2019, 15.5.3). So are a name in upper case, and the value of a sole member alone. Prints what does not hold and `fields: N
+   1588-2019, 15.5.3). So are a name in upper case, and only the value of a sole member. Prints what does not hold and `fields: N
    passed, M failed`; its status is 1 if one failed. */
 #include "checking.h"
 #include "ptpm.h"

@@ -37,7 +37,7 @@ static struct sockaddr_storage to;
 static socklen_t to_size;
 static long sent;
 
-/* Asks under the next number. */
+/* Asks with the next number. */
 static uint16_t ask(void) {
     uint16_t number = (uint16_t)sent++;
     request[SEQUENCE_AT] = (uint8_t)(number >> 8);

@@ -296,7 +296,7 @@ static void observed_grandmaster(void) {
           && reads(0x2002, 0, ME "0000" "0000" "5152" "21222324" "434422313246" ME), "is_grandmaster");
 }
 
-/* The same of ports, and which of them stay disabled. */
+/* The same for ports, and which of them stay disabled. */
 static void observed_of_ports(void) {
     const struct ptpm_observed_clock o = observed_values();
     const struct ptpm_observed_port states[2] = {

@@ -3,7 +3,7 @@
    a GET is sent, with an attempt more before it. In `receive` one is begun, and its answer is heard. In `ignore` an answer under
    an older number is heard. In `start` a clock of two ports is started and stopped. By the difference of two runs a counter of
    instructions (callgrind) shows what one of them costs. Prints the list, the answer to the last call, and its messages and
-   their octets; of `start` its name alone. Status 2 if the words are not understood, 1 if a clock or a session does not start. */
+   their octets; for `start` only its name. Status 2 if the words are not understood, 1 if a clock or a session does not start. */
 #include "ptpm.h"
 #include <stdbool.h>
 #include <stdio.h>
@@ -177,7 +177,7 @@ static unsigned receive_once(struct ptpm_session *session, uint8_t *octets, size
     return ptpm_session_receive(session, octets, *size);
 }
 
-/* The answer under the number before is heard. */
+/* The answer with the number before is heard. */
 static unsigned ignore_once(struct ptpm_session *session, uint8_t *octets, size_t *size) {
     return ptpm_session_receive(session, octets, *size);
 }

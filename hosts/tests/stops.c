@@ -1,4 +1,4 @@
-/* stops: a clock, a session and a survey, each started, used, started anew in a live handle, refused there, started again and
+/* stops: a clock, a session and a survey, each started, used, started again in a live handle, refused there, started again and
    stopped, many times. It shows nothing by itself: in valgrind it shows whether anything was kept. Prints `stops: done`; its
    status is 1 if a call doesn't answer as it has to. */
 #include "ptpm.h"

@@ -1,4 +1,4 @@
-"""python -m ptpm: asks clocks, by the words of ptpm-manage, and prints as it does."""
+"""python -m ptpm: asks clocks, with the words of ptpm-manage, and prints like it."""
 
 from __future__ import annotations
 
@@ -129,7 +129,7 @@ class Task:
             raise ValueError("--target is missing: the clock that is asked; survey asks every clock")
 
     def way(self) -> Transport:
-        """The socket that it goes by."""
+        """The socket that it uses."""
         words = self.words
         return UnixTransport(words.unix) if words.unix is not None else UdpTransport(words.interface, words.udp, ipv6=words.ipv6)
 
@@ -187,7 +187,7 @@ class Task:
         return status
 
     def _finish_in(self, session: Session, way: Transport) -> Report:
-        """What came of the request of an earlier run. If nothing did, it is said what can be done."""
+        """What became of the request of an earlier run. If it has no answer, it is said what can be done."""
         domain = session.earlier_domain
         try:
             return session.finish(way, timeout=self.words.timeout / 1000)

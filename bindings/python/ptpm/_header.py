@@ -1,5 +1,5 @@
 """The header ptpm.h as it is: its constants, its structs and its calls, by its names. The header says what each of them is, and
-what a caller owes. tools/bindings of the repository holds this module to it."""
+what a caller has to do. tools/bindings of the repository compares this module with it."""
 
 import sys
 from ctypes import (

@@ -56,8 +56,8 @@ def name_by(call: Callable[..., int], number: int) -> str:
 
 
 class Handle:
-    """What owns a handle of the library. It is all zeros before its first call, and has one live copy. One thread at a time is in
-    a call with it."""
+    """What owns a handle of the library. It is all zeros before its first call, and has one live copy. Only one thread at a
+    time makes calls with it."""
 
     def __init__(self, kind: Type[ctypes.Structure], stop: Callable[..., None]) -> None:
         self._handle = kind()

@@ -9,7 +9,7 @@ from ._library import library, name_by
 
 
 def answer_name(number: int) -> str:
-    """The name of the number that a call answered, such as NO_ROOM, or the number if it has none."""
+    """The name of the number that a call returned, such as NO_ROOM, or the number if it has none."""
     return name_by(library.ptpm_answer_name, number) or str(number)
 
 
@@ -27,7 +27,7 @@ class Error(Exception):
 
 
 def done(number: int) -> None:
-    """Refuses every number but that of a call that was done."""
+    """Refuses every number except that of a call that was done."""
     if number != 0:
         raise Error(number)
 
@@ -40,7 +40,7 @@ def judged(number: int) -> int:
 
 
 class Answer(IntEnum):
-    """What became of a datagram. A number that a newer library answers has no name of its own here."""
+    """What became of a datagram. A number that a newer library returns has no name of its own here."""
 
     @classmethod
     def _missing_(cls, value: object) -> Answer:
@@ -51,7 +51,7 @@ class Answer(IntEnum):
 
 
 class HandleAnswer(Answer):
-    """What became of a datagram that a clock was handed (enum ptpm_handled)."""
+    """What became of a datagram that a clock was given (enum ptpm_handled)."""
 
     OTHER_DOMAIN = header.PTPM_OTHER_DOMAIN
     OWN_MESSAGE = header.PTPM_OWN_MESSAGE
@@ -73,7 +73,7 @@ class HandleAnswer(Answer):
 
 
 class SessionAnswer(Answer):
-    """What became of a datagram that a session was handed (enum ptpm_session_received)."""
+    """What became of a datagram that a session was given (enum ptpm_session_received)."""
 
     ANSWERED = header.PTPM_ANSWERED
     OTHER_DOMAIN = header.PTPM_OTHER_DOMAIN
@@ -94,7 +94,7 @@ class SessionAnswer(Answer):
 
 
 class SurveyAnswer(Answer):
-    """What became of a datagram that a survey was handed (enum ptpm_survey_received)."""
+    """What became of a datagram that a survey was given (enum ptpm_survey_received)."""
 
     TAKEN = header.PTPM_TAKEN
     AGAIN = header.PTPM_AGAIN

@@ -59,10 +59,10 @@ class Clock(Handle):
 
     @classmethod
     def restore(cls, identity: IdentityLike, ports: int, managers: Sequence[Manager], image: bytes) -> Tuple[Clock, int]:
-        """The clock of an image, which has this identity and this number of ports. And how many managers' latest requests were let
-        go, since these managers are not among those that are given. Managers and their rights are those that are given; all else is
-        that of the image. What is refused is no reason to start the clock anew. It would then take requests for new ones that it
-        has carried out."""
+        """The clock of an image, which has this identity and this number of ports. And how many managers' latest requests were
+        forgotten, since these managers are not among those that are given. Managers and their rights are those that are given;
+        all else comes from the image. What is refused is no reason to start a fresh clock. It would carry out requests again
+        that were carried out before."""
         clock = cls.__new__(cls)
         clock._begin()
         gone = ctypes.c_size_t()
@@ -100,8 +100,8 @@ class Clock(Handle):
         return Handled(HandleAnswer(answer), messages, Changed.of_library(changed))
 
     def observe(self, observed: ObservedClock, ports: Sequence[ObservedPort] = ()) -> Set[int]:
-        """Moves what the host observes of its clock and of its first ports. The disabled ports at which a state was observed: they
-        stay disabled, and the host stops them."""
+        """Sets what the host observes about its clock and its first ports. Returns the disabled ports for which a state was
+        observed: they stay disabled, and the host stops them."""
         left = ctypes.c_uint8()
         struct = observed.as_in_c()
         places = _array(header.ptpm_observed_port, [port.as_in_c() for port in ports])
@@ -109,7 +109,7 @@ class Clock(Handle):
         return {port for port in range(1, 9) if left.value >> port - 1 & 1}
 
     def read(self, named: IdLike, port: int = 0) -> bytes:
-        """Reads what a GET of a managementId is answered: the dataField. The port matters for an id of a port alone."""
+        """Reads the answer that a GET of a managementId would get: the dataField. The port matters only for an id of a port."""
         size = ctypes.c_size_t()
         room = (ctypes.c_uint8 * header.PTPM_MOST_READ)()
         words = (id_of(named), port_number(port), room, len(room), ctypes.byref(size))

@@ -1,4 +1,4 @@
-"""The data sets of a clock (IEEE 1588-2019, 8.2 and 15.5.3), in the form of `ptpm site --json`. TimeIntervals are nanoseconds."""
+"""The data sets of a clock (IEEE 1588-2019, 8.2 and 15.5.3), in the form of `ptpm site --json`. TimeIntervals are in nanoseconds."""
 
 from __future__ import annotations
 
@@ -149,7 +149,7 @@ def _name_in_json(name: str) -> str:
 
 
 def read(kind: Type[_Read], value: Mapping[str, Any]) -> _Read:
-    """A data set out of an object of JSON. Members that are not known here are passed over."""
+    """A data set out of an object of JSON. Members that are not known here are skipped."""
     members = {}
     for member in fields(kind):
         members[member.name] = _READERS[str(member.type)](value[_name_in_json(member.name)])

@@ -1,6 +1,6 @@
-"""A number that is new to a clock. What is asked under a number that was used before is answered by what the clock kept, or not
-at all. So a session first asks, under its number, a GET with octets that it draws. They are part of what makes a repeat, and the
-clock ignores them otherwise. It is answered if the number is new, and never by an answer that was kept."""
+"""A number that is new to a clock. What is asked with a number that was used before is answered with what the clock kept, or
+not at all. So a session first sends, with its number, a GET with octets that it draws. They are part of what makes a repeat, and the
+clock ignores them otherwise. It is answered if the number is new, and never with an answer that was kept."""
 
 from __future__ import annotations
 
@@ -71,7 +71,7 @@ def _reading(question: Question, id_read: int) -> Requests:
 
 
 def _ask_under(first: int, question: Question, way: Transport, enough: int) -> _Finding:
-    """Asks under a number until it is answered, or enough reads beside it are."""
+    """Asks with a number until it is answered, or enough reads that run with it are."""
     readings = sent = attempt = 0
     id_read, size = _what(question)
     asking = Requests(replace(question.settings, first=first))

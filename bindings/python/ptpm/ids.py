@@ -13,7 +13,7 @@ _NUMBER = re.compile(r"(0[xX])?[0-9a-fA-F]{4}", re.ASCII)
 
 
 class Action(IntEnum):
-    """What may be asked of a clock: the actionField of a request."""
+    """What a clock may be asked for: the actionField of a request."""
 
     GET = header.PTPM_GET
     SET = header.PTPM_SET

@@ -1,4 +1,4 @@
-"""Requests of no manager: a clock answers them whatever numbers it took, and keeps nothing of them."""
+"""Requests of no manager: a clock answers them whatever numbers it accepted, and keeps nothing of them."""
 
 from __future__ import annotations
 
@@ -27,8 +27,8 @@ def nobody(manager: PortIdentity) -> PortIdentity:
 def ask_as_nobody(
     way: Transport, settings: SessionSettings, action: int, named: IdLike, data: bytes = b"", port: int = 0, *, timeout: float = 0.2
 ) -> Report:
-    """Asks in the place of a session's manager until it is answered. A clock of ptpm carries out a SET of managers alone; a ptp4l
-    takes some of anybody at its Unix socket, once for each copy."""
+    """Asks in the place of a session's manager until it is answered. A clock of ptpm carries out a SET only from managers; a
+    ptp4l takes some from anybody on its Unix socket, once for each copy."""
     asking = Requests(replace(settings, manager=nobody(PortIdentity.of(settings.manager)), first=draw()))
     begin_request(asking, action, named, data, port)
     return carry_out(asking, way, timeout)

@@ -1,4 +1,4 @@
-"""What a host observes of its clock and of its ports."""
+"""What a host observes about its clock and its ports."""
 
 from __future__ import annotations
 
@@ -12,7 +12,7 @@ from .settings import write_given, write_number, write_octets
 
 @dataclass
 class ObservedGrandmaster:
-    """A grandmaster, which is observed whole, with the parent port over which it is (8.2.3)."""
+    """A grandmaster, which is observed as a whole, with the parent port that leads to it (8.2.3)."""
 
     identity: IdentityLike
     priority1: int
@@ -38,7 +38,7 @@ class ObservedGrandmaster:
 
 @dataclass
 class ObservedClock:
-    """What a host observes of its clock, by the header's names. What is None stays; `is_grandmaster` says that it is the clock
+    """What a host observes about its clock, with the header's names. What is None stays; `is_grandmaster` says that it is the clock
     itself."""
 
     clock_class: Optional[int] = None
@@ -77,7 +77,7 @@ _PLAIN = tuple(name for name in ObservedClock.__dataclass_fields__ if name not i
 
 @dataclass
 class ObservedPort:
-    """What a host observes of a port. DISABLED is entered and left by commands of managers alone."""
+    """What a host observes about a port. DISABLED is entered and left only by commands of managers."""
 
     state: Optional[int] = None
     peer_delay: Optional[int] = None

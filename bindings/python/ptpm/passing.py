@@ -1,4 +1,4 @@
-"""What a host asks before it passes a message on: whether it did so already, and whether it is within its rate."""
+"""What a host asks before it forwards a message: whether it did so already, and whether it is within its rate."""
 
 from __future__ import annotations
 
@@ -10,22 +10,22 @@ from ._library import library
 
 
 class PassedOn:
-    """Which messages were passed on last, 4,096 at most. A message that comes round is passed on once. The seed is drawn, so that
-    nobody else can say where a message is noted."""
+    """Which messages were forwarded last, 4,096 at most. A message that circulates is forwarded once. The seed is drawn, so
+    that nobody else can predict where a message is recorded."""
 
     def __init__(self, seed: int) -> None:
         self._table = header.ptpm_passed_on(seed=seed)
         self._turn = threading.Lock()
 
     def is_first(self, message: bytes, now: int, time: int) -> bool:
-        """Whether a message is to be passed on; it is then noted for a time. The time now and that one are in one unit."""
+        """Whether a message is to be forwarded; it is then recorded for a time. The time now and that one are in the same unit."""
         octets = bytes(message)
         with self._turn:
             return bool(library.ptpm_passed_on_is_first(ctypes.byref(self._table), octets, len(octets), now, time))
 
 
 class Rate:
-    """A bucket of tokens: N a second, at most 1,000,000, and what a second brings at once. Times are in milliseconds."""
+    """A bucket of tokens: N per second, at most 1,000,000, and at most those of one second at once. Times are in milliseconds."""
 
     def __init__(self, tokens: int, now: int) -> None:
         self._rate = header.ptpm_rate()
@@ -33,6 +33,6 @@ class Rate:
         library.ptpm_rate_start(ctypes.byref(self._rate), tokens, now)
 
     def take(self, now: int) -> bool:
-        """Takes a token, if there is one. A time before the latest one counts as that."""
+        """Takes a token, if there is one. A time before the latest one counts as the latest."""
         with self._turn:
             return bool(library.ptpm_rate_take(ctypes.byref(self._rate), now))

@@ -27,7 +27,7 @@ EVERY_PORT = 65535
 @dataclass(frozen=True)
 class SessionSettings:
     """One manager, the clock that it manages, and how its requests are numbered and sent. `first` is the sequenceId of the first
-    request; None says that nobody knows which numbers the clock took of this manager."""
+    request; None says that nobody knows which numbers the clock accepted from this manager."""
 
     manager: PortIdentityLike
     target: IdentityLike
@@ -56,8 +56,8 @@ def _is_error_of(datagram: bytes, clock: bytes) -> bool:
 
 
 class Requests(Handle):
-    """One request at a time to one clock. Whoever uses these calls by themselves sees to the numbers. What is asked under one that
-    was used before is answered by what the clock kept."""
+    """One request at a time to one clock. A caller that uses these calls directly is responsible for the numbers. A request
+    with one that was used before is answered with what the clock kept."""
 
     def __init__(self, settings: SessionSettings) -> None:
         super().__init__(header.ptpm_session, library.ptpm_session_stop)
@@ -67,19 +67,19 @@ class Requests(Handle):
         self._start(settings)
 
     def _start(self, settings: SessionSettings) -> None:
-        """Starts anew: no request is begun."""
+        """Starts afresh: no request is begun."""
         struct = settings.as_in_c()
         done(self._call(library.ptpm_session_start, ctypes.byref(struct)))
         self.settings = settings
 
     def begin(self, action: int, named: IdLike, data: bytes = b"", port: int = 0) -> None:
-        """Begins a request, and lets the answer to the one before go. The port matters for an id of a port alone."""
+        """Begins a request, and discards the answer to the one before. The port matters only for an id of a port."""
         octets = bytes(data)
         done(self._call(library.ptpm_session_begin, Action(action), id_of(named), port_number(port), octets, len(octets)))
         self._set = octets if action == Action.SET else None
 
     def begin_at(self, action: int, named: IdLike, port: int, data: bytes = b"") -> None:
-        """Does what `begin` does at the port that is named, whatever the id. Some clocks answer only if one of their
+        """Does what `begin` does, but names the port for any id. Some clocks answer only if one of their
         ports is named, for an id of the clock too. Any port of the clock may answer for such an id."""
         octets = bytes(data)
         words = (Action(action), id_of(named), port_number(port), octets, len(octets))
@@ -87,8 +87,9 @@ class Requests(Handle):
         self._set = octets if action == Action.SET else None
 
     def give_up(self) -> None:
-        """Lets the unanswered request go, so that the next can be begun. Its number is used for no other, and no answer to it is
-        taken any more. The clock may have carried it out, once, or may still: until it takes a later request of this session."""
+        """Gives up the unanswered request, so that the next can be begun. Its number is used for no other, and an answer to it
+        is ignored from then on. The clock may have carried it out, once, or may still: until it accepts a later request of this
+        session."""
         done(self._call(library.ptpm_session_give_up))
 
     def send(self) -> bytes:
@@ -143,9 +144,9 @@ class Requests(Handle):
         return bytes(room[: size.value])
 
     def restore(self, image: bytes) -> None:
-        """Goes on as the session of an image of the same manager, clock, number of ports and first number, in place of this one.
-        Its domain, hops and attempts are those of the image. A request that was not answered goes on: send it again. What is
-        refused is no reason to start the session anew: the clock would take its requests for old ones, or for others."""
+        """Continues as the session of an image of the same manager, clock, number of ports and first number, instead of this one.
+        Its domain, hops and attempts are those of the image. A request that was not answered stays open: send it again. What is
+        refused is no reason to start a fresh session: the clock would treat its requests as old, or as others."""
         octets, struct = bytes(image), self.settings.as_in_c()
         done(self._call(library.ptpm_session_restore, ctypes.byref(struct), octets, len(octets)))
         self._set = unanswered_set(octets)
@@ -166,7 +167,7 @@ class Requests(Handle):
 
 
 def begin_request(session: Requests, action: int, named: IdLike, data: bytes, port: int) -> None:
-    """Begins a request at the port that is named, for an id of the clock too. If none is, such an id is asked of every port."""
+    """Begins a request at the port that is named, for an id of the clock too. If none is, every port is asked for such an id."""
     if port in (0, EVERY_PORT):
         session.begin(action, named, data, port)
     else:

@@ -25,10 +25,10 @@ from .transport import Transport
 class Session(Requests):
     """One request at a time to one clock, which carries it out once, however often it is sent.
 
-    `ask` sends a request until it is answered, and reports nothing that the clock had kept of an earlier session. It first finds
-    that its number is new. With a file the next session goes on from this one. A request is in the file before it is sent. If it
-    had no answer, the next session finishes it first, and has what came of it in `earlier`. A SET or a COMMAND is finished in the
-    domain in which it was asked, whichever this session's is.
+    `ask` sends a request until it is answered, and reports nothing that the clock had kept for an earlier session. It first
+    makes sure that its number is new. With a file the next session continues from this one. A request is in the file before it is
+    sent. If it had no answer, the next session finishes it first, and has what came of it in `earlier`. A SET or a COMMAND is
+    finished in the domain in which it was asked, whichever this session's is.
 
     Threads that ask in one session take turns: a request is answered before the next one begins.
     """
@@ -94,7 +94,7 @@ class Session(Requests):
             super().close()
 
     def _gives_up(self) -> bool:
-        """Lets a question go. One that can't be is finished like any request."""
+        """Gives up a question. One that can't be given up is finished like any request."""
         try:
             self.give_up()
         except Error:
@@ -106,7 +106,7 @@ class Session(Requests):
         self._come_back()
 
     def let_go(self) -> None:
-        """Goes on at the next number, without the request that has no answer. Once the clock has answered a later one, it was
+        """Continues with the next number, without the request that has no answer. Once the clock has answered a later one, it was
         carried out, or never will be. It is refused if 32,767 one after the other had no answer (OUT_OF_REACH)."""
         with self._asking:
             self.give_up()
@@ -132,8 +132,8 @@ class Session(Requests):
         probe.close()
 
     def finish(self, way: Transport, *, timeout: float = 0.2) -> Report:
-        """Sends the request of an earlier run until it is answered, and answers what came of it. `ask` does so too, but the file is
-        then kept without that request before `earlier` can be read."""
+        """Sends the request of an earlier run until it is answered, and returns what became of it. `ask` also does so, but the
+        file is then kept without that request before `earlier` can be read."""
         with self._asking:
             self.resume(self.settings.attempts)
             try:
@@ -150,14 +150,14 @@ class Session(Requests):
             self._file.write(Requests(replace(self.settings, first=number)).image())
 
     def _find_number(self, way: Transport, number: int, port: int, timeout: float) -> None:
-        """Has the session go on from a number that is new to the clock."""
+        """Has the session continue from a number that is new to the clock."""
         begun = replace(self.settings, first=self.next_number if self._is_known else None)
         question = fresh_number.Question(begun, number, port, timeout, self._wait)
         self._start(replace(begun, first=fresh_number.find(question, way, self._keep_number)))
         self._is_fresh = self._is_known = True
 
     def _begin(self, action: int, number: int, data: bytes, port: int) -> None:
-        """Begins a request, and keeps it. A session that has begun as many as one can goes on as a new one, at its next number."""
+        """Begins a request, and keeps it. A session that has begun as many as it can continues as a new one, with its next number."""
         try:
             begin_request(self, action, number, data, port)
         except Error as error:
@@ -193,8 +193,8 @@ class Session(Requests):
             return carry_out(self, way, timeout)
 
     def go_on(self, way: Transport, attempts: int = 30, *, timeout: float = 0.2) -> Report:
-        """Asks the unanswered request again. The clock carries it out once all the same. If it is one of an earlier run, what
-        came of it is in `earlier` too."""
+        """Asks the unanswered request again. The clock still carries it out once. If it is one of an earlier run, what became
+        of it is in `earlier` too."""
         with self._asking:
             is_earlier = self.is_under_way
             self.resume(attempts)

@@ -1,5 +1,5 @@
-"""The file in which a manager's session with a clock goes on from run to run: the session's image. It is the file of ptpm-manage,
-by the same rules, so that programs take turns with it."""
+"""The file that carries a manager's session with a clock from run to run: the session's image. It is the file of ptpm-manage,
+with the same rules, so that programs take turns with it."""
 
 from __future__ import annotations
 
@@ -25,7 +25,7 @@ _own_turn = threading.Lock()
 
 
 class SessionFileError(Exception):
-    """A file is in another's hands, or is none."""
+    """A file is held by another, or is not a file."""
 
 
 def usual_path(manager: PortIdentityLike, target: IdentityLike) -> str:
@@ -44,8 +44,8 @@ def usual_path(manager: PortIdentityLike, target: IdentityLike) -> str:
 
 
 class SessionFile:
-    """The octets of a session's file, or None if there is none yet. Whoever holds the file has its turn: others wait a minute. It
-    is held until it is closed, or its `with` ends."""
+    """The octets of a session's file, or None if there is none yet. The process that holds the file has its turn: others wait a
+    minute. It is held until it is closed, or its `with` ends."""
 
     def __init__(
         self, manager: PortIdentityLike, target: IdentityLike, path: Union[str, "os.PathLike[str]", None] = None
@@ -87,7 +87,7 @@ class SessionFile:
             raise
 
     def _locked(self, until: float) -> int:
-        """The file of the lock, with the lock on it. Another program that had it may have removed it meanwhile."""
+        """The lock file, with the lock on it. Another program that had it may have removed it in the meantime."""
         flags = os.O_RDWR | os.O_CREAT | os.O_NOFOLLOW | os.O_NONBLOCK | os.O_CLOEXEC
         while True:
             lock = os.open(f"{self.path}.lock", flags, 0o660)
@@ -170,7 +170,7 @@ class SessionFile:
 
     def write(self, octets: bytes) -> None:
         """Has the file have these octets, whatever becomes of the program or the machine: they are on the disk when the call
-        returns. Only whoever holds it may write it."""
+        returns. Only the process that holds it may write it."""
         if not self.is_open:
             raise SessionFileError(f"{self.path}: it is closed here, and another program may hold it")
         os.replace(self._write_new(octets), self.path)

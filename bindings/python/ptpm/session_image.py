@@ -1,5 +1,5 @@
-"""What this module itself reads of a session's image, and of the number that earlier versions kept in its place. Whether octets
-are an image the library judges."""
+"""What this module itself reads of a session's image, and of the number that earlier versions kept in its place. The library
+decides whether octets are an image."""
 
 from __future__ import annotations
 
@@ -60,7 +60,7 @@ def domain_of_unanswered(image: bytes, domain: int) -> int:
 
 
 def number_of_line(octets: bytes, manager: PortIdentity, target: Identity) -> Optional[int]:
-    """The number of a file of an earlier version, alone or with its manager and its clock; None if it is no such file."""
+    """The number of a file of an earlier version, by itself or with its manager and its clock; None if it is no such file."""
     found = _LINE.fullmatch(octets)
     if found is None or int(found[1]) > 65535:
         return None

@@ -1,5 +1,5 @@
-"""A whole site at a glance, by the programs `ptpm-manage collect` and `ptpm site`: who is grandmaster, who follows whom, and what is
-wrong."""
+"""A whole site at a glance, with the programs `ptpm-manage collect` and `ptpm site`: who is grandmaster, who follows whom, and
+what is wrong."""
 
 from __future__ import annotations
 
@@ -23,8 +23,8 @@ PASSING = frozenset(
 
 
 class SiteError(Exception):
-    """A program did not show a site: what it said, and its exit status, which is None if it did not run to its end. Status 3 is that
-    no clock answered."""
+    """A program did not show a site: what it said, and its exit status, which is None if it did not run to its end. Status 3
+    means that no clock answered."""
 
     def __init__(self, what: str, status: Optional[int] = None) -> None:
         super().__init__(what)
@@ -44,7 +44,7 @@ def _program(name: str, built: str) -> str:
 
 
 def _run(words: Sequence[str], given: str, allowed: Sequence[int], limit: Optional[float]) -> Tuple[str, int, List[str]]:
-    """What a program prints, its status, and the lines that it says beside that."""
+    """What a program prints, its status, and the lines that it writes on standard error."""
     try:
         ran = subprocess.run(words, input=given, capture_output=True, encoding="utf-8", errors="replace", timeout=limit, check=False)
     except subprocess.TimeoutExpired as error:
@@ -78,7 +78,7 @@ def _shown(lines: Iterable[str], notes: Sequence[str], limits: Sequence[str]) ->
 
 
 def _looked(words: Sequence[str], limits: Sequence[str], once: bool, limit: Optional[float]) -> Site:
-    """A look at the site, and if something may pass, another: then only what holds twice is left of such findings."""
+    """A look at the site, and if a finding may be only momentary, another: then such findings are left only if they hold twice."""
     first = _shown(*_collected(words, limit), limits)
     before = {(finding.domain, finding.clock, finding.name) for finding in first.findings if finding.name in PASSING}
     if once or not before:
@@ -115,7 +115,7 @@ def site(
     max_delay: Optional[int] = None,
     once: bool = False,
 ) -> Site:
-    """Looks at a whole site: asks every clock by `ptpm-manage collect`, and has the answers shown by `ptpm site`.
+    """Looks at a whole site: asks every clock with `ptpm-manage collect`, and passes the answers to `ptpm site`.
 
     The way is one or up to eight `interfaces` (UDP over IPv4, or `ipv6`, or `ethernet`), an address (`udp`), or a socket (`unix`). Or
     `lines` are answers that were collected before, a datagram in hexadecimal each. `domains` is one, a range such as "0-7", or "all".

@@ -1,4 +1,4 @@
-"""A site out of what `ptpm site --json` prints: its clocks as a tree, and what is wrong."""
+"""A site from what `ptpm site --json` prints: its clocks as a tree, and what is wrong."""
 
 from __future__ import annotations
 
@@ -70,7 +70,7 @@ class SiteClock:
 @dataclass(frozen=True)
 class Domain:
     """A domain: its clocks by identity, and the same as a tree. `roots` are the clocks at its left. They are their own
-    grandmasters, or the least of a loop, or did not say whom they follow. `lost` are those that follow a port of a
+    grandmasters, or the lowest of a loop, or did not say whom they follow. `lost` are those that follow a port of a
     clock that did not answer."""
 
     number: int
@@ -161,7 +161,7 @@ def _clock(domain: int, told: Mapping[str, Any]) -> SiteClock:
 
 
 def _loops(parents: Mapping[Identity, Identity]) -> List[Identity]:
-    """The least clock of each circle of clocks that follow each other, in ascending order."""
+    """The lowest clock of each circle of clocks that follow each other, in ascending order."""
     least: List[Identity] = []
     done: Set[Identity] = set()
     for first in sorted(parents):

@@ -53,7 +53,7 @@ def say(what: object, end: str = "\n") -> bool:
 
 
 def complain(what: object) -> bool:
-    """Says what is wrong, or what else whoever asks should know."""
+    """Says what is wrong, or what else the caller should know."""
     return say(f"ptpm: {what}")
 
 

@@ -48,9 +48,9 @@ class SurveySettings:
 class Survey(Handle):
     """What a survey asks, and its answers: the first of each port, of 512 ports at most.
 
-    With a target every port of that clock is asked, and no other clock answers. A clock takes such a GET of one of its managers for
-    a numbered request, like one of a session. So the manager is none of them then, for example another port of the same identity.
-    """
+    With a target every port of that clock is asked, and no other clock answers. A clock treats such a GET from one of its
+    managers as a numbered request, like one of a session. So the manager must not be one of them then, for example another port
+    number of the same clockIdentity. """
 
     def __init__(self, settings: SurveySettings, target: Optional[IdentityLike] = None) -> None:
         super().__init__(header.ptpm_survey, library.ptpm_survey_stop)

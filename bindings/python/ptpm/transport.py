@@ -1,5 +1,5 @@
-"""Ways to clocks, over sockets of the standard library. They are UDP at an interface (IEEE 1588-2019, annexes C and D), and a Unix
-socket of this machine, for example that of ptp4l."""
+"""Transports to clocks, over sockets of the standard library. They are UDP at an interface (IEEE 1588-2019, annexes C and D), and
+a Unix socket of this machine, for example that of ptp4l."""
 
 from __future__ import annotations
 
@@ -109,7 +109,7 @@ class Transport:
             one.close()
 
     def send(self, octets: bytes) -> bool:
-        """Sends a message; whether there was room for it. An OSError says that there is no way."""
+        """Sends a message; whether there was room for it. An OSError says that there is no transport."""
         try:
             self._socket.sendto(octets, self._to)
         except BlockingIOError:
@@ -220,7 +220,7 @@ class UdpTransport(Transport):
 
     @staticmethod
     def identity_at(interface: Optional[str] = None, address: Optional[str] = None, *, ipv6: bool = False) -> Identity:
-        """The clockIdentity that a manager has by default at such a way. No socket is opened at UDP port 320."""
+        """The clockIdentity that a manager has by default with such a transport. No socket is opened at UDP port 320."""
         return Identity.of_mac(_mac_of(_destination(interface, address, ipv6)[0]))
 
 
@@ -285,8 +285,8 @@ def _opened(interface: str, family: socket.AddressFamily) -> Tuple[socket.socket
 
 
 class UnixTransport(Transport):
-    """The Unix socket of a clock on this machine. Its own socket is beside it meanwhile: the path, a dot, and the number of the
-    process. Another number follows if that name is taken."""
+    """The Unix socket of a clock on this machine. Its own socket is next to it in the meantime: the path, a dot, and the number
+    of the process. Another number follows if that name is taken."""
 
     is_local = True
 
@@ -309,7 +309,7 @@ class UnixTransport(Transport):
 
 
 def _bound_beside(opened: socket.socket, clock: str) -> str:
-    """Binds a socket beside a clock's, and answers its path. It has the group of the clock's, so that the clock may write to it."""
+    """Binds a socket next to a clock's, and returns its path. It has the group of the clock's, so that the clock may write to it."""
     for number in itertools.count():
         own = f"{clock}.{os.getpid()}" + (f".{number}" if number else "")
         try:

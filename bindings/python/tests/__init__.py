@@ -47,7 +47,7 @@ class Folder(unittest.TestCase):
         self.fail(f"{words[0]} does not start")
 
     def start_clock(self, *words: str, before: Sequence[str] = (), name: str = "clock.socket") -> str:
-        """Runs the agent of hosts/ at a Unix socket; its path. While it starts there is a socket for a moment now and then."""
+        """Runs the agent of hosts/ on a Unix socket; its path. While it starts there is a socket for a moment now and then."""
         path = f"{self.folder}/{name}"
         stays = ["--user", "root"] if os.geteuid() == 0 else []  # whoever else it became could not answer in this folder
         command = [*before, str(TOP / "hosts/clock"), *stays, "-n", "60", "-u", path]

@@ -1,5 +1,5 @@
 //! What a datagram costs a host in Rust, for a counter of instructions, as `hosts/tests/measure.c` does it in C. `measure get COUNT` starts
-//! a clock, lets it answer a GET of PRIORITY1 by its manager, and hands it that GET COUNT times more, each under the next number. By
+//! a clock, lets it answer a GET of PRIORITY1 by its manager, and passes it that GET COUNT times more, each with the next number. By
 //! the difference of two runs callgrind shows what one of them costs. Prints how many messages of how many octets it makes.
 
 use ptpm::{Clock, ClockSettings, Manager, Outbox, PortSettings, Rights};

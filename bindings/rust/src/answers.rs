@@ -1,10 +1,10 @@
-//! What became of a datagram: the answers of the three calls that take one.
+//! What became of a datagram: what the three calls that take one return.
 
 use crate::names;
 use crate::sys;
 use core::fmt;
 
-/// An enum of numbers that the library answers.
+/// An enum of numbers that the library returns.
 macro_rules! numbered {
     ($(#[$about:meta])* $name:ident { $($(#[$what:meta])* $variant:ident = $number:ident,)* }) => {
         $(#[$about])*
@@ -46,7 +46,7 @@ macro_rules! numbered {
     };
 }
 
-/// The same, and after them why a datagram holds no management message, which each of the three calls answers.
+/// The same, and after them why a datagram holds no management message, which each of the three calls returns.
 macro_rules! answers {
     ($(#[$about:meta])* $name:ident { $($answers:tt)* }) => {
         numbered! {
@@ -75,7 +75,7 @@ macro_rules! answers {
 }
 
 answers! {
-    /// What became of a datagram that a clock was handed (`enum ptpm_handled`).
+    /// What became of a datagram that a clock was given (`enum ptpm_handled`).
     Handled {
         /// It is of another domain.
         OtherDomain = PTPM_OTHER_DOMAIN,
@@ -85,21 +85,21 @@ answers! {
         NotAddressed = PTPM_NOT_ADDRESSED,
         /// It is an answer.
         NotARequest = PTPM_NOT_A_REQUEST,
-        /// A new request of a manager. It alone may have changed the data sets.
+        /// A new request from a manager. Only this one may have changed the data sets.
         AnsweredNew = PTPM_ANSWERED_NEW,
         /// The latest request of a manager again.
         AnsweredRepeat = PTPM_ANSWERED_REPEAT,
         /// A manager's request before its latest.
         DroppedOld = PTPM_DROPPED_OLD,
-        /// Another request under the number of a manager's latest.
+        /// Another request with the number of a manager's latest.
         DroppedConflict = PTPM_DROPPED_CONFLICT,
-        /// A request of anybody else, or to every clock.
+        /// A request from anyone else, or to every clock.
         AnsweredUnnumbered = PTPM_ANSWERED_UNNUMBERED,
     }
 }
 
 answers! {
-    /// What became of a datagram that a session was handed (`enum ptpm_session_received`).
+    /// What became of a datagram that a session was given (`enum ptpm_session_received`).
     Received {
         /// It answers the unanswered request.
         Answered = PTPM_ANSWERED,
@@ -121,7 +121,7 @@ answers! {
 }
 
 answers! {
-    /// What became of a datagram that a survey was handed (`enum ptpm_survey_received`).
+    /// What became of a datagram that a survey was given (`enum ptpm_survey_received`).
     Surveyed {
         /// It is the first answer of its port, and is kept.
         Taken = PTPM_TAKEN,

@@ -31,7 +31,7 @@ macro_rules! members {
                 self.0 & members.0 != 0
             }
 
-            /// The sum of bits by which the library names them.
+            /// The sum of the bits with which the library names them.
             pub const fn bits(self) -> $bits {
                 self.0
             }

@@ -91,16 +91,16 @@ impl Clock {
         Ok(clock)
     }
 
-    /// Starts the clock of an image, which has this identity and this number of ports. Says how many managers' latest requests were
-    /// let go, since these managers are not among those that are given. Managers and their rights are those that are given; all
-    /// else is that of the image.
+    /// Starts the clock of an image, which has this identity and this number of ports. Says how many managers' latest requests
+    /// were forgotten, since these managers are not among those that are given. Managers and their rights are those that are
+    /// given; all else comes from the image.
     ///
     /// # Errors
     ///
     /// The first of [`Error::TooManyManagers`], [`Error::ManagerTwice`], [`Error::IdentityIsZero`], [`Error::NotAnImage`],
     /// [`Error::OtherVersion`], [`Error::OtherKind`], [`Error::Damaged`], [`Error::OtherClock`], [`Error::OtherPorts`] and
-    /// [`Error::NoMemory`] that holds. That is no reason to start the clock anew: it would then take requests for new ones that it has
-    /// carried out.
+    /// [`Error::NoMemory`] that holds. That is no reason to start a fresh clock: it would carry out requests again that were
+    /// carried out before.
     pub fn restore(identity: Identity, ports: usize, managers: &[Manager], image: &[u8]) -> Result<(Self, usize), Error> {
         done(sys::ptpm_header_agrees())?;
         let mut clock = Self::none();
@@ -155,8 +155,8 @@ impl Clock {
         Ok(Turn { number, messages })
     }
 
-    /// Does what [`Clock::handle`] does, and reports which members of the data sets have another value then. There are some only
-    /// after [`Handled::AnsweredNew`].
+    /// Does what [`Clock::handle`] does, and reports which members of the data sets have another value then. There are some
+    /// only after [`Handled::AnsweredNew`].
     ///
     /// # Errors
     ///
@@ -183,13 +183,13 @@ impl Clock {
         Ok((Turn { number, messages }, changed.into()))
     }
 
-    /// Moves what the host observes of its clock and of its first ports, and nothing else. It answers the disabled ports at which a
-    /// state was observed: they stay disabled, and the host stops them.
+    /// Sets what the host observes about its clock and its first ports, and nothing else. It returns the disabled ports for
+    /// which a state was observed: they stay disabled, and the host stops them.
     ///
     /// # Errors
     ///
     /// The first of [`Error::NoPort`], [`Error::GrandmasterDiffers`], [`Error::BadClockAccuracy`], [`Error::BadLeap59`] and
-    /// [`Error::BadState`] that holds; then nothing moves.
+    /// [`Error::BadState`] that holds; then nothing changes.
     pub fn observe(&mut self, observed: &ObservedClock, ports: &[ObservedPort]) -> Result<Ports, Error> {
         let observed = observed.as_in_c();
         let mut places = [ObservedPort::default().as_in_c(); MORE_PORTS];
@@ -203,8 +203,8 @@ impl Clock {
         Ok(Ports(left))
     }
 
-    /// Reads what a GET of a managementId is answered: the dataField, in the room that it is given. The port matters for an id of a
-    /// port alone.
+    /// Reads the answer that a GET of a managementId would get: the dataField, in the room that it is given. The port matters
+    /// only for an id of a port.
     ///
     /// # Errors
     ///

@@ -5,7 +5,7 @@ use crate::sys;
 use core::fmt;
 use core::str::FromStr;
 
-/// A managementId (15.5.2.3, table 59). It is read by its name in either case, or by four hexadecimal digits:
+/// A managementId (15.5.2.3, table 59). It is read from its name in either case, or from four hexadecimal digits:
 ///
 /// ```
 /// use ptpm::ManagementId;
@@ -89,8 +89,8 @@ impl fmt::Display for ManagementId {
     }
 }
 
-/// A managementErrorId (15.5.4.3, table 109): why a clock refused a request. It is written by the standard's name, or by its number
-/// if it has none.
+/// A managementErrorId (15.5.4.3, table 109): why a clock refused a request. It is written as the standard's name, or as its
+/// number if it has none.
 ///
 /// ```
 /// assert_eq!(ptpm::ManagementErrorId(4).to_string(), "WRONG_VALUE");

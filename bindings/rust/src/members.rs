@@ -8,7 +8,7 @@ use alloc::string::String;
 use alloc::vec::Vec;
 use core::fmt;
 
-/// The members of a dataField (15.5.3): of each its name in the standard and its value as `ptpm show --members` prints it.
+/// The members of a dataField (15.5.3): for each its name in the standard and its value as `ptpm show --members` prints it.
 ///
 /// ```
 /// use ptpm::{ManagementId, Members};

@@ -4,14 +4,14 @@ use crate::sys;
 use core::ffi::c_char;
 use core::fmt;
 
-/// A name of the library's, such as `NO_ROOM`.
+/// A name from the library, such as `NO_ROOM`.
 pub(crate) struct Name {
     text: [u8; sys::PTPM_MOST_NAME],
     size: usize,
 }
 
 impl Name {
-    /// The name that a call writes into the room that it is handed; the call answers how many octets the name has.
+    /// The name that a call writes into the room that it is given; the call returns how many octets the name has.
     fn written(call: impl FnOnce(*mut c_char, usize) -> usize) -> Option<Self> {
         let mut text = [0; sys::PTPM_MOST_NAME];
         let size = call(text.as_mut_ptr().cast(), text.len());
@@ -38,7 +38,7 @@ impl Name {
     }
 }
 
-/// Writes the name of the number that a call answered, or the number if it has none.
+/// Writes the name of the number that a call returned, or the number if it has none.
 pub(crate) fn write_answer(number: u32, to: &mut fmt::Formatter<'_>) -> fmt::Result {
     match Name::of_answer(number) {
         Some(name) => to.pad(name.as_str()),

@@ -1,10 +1,10 @@
-//! What a host observes of its clock and of its ports.
+//! What a host observes about its clock and its ports.
 
 use crate::identity::{Identity, PortIdentity};
 use crate::settings::{PortState, TimeInterval};
 use crate::sys;
 
-/// The grandmaster of a clock, which is observed whole.
+/// The grandmaster of a clock, which is observed as a whole.
 #[derive(Clone, Copy, Debug, PartialEq, Eq)]
 #[allow(missing_docs)] // the members of parentDS (8.2.3), by the header's names
 pub enum ObservedGrandmaster {
@@ -14,7 +14,7 @@ pub enum ObservedGrandmaster {
     Other { identity: Identity, priority1: u8, class: u8, accuracy: u8, variance: u16, priority2: u8, parent_port: PortIdentity },
 }
 
-/// What a host observes of its clock: what its servo and its best master clock algorithm find. A member that is `None` stays.
+/// What a host observes about its clock: what its servo and its best master clock algorithm find. A member that is `None` stays.
 ///
 /// ```
 /// use ptpm::{ObservedClock, TimeInterval};
@@ -45,7 +45,7 @@ pub struct ObservedClock {
     pub time_source: Option<u8>,
 }
 
-/// What a host observes of a port. [`PortState::Disabled`] is entered and left by commands of managers alone.
+/// What a host observes about a port. [`PortState::Disabled`] is entered and left only by commands of managers.
 #[derive(Clone, Copy, Debug, Default, PartialEq, Eq)]
 #[allow(missing_docs)] // the members of portDS (8.2.15), by the header's names
 pub struct ObservedPort {

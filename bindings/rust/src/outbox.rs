@@ -13,7 +13,7 @@ pub struct Outbox {
 }
 
 impl Outbox {
-    /// Room, for a place of the host's own; nothing is written.
+    /// Room, in a place that the host provides; nothing is written.
     pub const fn new() -> Self {
         Self { places: [MaybeUninit::uninit(); sys::PTPM_MOST_SENT] }
     }

@@ -1,4 +1,4 @@
-//! What a host asks before it passes a message on: whether it did so already, and whether it is within its rate.
+//! What a host asks before it forwards a message: whether it did so already, and whether it is within its rate.
 
 use crate::sys;
 use alloc::boxed::Box;
@@ -6,8 +6,8 @@ use alloc::vec;
 use core::fmt;
 use core::mem::{align_of, size_of, MaybeUninit};
 
-/// Which messages were passed on last, 4,096 at most, in about 197,000 octets of the heap. A message that comes round is passed on
-/// once.
+/// Which messages were forwarded last, 4,096 at most, in about 197,000 octets of the heap. A message that circulates is
+/// forwarded once.
 pub struct PassedOn {
     /// The octets of the library's table.
     words: Box<[u64]>,
@@ -17,14 +17,15 @@ const WORDS: usize = size_of::<sys::ptpm_passed_on>() / size_of::<u64>();
 const _: () = assert!(align_of::<sys::ptpm_passed_on>() == align_of::<u64>() && WORDS * 8 == size_of::<sys::ptpm_passed_on>());
 
 impl PassedOn {
-    /// A table that notes no message. The seed is drawn, so that nobody else can say where a message is noted.
+    /// A table that records no message. The seed is drawn, so that nobody else can predict where a message is recorded.
     pub fn new(seed: u64) -> Self {
         let mut words = vec![0; WORDS].into_boxed_slice();
         words[0] = seed; // the first member
         Self { words }
     }
 
-    /// Whether a message is to be passed on; it is then noted for a time. The time now and that one are in one unit of the host's.
+    /// Whether a message is to be forwarded; it is then recorded for a time. The time now and that one are in the same unit,
+    /// which the host chooses.
     pub fn is_first(&mut self, message: &[u8], now: u64, time: u64) -> bool {
         // SAFETY: the words have the size and the alignment of the table, and are its seed and zeros, or what the library wrote. The
         // message may be read, and lies apart from the table, which is borrowed mutably.
@@ -38,13 +39,13 @@ impl fmt::Debug for PassedOn {
     }
 }
 
-/// A bucket of tokens: N a second, and what a second brings at once.
+/// A bucket of tokens: N per second, and at most those of one second at once.
 pub struct Rate {
     rate: sys::ptpm_rate,
 }
 
 impl Rate {
-    /// A full bucket of N tokens a second, at most 1,000,000, at a time in milliseconds.
+    /// A full bucket of N tokens per second, at most 1,000,000, at a time in milliseconds.
     pub fn new(tokens: u64, now: u64) -> Self {
         let mut rate = MaybeUninit::uninit();
         // SAFETY: the rate may be written, and the call writes all of it.
@@ -54,7 +55,7 @@ impl Rate {
         }
     }
 
-    /// Takes a token, if there is one. A time before the latest one counts as that.
+    /// Takes a token, if there is one. A time before the latest one counts as the latest.
     pub fn take(&mut self, now: u64) -> bool {
         // SAFETY: the rate is one that the library wrote, and may be written.
         unsafe { sys::ptpm_rate_take(&mut self.rate, now) }

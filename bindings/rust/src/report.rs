@@ -35,7 +35,7 @@ pub struct Answer {
     pub value: Result<Vec<u8>, ManagementErrorId>,
 }
 
-/// What a call reports that writes a dataField, its size and an error, and answers a number.
+/// What a call reports that writes a dataField, its size and an error, and returns a number.
 pub(crate) fn told<'a>(
     room: &'a mut [u8],
     call: impl FnOnce(*mut u8, usize, &mut usize, &mut u16) -> u32,

@@ -12,7 +12,7 @@ use core::ptr::null_mut;
 /// The most octets of a session's image.
 pub const SESSION_IMAGE_OCTETS: usize = sys::PTPM_SESSION_IMAGE_OCTETS;
 
-/// What may be asked of a clock: the actionField of a request.
+/// What a clock may be asked for: the actionField of a request.
 #[derive(Clone, Copy, Debug, PartialEq, Eq, Hash)]
 #[repr(u8)]
 #[allow(missing_docs)] // the standard's names
@@ -22,9 +22,9 @@ pub enum Action {
     Command = sys::PTPM_COMMAND,
 }
 
-/// One manager, the clock that it manages, and how its requests are numbered and sent. A clock takes a request for new if its
-/// number is up to 32,767 ahead of the latest that it took from this manager. So a manager that starts again goes on from the
-/// number after the last that it began.
+/// One manager, the clock that it manages, and how its requests are numbered and sent. A clock treats a request as new if its
+/// number is up to 32,767 ahead of the latest that it accepted from this manager. So a manager that starts again continues with
+/// the number after the last that it began.
 #[derive(Clone, Copy, Debug, PartialEq, Eq)]
 pub struct SessionSettings {
     /// The manager; its clock is not all ones.
@@ -118,14 +118,14 @@ impl Session {
         Ok(session)
     }
 
-    /// Starts the session of an image, with the settings of the session that it is of. Its domain, hops and attempts are those of
-    /// the image. A request that was not answered goes on, with all its attempts: send it again.
+    /// Starts the session of an image, with the settings of the session that it belongs to. Its domain, hops and attempts are
+    /// those of the image. A request that was not answered stays open, with all its attempts: send it again.
     ///
     /// # Errors
     ///
     /// The first of [`Error::NotAnImage`], [`Error::OtherVersion`], [`Error::OtherKind`], [`Error::Damaged`],
-    /// [`Error::OtherSession`] and [`Error::NoMemory`] that holds. That is no reason to start the session anew: the clock would
-    /// take its requests for old ones, or for others.
+    /// [`Error::OtherSession`] and [`Error::NoMemory`] that holds. That is no reason to start a fresh session: the clock would
+    /// treat its requests as old, or as others.
     pub fn restore(settings: &SessionSettings, image: &[u8]) -> Result<Self, Error> {
         done(sys::ptpm_header_agrees())?;
         let mut session = Self::none();
@@ -149,7 +149,7 @@ impl Session {
         Ok(&room[..size])
     }
 
-    /// Begins a request, and lets the answer to the one before go. The port matters for an id of a port alone. The caller keeps the
+    /// Begins a request, and discards the answer to the one before. The port matters only for an id of a port. The caller keeps the
     /// number of the next request for a restart: the first one and [`Session::issued`], added up.
     ///
     /// # Errors
@@ -161,7 +161,7 @@ impl Session {
         done(unsafe { sys::ptpm_session_begin(&mut self.handle, action as u8, id.0, port, data.as_ptr(), data.len()) })
     }
 
-    /// Does what [`Session::begin`] does at the port that is named, whatever the id. Some clocks answer only if one of their
+    /// Does what [`Session::begin`] does, but names the port for any id. Some clocks answer only if one of their
     /// ports is named, for an id of the clock too. Any port of the clock may answer for such an id.
     ///
     /// # Errors
@@ -194,8 +194,8 @@ impl Session {
         done(unsafe { sys::ptpm_session_resume(&mut self.handle, attempts) })
     }
 
-    /// Lets the unanswered request go, so that the next can be begun. Its number is used for no other, and no answer to it is taken
-    /// any more. The clock may have carried it out, once, or may still: until it takes a later request of this session.
+    /// Gives up the unanswered request, so that the next can be begun. Its number is used for no other, and an answer to it is
+    /// ignored from then on. The clock may have carried it out, once, or may still: until it accepts a later request of this session.
     ///
     /// # Errors
     ///

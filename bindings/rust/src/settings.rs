@@ -12,7 +12,7 @@ use core::ops::BitOr;
 pub struct TimeInterval(pub i64);
 
 impl TimeInterval {
-    /// An interval of N nanoseconds. What is too far for a TimeInterval is the farthest one.
+    /// An interval of N nanoseconds. What is out of the range of a TimeInterval becomes its nearest limit.
     pub const fn of_nanoseconds(nanoseconds: i64) -> Self {
         Self(nanoseconds.saturating_mul(1 << 16))
     }
@@ -35,7 +35,7 @@ pub enum PortState {
 }
 
 impl PortState {
-    /// The state of a portState's number, if it is one's.
+    /// The state with this number as a portState, if there is one.
     pub const fn of_number(number: u8) -> Option<Self> {
         Some(match number {
             sys::PTPM_STATE_INITIALIZING => Self::Initializing,
@@ -65,7 +65,7 @@ pub enum DelayMechanism {
 }
 
 impl DelayMechanism {
-    /// The mechanism of a delayMechanism's number, if it is one's.
+    /// The mechanism with this number as a delayMechanism, if there is one.
     pub const fn of_number(number: u8) -> Option<Self> {
         Some(match number {
             sys::PTPM_DELAY_E2E => Self::EndToEnd,
@@ -123,7 +123,7 @@ pub struct ClockSettings {
     pub time_source: u8,
 }
 
-/// What the library writes of settings whose start values are its own.
+/// What the library writes for settings with its own start values.
 fn default_clock() -> sys::ptpm_clock_settings {
     let mut settings = MaybeUninit::uninit();
     // SAFETY: the settings may be written, and the call writes them all.

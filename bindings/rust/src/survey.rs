@@ -86,9 +86,9 @@ impl Survey {
         Ok(survey)
     }
 
-    /// Starts a survey of one clock, without answers: every port of it is asked, and no other clock answers. A clock takes such a
-    /// GET of one of its managers for a numbered request, like one of a session. So the manager here is none of them, for example
-    /// another port of the same identity.
+    /// Starts a survey of one clock, without answers: every port of it is asked, and no other clock answers. A clock treats
+    /// such a GET from one of its managers as a numbered request, like one of a session. So the manager here must not be one of
+    /// them, for example another port number of the same clockIdentity.
     ///
     /// # Errors
     ///

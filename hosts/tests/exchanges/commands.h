@@ -27,7 +27,7 @@ void stop_network(void);
 /* How many octets or messages the host has room for: N after the word room, and otherwise all that are ever needed. */
 size_t next_room(char **words, size_t most);
 
-/* Room for what a call writes, and whether it wrote these octets alone. */
+/* Room for what a call writes, and whether it wrote only these octets. */
 extern uint8_t room[];
 void clear_room(void);
 bool wrote_alone(size_t size);

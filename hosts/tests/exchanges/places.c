@@ -92,7 +92,7 @@ uint32_t due_answer(const struct start *clock, const struct octets *taken, const
     return first_that_holds(judgements);
 }
 
-/* Whether this is the message with one hop less, and nothing after it, at port 2. */
+/* Whether this is the message with boundaryHops decremented, and nothing after it, at port 2. */
 static bool is_copy(const struct octets *octets, const struct ptpm_sent *sent) {
     size_t length = number_at(octets, 2), hops = HOPS + 1;
     return sent->port == 2 && sent->size == length && memcmp(sent->octets, octets->at, hops) == 0 &&

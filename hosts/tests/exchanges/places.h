@@ -15,7 +15,7 @@ uint32_t refusal_of(const struct octets *datagram);
    octets. */
 uint32_t due_answer(const struct start *clock, const struct octets *taken, const struct octets *datagram);
 
-/* Whether these messages are due. At port 2 that is a copy of what is not for the clock alone and has a hop left. Then at port 1 it is
+/* Whether these messages are due. At port 2 that is a copy of what is not only for the clock and has a hop left. Then at port 1 it is
    the replies to what is answered. */
 bool are_due(const struct start *clock, const struct octets *datagram, uint32_t answer, const struct ptpm_sent *sent, size_t count);
 

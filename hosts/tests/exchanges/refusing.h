@@ -7,7 +7,7 @@
 
 /* Makes a call so, and says what a refused request changes, or if the call then answers something else than PTPM_NO_MEMORY.
    Takes:   the call; what it is given; and what writes the state that it may not change, or null if it has none.
-   Answers: what the call answers at last. */
+   Returns: what the call returns at last. */
 uint32_t refusing(uint32_t (*call)(void *given), void *given, size_t (*state)(uint8_t *octets));
 
 /* How many requests were refused so far. */

@@ -23,14 +23,14 @@ long long next_number(char **words, long long without);
 /* The number of the next word, of hexadecimal digits. */
 uint16_t next_hex(char **words);
 
-/* The octets of all words that are left: hexadecimal digits, or a name; N*WORD for N times these. A word
-   @PLACE=WORD puts others in place of those from a place on, and @..N leaves the first N. A minus sign alone is none. */
+/* The octets of all words that are left: hexadecimal digits, or a name; N*WORD for N times these. A word @PLACE=WORD replaces
+   those from a place on by others, and @..N leaves the first N. A single minus sign is none. */
 void read_octets(char **words, struct octets *octets);
 
-/* Like read_octets, of one word alone, which has this number of octets. */
+/* Like read_octets, but of only one word, which has this number of octets. */
 void read_exactly(const char *word, uint8_t *octets, size_t size);
 
-/* Gives octets a name in place of what had it. All names are forgotten at the end of a page. */
+/* Gives octets a name, and takes it from what had it. All names are forgotten at the end of a page. */
 void put_name(const char *name, const uint8_t *octets, size_t size);
 void forget_names(void);
 

@@ -52,8 +52,8 @@ struct Agent {
     outbox: Box<Outbox>,
 }
 
-/// The clock of the store, or a new one if none was ever saved there. What is refused there is no reason for a new one: that would
-/// take requests for new ones that were carried out before.
+/// The clock of the store, or a new one if none was ever saved there. What is refused there is no reason for a new one: that
+/// would carry out requests again that were carried out before.
 fn clock_of(
     store: Option<&mut Store>,
     settings: &ClockSettings,
