@@ -735,9 +735,9 @@ enum ptpm_restored ptpm_clock_restore(struct ptpm_clock *clock, const uint8_t id
 /* Ends what the handle holds, if it holds anything. The handle then holds nothing, and may be started again. */
 void ptpm_clock_stop(struct ptpm_clock *clock);
 
-/* Starts a session in place of what the handle holds, which is freed first. As long as it may ask, only this session sends to the
+/* Starts a session instead of what the handle holds, which is freed first. As long as it may ask, only this session sends to the
    clock under the manager's portIdentity: no survey does, and no other program.
-   Answers: PTPM_STARTED; or why not, and then the handle holds nothing.
+   Returns: PTPM_STARTED; or why not, and then the handle holds nothing.
    Memory:  the session, until it is stopped.
    Caller:  stops the session. */
 enum ptpm_started ptpm_session_start(struct ptpm_session *session, const struct ptpm_session_settings *settings);
@@ -832,9 +832,9 @@ enum ptpm_reported ptpm_session_report(const struct ptpm_session *session, uint8
 /* Ends what the handle holds, if it holds anything. The handle then holds nothing, and may be started again. */
 void ptpm_session_stop(struct ptpm_session *session);
 
-/* Starts a survey without answers in place of what the handle holds, which is freed first. A session of the same manager may take
-   an answer to its GET for its own. So the manager here has no session: for example, it is another port of the same identity.
-   Answers: PTPM_STARTED; or why not, and then the handle holds nothing.
+/* Starts a survey without answers instead of what the handle holds, which is freed first. A session of the same manager may treat
+   an answer to its GET as its own. So the manager here has no session: for example, it is another port of the same identity.
+   Returns: PTPM_STARTED; or why not, and then the handle holds nothing.
    Memory:  the survey, until it is stopped.
    Caller:  stops the survey. */
 enum ptpm_started ptpm_survey_start(struct ptpm_survey *survey, const struct ptpm_survey_settings *settings);

@@ -1,5 +1,5 @@
-/* What is sent to UDP port 320 of this host alone. Linux hands each such datagram to one socket, and a servo of this host, for
-   example ptp4l, may wait for it. So it is taken only where nobody else has the port, or a copy of it is heard. */
+/* What is sent by unicast to UDP port 320 of this host. Linux hands each such datagram to one socket, and a servo of this host, for
+   example ptp4l, may wait for it. So it is taken only if nobody else has the port, or a copy of it is heard. */
 #ifndef GENERAL_PORT_H
 #define GENERAL_PORT_H
 
@@ -8,22 +8,22 @@
 #include <stdint.h>
 #include <sys/socket.h>
 
-/* A socket that gets what is sent to UDP port 320 of this host alone, at any interface, if no other socket may have it. It comes
-   after every socket of IPv4 there, and after each of IPv6 that is bound to an interface, whichever was first. Management
-   messages alone come in; none if is_heard is false: then it only shows who asks that somebody is there. -1 and errno if it
+/* A socket that gets what is sent by unicast to UDP port 320 of this host, at any interface, if no other socket may have it. It
+   comes after every socket of IPv4 there, and after each of IPv6 that is bound to an interface, whichever was first. Only
+   management messages come in; none if is_heard is false: then it only shows who asks that somebody is there. -1 and errno if it
    can't be made. */
 int open_general_port(bool is_six, bool is_heard);
 
-/* A socket that hears a copy of each management message that is sent to UDP port 320 of this host alone, and takes none away. It
-   takes the capability CAP_NET_RAW. -1 and errno if it can't be made. The UDP checksum is not seen to. */
+/* A socket that hears a copy of each management message that is sent by unicast to UDP port 320 of this host, and takes none away.
+   It needs the capability CAP_NET_RAW. -1 and errno if it can't be made. The UDP checksum is not checked. */
 int open_copies(bool is_six);
 
 /* The place of the message in such a copy, and its size in *size, which was that of the copy. 0 if there is none. The sender gets
    the port that it was sent from. */
 size_t message_in_copy(const uint8_t *octets, size_t *size, struct sockaddr *sender);
 
-/* Who gets what comes in at an interface for UDP port 320 of this host alone: our socket, another program, or nobody. The kernel
-   may report nobody although somebody is there. */
+/* Who gets what comes in by unicast at an interface for UDP port 320 of this host: our socket, another program, or nobody. The
+   kernel may report nobody although somebody is there. */
 enum general_port { NOBODY_HAS_IT, WE_HAVE_IT, ANOTHER_HAS_IT };
 enum general_port who_has_general_port(int ours, unsigned interface, bool is_six);
 

@@ -16,7 +16,7 @@ struct kept_file {
     char name[KEPT_NAME], new_name[KEPT_NAME], lock_name[KEPT_NAME];
     mode_t mode;                        /* that a new file gets */
     bool is_folder_made;                /* the folder was missing */
-    struct stat before;                 /* of a file whose owner and mode it gets in place of that; st_nlink is 0 if of none */
+    struct stat before;                 /* of a file whose owner and mode it gets instead of that; st_nlink is 0 if of none */
 };
 
 /* Opens the folder of a path. It is made if it is missing; what is above it is not. Whether it could; if not, errno says why, and
@@ -26,7 +26,7 @@ bool open_kept_folder(struct kept_file *file, const char *path);
 /* At which of the files the latest call failed: what comes after the path, ".new", ".lock" or nothing. */
 const char *kept_fault(void);
 
-/* The file of the lock, which is made if it is missing; -1 if it can't be had, as errno says. */
+/* The lock file, which is made if it is missing; -1 if it can't be opened, as errno says. */
 int open_kept_lock(const struct kept_file *file);
 
 /* Takes the lock if no process has it. Whether it could; if not, errno says why, EAGAIN or EACCES if another has it. It is

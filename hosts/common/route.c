@@ -34,7 +34,8 @@ static bool may_ask(void) {
     return asked < MOST_QUESTIONS && ++asked > 0;
 }
 
-/* The route itself is asked for (RTM_F_FIB_MATCH). Else the kernel takes an address to which no route leads for one of the link. */
+/* The route itself is asked for (RTM_F_FIB_MATCH). Otherwise the kernel treats an address to which no route leads as one of the
+   link. */
 static struct question question_of(unsigned index, const struct sockaddr *address) {
     bool is_six = address->sa_family == AF_INET6;
     size_t size = is_six ? ADDRESS : sizeof(struct in_addr);

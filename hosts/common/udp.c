@@ -57,7 +57,7 @@ static bool send_at_six(int socket, unsigned interface, const char **what) {
            && set_option(socket, IPPROTO_IPV6, IPV6_MULTICAST_LOOP, &none, sizeof none, what, "IPV6_MULTICAST_LOOP");
 }
 
-/* Management messages alone come in at the socket, which hears nothing until it is bound. */
+/* Only management messages come in at the socket, which hears nothing until it is bound. */
 static bool stay_at(int socket, const char *interface, bool is_six, const char **what) {
     unsigned index = if_nametoindex(interface);
     if (index == 0) return false;
@@ -67,8 +67,8 @@ static bool stay_at(int socket, const char *interface, bool is_six, const char *
            && (is_six ? send_at_six(socket, index, what) : send_at_four(socket, index, what));
 }
 
-/* At the address of the group nothing comes in that is sent to this host alone. Linux hands that to one socket, and a servo may
-   need it. */
+/* At the address of the group nothing comes in that is sent to this host by unicast. Linux hands that to one socket, and a servo
+   may need it. */
 static bool bind_to_group(int socket, const struct sockaddr_storage *to, socklen_t size, const char **what) {
     int one = 1;
     if (!set_option(socket, SOL_SOCKET, SO_REUSEADDR, &one, sizeof one, what, "SO_REUSEADDR")) return false;

@@ -8,16 +8,16 @@
 /* The UDP port for all messages except event messages. */
 enum { GENERAL_PORT = 320 };
 
-/* A socket at UDP port 320 of an interface, in the group of PTP there (IEEE 1588-2019, annexes C and D). Management messages to the
-   group alone come in there, and nothing of what this host sends. It takes nothing that is sent to this host alone. -1 if it
+/* A socket at UDP port 320 of an interface, in the group of PTP there (IEEE 1588-2019, annexes C and D). Only management messages
+   to the group come in there, and nothing of what this host sends. It takes nothing that is sent to this host by unicast. -1 if it
    can't be made: errno says why, and *what at which step. */
 int open_udp(const char *interface, bool is_six, const char **what);
 
-/* A socket of an interface at a port of its own, to ask from. An answer to this host alone comes back to it, since that goes to
-   the port of the request (annexes C and D). -1 as above. */
+/* A socket of an interface at a port of its own, to ask from. A unicast answer comes back to it, since that goes to the port of the
+   request (annexes C and D). -1 as above. */
 int open_asking_udp(const char *interface, bool is_six, const char **what);
 
-/* Has a socket hear management messages alone, or every message; whether it does. The kernel drops the rest before the program
+/* Has a socket hear only management messages, or every message; whether it does. The kernel drops the rest before the program
    wakes, and counts it as errors of UDP. */
 bool filter_udp(int socket, bool is_management_alone);
 

@@ -18,11 +18,11 @@ void report_twin(void);
 /* A line on standard error: its identity, its interfaces, the states of its ports, and how many managers it has. */
 void say_started(void);
 
-/* Takes the datagrams that have come in at a port, or at the Unix socket if there is none. Sends their answers, and what is
-   passed on. Those that change nothing are answered first. Requests of managers at a port wait for the next save. */
+/* Takes the datagrams that have come in at a port, or on the Unix socket if there is none. Sends their answers, and what is
+   forwarded. Those that change nothing are answered first. Requests of managers at a port wait for the next save. */
 void take_round(const struct port *port, int socket);
 
-/* The same of datagrams that were sent over UDP to this host alone. */
+/* The same for datagrams that were sent over UDP to this host by unicast. */
 void take_unicast_round(void);
 
 /* Takes the requests that wait, if it is time for a save. In how many milliseconds it may be time for those that are left; -1 if none

@@ -10,7 +10,7 @@
 #include <string.h>
 #include <sys/random.h>
 
-/* For how many milliseconds a message is not passed on again. How many addresses of managers have tokens of their own. */
+/* For how many milliseconds a message is not forwarded again. How many addresses of managers have tokens of their own. */
 enum { NOTED = 1000, MANAGERS_HEARD = 8 };
 
 static struct limits limits;
@@ -69,7 +69,7 @@ bool admit_manager(const struct heard *heard, const struct port *port) {
 
 void count_manager_dropped(void) { kept_back.managers++; }
 
-/* Whether a message is to be passed on at all. It is asked once of each, since it is noted. */
+/* Whether a message is to be forwarded at all. It is asked once for each, since it is recorded. */
 static bool admit_copies(const struct heard *heard, const struct port *port, uint64_t now) {
     if (!limits.is_passed_on || limits.hops == 0 || (port == NULL && !limits.is_passed_on_from_host)) return false;
     if (ptpm_passed_on_is_first(&passed_on, heard->octets, heard->size, now, NOTED)) return true;

@@ -1,6 +1,6 @@
 /* What ptpm-clock keeps from the network of what its agent would send, and from its agent of what managers send. It limits how far
-   messages are passed on, which of them, and how many a second. So no message goes round for good, and a stranger who sends little
-   can't have much sent. Nor can who claims to be a manager have the clock save without end. */
+   messages are forwarded, which of them, and how many per second. So no message circulates forever, and a stranger that sends
+   little can't cause much to be sent. Nor can anyone who claims to be a manager make the clock save without end. */
 #ifndef NETWORK_LIMITS_H
 #define NETWORK_LIMITS_H
 
@@ -10,10 +10,10 @@
 #include <stdbool.h>
 
 struct limits {
-    long hops;                          /* by how many clocks a message is passed on at most, this one included */
-    long rate;                          /* how many messages a port passes on a second, and how many answers it sends there */
-    long manager_rate;                  /* how many requests of managers a port takes a second */
-    bool is_passed_on;                  /* messages are passed on between the ports */
+    long hops;                          /* how many clocks forward a message at most, this one included */
+    long rate;                          /* how many messages a port forwards per second, and how many answers it sends there */
+    long manager_rate;                  /* how many requests of managers a port takes per second */
+    bool is_passed_on;                  /* messages are forwarded between the ports */
     bool is_passed_on_from_host;        /* and those of programs of this host */
     bool is_any_source;                 /* also from addresses that are not on the link */
     const struct ptpm_manager_settings *managers;
@@ -31,8 +31,8 @@ void say_deaf_ports(void);
 /* Whether a datagram from a port is heard at all: it comes from an address on the link, or any may. One that is not is counted. */
 bool admit_datagram(const struct heard *heard, const struct port *port);
 
-/* Whether it is from a manager and for this clock alone, so that it may be answered under a number, and be saved. Nobody can know who
-   sent it. */
+/* Whether it is from a manager and only for this clock, so that it may be answered as a numbered request, and be saved. Nobody can
+   know who sent it. */
 bool is_of_manager(const struct heard *heard, const uint8_t own[8]);
 
 /* Whether such a datagram from a port is taken: its sender has not sent too many. One that is not is counted. */
@@ -41,8 +41,8 @@ bool admit_manager(const struct heard *heard, const struct port *port);
 /* Counts one that finds no room. */
 void count_manager_dropped(void);
 
-/* Lowers boundaryHops (octet 45) to the most that there may be, and startingBoundaryHops (octet 44) by as much. So an answer
-   has as many hops as it would have (15.4.1), and what is passed on has fewer. */
+/* Lowers boundaryHops (octet 45) to the limit, and startingBoundaryHops (octet 44) by the same amount. So an answer has as many
+   hops as it would have otherwise (15.4.1), and what is forwarded has fewer. */
 void lower_hops(struct heard *heard);
 
 /* Which of the messages that the agent made of a datagram are to go out. Those at `ingress` answer it, and the others forward

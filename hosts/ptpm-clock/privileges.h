@@ -10,8 +10,8 @@ struct privileges {
     uid_t user;
     gid_t group;
     bool is_by_default;         /* it is root, and --user does not say whom it becomes */
-    gid_t socket_group;         /* that of the Unix socket, in which it is then too; -1 if none was given */
-    bool is_unfiltered;         /* it may call all of the system */
+    gid_t socket_group;         /* the group of the Unix socket, which it then has too; -1 if none was given */
+    bool is_unfiltered;         /* it may make every system call */
 };
 
 /* What it takes to open a port's socket once more, if its interface is made again. */

@@ -153,12 +153,12 @@ static void put_control(struct cmsghdr *at, int level, int type, const void *val
     memcpy(CMSG_DATA(at), value, size);
 }
 
-/* An answer to who asked this host alone goes to the port that the request came from (annexes C and D). */
+/* The answer to a unicast request goes to the port that the request came from (annexes C and D). */
 static void answer_port(in_port_t *port) {
     if (*port == 0) *port = htons(GENERAL_PORT);        /* it named none */
 }
 
-/* The address that a datagram goes to, and, if it answers one that came to this host alone, the address that it comes from. */
+/* The address that a datagram goes to, and, if it answers one that came only to this host, the address that it comes from. */
 static void address_datagram(struct msghdr *head, const struct heard *answered, union sender *to, struct control *control) {
     head->msg_name = to;
     if (answered == NULL) {

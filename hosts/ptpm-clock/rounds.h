@@ -28,9 +28,9 @@ struct heard {
     size_t size, whole;                 /* the octets that are kept, and all that came in */
     union sender sender;
     socklen_t sender_size;
-    const uint8_t *station;             /* who sent it over Ethernet */
-    const struct port *port;            /* that of the interface; NULL at the Unix socket */
-    bool is_unicast;                    /* it was sent to this host alone, and so is what is answered */
+    const uint8_t *station;             /* its sender over Ethernet */
+    const struct port *port;            /* that of the interface; NULL on the Unix socket */
+    bool is_unicast;                    /* it was sent only to this host, and the answer goes only to its sender */
     struct in_pktinfo own_four;         /* the address that it was sent to */
     struct in6_pktinfo own_six;
 };
@@ -39,11 +39,11 @@ struct heard {
    round. */
 size_t hear_round(const struct port *port, int socket, struct heard heard[ROUND]);
 
-/* The same at a socket of what is sent to this host alone, which may hear copies of it (general_port.h). What comes in at no
+/* The same at a socket of what is sent to this host by unicast, which may hear copies of it (general_port.h). What comes in at no
    interface of a port is left out. */
 size_t hear_host(int socket, bool is_copied, struct heard heard[ROUND]);
 
-/* The places of a turn's messages, PTPM_MOST_SENT of them. NULL if there are fewer: then what is to go out has to go first. */
+/* The places of a turn's messages, PTPM_MOST_SENT of them. NULL if there are fewer: then what is to go out has to be sent first. */
 struct ptpm_sent *places_to_send(void);
 
 /* A message that is in the next place, or after others, is to go out at its port. It goes to the sender of what it answers, if

@@ -28,7 +28,7 @@ void note_change(void);
 bool save_changes(struct ptpm_clock *clock);
 
 /* Whether a save may be made now for who asks at a port. There are a fifth as many a second as requests of managers may be, and as
-   many at once. So the disk is waited for in a part of the time alone. Without a file it always may. */
+   many at once. So only a part of the time is spent waiting for the disk. Without a file it always may. */
 bool may_save(void);
 
 /* Saves that were made and that failed, and how many microseconds those that were made took. */

@@ -23,7 +23,7 @@ struct shares {
    again, but one a second at least. */
 void start_shares(struct shares *shares, uint64_t rate, size_t count, uint64_t now);
 
-/* Takes a token of who sent a datagram, or else one of all; whether there is one. A program of this host has those of all alone. */
+/* Takes a token of who sent a datagram, or else one of all; whether there is one. A program of this host has only those of all. */
 bool take_share(struct shares *shares, const struct heard *heard, uint64_t now);
 
 #endif

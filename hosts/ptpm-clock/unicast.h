@@ -1,11 +1,11 @@
-/* What is sent to UDP port 320 of ptpm-clock's host alone, at the interfaces of its ports. */
+/* What is sent by unicast to UDP port 320 of ptpm-clock's host, at the interfaces of its ports. */
 #ifndef UNICAST_H
 #define UNICAST_H
 
 #include "rounds.h"
 
-/* Opens what hears it: copies of it if the program may, and otherwise the port itself, where nobody else has it. Comes after the
-   ports are open and before rights are let go. */
+/* Opens what hears it: copies of it if the program may, and otherwise the port itself, if nobody else has it. Comes after the ports
+   are open and before rights are dropped. */
 void open_unicast(void);
 
 /* Once a second: takes the port if nobody else has it any more, and says at which interface another program has it by now. */

@@ -14,9 +14,9 @@
 #include <stdlib.h>
 #include <string.h>
 
-/* One request each 50 ms: all at once lose answers in the buffers of the clocks, which hear each other's answers too. A burst
-   of requests to one clock alone has fewer answers than such a buffer holds. There are no more, however many clocks are asked: one
-   host may answer as thousands. If more clocks than MOST_SILENT give no answer when they are asked alone, they are such. */
+/* One request each 50 ms: all at once lose answers in the buffers of the clocks, which hear each other's answers too. A burst of
+   requests to only one clock has fewer answers than such a buffer holds. There are no more, however many clocks are asked: one host
+   may answer as thousands. If more clocks than MOST_SILENT give no answer when they are asked by themselves, they are such. */
 enum { STEP = 50, BURST = 128, MOST_SILENT = 128, DOMAINS_AT_ONCE = 32 };
 
 /* A socket without room is tried again this often, this many milliseconds apart. A silence that never comes is waited for this

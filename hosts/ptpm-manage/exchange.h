@@ -14,8 +14,8 @@ enum { SESSION_PORTS = 8, EVERY_PORT = 65535 };
 bool is_beyond_session(uint16_t port);
 
 /* Begins the task's request at the port that it names, for an id of the clock too: some clocks answer only then. If it names
-   none, or every port, such an id is asked of every port. A port above the session's takes the place of its last one in
-   what goes out, and gives it back in what comes in. What the library answers. */
+   none, or every port, every port is asked for such an id. A port above the session's takes the place of its last one in what goes
+   out, and gives it back in what comes in. What the library answers. */
 enum ptpm_begun begin_of_task(struct ptpm_session *session, const struct task *task);
 
 /* Sends the session's request once more, which uses one of its attempts: NONE_LEFT if there is none. */

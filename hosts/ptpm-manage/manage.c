@@ -23,8 +23,8 @@ const char program[] = "ptpm-manage";
 
 _Noreturn void usage(void) { refuse("see ptpm-manage --help"); }
 
-/* Asks in the manager's session, which goes on from run to run. It has its turn before its socket, so
-   nothing of another run comes in there. */
+/* Asks in the manager's session, which continues from run to run. It has its turn before its socket, so nothing of another run
+   comes in there. */
 static int ask_in_session(struct session *session, const struct task *task) {
     static struct task earlier;
     int status = ANSWERED;

@@ -18,9 +18,9 @@ struct seen_clock {
     uint8_t answered;                   /* a bit for each of what is collected: an answer or a refusal came */
     bool are_ports_refused;             /* by an error instead of a PORT_DATA_SET */
     uint16_t port_count, ports;         /* numberPorts, 0 until it is known; how many of them gave a PORT_DATA_SET */
-    uint8_t answered_before;            /* the answers that it had given when it was asked alone the last time */
+    uint8_t answered_before;            /* the answers that it had given when it was last asked by itself */
     uint16_t ports_before;
-    bool is_asked;                      /* it was asked alone since the last look at who was silent */
+    bool is_asked;                      /* it was asked by itself since the last look at who was silent */
     bool is_let_go;                     /* it is asked no more */
 };
 
@@ -52,14 +52,14 @@ bool is_seen(uint8_t domain, const uint8_t clock[8]);
 size_t seen_count(void);
 const struct seen_clock *seen_clock(size_t place);
 
-/* Whether it lacks an answer: one to the id, or that of one of its ports. One that is let go lacks none. */
+/* Whether it lacks an answer: one to the id, or that of one of its ports. One that is asked no more lacks none. */
 bool is_lacking(const struct seen_clock *clock, enum collected id);
 
-/* Notes that a clock is asked alone. */
+/* Notes that a clock is asked by itself. */
 void note_asked(size_t place);
 
-/* Looks which of the clocks that were asked alone have given no new answer since. If they are more than `most`, they are let go;
-   how many were. */
+/* Looks which of the clocks that were asked by themselves have given no new answer since. If they are more than `most`, they are
+   asked no more; how many these are. */
 size_t let_go_of_silent(size_t most);
 
 /* How many answers found no room. */

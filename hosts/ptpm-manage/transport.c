@@ -23,14 +23,14 @@
 #include <unistd.h>
 
 /* A socket, and over UDP or Ethernet its interface, with the index of that one, and its address on Ethernet. Over UDP the socket
-   hears what comes to the group, and another one, -1 elsewhere, asks, and hears what is answered to this host alone. */
+   hears what comes to the group, and another one, -1 elsewhere, asks, and hears what is answered by unicast. */
 struct end { int socket, asking; const char *interface; unsigned index; uint8_t station[STATION]; };
 
 static struct sockaddr_storage clock_address;
 static socklen_t clock_size;
 static struct end ends[MOST_INTERFACES];
 static size_t end_count;
-static int copies = -1;         /* of what comes to UDP port 320 of this host alone; -1 if the program may hear none */
+static int copies = -1;         /* of what comes by unicast to UDP port 320 of this host; -1 if the program may hear none */
 /* What the transport is called in a notice. */
 static char name[MOST_INTERFACES * (IFNAMSIZ + 2) + sizeof ((struct sockaddr_un *)0)->sun_path];
 static bool is_six, is_ethernet, is_any_source;

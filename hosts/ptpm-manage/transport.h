@@ -25,7 +25,7 @@ void renew_transport(void);
 /* Over UDP and Ethernet, has messages of every type come in, or, as at first, only management messages. */
 void receive_every_type(bool is_every);
 
-/* Says what clock isn't heard, if the program may hear no copies of what comes to UDP port 320 of this host alone. */
+/* Says what clock isn't heard, if the program may hear no copies of what comes by unicast to UDP port 320 of this host. */
 void tell_deaf_port(void);
 
 /* Says which of its interfaces are gone, or have no address to ask from. */

@@ -77,7 +77,7 @@ Address = Union[str, Tuple[str, int], Tuple[str, int, int, int]]
 
 
 class Transport:
-    """A way to clocks: sockets, and the address that the first one sends to. It is closed when its `with` ends."""
+    """A transport to clocks: sockets, and the address that the first one sends to. It is closed when its `with` ends."""
 
     identity = Identity(bytes(8))
     """The clockIdentity that a manager has here by default."""
@@ -199,10 +199,10 @@ def _destination(interface: Optional[str], address: Optional[str], ipv6: bool) -
 
 
 class UdpTransport(Transport):
-    """UDP port 320 at an interface, to the group of all clocks there, or to one address. It takes root, or the capability
-    CAP_NET_BIND_SERVICE. What comes to the group is heard, and what is answered to the port of the request. A clock may answer to
-    port 320 of this host alone, from whatever port it was asked. Then a copy of that is heard if the program has the capability
-    CAP_NET_RAW, as root has. Nothing is taken from who else has the port, such as a ptp4l."""
+    """UDP port 320 at an interface, to the group of all clocks there, or to one address. It needs root, or the capability
+    CAP_NET_BIND_SERVICE. What comes to the group is heard, and what is answered to the port of the request. A clock may answer by
+    unicast to port 320 of this host, from whatever port it was asked. Then a copy of that is heard if the program has the
+    capability CAP_NET_RAW, as root has. Nothing is taken from another program that has the port, such as a ptp4l."""
 
     def __init__(self, interface: Optional[str] = None, address: Optional[str] = None, *, ipv6: bool = False) -> None:
         self.interface, family, to = _destination(interface, address, ipv6)
@@ -231,7 +231,7 @@ def _filter(opened: socket.socket, wanted: bytes) -> None:
 
 
 def _at(opened: socket.socket, interface: str, wanted: bytes) -> socket.socket:
-    """The socket hears and sends at this interface alone. It is not bound yet, and hears nothing until then."""
+    """The socket hears and sends only on this interface. It is not bound yet, and hears nothing until then."""
     _filter(opened, wanted)
     opened.setsockopt(socket.SOL_SOCKET, _SO_BINDTODEVICE, interface.encode() + b"\0")
     return opened
@@ -251,7 +251,8 @@ def _send_at(opened: socket.socket, index: int) -> None:
 
 
 def _join(opened: socket.socket, index: int) -> None:
-    """The socket is bound to the group, so nothing that is sent to this host alone comes in there, which may be another's."""
+    """The socket is bound to the group, so nothing comes in there that is sent to this host by unicast, which may be for another
+    program."""
     opened.setsockopt(socket.SOL_SOCKET, socket.SO_REUSEADDR, 1)
     if opened.family == socket.AF_INET6:
         opened.setsockopt(socket.IPPROTO_IPV6, socket.IPV6_V6ONLY, 1)

@@ -69,7 +69,7 @@ class Network(Folder):
         self.assertEqual(self.asked("-i", "near0", "survey", "PRIORITY1"), f"{CLOCK}/1 priority1 101\n")
 
     def test_runs_beside_each_other_are_answered(self) -> None:
-        """The answers come to this host alone, each to the port of its request."""
+        """The answers are unicast, each to the port of its request."""
         self.start_far_clock("-m", "020000fffe000010/1")
         self.asked("-i", "near0", "-w", "0", "set", "PRIORITY1", "100", "-T", CLOCK)
         words = [*self.inside(self.near), sys.executable, "-m", "ptpm", "--udp", "10.9.9.2", "-T", CLOCK, "set", "PRIORITY1"]

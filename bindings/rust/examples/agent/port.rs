@@ -60,8 +60,8 @@ fn set<T: ?Sized>(socket: &OwnedFd, level: c_int, option: c_int, value: &T) -> i
     Ok(())
 }
 
-/// A socket that hears what comes to the group at this interface, and sends there. It is bound to the group: what is sent to port
-/// 320 of this host alone goes to one socket, which may be that of a `ptp4l`.
+/// A socket that hears what comes to the group on this interface, and sends there. It is bound to the group: what is sent by
+/// unicast to port 320 of this host goes to one socket, which may be that of a `ptp4l`.
 pub fn open(interface: &str) -> io::Result<UdpSocket> {
     let name = CString::new(interface)?;
     // SAFETY: the name ends with a zero.
