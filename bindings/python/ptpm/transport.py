@@ -251,7 +251,7 @@ def _send_at(opened: socket.socket, index: int) -> None:
 
 
 def _join(opened: socket.socket, index: int) -> None:
-    """The socket is bound to the group, so nothing comes in there that is sent to this host by unicast, which may be for another
+    """The socket is bound to the group, so nothing comes in there that is sent to this host by unicast. That may be for another
     program."""
     opened.setsockopt(socket.SOL_SOCKET, socket.SO_REUSEADDR, 1)
     if opened.family == socket.AF_INET6:
