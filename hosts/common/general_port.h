@@ -10,8 +10,8 @@
 
 /* A socket that gets unicast datagrams to UDP port 320 of this host, at any interface, if no other socket may have them. It comes
    after every socket of IPv4 there, and after each of IPv6 that is bound to an interface, whichever was first. Only management
-   messages come in; none if is_heard is false: then it only shows who asks that somebody is there. -1 and errno if it can't be
-   made. */
+   messages come in; none if is_heard is false: then it only shows to anyone who asks that somebody is there. -1 and errno if it
+   can't be made. */
 int open_general_port(bool is_six, bool is_heard);
 
 /* A socket that hears a copy of each management message that is sent by unicast to UDP port 320 of this host. It takes none away.

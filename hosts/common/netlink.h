@@ -24,7 +24,7 @@ bool has_address(unsigned index, sa_family_t family);
    route leads there without a gateway. With IPv6 it may also be an address of the link. */
 bool is_on_link(unsigned index, const struct sockaddr *address);
 
-/* For who does not read what the kernel reports: the addresses of interfaces may have changed. */
+/* For a program that does not read what the kernel reports: the addresses of interfaces may have changed. */
 void forget_networks(void);
 
 #endif

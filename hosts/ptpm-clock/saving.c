@@ -44,7 +44,7 @@ _Noreturn static void refuse_second(long owner) {
     end_with(NOT_OPENED);
 }
 
-/* What root has made is of the user that the program becomes. */
+/* What root has made belongs to the user that the program becomes. */
 static void hand_over(int made) {
     const struct privileges *privileges = &options->privileges;
     if (privileges->user_name != NULL && fchown(made, privileges->user, privileges->group)) errno = 0;     /* it saves to see if it may */

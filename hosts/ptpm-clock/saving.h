@@ -27,8 +27,8 @@ void note_change(void);
    has, and standard error says why. Then nothing that waits is to be sent. Ends the program if the file can't be read then. */
 bool save_changes(struct ptpm_clock *clock);
 
-/* Whether a save may be made now for who asks at a port. There are a fifth as many a second as requests of managers may be, and as
-   many at once. So only a part of the time is spent waiting for the disk. Without a file it always may. */
+/* Whether a save may be made now for requests at a port. There may be a fifth as many saves a second as requests of managers, and
+   as many at once. So only a part of the time is spent waiting for the disk. Without a file it always may. */
 bool may_save(void);
 
 /* Saves that were made and that failed, and how many microseconds those that were made took. */

@@ -1,5 +1,5 @@
 /* A rate that those who send share. All of them have its tokens together, and the latest addresses have a few of their own besides.
-   So one address that sends without end leaves others theirs. Who sends by many addresses may still take the place of others. */
+   So one address that sends without end leaves others theirs. A sender with many addresses may still take the places of others. */
 #ifndef SHARES_H
 #define SHARES_H
 
@@ -19,11 +19,12 @@ struct shares {
     uint64_t own;                   /* tokens of an address a second */
 };
 
-/* All have this many tokens a second together. Each of `count` addresses has as many that those of all the addresses are half as many
-   again, but one a second at least. */
+/* All have this many tokens a second together. Each of `count` addresses has as many that together they have half as many again,
+   but at least one a second. */
 void start_shares(struct shares *shares, uint64_t rate, size_t count, uint64_t now);
 
-/* Takes a token of who sent a datagram, or else one of all; whether there is one. A program of this host has only those of all. */
+/* Takes a token of a datagram's sender, or else one of those of all; whether there is one. A program of this host has only those of
+   all. */
 bool take_share(struct shares *shares, const struct heard *heard, uint64_t now);
 
 #endif

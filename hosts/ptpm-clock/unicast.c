@@ -5,7 +5,7 @@
 #include <stdbool.h>
 #include <unistd.h>
 
-/* The port itself, from which nothing is read while copies are heard: who asks gets no ICMP that nobody is there. */
+/* The port itself, from which nothing is read while copies are heard: anyone who asks gets no ICMP message that nobody is there. */
 static int general = -1, copies = -1;
 static bool is_of_another[PORTS];       /* what was said last of each port */
 

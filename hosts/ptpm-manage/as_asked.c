@@ -3,7 +3,7 @@
 #include "notices.h"
 #include <string.h>
 
-/* The next member of what was asked that the answer has otherwise, or lacks; whether there is one. */
+/* The next member of what was asked that the answer has with another value, or lacks; whether there is one. */
 static bool next_other(struct field_lines *asked, struct field_lines *answered, struct member *member) {
     struct member other;
     while (next_member(asked, member)) {

@@ -7,8 +7,8 @@
 #include "task.h"
 #include <stdbool.h>
 
-/* Whether an answer is the answer of a SET that has another value than was asked. The members are compared, and no reserved octets.
-   If the octets that were asked have no members here, they are compared as they are. */
+/* Whether an answer is that of a SET, and has another value than was asked. The members are compared, but no reserved octets. If
+   the octets that were asked have no members here, they are compared as they are. */
 bool is_other(const struct task *task, const struct answer *answer);
 
 /* Says so on standard error, with each member that differs as it was asked. */

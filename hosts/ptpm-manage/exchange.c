@@ -18,7 +18,7 @@ enum ptpm_begun begin_of_task(struct ptpm_session *session, const struct task *t
     return ptpm_session_begin_at(session, task->action, task->id, port, task->octets, task->size);
 }
 
-/* The session's last port and the one that is named in its place are each the other beyond the session. */
+/* Outside of the session its last port and the one that is named in its place are swapped. */
 static void swap_port(uint8_t *at) {
     unsigned port = (unsigned)at[0] << 8 | at[1];
     if (beyond == 0 || (port != beyond && port != SESSION_PORTS)) return;

@@ -28,9 +28,9 @@ class Report:
 
     @property
     def is_as_asked(self) -> bool:
-        """Whether it is no answer of a SET that has another value than was asked. A clock of ptpm answers a SET by its own octets,
-        others by their data set as it is then. So if this is false, the SET was not carried out as it was asked. The members are
-        compared, and no reserved octets."""
+        """False if it answers a SET with another value than was asked. A clock of ptpm answers a SET by its own octets, others by
+        their data set as it is then. So if this is false, the SET was not carried out as it was asked. The members are compared,
+        and no reserved octets."""
         if self.asked is None or self.error is not None:
             return True
         return self.octets == self.asked or lines(self.id, self.octets) == lines(self.id, self.asked)

@@ -104,8 +104,8 @@ class Requests(Handle):
         return SessionAnswer(judged(self._call(library.ptpm_session_receive, datagram, len(datagram))))
 
     def receive(self, octets: bytes) -> SessionAnswer:
-        """Judges a datagram that came in. After ANSWERED the next request can be begun. A clock that is none of ptpm may refuse at the
-        port where the request came in, and not at the one that was named. So its error is judged as one of the named port."""
+        """Judges a datagram that came in. After ANSWERED the next request can be begun. A clock that is not one of ptpm may refuse
+        at the port where the request came in, not at the one that was named. So its error is judged as one of the named port."""
         datagram = bytes(octets)
         answer = self._judge_datagram(datagram)
         if answer != SessionAnswer.ANSWERED and _is_error_of(datagram, self._target[:8]):
