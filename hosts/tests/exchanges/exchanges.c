@@ -269,5 +269,5 @@ int main(int argc, char **argv) {
     for (int i = is_printed ? 2 : 1; i < argc; i++) run_page(argv[i], is_printed);
     if (is_printed) return 0;
     printf("memory was refused %u times\n", refused_so_far());
-    return told("exchanges");
+    return print_checks("exchanges");
 }
