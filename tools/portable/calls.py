@@ -69,7 +69,7 @@ def saturating(it, operation):
     difference, total = f'({wide}){x} - ({wide}){y}', f'({wide}){x} + ({wide}){y}'
     if operation == 'usub':
         return it.result(f'{x} > {y} ? {cut(it.kind, difference)} : 0u')
-    return it.result(f'{x} > {cut(it.kind, f"({wide}){most} - ({wide}){y}")} ? {most} : {cut(it.kind, total)}')
+    return it.result(f'{cut(it.kind, total)} < {x} ? {most} : {cut(it.kind, total)}')
 
 
 def overflowing(it, operation, more):

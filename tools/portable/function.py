@@ -24,9 +24,12 @@ class Function:
         self.variables, self.kinds, self.blocks_in_memory = {}, {}, []
         self.parameters = [self._parameter(place, text) for place, text in enumerate(parts_of(bracketed(rest[found.end():])[0]))]
 
+        # Values and blocks without a name have numbers, one after another.
+        self.first_block = str(sum(name.isdigit() for name in self.variables))
+
     def _parameter(self, place, text):
         kind, rest = take_type(text)
-        name = without_attributes(rest).removeprefix('%') or str(place)
+        name = without_attributes(rest).removeprefix('%') or str(sum(name.isdigit() for name in self.variables))
         self.variables[name] = f'a{place}'
         return kind, f'a{place}'
 
@@ -91,7 +94,7 @@ class Function:
                 blocks.append((found[1], []))
             elif line.strip() and not line.lstrip().startswith(';'):
                 if not blocks:
-                    blocks.append((str(len(self.parameters)), []))
+                    blocks.append((self.first_block, []))
                 instructions_here = blocks[-1][1]
                 if line.startswith('    ') or line.strip() == ']':
                     instructions_here[-1] = (instructions_here[-1][0], f'{instructions_here[-1][1]} {line.strip()}')
