@@ -129,6 +129,55 @@ SMALL void memory_set(address to, u8 octet, u64 size) {
     if (size != 0) memset(AT(to), octet, (size_t)size);
 }
 
+/* An integer of 128 bits. */
+struct wide { u64 high, low; };
+
+SMALL struct wide wide_of(u64 high, u64 low) {
+    struct wide x;
+    x.high = high;
+    x.low = low;
+    return x;
+}
+
+SMALL struct wide wide_add(struct wide x, struct wide y) {
+    u64 low = x.low + y.low;
+    return wide_of(x.high + y.high + (low < x.low), low);
+}
+
+SMALL struct wide wide_subtract(struct wide x, struct wide y) {
+    return wide_of(x.high - y.high - (x.low < y.low), x.low - y.low);
+}
+
+/* By halves of 32 bits. */
+SMALL struct wide wide_multiply(struct wide x, struct wide y) {
+    u64 half = 0xffffffffu, x0 = x.low & half, x1 = x.low >> 32, y0 = y.low & half, y1 = y.low >> 32;
+    u64 middle = (x0 * y0 >> 32) + (x0 * y1 & half) + (x1 * y0 & half);
+    u64 high = x1 * y1 + (x0 * y1 >> 32) + (x1 * y0 >> 32) + (middle >> 32);
+    return wide_of(high + x.high * y.low + x.low * y.high, x.low * y.low);
+}
+
+SMALL struct wide wide_and(struct wide x, struct wide y) { return wide_of(x.high & y.high, x.low & y.low); }
+
+SMALL struct wide wide_or(struct wide x, struct wide y) { return wide_of(x.high | y.high, x.low | y.low); }
+
+SMALL struct wide wide_xor(struct wide x, struct wide y) { return wide_of(x.high ^ y.high, x.low ^ y.low); }
+
+SMALL struct wide wide_left(struct wide x, struct wide count) {
+    u64 n = count.low & 127;
+    if (n == 0) return x;
+    return n >= 64 ? wide_of(x.low << (n - 64), 0) : wide_of(x.high << n | x.low >> (64 - n), x.low << n);
+}
+
+SMALL struct wide wide_right(struct wide x, struct wide count) {
+    u64 n = count.low & 127;
+    if (n == 0) return x;
+    return n >= 64 ? wide_of(0, x.high >> (n - 64)) : wide_of(x.high >> n, x.low >> n | x.high << (64 - n));
+}
+
+SMALL int wide_is(struct wide x, struct wide y) { return x.high == y.high && x.low == y.low; }
+
+SMALL int wide_is_less(struct wide x, struct wide y) { return x.high != y.high ? x.high < y.high : x.low < y.low; }
+
 /* How many bits are set. */
 SMALL u32 ctpop(u64 x) {
     u32 count = 0;

@@ -26,6 +26,10 @@ class Instruction:
     def result(self, kind, expression):
         return [f'{self.function.variable(self.name, kind)} = {expression};']
 
+    @staticmethod
+    def cut(kind, expression):
+        return cut(kind, expression)
+
 
 def cut(kind, expression):
     """What an integer of this type has of a wider one."""
@@ -107,6 +111,8 @@ def load(it):
     at = it.value(*take_type(place))
     if kind == 'ptr':
         return it.result(kind, f'load_address({at})')
+    if kind == 'volatile i8':
+        return it.result('i8', f'*(const volatile u8 *)AT({at})')
     if width(kind) is None:
         not_known('a load', it.words)
     bits = 8 * size_of(kind)

@@ -66,9 +66,15 @@ class Module:
                 self._take_constant(number, line)
             elif not PASSED_OVER.match(line):
                 raise NotKnown(f'line {number}: {line}')
-        self.all = [Function(self.values, self.functions, *head) for head in heads]
+        self.all = [self._function(*head) for head in heads]
         for function in self.all:
             self.functions.add(function.llvm_name, function.is_internal)
+
+    def _function(self, number, head, lines):
+        try:
+            return Function(self.values, self.functions, number, head, lines)
+        except NotKnown as problem:
+            raise NotKnown(f'line {number}: {problem}') from problem
 
     def _take_constant(self, number, line):
         try:

@@ -1,6 +1,7 @@
 """Types and constants of a module as C: what a type is called, and how a constant is written."""
 import re
 
+from . import wide
 from .llvm import NAME, bracketed, box, members_of, not_known, number_of, parts_of, size_of, take_type, width
 
 ZEROS = ('undef', 'poison', 'zeroinitializer', 'null')
@@ -16,8 +17,8 @@ class Types:
     def name(self, kind):
         if kind == 'void':
             return 'void'
-        if kind == 'ptr':
-            return 'address'
+        if kind in ('ptr', wide.KIND):
+            return 'address' if kind == 'ptr' else 'struct wide'
         if width(kind) is not None:
             return f'u{box(kind)}'
         if kind not in self.structs:
@@ -49,6 +50,8 @@ class Values:
         self.globals = {}
 
     def constant(self, kind, text):
+        if kind == wide.KIND:
+            return wide.constant(text)
         if text in ZEROS:
             return f'({self.types.name(kind)}){{ 0 }}' if kind.startswith('{') else '0u'
         if kind == 'ptr':

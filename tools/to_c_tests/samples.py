@@ -4,6 +4,7 @@ Operands that leave a result undefined are kept away by instructions before: no 
 import sys
 from pathlib import Path
 
+from portable import wide
 from portable.calls import OVERFLOWS, SIDES
 from portable.instructions import ARITHMETIC, COMPARISONS, SHIFTS, SIGNED
 from portable.module import Module
@@ -118,9 +119,25 @@ def memory():
             '%s = mul i64 %x, 31', '%t = add i64 %s, %y', '%u = mul i64 %t, 31', '%r = add i64 %u, %z', *answered(64)])
 
 
+def wide_integers():
+    """128 bits: two arguments side by side, and the third one above a copy of the first."""
+    begun = ['%a1 = zext i64 %a0 to i128', '%b1 = zext i64 %b0 to i128', '%c1 = zext i64 %c0 to i128', '%b2 = shl i128 %b1, 64',
+             '%x = or disjoint i128 %b2, %a1', '%c2 = shl i128 %c1, 64', '%y = or i128 %c2, %b1']
+    ended = ['%m = alloca [16 x i8], align 8', 'store i128 %r, ptr %m, align 8', '%back = load i128, ptr %m, align 8',
+             '%top = lshr i128 %back, 64', '%high = trunc i128 %top to i64', '%low = trunc i128 %back to i64', '%t = mul i64 %high, 31',
+             '%s = add i64 %t, %low', 'ret i64 %s']
+    for operation in ('add', 'sub', 'mul', 'and', 'or', 'xor'):
+        yield function(f'{operation}_128', [*begun, f'%r = {operation} i128 %x, %y', *ended])
+    for operation in ('shl', 'lshr'):
+        yield function(f'{operation}_128', [*begun, '%count = and i128 %c1, 127', f'%r = {operation} i128 %x, %count', *ended])
+    for condition in wide.COMPARISONS:
+        yield function(f'icmp_{condition}_128', [*begun, f'%t = icmp {condition} i128 %x, %y', *answered(1, 't')])
+    yield function('trunc_128_12', [*begun, '%z = sub i128 %x, 18446744073709551617', '%t = trunc i128 %z to i12', *answered(12, 't')])
+
+
 def text():
     """All of it, without a target."""
-    made = [sample for samples in (calculations, comparisons, casts, intrinsics, memory) for sample in samples()]
+    made = [sample for samples in (calculations, comparisons, casts, intrinsics, memory, wide_integers) for sample in samples()]
     return '\n'.join(made) + WHOLE_FUNCTIONS
 
 
