@@ -5,10 +5,14 @@
 #include <stdio.h>
 
 #ifdef PORTABLE
+#include "portable.h"
 #define NAMED(name) portable_##name
 #else
+#define IS_LITTLE_ENDIAN 1
 #define NAMED(name) name
 #endif
+
+void portable_fill(void);
 
 #define SAMPLE(name) uint64_t NAMED(name)(uint64_t a, uint64_t b, uint64_t c);
 #include "samples.h"
@@ -45,6 +49,9 @@ static uint64_t sum_of(uint64_t (*sample)(uint64_t a, uint64_t b, uint64_t c)) {
 }
 
 int main(void) {
+#if !IS_LITTLE_ENDIAN
+    portable_fill();
+#endif
 #define SAMPLE(name) printf("%s %016" PRIx64 "\n", #name, sum_of(NAMED(name)));
 #include "samples.h"
     return 0;
