@@ -20,7 +20,7 @@ class Header:
         self.numbers = {}
         for name, body in re.findall(r'^struct (ptpm_\w+) \{(.*?)\};', text, flags=re.M | re.S):
             members = re.findall(r'(\w+) (\w+)(?:\[\w+\])*;', body)
-            wide = [(member, WIDTHS[kind]) for kind, member in members if kind in WIDTHS]
+            wide = [(kind, member) for kind, member in members if kind in WIDTHS]
             if wide and name not in CLOSED:
                 self.numbers[name] = wide
         self.calls = []
@@ -35,13 +35,13 @@ class Header:
         lines += ['#if IS_LITTLE_ENDIAN', *(f'#define swap_{name}(at) ((void)0)' for name in self.numbers), '#else']
         for name, members in self.numbers.items():
             lines.append(f'static void swap_{name}(struct {name} *at) {{')
-            for member, bits in members:
-                lines += [f'    at->{member} = swap{bits}(at->{member});']
+            for kind, member in members:
+                lines.append(f'    at->{member} = ({kind})swap{WIDTHS[kind]}((u{WIDTHS[kind]})at->{member});')
             lines.append('}')
         lines.append('#endif')
         for call in self.calls:
             lines += ['', *self._call(*call)]
-        return '\n'.join(lines) + '\n'
+        return '\n'.join(lines).replace('#endif\n#if !IS_LITTLE_ENDIAN\n', '') + '\n'
 
     def _call(self, answer, name, taken):
         before, given, after = [], [], []
@@ -52,7 +52,7 @@ class Header:
         after.sort(key=lambda line: line.startswith('for'))
         call = f'portable_{name}({", ".join(given)})'
         lines = [f'{answer} {name}({", ".join(taken) or "void"}) {{']
-        lines += ['    fill();'] + [f'    {line}' for line in before]
+        lines += ['    fill();', *(line if line[0] == '#' else f'    {line}' for line in before)]
         if answer == 'void':
             lines += [f'    {line}' for line in [f'{call};', *after]]
         elif after:
