@@ -51,36 +51,44 @@ class Constant:
         if any(place % 8 for place in self.places):
             not_known('an address at no multiple of eight octets', line)
 
-    def references(self):
-        return [self.octets[place][0] for place in self.places]
+    def declaration(self):
+        """What names it. A constant without addresses is defined at once."""
+        if not self.places:
+            return [f'#define {self.name} (octets_of_{self.name}.octets)',
+                    f'static const union {{ u8 octets[{max(len(self.octets), 1)}]; u64 aligned; }} octets_of_{self.name} = '
+                    f'{{ {{ {written(self.octets)} }} }};']
+        members = ' '.join(f'slot slot{begin};' if self._is_address(begin) else f'u8 octets{begin}[{end - begin}];'
+                           for begin, end in self._parts())
+        return ['#if IS_LITTLE_ENDIAN', f'static const struct form_of_{self.name} {{ {members} }} octets_of_{self.name};',
+                f'#define {self.name} ((const u8 *)&octets_of_{self.name})', '#else',
+                f'static union form_of_{self.name} {{ u8 octets[{len(self.octets)}]; u64 aligned; }} octets_of_{self.name};',
+                f'#define {self.name} (octets_of_{self.name}.octets)', '#endif']
 
-    def declaration(self, names):
-        if self.places:
-            return self._with_addresses(names)
-        return [f'#define {self.name} (octets_of_{self.name}.octets)',
-                f'static const union {{ u8 octets[{max(len(self.octets), 1)}]; u64 aligned; }} octets_of_{self.name} = '
-                f'{{ {{ {written(self.octets)} }} }};']
+    def definition(self, names):
+        """What is in one with addresses, once all are named. On another machine than a little-endian one these are written at the
+        first call."""
+        if not self.places:
+            return []
+        values = []
+        for begin, end in self._parts():
+            to, distance = self.octets[begin] if self._is_address(begin) else (None, 0)
+            values.append(f'{{ {written(self.octets[begin:end])} }}' if to is None else f'SLOT({names[to]} + {distance})')
+        plain = [octet if isinstance(octet, int) else 0 for octet in self.octets]
+        return ['#if IS_LITTLE_ENDIAN', f'static const struct form_of_{self.name} octets_of_{self.name} = {{ {", ".join(values)} }};',
+                '#else', f'static union form_of_{self.name} octets_of_{self.name} = {{ {{ {written(plain)} }} }};', '#endif']
 
-    def _with_addresses(self, names):
-        """As a struct on a little-endian machine. On another one the octets of addresses are written at the first call."""
-        members, values, at = [], [], 0
+    def _is_address(self, place):
+        return isinstance(self.octets[place], tuple)
+
+    def _parts(self):
+        """Where each address, and what is between two of them, begins and ends."""
+        at = 0
         for place in [*self.places, len(self.octets)]:
             if place > at:
-                members.append(f'u8 octets{at}[{place - at}];')
-                values.append(f'{{ {written(self.octets[at:place])} }}')
+                yield at, place
             if place < len(self.octets):
-                to, distance = self.octets[place]
-                members.append(f'slot slot{place};')
-                values.append(f'SLOT({names[to]} + {distance})')
+                yield place, place + 8
             at = place + 8
-        plain = [octet if isinstance(octet, int) else 0 for octet in self.octets]
-        return ['#if IS_LITTLE_ENDIAN',
-                f'static const struct {{ {" ".join(members)} }} octets_of_{self.name} = {{ {", ".join(values)} }};',
-                f'#define {self.name} ((const u8 *)&octets_of_{self.name})',
-                '#else',
-                f'static union {{ u8 octets[{len(plain)}]; u64 aligned; }} octets_of_{self.name} = {{ {{ {written(plain)} }} }};',
-                f'#define {self.name} (octets_of_{self.name}.octets)',
-                '#endif']
 
     def writing(self, names):
         """What writes its addresses on a machine that is not little-endian."""
@@ -91,22 +99,3 @@ class Constant:
 
 def written(octets):
     return ','.join(map(str, octets)) if any(octets) else '0'
-
-
-def ordered(constants):
-    """The constants, each after those that it leads to."""
-    by_name = {constant.llvm_name: constant for constant in constants}
-    done, result = set(), []
-
-    def visit(constant):
-        if constant.llvm_name not in done:
-            done.add(constant.llvm_name)
-            for name in constant.references():
-                if name not in by_name:
-                    not_known('the address of', name)
-                visit(by_name[name])
-            result.append(constant)
-
-    for constant in constants:
-        visit(constant)
-    return result

@@ -1,7 +1,7 @@
 """A function of a module as C. Values are variables, blocks are labels, and what a phi takes is moved on the way to its block."""
 import re
 
-from . import calls, instructions, wide
+from . import calls, instructions, vectors, wide
 from .llvm import NAME, NotKnown, bracketed, not_known, parts_of, take_type, without_attributes
 
 WORDS = re.compile(r'(?:internal|private|dso_local|local_unnamed_addr|unnamed_addr|hidden|fastcc) ')
@@ -146,9 +146,11 @@ class Function:
                 operation, _, rest = rest.partition(' ')
             if operation == 'call':
                 return calls.call(self, name, rest)
+            here = instructions.Instruction(self, block, name, operation, rest)
+            if vectors.is_of_vectors(operation, rest):
+                return vectors.translate(here)
             if operation not in instructions.KNOWN:
                 not_known('an instruction', words)
-            here = instructions.Instruction(self, block, name, operation, rest)
             return wide.translate(here) if wide.is_wide(operation, rest) else instructions.KNOWN[operation](here)
         except NotKnown as problem:
             raise NotKnown(f'line {place}, {self.llvm_name}: {problem}') from problem

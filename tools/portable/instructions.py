@@ -133,7 +133,7 @@ def store(it):
     bits = 8 * size_of(kind)
     if bits in WIDTHS_IN_MEMORY:
         return [f'store{bits}({at}, {value});']
-    return [f'store8({at} + {place}u, (u8)({value} >> {8 * place}));' for place in range(size_of(kind))]
+    return [f'store8({at} + {place}u, (u8)((u{box(kind)}){value} >> {8 * place}));' for place in range(size_of(kind))]
 
 
 def own_memory(it):

@@ -88,6 +88,12 @@ def box(kind):
     return not_known('an integer', kind)
 
 
+def vector_of(kind):
+    """How many integers of which type a vector has; None if a type is another one."""
+    found = re.fullmatch(r'<(\d+) x (i\d+)>', kind)
+    return (int(found[1]), found[2]) if found else None
+
+
 def members_of(kind):
     """The types of a struct's members."""
     if not kind.startswith('{'):

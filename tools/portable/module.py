@@ -1,7 +1,7 @@
 """A whole module as C: what it asks of the heap, its constants and its functions."""
 import re
 
-from .constants import Constant, ordered
+from .constants import Constant
 from .function import Function
 from .llvm import NotKnown, not_known
 from .values import Types, Values
@@ -92,8 +92,8 @@ class Module:
         """The file in C."""
         bodies = [line for function in self.all for line in [*function.text(), '']]
         lines = [head, '#include "portable.h"', '', *self.types.declarations(), '', *self.functions.outside.values(), '']
-        for constant in ordered(self.constants):
-            lines += constant.declaration(self.values.globals)
+        lines += [line for constant in self.constants for line in constant.declaration()]
+        lines += [line for constant in self.constants for line in constant.definition(self.values.globals)]
         lines += ['', *self._fill(), '', *(f'{function.signature()};' for function in self.all), '', *bodies]
         return '\n'.join(lines[:-1]) + '\n'
 

@@ -1,8 +1,8 @@
 """Types and constants of a module as C: what a type is called, and how a constant is written."""
 import re
 
-from . import wide
-from .llvm import NAME, bracketed, box, members_of, not_known, number_of, parts_of, size_of, take_type, width
+from . import vectors, wide
+from .llvm import NAME, bracketed, box, members_of, not_known, number_of, parts_of, size_of, take_type, vector_of, width
 
 ZEROS = ('undef', 'poison', 'zeroinitializer', 'null')
 OF_AN_ADDRESS = r'getelementptr (?:(?:inbounds|nuw|nusw) )*'
@@ -13,6 +13,7 @@ class Types:
 
     def __init__(self):
         self.structs = {'{ i64, i64 }': 'pair'}
+        self.vectors = {}
 
     def name(self, kind):
         if kind == 'void':
@@ -21,6 +22,11 @@ class Types:
             return 'address' if kind == 'ptr' else 'struct wide'
         if width(kind) is not None:
             return f'u{box(kind)}'
+        if vector_of(kind) is not None:
+            count, element = vector_of(kind)
+            name = f'v{count}u{box(element)}'
+            self.vectors[name] = f'struct {name} {{ u{box(element)} e[{count}]; }};'
+            return f'struct {name}'
         if kind not in self.structs:
             for member in members_of(kind):
                 self.name(member)
@@ -29,6 +35,7 @@ class Types:
 
     def declarations(self):
         """The structs, each after those that are its members. portable.h has the pair."""
+        yield from self.vectors.values()
         for kind, name in self.structs.items():
             if name != 'pair':
                 members = ' '.join(f'{self.name(member)} m{place};' for place, member in enumerate(members_of(kind)))
@@ -52,6 +59,8 @@ class Values:
     def constant(self, kind, text):
         if kind == wide.KIND:
             return wide.constant(text)
+        if vector_of(kind) is not None:
+            return vectors.constant(self, kind, text)
         if text in ZEROS:
             return f'({self.types.name(kind)}){{ 0 }}' if kind.startswith('{') else '0u'
         if kind == 'ptr':

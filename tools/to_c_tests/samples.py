@@ -4,7 +4,7 @@ Operands that leave a result undefined are kept away by instructions before: no 
 import sys
 from pathlib import Path
 
-from portable import wide
+from portable import vectors, wide
 from portable.calls import OVERFLOWS, SIDES
 from portable.instructions import ARITHMETIC, COMPARISONS, SHIFTS, SIGNED
 from portable.module import Module
@@ -117,6 +117,27 @@ def memory():
             f'store i{bits} %a, ptr %at, align 1', f'%back = load i{bits}, ptr %at, align 1', '%x = load i64, ptr %m, align 8',
             '%y = load i64, ptr %m8, align 8', f'%z = {"add i64 %back, 0" if bits == 64 else f"zext i{bits} %back to i64"}',
             '%s = mul i64 %x, 31', '%t = add i64 %s, %y', '%u = mul i64 %t, 31', '%r = add i64 %u, %z', *answered(64)])
+        yield function(f'constant_in_memory_{bits}', [
+            '%m = alloca [16 x i8], align 8', 'store i64 %b0, ptr %m, align 8', '%at = getelementptr i8, ptr %m, i64 3',
+            'store i64 %a0, ptr %at, align 1', f'store i{bits} -2, ptr %m, align 1', '%x = load i64, ptr %m, align 8',
+            '%y = load i64, ptr %at, align 1', '%s = mul i64 %x, 31', '%r = add i64 %s, %y', *answered(64)])
+
+
+def vectors_of():
+    """Vectors of sixteen octets, in which a table looks for one, and of four numbers."""
+    made = ['%a1 = trunc i64 %a0 to i8', '%b1 = trunc i64 %b0 to i8', '%v0 = insertelement <16 x i8> <i8 1, i8 poison, '
+            + ', '.join(f'i8 {number % 256}' for number in range(250, 264)) + '>, i8 %b1, i64 1', '%place = and i64 %c0, 15',
+            '%v = insertelement <16 x i8> %v0, i8 %a1, i64 %place', '%one = insertelement <16 x i8> poison, i8 %a1, i64 0',
+            '%all = shufflevector <16 x i8> %one, <16 x i8> poison, <16 x i32> zeroinitializer']
+    for condition in vectors.CONDITIONS:
+        yield function(f'vector_{condition}', [*made, f'%t = icmp {condition} <16 x i8> %v, %all', '%m = bitcast <16 x i1> %t to i16',
+                                               '%none = icmp eq <16 x i8> %v, zeroinitializer', '%n = bitcast <16 x i1> %none to i16',
+                                               '%s = mul i16 %n, 31', '%r = add i16 %m, %s', *answered(16)])
+    yield function('vector_places', [
+        *made, '%w = insertelement <16 x i8> splat (i8 7), i8 %b1, i32 3', '%four = shufflevector <16 x i8> %v, <16 x i8> %w, '
+        '<4 x i32> <i32 1, i32 19, i32 15, i32 31>', '%r = bitcast <4 x i8> %four to i32', '%i = and i64 %b0, 15',
+        '%e = extractelement <16 x i8> %v, i64 %i', '%f = zext i8 %e to i64', '%g = zext i32 %r to i64', '%h = mul i64 %g, 31',
+        '%k = add i64 %h, %f', 'ret i64 %k'])
 
 
 def wide_integers():
@@ -137,7 +158,7 @@ def wide_integers():
 
 def text():
     """All of it, without a target."""
-    made = [sample for samples in (calculations, comparisons, casts, intrinsics, memory, wide_integers) for sample in samples()]
+    made = [sample for samples in (calculations, comparisons, casts, intrinsics, memory, vectors_of, wide_integers) for sample in samples()]
     return '\n'.join(made) + WHOLE_FUNCTIONS
 
 
