@@ -62,8 +62,15 @@ static void start_clock(void) {
         ports[i].state = (uint8_t)(1 + below(9));
     }
     draw_managers(managers, count);
-    note(ptpm_clock_start(&agent, &settings, ports, below(8) == 0 ? below(PORTS + 2) : PORTS, managers, count));
+    size_t port_count = below(8) == 0 ? below(PORTS + 2) : PORTS;
+    note(ptpm_clock_start(&agent, &settings, ports, port_count, managers, count));
     note_octets(settings.user_description, settings.user_description_size);
+}
+
+/* Turns a bit over. C leaves open in which order the words of one call are drawn, so each draw has a statement of its own. */
+static void damage(uint8_t *octets, size_t size) {
+    uint32_t place = below((uint32_t)size);
+    octets[place] ^= (uint8_t)(1 << below(8));
 }
 
 static uint16_t drawn_id(void) { return below(9) == 0 ? (uint16_t)below(65536) : (uint16_t)ptpm_id_at(below(22)); }
@@ -95,7 +102,7 @@ static size_t draw_message(void) {
     message[52] = (uint8_t)(id >> 8);
     message[53] = (uint8_t)id;
     for (size_t i = 0; i < data; i++) message[LIKE_A_MESSAGE + i] = (uint8_t)below(below(3) == 0 ? 256 : 8);
-    while (below(4) == 0) message[below((uint32_t)size)] = (uint8_t)below(256);
+    while (below(4) == 0) damage(message, size);
     return below(30) == 0 ? below((uint32_t)size) : size;
 }
 
@@ -123,7 +130,7 @@ static void texts(void) {
     size_t size = 0, count = 0, member = 0;
     note(ptpm_clock_read(&agent, id, (uint16_t)below(PORTS + 2), read, sizeof read, &size));
     note_octets(read, size);
-    if (below(4) == 0 && size > 0) read[below((uint32_t)size)] ^= (uint8_t)(1 << below(8));
+    if (below(4) == 0 && size > 0) damage(read, size);
     size_t length = ptpm_field_text(id, read, size, text, sizeof text);
     note_octets(text, length);
     for (size_t i = 0; i < length; i++) {
@@ -138,8 +145,12 @@ static void texts(void) {
 static void use_session(void) {
     size_t size = 0;
     uint16_t error = 0;
-    uint8_t value[PTPM_MOST_READ] = { (uint8_t)below(256), (uint8_t)below(256) };
-    note(ptpm_session_begin(&session, (uint8_t)below(4), drawn_id(), (uint16_t)below(PORTS + 2), value, below(5)));
+    uint8_t value[PTPM_MOST_READ] = { 0 };
+    value[0] = (uint8_t)below(256);
+    value[1] = (uint8_t)below(256);
+    uint8_t action = (uint8_t)below(4);
+    uint16_t id = drawn_id(), port = (uint16_t)below(PORTS + 2);
+    note(ptpm_session_begin(&session, action, id, port, value, below(5)));
     note(ptpm_session_send(&session, message, sizeof message, &size));
     note_octets(message, size);
     if (below(2) == 0) note(ptpm_clock_handle(&agent, 1, message, size, sent, PTPM_MOST_SENT, &size));
@@ -158,12 +169,12 @@ static void use_images(void) {
     size_t size = 0, gone = 0, count = below(MANAGERS + 1);
     note(ptpm_session_image(&session, message, sizeof message, &size));
     note_octets(message, size);
-    if (below(2) == 0 && size > 0) message[below((uint32_t)size)] ^= (uint8_t)(1 << below(8));
+    if (below(2) == 0 && size > 0) damage(message, size);
     note(ptpm_session_restore(&session, &asks, message, size));
     draw_managers(managers, count);
     note(ptpm_clock_image(&agent, image, sizeof image, &size));
     note_octets(image, size);
-    if (below(2) == 0 && size > 0) image[below((uint32_t)size)] ^= (uint8_t)(1 << below(8));
+    if (below(2) == 0 && size > 0) damage(image, size);
     note(ptpm_clock_restore(&agent, me, PORTS, managers, count, image, size, &gone));
     note(gone);
 }
