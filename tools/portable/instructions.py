@@ -26,10 +26,6 @@ class Instruction:
     def result(self, kind, expression):
         return [f'{self.function.variable(self.name, kind)} = {expression};']
 
-    @staticmethod
-    def cut(kind, expression):
-        return cut(kind, expression)
-
 
 def cut(kind, expression):
     """What an integer of this type has of a wider one."""

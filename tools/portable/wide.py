@@ -1,6 +1,7 @@
 """Integers of 128 bits as C: pairs of 64 bits, by functions of portable.h."""
 import re
 
+from .instructions import cut
 from .llvm import not_known, number_of, parts_of, take_type, without_flags
 
 KIND = 'i128'
@@ -47,10 +48,11 @@ def translate(it):
 
 
 def cast(it, words):
+    """Between 128 bits and at most 64."""
     found = re.fullmatch(r'(i\d+) (.*) to (i\d+)', words)
-    if not found or it.operation == 'sext' or '128' in (found[1] if it.operation == 'zext' else found[3]):
+    if not found or it.operation not in ('zext', 'trunc'):
         not_known('a cast of 128 bits', words)
     value = it.value(found[1], found[2])
     if it.operation == 'zext':
         return it.result(KIND, f'wide_of(0, {value})')
-    return it.result(found[3], it.cut(found[3], f'({value}).low'))
+    return it.result(found[3], cut(found[3], f'({value}).low'))
