@@ -130,6 +130,9 @@ def vectors_of():
             '%v = insertelement <16 x i8> %v0, i8 %a1, i64 %place', '%one = insertelement <16 x i8> poison, i8 %a1, i64 0',
             '%all = shufflevector <16 x i8> %one, <16 x i8> poison, <16 x i32> zeroinitializer']
     for condition in vectors.CONDITIONS:
+        yield function(f'vector_{condition}_each', [*made, '%w = insertelement <16 x i8> %v0, i8 %b1, i64 9',
+                                                    f'%t = icmp {condition} <16 x i8> %v, %w', '%r = bitcast <16 x i1> %t to i16',
+                                                    *answered(16)])
         yield function(f'vector_{condition}', [*made, f'%t = icmp {condition} <16 x i8> %v, %all', '%m = bitcast <16 x i1> %t to i16',
                                                '%none = icmp eq <16 x i8> %v, zeroinitializer', '%n = bitcast <16 x i1> %none to i16',
                                                '%s = mul i16 %n, 31', '%r = add i16 %m, %s', *answered(16)])
