@@ -739,7 +739,8 @@ enum ptpm_restored ptpm_clock_restore(struct ptpm_clock *clock, const uint8_t id
 /* Ends what the handle holds, if it holds anything. The handle then holds nothing, and may be started again. */
 void ptpm_clock_stop(struct ptpm_clock *clock);
 
-/* Starts a session in place of what the handle holds, which is freed first.
+/* Starts a session in place of what the handle holds, which is freed first. As long as it may ask, only this session sends to the
+   clock under the manager's portIdentity: no survey does, and no other program.
    Answers: PTPM_STARTED; or why not, and then the handle holds nothing.
    Memory:  the session, until it is stopped.
    Owed:    the caller stops the session. */
@@ -835,7 +836,8 @@ enum ptpm_reported ptpm_session_report(const struct ptpm_session *session, uint8
 /* Ends what the handle holds, if it holds anything. The handle then holds nothing, and may be started again. */
 void ptpm_session_stop(struct ptpm_session *session);
 
-/* Starts a survey without answers in place of what the handle holds, which is freed first.
+/* Starts a survey without answers in place of what the handle holds, which is freed first. A session of the same manager may take
+   an answer to its GET for its own. So the manager here has no session: for example, it is another port of the same identity.
    Answers: PTPM_STARTED; or why not, and then the handle holds nothing.
    Memory:  the survey, until it is stopped.
    Owed:    the caller stops the survey. */
