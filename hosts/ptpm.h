@@ -30,10 +30,6 @@
 #include <stddef.h>
 #include <stdint.h>
 
-#if __SIZEOF_POINTER__ != 8 || __BYTE_ORDER__ != __ORDER_LITTLE_ENDIAN__
-#error "ptpm is built only for 64-bit little-endian processors"
-#endif
-
 #ifdef __cplusplus
 extern "C" {
 #endif
@@ -54,9 +50,16 @@ enum {
     PTPM_ID_DELAY_MECHANISM = 0x6000, PTPM_ID_LOG_MIN_PDELAY_REQ_INTERVAL = 0x6001
 };
 
+/* A handle has 16 octets on every machine, eight of them for an address. */
+#if __SIZEOF_POINTER__ == 8
+#define PTPM_TO_EIGHT
+#else
+#define PTPM_TO_EIGHT uint32_t rest; __attribute__((__aligned__(8)))
+#endif
+
 /* A clock: 2,608 octets at one pointer with one manager, and 34,648 with sixteen. All zeros hold no clock: struct ptpm_clock
    clock = { 0 }; */
-struct ptpm_clock { void *at; bool live; };
+struct ptpm_clock { void *at; PTPM_TO_EIGHT bool live; };
 
 /* The start values of a clock's own members: ptpm_clock_defaults writes them all, then the host writes its own over them.
    A flag is set if it is not 0. Without its has_ flag a value is the clock's own, and parent_port is its port 0. An
@@ -238,7 +241,7 @@ enum {
 };
 
 /* A session of a manager, about 1,600 octets at one pointer. All zeros hold no session. */
-struct ptpm_session { void *at; bool live; };
+struct ptpm_session { void *at; PTPM_TO_EIGHT bool live; };
 
 /* One manager, the clock that it manages, and how its requests are numbered and sent. A clock treats a request as new if its
    number is up to 32,767 ahead of the latest that it accepted from this manager. So a manager that starts again continues with
@@ -258,7 +261,7 @@ struct ptpm_session_settings {
 enum { PTPM_GET = 0, PTPM_SET = 1, PTPM_COMMAND = 3 };
 
 /* A survey of a manager: what it asks and its answers, at one pointer. All zeros hold no survey. */
-struct ptpm_survey { void *at; bool live; };
+struct ptpm_survey { void *at; PTPM_TO_EIGHT bool live; };
 
 /* One manager, and the GET that it sends to every port of every clock, or of one. A clock answers one that is for every clock
    whatever numbers it took from this manager before. A late answer to an earlier GET with the same number and id is taken for this
@@ -271,6 +274,8 @@ struct ptpm_survey_settings {
     uint8_t domain;
     uint8_t hops;                       /* startingBoundaryHops */
 };
+
+#undef PTPM_TO_EIGHT
 
 /* The port that gave an answer. */
 struct ptpm_source {
