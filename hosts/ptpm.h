@@ -265,7 +265,7 @@ struct ptpm_survey { void *at; PTPM_TO_EIGHT bool live; };
 
 /* One manager, and the GET that it sends to every port of every clock, or of one. A clock answers one that is for every clock
    whatever numbers it took from this manager before. A late answer to an earlier GET with the same number and id is taken for this
-   survey's: use a number with nothing in flight. */
+   survey's: use a number with nothing in flight. No session has the same portIdentity. */
 struct ptpm_survey_settings {
     uint16_t port;                      /* portNumber of the manager */
     uint16_t number;                    /* sequenceId */
@@ -853,8 +853,8 @@ static inline enum ptpm_started ptpm_survey_start_sized(struct ptpm_survey *hand
 
 /* Starts a survey of one clock, without answers, instead of what the handle holds, which is freed first. Every port of the
    clock is asked, and another clock's answer is ignored (PTPM_OTHER_SOURCE). A clock treats such a GET from one of its managers
-   as a numbered request, like one of a session. So the manager here must not be one of them, for example another port number of
-   the same clockIdentity.
+   as a numbered request, like one of a session. And a session of the same manager may treat an answer as its own. So the manager
+   here is none of them, and has no session: for example, it is another port of the same identity.
    Takes:   the identity of the clock: another one than the manager's, and neither all ones nor all zeros.
    Returns: PTPM_STARTED; or why not, and then the handle holds nothing.
    Memory:  the survey, until it is stopped.
