@@ -1,6 +1,6 @@
 /* The seal of a file that keeps an image: 16 octets after the image, by which damage to the file is found. They are `ptps` in
-   ASCII, how many times the file was saved, in 8 octets, and a CRC-32 of all before it (IEEE 802.3), in 4; numbers are big-endian.
-   docs/image.md says what reads what. */
+   ASCII, then 8 octets with the count of saves, then 4 with the CRC-32 of all before it (IEEE 802.3). Both numbers are
+   big-endian. docs/image.md says what reads what. */
 #ifndef SEAL_H
 #define SEAL_H
 
@@ -11,7 +11,7 @@ enum { SEAL_OCTETS = 16 };
 
 enum seal { SEALED, NO_SEAL, BROKEN_SEAL };
 
-/* Writes the seal after these octets, where there is room for it; how many octets there are then. */
+/* Writes the seal after these octets; how many octets there are then. There is room for it. */
 size_t write_seal(uint8_t *octets, size_t size, uint64_t saves);
 
 /* Takes the seal off: *size becomes that of what is before it, and *saves how many times this was saved. If there is none, *size

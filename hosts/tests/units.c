@@ -1,6 +1,6 @@
 /* Tests of what the hosts decide without a socket. They try the library's token buckets, and its table of messages that were
-   passed on. They try where a message is in a frame, what the image of a session says, the seal of a file, and TimeIntervals and
-   JSON as texts. Prints what does not hold, and `units: N passed, M failed`. */
+   passed on. They try where a message is in a frame, and what the image of a session says. They try the seal of a file, and
+   TimeIntervals and JSON as texts. Prints what does not hold, and `units: N passed, M failed`. */
 #define _GNU_SOURCE
 #include "checking.h"
 #include "ethernet.h"

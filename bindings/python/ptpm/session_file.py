@@ -188,8 +188,8 @@ class SessionFile:
         os.fchmod(opened, stat.S_IMODE(self._before.st_mode) & 0o777)
 
     def write(self, octets: bytes) -> None:
-        """Has the file have this image, with a seal, whatever becomes of the program or the machine: it is on the disk when the call
-        returns. Only the process that holds it may write it."""
+        """Has the file have this image, and a seal, whatever becomes of the program or the machine. It is on the disk when the call
+        returns. Only the process that holds the file may write it."""
         if not self.is_open:
             raise SessionFileError(f"{self.path}: it is closed here, and another program may hold it")
         os.replace(self._write_new(seal.sealed(octets, self._saves + 1)), self.path)
