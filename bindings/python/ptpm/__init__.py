@@ -38,10 +38,10 @@ from .transport import Transport, UdpTransport, UnixTransport
 __all__ = [
     "__version__", "Action", "answer_name", "ask_as_nobody", "Changed", "Clock", "ClockMembers", "ClockQuality",
     "ClockSettings", "CurrentDataSet", "DamagedFileError", "data_field", "DefaultDataSet", "DelayMechanism", "Domain",
-    "Error", "error_name", "Finding", "get", "HandleAnswer", "Handled", "id_name", "id_of", "Identity", "ManagementId", "Manager", "members",
-    "NoAnswer", "ObservedClock", "ObservedGrandmaster", "ObservedPort", "ParentDataSet", "PassedOn", "PortDataSet",
-    "PortIdentity", "PortMembers", "PortSettings", "PortState", "Rate", "read_site", "Report", "Requests", "Rights",
-    "Session", "SessionAnswer", "SessionFile", "SessionFileError", "SessionSettings", "Site", "site", "SiteClock",
-    "SiteError", "Survey", "survey", "SurveyAnswer", "SurveySettings", "time_interval", "TimePropertiesDataSet", "Transport",
-    "UdpTransport", "UnixTransport", "usual_path",
+    "Error", "error_name", "Finding", "get", "HandleAnswer", "Handled", "id_name", "id_of", "Identity", "ManagementId",
+    "Manager", "members", "NoAnswer", "ObservedClock", "ObservedGrandmaster", "ObservedPort", "ParentDataSet",
+    "PassedOn", "PortDataSet", "PortIdentity", "PortMembers", "PortSettings", "PortState", "Rate", "read_site",
+    "Report", "Requests", "Rights", "Session", "SessionAnswer", "SessionFile", "SessionFileError", "SessionSettings",
+    "Site", "site", "SiteClock", "SiteError", "Survey", "survey", "SurveyAnswer", "SurveySettings", "time_interval",
+    "TimePropertiesDataSet", "Transport", "UdpTransport", "UnixTransport", "usual_path",
 ]
