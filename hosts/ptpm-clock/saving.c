@@ -5,6 +5,7 @@
 #include "monotonic.h"
 #include "names.h"
 #include "output.h"
+#include "seal.h"
 #include <errno.h>
 #include <stdbool.h>
 #include <stdlib.h>
@@ -14,12 +15,14 @@
 /* Statuses of the program, and the place of a clockIdentity in the image of a clock. */
 enum { NOT_STARTED = 1, NOT_OPENED = 2, IDENTITY = 12 };
 
-enum { MOST_STATE_OCTETS = PTPM_CLOCK_IMAGE_OCTETS + 1, LOCK_TRIES = 100 };
+/* Octets of a file, and of one that has more than that. */
+enum { ROOM = PTPM_CLOCK_IMAGE_OCTETS + SEAL_OCTETS, MOST_STATE_OCTETS = ROOM + 1, LOCK_TRIES = 100 };
 enum { JOINED = 5 };        /* requests of managers for which there is one save */
 
 static struct kept_file file = { .folder = -1, .mode = 0600 };
 static const struct options *options;
 static uint8_t octets[MOST_STATE_OCTETS];
+static uint64_t saves_of_file;      /* by its seal */
 bool is_unsaved;
 static struct saves saves;
 
@@ -84,7 +87,7 @@ static bool read_state(size_t *size) {
 static const char *reason(enum ptpm_restored refusal) {
     switch (refusal) {
     case PTPM_NOT_AN_IMAGE: return "it has no state of a clock";
-    case PTPM_DAMAGED: return "octets of the state were lost or changed";
+    case PTPM_DAMAGED: return "octets of the state were lost or changed: ptpm-clock(8), \"What it keeps\", says how to go on";
     case PTPM_OTHER_VERSION: return "it has a state in the form of another version of this program";
     case PTPM_OTHER_KIND: return "it has the session of a manager, and not the state of a clock";
     case PTPM_OTHER_PORTS: return "it has the state of a clock with another number of ports";
@@ -104,6 +107,7 @@ _Noreturn static void refuse_octets(enum ptpm_restored refusal) {
 /* The clock of the octets that were read; how many managers it had that are not configured any more. */
 static size_t restore(struct ptpm_clock *clock, size_t size) {
     size_t gone = 0;
+    if (take_seal(octets, &size, &saves_of_file) == BROKEN_SEAL) refuse_octets(PTPM_DAMAGED);
     enum ptpm_restored answer = ptpm_clock_restore(clock, options->settings.identity, ports_of(options), options->managers,
                                                    options->manager_count, octets, size, &gone);
     if (answer != PTPM_RESTORED) refuse_octets(answer);
@@ -138,7 +142,7 @@ bool restore_clock(struct ptpm_clock *clock, const struct options *given) {
         tell_gone(restore(clock, size));
         tell_domain(clock);
     }
-    static const uint8_t room[PTPM_CLOCK_IMAGE_OCTETS];
+    static const uint8_t room[ROOM];
     if (!try_room(&file, room, sizeof room)) refuse_file(NULL);
     return is_there;
 }
@@ -157,8 +161,10 @@ static void count_save(size_t size, unsigned long time) {
 static enum replaced save(const struct ptpm_clock *clock) {
     size_t size;
     unsigned long begun = microseconds();
-    if (ptpm_clock_image(clock, octets, sizeof octets, &size) != PTPM_SAVED) return NOT_REPLACED;
+    if (ptpm_clock_image(clock, octets, PTPM_CLOCK_IMAGE_OCTETS, &size) != PTPM_SAVED) return NOT_REPLACED;
+    size = write_seal(octets, size, saves_of_file + 1);
     enum replaced answer = replace_kept(&file, octets, size);
+    if (answer != NOT_REPLACED) saves_of_file++;
     if (answer == REPLACED) count_save(size, microseconds() - begun);
     else saves.failed++;
     return answer;

@@ -88,7 +88,11 @@ enum kept open_session(struct session *session, const struct task *task, struct 
     size_t size;
     bool is_named = task->numbers != NULL;
     session->is_kept = true;
-    if (!open_session_file(is_named ? task->numbers : usual_file(&task->settings), is_named, octets, &size)) return NO_FILE;
+    switch (open_session_file(is_named ? task->numbers : usual_file(&task->settings), is_named, octets, &size)) {
+    case NO_SESSION_FILE: return NO_FILE;
+    case BROKEN_SESSION_FILE: refuse_octets(PTPM_DAMAGED);
+    case SESSION_FILE: break;
+    }
     struct session_image image = read_image(octets, size);
     session->settings = task->settings;
     session->settings.first = image.first;
@@ -138,9 +142,9 @@ void begin_request(struct session *session, const struct task *task) {
 }
 
 bool save_session(struct session *session) {
-    static uint8_t octets[PTPM_SESSION_IMAGE_OCTETS];
+    static uint8_t octets[MOST_SESSION_OCTETS];
     size_t size;
-    enum ptpm_saved answer = ptpm_session_image(&session->handle, octets, sizeof octets, &size);
+    enum ptpm_saved answer = ptpm_session_image(&session->handle, octets, PTPM_SESSION_IMAGE_OCTETS, &size);
     if (answer != PTPM_SAVED) refuse("nothing was asked: %s", answer_name(answer));
     return write_session_file(octets, size);
 }

@@ -19,6 +19,7 @@ enum { TURN = 60000, TRY_AGAIN = 10 };     /* the times in milliseconds */
 static const char *path;
 static bool path_is_named;
 static struct kept_file file = { .folder = -1, .mode = 0666 };
+static uint64_t saves;      /* of the file, by its seal */
 
 const char *session_path(void) { return path; }
 
@@ -89,24 +90,28 @@ static void take_turn(void) {
 
 /* Whether there is room for a session. */
 static void see_to_room(void) {
-    static const uint8_t octets[PTPM_SESSION_IMAGE_OCTETS];
+    static const uint8_t octets[PTPM_SESSION_IMAGE_OCTETS + SEAL_OCTETS];
     if (!try_room(&file, octets, sizeof octets)) refuse_place();
 }
 
-bool open_session_file(const char *at_path, bool is_named, uint8_t octets[MOST_SESSION_OCTETS], size_t *size) {
+enum session_file open_session_file(const char *at_path, bool is_named, uint8_t octets[MOST_SESSION_OCTETS], size_t *size) {
     path = at_path;
     path_is_named = is_named;
     open_folder();
     take_turn();
     switch (read_kept(&file, octets, MOST_SESSION_OCTETS, size, &file.before)) {
-    case KEPT_FILE: return true;
+    case KEPT_FILE: return take_seal(octets, size, &saves) == BROKEN_SEAL ? BROKEN_SESSION_FILE : SESSION_FILE;
     case KEPT_LINK: refuse_session_file("it is a link");
     case KEPT_OTHER: refuse_session_file("it is no file");
     case KEPT_UNREADABLE: refuse_place();
     case KEPT_NONE: break;
     }
     see_to_room();
-    return false;
+    return NO_SESSION_FILE;
 }
 
-bool write_session_file(const uint8_t *octets, size_t size) { return replace_kept(&file, octets, size) == REPLACED; }
+bool write_session_file(uint8_t octets[MOST_SESSION_OCTETS], size_t size) {
+    enum replaced answer = replace_kept(&file, octets, write_seal(octets, size, saves + 1));
+    if (answer != NOT_REPLACED) saves++;
+    return answer == REPLACED;
+}

@@ -3,24 +3,28 @@
 #define SESSION_FILE_H
 
 #include "ptpm.h"
+#include "seal.h"
 #include <stdbool.h>
 #include <stddef.h>
 #include <stdint.h>
 
-/* A file with a session has at most this many octets; of a larger one these are read. */
-enum { MOST_SESSION_OCTETS = PTPM_SESSION_IMAGE_OCTETS + 1 };
+/* A file with a session has fewer octets, its seal among them; of a larger one these are read. */
+enum { MOST_SESSION_OCTETS = PTPM_SESSION_IMAGE_OCTETS + SEAL_OCTETS + 1 };
 
-/* Takes the file at this path only for this run, and reads it; whether there is one. If there is none, none is made, but the
-   call makes sure that one can be. The file's folder is made if it is missing. A manager has one request on its way at a time. So
-   runs take turns, by a lock on the file PATH.lock, which stays if there is a file at the end. Ends the program, status 2, if the
-   file is a link or no file, or if its turn does not come within a minute. It also ends if a signal comes in before. `is_named`
-   says that the command line names the file. */
-bool open_session_file(const char *path, bool is_named, uint8_t octets[MOST_SESSION_OCTETS], size_t *size);
+/* What is at a path: a file whose octets are not those that were saved has a broken seal. */
+enum session_file { NO_SESSION_FILE, SESSION_FILE, BROKEN_SESSION_FILE };
 
-/* Writes the file so that it has these octets whatever becomes of the program or the machine. A new file takes the place of the
-   old one, with its mode, and its owner if this user may give it that. Whether it could. If not, errno says why, and the old
-   file stays. */
-bool write_session_file(const uint8_t *octets, size_t size);
+/* Takes the file at this path only for this run, and reads what is before its seal, or all if it has none. If there is no file,
+   none is made, but the call makes sure that one can be. The file's folder is made if it is missing. A manager has one request on
+   its way at a time. So runs take turns, by a lock on the file PATH.lock, which stays if there is a file at the end. Ends the
+   program, status 2, if the file is a link or no file, or if its turn does not come within a minute. It also ends if a signal
+   comes in before. `is_named` says that the command line names the file. */
+enum session_file open_session_file(const char *path, bool is_named, uint8_t octets[MOST_SESSION_OCTETS], size_t *size);
+
+/* Writes the file so that it has these octets, and after them a seal, whatever becomes of the program or the machine. There is room
+   for the seal. A new file takes the place of the old one, with its mode, and its owner if this user may give it that. Whether it
+   could. If not, errno says why, and the old file stays. */
+bool write_session_file(uint8_t octets[MOST_SESSION_OCTETS], size_t size);
 
 /* Ends the program, status 2: the file can't be used, and why. */
 _Noreturn void refuse_session_file(const char *why);

@@ -10,8 +10,8 @@ import subprocess
 import tempfile
 import time
 
-from attacking import (HOME, MANAGER, ME, OTHER, SLOW, Clock, Peer, asks, check, fill_disk, manage, path, read, response, run, start,
-                       wait_until, work, write)
+from attacking import (HOME, MANAGER, ME, OTHER, SLOW, Clock, Peer, asks, check, fill_disk, flips, image_in, manage, path, read, response, run,
+                       saves_in, sealed, start, wait_until, work, write)
 
 PROGRAM = os.path.join(HOME, "manage")
 
@@ -63,7 +63,7 @@ def number_files():
     for text, first in [("65535\n", 65535), ("7", 7), ("00009\n", 9), (f"65534 {owner}\n", 65534), (f"7 {owner}", 7)]:
         write("number", text)
         status, _, _ = asks("-k", number)
-        check(f"the number {text!r} is taken", status == 0 and octets("number") == image(first, 2))
+        check(f"the number {text!r} is taken", status == 0 and octets("number") == sealed(image(first, 2), 3))
         clock.end()
         clock = Clock("-m", MANAGER + "/1", "-u", path, ME)
     clock.end()
@@ -90,7 +90,7 @@ def files_in_the_way():
             os.unlink(number + ".lock")
     os.symlink(os.path.join(work, "victim"), number + ".new")
     status, _, _ = asks("-k", number)
-    check("number.new as a link is not followed", status == 0 and read("victim") == "5\n" and len(octets("number")) == 53)
+    check("number.new as a link is not followed", status == 0 and read("victim") == "5\n" and len(image_in(octets("number"))) == 53)
     os.unlink(number)
     clock.end()
 
@@ -122,7 +122,7 @@ def sessions():
             (image(20200, 2, set_of(78)), ("--give-up",), image(20200, 4))]:
         write_octets("number", content)
         done = two.is_honest(*words)
-        check(f"the session {content.hex()} goes on", done and two.last == 0 and octets("number") == after)
+        check(f"the session {content.hex()} goes on", done and two.last == 0 and image_in(octets("number")) == after)
         told = [line for line in two.said.splitlines() if "of an earlier run" in line or "priority2 7" in line]
         lead = "ptpm-manage: set PRIORITY2 of an earlier run, number "
         wanted = {77: [lead + "101, had no answer yet, and was sent again:", "ptpm-manage: priority2 77"],
@@ -168,7 +168,7 @@ def runs_at_once():
     runs = [start("manage", "-m", MANAGER + "/1", "-w", "0", "-u", path, "-k", number, "set", "PRIORITY1", "100", "--target", ME,
                   stdout=subprocess.DEVNULL, stderr=subprocess.DEVNULL) for _ in range(80)]
     check("80 runs at once are all answered", [one.wait() for one in runs] == [0] * 80)
-    check("each has two numbers of its own", octets("number") == image(16384, 160))
+    check("each has two numbers of its own", image_in(octets("number")) == image(16384, 160))
     clock.end()
     check("each is carried out once", "answer 5: 160\n" in clock.text())
     os.unlink(number)
@@ -287,8 +287,37 @@ class TwoManagers:
         return self.value() == "priority2 50" if is_reported else self.last in (2, 3)
 
 
+def seals():
+    """A session's file of which a bit is another one, or what follows an octet is lost, or to which octets were added: each is
+    refused, and stays. Of a former version it has no seal, and goes on."""
+    two = TwoManagers()
+
+    def name_of(content):
+        write_octets("number", content)
+        two.last, two.said, _ = two.sets()
+        named = re.match(r"ptpm-manage: nothing was asked: ([A-Z_]+): " + re.escape(two.number) + ": ", two.said)
+        return named[1] if named and two.last == 2 and octets("number") == content else None
+    for content in [image(7, 2), image(7, 2, set_of(50))]:
+        whole = sealed(content, 5)
+        bits = [name_of(other) for other in flips(whole)]
+        cut = [whole[:size] for size in range(len(whole)) if size != len(content)]
+        wrong = [other.hex() for other in cut if name_of(other) != ("NOT_AN_IMAGE" if len(other) < 12 else "DAMAGED")]
+        check("a session's file with another bit is refused", bits == ["DAMAGED"] * len(bits))
+        check(f"one that is cut is refused, except {wrong}", wrong == [])
+        more = [whole + b"\0", whole + whole, whole + whole[-16:], sealed(whole), sealed(content + b"\0"), sealed(content[:-1])]
+        check("and one to which octets were added", [name_of(other) for other in more] == ["DAMAGED"] * len(more))
+        print(f"a session's file of {len(whole)} octets: {len(cut)} beginnings and {len(bits)} other bits, and {bits.count(None)} of these are not "
+              "refused")
+    check("nothing was sent then", two.value() == "priority2 128")
+    for content, saves in [(image(7, 2), 3), (sealed(image(20, 2), 5), 8)]:
+        write_octets("number", content)
+        check("a whole one goes on, also of a former version", two.is_honest() and two.last == 0 and saves_in(octets("number")) == saves)
+    two.clock.end()
+
+
 def damages():
-    """A session's file of which an octet is another one, or what follows an octet is lost: a refusal, or the truth."""
+    """A session's file without a seal, as a former version left it, of which an octet is another one, or what follows an octet is lost:
+    a refusal, or the truth."""
     two, wrong = TwoManagers(), []
     write("number", "16384\n")
     check("a session begins", two.is_honest() and two.last == 0)
@@ -460,5 +489,5 @@ def places_without_room():
     two.clock.end()
 
 
-ATTACKS = [number_files, files_in_the_way, sessions, reports_that_are_lost, runs_at_once, runs_beside_each_other,
+ATTACKS = [number_files, files_in_the_way, sessions, seals, reports_that_are_lost, runs_at_once, runs_beside_each_other,
            clocks_that_are_not_there, losses_of_power, damages, old_files, latest_numbers, kills, places_without_room, users]

@@ -9,7 +9,8 @@ import subprocess
 import time
 
 from attack_numbers import next_number
-from attacking import HOME, MANAGER, ME, OTHER, Clock, Peer, check, clear, fill_disk, get, manage, path, read, run, started, work
+from attacking import (HOME, MANAGER, ME, OTHER, Clock, Peer, check, clear, fill_disk, flips, get, image_in, manage, path, read, run, saves_in,
+                       sealed, started, work)
 
 PROGRAM = os.path.join(HOME, "clock")
 NOBODY = 65534
@@ -72,7 +73,8 @@ def states():
     """A state outlasts its clock, and not only where that ends in order."""
     whole = saved_state()
     clock = Clock(*WORDS)
-    check("the state is as it was", value() == 100 and octets() == whole and "PRIORITY1" not in clock.text())
+    check("the state is as it was", value() == 100 and image_in(octets()) == image_in(whole) and "PRIORITY1" not in clock.text())
+    check("and has one save more", saves_in(octets()) == saves_in(whole) + 1)
     check("it goes on from there", sets(50))
     clock.end(signal.SIGKILL)
     clock = Clock("-v", *WORDS)
@@ -114,32 +116,40 @@ def configurations():
         check(f"it does not start: {why}", is_refused(1, why, "-s", state, "-u", path, *words) and octets() == whole)
 
 
+def name_of(content):
+    """The name by which the clock refuses a file with these octets, before it has made its socket; None if it does not, or changes it."""
+    put(content)
+    status, said = begins(*WORDS)
+    named = re.search(f"^ptpm-clock: it does not start: ([A-Z_]+): {re.escape(state)}: ", said, re.M)
+    return named[1] if status == 1 and named and not os.path.exists(path) and octets() == content else None
+
+
 def damages():
-    """A file of which octets are missing or others: a refusal by name, or a clock of just this state."""
-    whole, wrong, started, let_go = saved_state(), [], 0, 0
-    cut = [whole[:size] for size in range(len(whole))] + [whole + b"\0", whole + whole]
-    changed = [whole[:place] + bytes([whole[place] ^ change]) + whole[place + 1:] for place in range(len(whole)) for change in (1, 128)]
-    names = {name: 0 for name in ("NOT_AN_IMAGE", "OTHER_VERSION", "OTHER_KIND", "DAMAGED", "OTHER_CLOCK")}
-    for content in cut + changed:
-        put(content)
-        status, said = begins(*WORDS)
-        named = [name for name in names if f"ptpm-clock: it does not start: {name}: {state}: " in said]
-        if status == 1 and len(named) == 1 and not os.path.exists(path) and octets() == content:
-            names[named[0]] += 1
-        elif content in cut or status != 0 or named != []:
-            wrong.append((content.hex(), status, said))
-        elif "1 manager of it is not configured any more" in said:
-            let_go += 1
-        elif octets() == content:
-            started += 1
-        else:
-            wrong.append((content.hex(), status, said))
-    check(f"damaged files of a state: {wrong[:3]}", wrong == [] and all(names.values()))
-    check("an entry of another manager is let go", let_go == 20)        # each octet of it is changed twice
-    print(f"{len(cut)} files that are cut and {len(changed)} of which an octet is another: "
-          f"{', '.join(f'{count} {name}' for name, count in names.items())}, {let_go} of another manager, {started} of another state")
+    """A file of which octets are missing or others: each is refused, and stays."""
+    whole = saved_state()
+    image, count = image_in(whole), saves_in(whole)
+    cut = [whole[:size] for size in range(len(whole)) if size != len(image)]
+    wrong = [content.hex() for content in cut if name_of(content) != ("NOT_AN_IMAGE" if len(content) < 12 else "DAMAGED")]
+    check(f"a file that is cut is refused, except {wrong[:3]}", wrong == [])
+    more = [whole + b"\0", whole + whole, whole + whole[-16:], sealed(whole), sealed(image + b"\0"), sealed(image[:-1]), whole[:-16] + sealed(b"")]
+    wrong = [content.hex() for content in more if name_of(content) != "DAMAGED"]
+    check(f"what follows a seal, or is sealed and no image, is refused, except {wrong[:3]}", wrong == [])
+    bits = [name_of(content) for content in flips(whole)]
+    check("a file with another bit is refused", bits == ["DAMAGED"] * len(bits))
+    print(f"a state of {len(whole)} octets: {len(cut)} beginnings and {len(bits)} other bits, and {bits.count(None)} of these are not refused")
+    for name, content in [("NOT_AN_IMAGE", b"7\n"), ("OTHER_VERSION", image[:5] + b"\2" + image[6:]), ("OTHER_KIND", image[:4] + b"\2" + image[5:])]:
+        check(f"a seal makes no state of {name}", name_of(sealed(content)) == name)
     put(whole)
-    check("the whole one is not refused", begins(*WORDS)[0] == 0)
+    check("the whole one is not refused", begins(*WORDS)[0] == 0 and octets() == sealed(image, count + 1))
+
+
+def states_without_seal():
+    """What a former version saved: it is taken if it is an image, and gets its seal."""
+    image = image_in(saved_state())
+    put(image)
+    check("a state without a seal is taken, and sealed", begins(*WORDS)[0] == 0 and octets() == sealed(image, 1))
+    wrong = [content.hex() for content in [image[:-1], image + b"\0", image + b"ptps", image + image] if name_of(content) != "DAMAGED"]
+    check(f"if it is an image: {wrong}", wrong == [])
 
 
 def files_in_the_way():
@@ -182,7 +192,7 @@ def places_without_rights():
     whole = octets(inner)
     check("a file that can't be read", is_refused(2, f"{inner}: Permission denied", *own, user=NOBODY) and octets(inner) == whole)
     status, _ = begins("--user", "nobody", *own)
-    check("which root reads, and which is its user's then", status == 0 and os.stat(inner).st_uid == NOBODY and octets(inner) == whole)
+    check("which root reads, and which is its user's then", status == 0 and os.stat(inner).st_uid == NOBODY and image_in(octets(inner)) == image_in(whole))
     shutil.rmtree(folder)
     made = os.path.join(work, "made", "state")
     for turn in ["first", "second"]:
@@ -274,4 +284,4 @@ def calls_that_fail():
     peer.close()
 
 
-ATTACKS = [states, configurations, damages, files_in_the_way, places_without_rights, second_clocks, full_disks, calls_that_fail]
+ATTACKS = [states, configurations, damages, states_without_seal, files_in_the_way, places_without_rights, second_clocks, full_disks, calls_that_fail]

@@ -10,6 +10,7 @@ import struct
 import subprocess
 import tempfile
 import time
+import zlib
 
 HOME = os.path.dirname(os.path.dirname(os.path.abspath(__file__)))
 ME, OTHER, MANAGER = "aabbccfffeddee01", "aabbccfffeddee99", "0011223344556677"
@@ -52,6 +53,30 @@ def get(number, target=ME, hops=1):
     """A GET of PRIORITY1 by the manager (IEEE 1588-2019, clauses 13.3 and 15.4)."""
     return (bytes.fromhex("0d120036") + bytes(16) + bytes.fromhex(MANAGER + "0001") + number.to_bytes(2, "big")
             + bytes.fromhex("047f" + target + "ffff") + bytes([hops, hops, 0, 0]) + bytes.fromhex("000100022005"))
+
+
+def sealed(image, saves=1):
+    """What a file has that was saved so often."""
+    octets = image + b"ptps" + saves.to_bytes(8, "big")
+    return octets + zlib.crc32(octets).to_bytes(4, "big")
+
+
+def saves_in(octets):
+    """How often the file was saved that has these octets; None where its seal is wrong, or missing."""
+    saves = int.from_bytes(octets[-12:-4], "big")
+    return saves if octets == sealed(octets[:-16], saves) else None
+
+
+def image_in(octets):
+    """The image in a file with a seal."""
+    return None if saves_in(octets) is None else octets[:-16]
+
+
+def flips(octets):
+    """Each time with another bit changed."""
+    for place, octet in enumerate(octets):
+        for bit in range(8):
+            yield octets[:place] + bytes([octet ^ 1 << bit]) + octets[place + 1:]
 
 
 def pause(seconds):

@@ -28,7 +28,7 @@ from .passing import PassedOn, Rate
 from .report import Report
 from .requests import Requests, SessionSettings
 from .session import Session
-from .session_file import SessionFile, SessionFileError, usual_path
+from .session_file import DamagedFileError, SessionFile, SessionFileError, usual_path
 from .settings import ClockSettings, DelayMechanism, Manager, PortSettings, PortState, Rights, time_interval
 from .site import SiteError, site
 from .site_tree import Domain, Finding, Site, SiteClock, read_site
@@ -37,11 +37,11 @@ from .transport import Transport, UdpTransport, UnixTransport
 
 __all__ = [
     "__version__", "Action", "answer_name", "ask_as_nobody", "Changed", "Clock", "ClockMembers", "ClockQuality",
-    "ClockSettings", "CurrentDataSet", "data_field", "DefaultDataSet", "DelayMechanism", "Domain", "Error", "error_name",
-    "Finding", "get", "HandleAnswer", "Handled", "id_name", "id_of", "Identity", "ManagementId", "Manager", "members",
-    "NoAnswer", "ObservedClock", "ObservedGrandmaster", "ObservedPort", "ParentDataSet", "PassedOn", "PortDataSet",
-    "PortIdentity", "PortMembers", "PortSettings", "PortState", "Rate", "read_site", "Report", "Requests", "Rights",
-    "Session", "SessionAnswer", "SessionFile", "SessionFileError", "SessionSettings", "Site", "site", "SiteClock",
-    "SiteError", "Survey", "survey", "SurveyAnswer", "SurveySettings", "time_interval", "TimePropertiesDataSet", "Transport",
-    "UdpTransport", "UnixTransport", "usual_path",
+    "ClockSettings", "CurrentDataSet", "DamagedFileError", "data_field", "DefaultDataSet", "DelayMechanism", "Domain",
+    "Error", "error_name", "Finding", "get", "HandleAnswer", "Handled", "id_name", "id_of", "Identity", "ManagementId",
+    "Manager", "members", "NoAnswer", "ObservedClock", "ObservedGrandmaster", "ObservedPort", "ParentDataSet",
+    "PassedOn", "PortDataSet", "PortIdentity", "PortMembers", "PortSettings", "PortState", "Rate", "read_site",
+    "Report", "Requests", "Rights", "Session", "SessionAnswer", "SessionFile", "SessionFileError", "SessionSettings",
+    "Site", "site", "SiteClock", "SiteError", "Survey", "survey", "SurveyAnswer", "SurveySettings", "time_interval",
+    "TimePropertiesDataSet", "Transport", "UdpTransport", "UnixTransport", "usual_path",
 ]

@@ -17,7 +17,7 @@ from .members import DataField, data_field
 from .nobody import draw, refuse_nobody
 from .report import Report
 from .requests import Requests, SessionSettings, begin_request
-from .session_file import SessionFile
+from .session_file import DamagedFileError, SessionFile
 from .session_image import domain_of_unanswered, first_number, has_question, number_of_line
 from .transport import Transport
 
@@ -61,6 +61,8 @@ class Session(Requests):
         try:
             self.restore(octets)
         except Error as error:
+            if error.number == header.PTPM_DAMAGED and self._file is not None:
+                raise DamagedFileError(self._file.path) from None
             number = number_of_line(octets, PortIdentity.of(settings.manager), Identity.of(settings.target))
             if error.number != header.PTPM_NOT_AN_IMAGE or number is None:
                 raise

@@ -1,5 +1,5 @@
-"""The file that carries a manager's session with a clock from run to run: the session's image. It is the file of ptpm-manage,
-with the same rules, so that programs take turns with it."""
+"""The file that carries a manager's session with a clock from run to run: the session's image, and a seal. It is the file of
+ptpm-manage, with the same rules, so that programs take turns with it."""
 
 from __future__ import annotations
 
@@ -13,11 +13,14 @@ import weakref
 from typing import Optional, Set, Union
 
 from . import _header as header
+from . import seal
+from .answers import Error
 from .identity import Identity, IdentityLike, PortIdentity, PortIdentityLike
 
 _TURN = 60.0
 _TRY_AGAIN = 0.01
-_MOST = header.PTPM_SESSION_IMAGE_OCTETS + 1  # of a larger file these are read
+_ROOM = header.PTPM_SESSION_IMAGE_OCTETS + seal.OCTETS
+_MOST = _ROOM + 1  # of a larger file these are read
 
 # The locks of a process do not keep it from itself.
 _own: Set[str] = set()
@@ -43,8 +46,19 @@ def usual_path(manager: PortIdentityLike, target: IdentityLike) -> str:
     return f"{folder}/{who.clock}-{who.port}.{Identity.of(target)}"
 
 
+class DamagedFileError(Error):
+    """A file does not have the octets that were saved there (DAMAGED). It stays as it is."""
+
+    def __init__(self, path: str) -> None:
+        super().__init__(header.PTPM_DAMAGED)
+        self.path = path
+
+    def __str__(self) -> str:
+        return f"{self.name}: {self.path}: octets of the session were lost or changed; without it a new session begins"
+
+
 class SessionFile:
-    """The octets of a session's file, or None if there is none yet. The process that holds the file has its turn: others wait a
+    """The image in a session's file, or None if there is no file yet. The process that holds the file has its turn: others wait a
     minute. It is held until it is closed, or its `with` ends."""
 
     def __init__(
@@ -60,6 +74,7 @@ class SessionFile:
             os.mkdir(self._folder, 0o755)  # no folder above it is made
         self._own_name = os.path.join(os.path.realpath(self._folder), self._name)
         self._before: Optional[os.stat_result] = None
+        self._saves = 0  # of the file, by its seal
         self._session: Optional["weakref.ref[object]"] = None
         self._process = os.getpid()
         self._lock = self._take_turn()
@@ -125,7 +140,7 @@ class SessionFile:
         try:
             opened = os.open(self.path, os.O_RDONLY | os.O_NOFOLLOW | os.O_NONBLOCK | os.O_CLOEXEC)
         except FileNotFoundError:
-            os.unlink(self._write_new(bytes(header.PTPM_SESSION_IMAGE_OCTETS)))  # if it can't be written, nothing is to be sent
+            os.unlink(self._write_new(bytes(_ROOM)))  # if it can't be written, nothing is to be sent
             return None
         except OSError as error:
             if error.errno == errno.ELOOP:
@@ -136,7 +151,11 @@ class SessionFile:
             os.close(opened)
             raise SessionFileError(f"{self.path}: it is no file")
         with open(opened, "rb") as file:
-            return file.read(_MOST)
+            found = seal.unsealed(file.read(_MOST))
+        if found is None:
+            raise DamagedFileError(self.path)
+        image, self._saves = found
+        return image
 
     def _write_new(self, octets: bytes) -> str:
         """Writes the file that is to replace the old one. It has its owner, as far as this user may, and its mode."""
@@ -169,11 +188,12 @@ class SessionFile:
         os.fchmod(opened, stat.S_IMODE(self._before.st_mode) & 0o777)
 
     def write(self, octets: bytes) -> None:
-        """Has the file have these octets, whatever becomes of the program or the machine: they are on the disk when the call
-        returns. Only the process that holds it may write it."""
+        """Has the file have this image, and a seal, whatever becomes of the program or the machine. It is on the disk when the call
+        returns. Only the process that holds the file may write it."""
         if not self.is_open:
             raise SessionFileError(f"{self.path}: it is closed here, and another program may hold it")
-        os.replace(self._write_new(octets), self.path)
+        os.replace(self._write_new(seal.sealed(octets, self._saves + 1)), self.path)
+        self._saves += 1
         folder = os.open(self._folder, os.O_RDONLY | os.O_DIRECTORY | os.O_CLOEXEC)
         try:
             os.fsync(folder)

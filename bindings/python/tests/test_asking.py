@@ -10,6 +10,7 @@ import threading
 import time
 import unittest
 import unittest.mock
+import zlib
 from contextlib import redirect_stdout
 from io import StringIO
 from typing import List, Optional
@@ -311,6 +312,48 @@ class Asking(Folder):
         self.assertRaisesRegex(ptpm.SessionFileError, "link", ptpm.SessionFile, MANAGER, CLOCK, path)
         os.mkdir(f"{path}-2")
         self.assertRaisesRegex(ptpm.SessionFileError, "it is no file", ptpm.SessionFile, MANAGER, CLOCK, f"{path}-2")
+
+    def refusal(self, path: str, octets: bytes) -> Optional[str]:
+        """What is said of a file with these octets; None if a session goes on from it."""
+        with open(path, "wb") as file:
+            file.write(octets)
+        try:
+            with ptpm.SessionFile(MANAGER, CLOCK, path) as held:
+                ptpm.Session(ptpm.SessionSettings(MANAGER, CLOCK), held)
+        except ptpm.Error as error:
+            with open(path, "rb") as file:
+                self.assertEqual(file.read(), octets)  # it stays
+            return str(error)
+        return None
+
+    def test_a_file_has_a_seal(self) -> None:
+        path, settings = f"{self.folder}/session", ptpm.SessionSettings(MANAGER, CLOCK, 7)
+        self.assertIsNone(self.refusal(path, ptpm.Requests(settings).image()))  # as a former version left it
+        with ptpm.SessionFile(MANAGER, CLOCK, path) as file, ptpm.Session(settings, file) as session:
+            session.ask(self.way, ptpm.Action.GET, "PRIORITY1", timeout=1)
+        self.assertEqual(self.saved(path), 3)
+        words = [str(TOP / "hosts/manage"), "-u", self.path, "-m", MANAGER, "-k", path, "--target", CLOCK, "get", "PRIORITY1"]
+        subprocess.run(words, stdout=subprocess.DEVNULL, check=True)
+        self.assertEqual(self.saved(path), 6)
+        with open(path, "rb") as kept:
+            whole = kept.read()
+        self.assertIsNone(self.refusal(path, whole))
+        why = f"DAMAGED: {path}: octets of the session were lost or changed; without it a new session begins"
+        for place, octet in enumerate(whole):
+            for bit in range(8):
+                self.assertEqual(self.refusal(path, whole[:place] + bytes([octet ^ 1 << bit]) + whole[place + 1 :]), why)
+        for size in range(len(whole)):
+            if size != len(whole) - 16:
+                self.assertEqual(self.refusal(path, whole[:size]), "NOT_AN_IMAGE" if size < 12 else why)
+        for octets in (whole + b"\0", whole + whole, whole + whole[-16:]):
+            self.assertEqual(self.refusal(path, octets), why)
+
+    def saved(self, path: str) -> int:
+        """How often a file was saved, by its seal, which is right."""
+        with open(path, "rb") as file:
+            octets = file.read()
+        self.assertEqual((octets[-16:-12], octets[-4:]), (b"ptps", zlib.crc32(octets[:-4]).to_bytes(4, "big")))
+        return int.from_bytes(octets[-12:-4], "big")
 
     def test_a_file_has_one_turn_at_a_time(self) -> None:
         path = f"{self.folder}/session"
