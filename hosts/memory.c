@@ -6,13 +6,14 @@
 #include <stdint.h>
 #include <string.h>
 
-/* A piece lies at a multiple of UNIT, and its size is one. A clock takes CLOCK octets for itself and SLOT for each manager. */
+/* A piece lies at a multiple of UNIT, and its size is one. Its two words take UNIT octets on every machine. A clock takes CLOCK
+   octets for itself and SLOT for each manager. */
 enum { UNIT = 16, CLOCK = 472, SLOT = 2136 };
 
 struct piece {
     size_t size;                /* with these two words; odd if the piece is taken */
     size_t below;               /* the size of the piece below it, if there is one */
-};
+} __attribute__((__aligned__(UNIT)));
 
 static struct piece *lowest, *highest;
 static unsigned char *end;

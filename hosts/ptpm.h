@@ -30,10 +30,6 @@
 #include <stddef.h>
 #include <stdint.h>
 
-#if __SIZEOF_POINTER__ != 8 || __BYTE_ORDER__ != __ORDER_LITTLE_ENDIAN__
-#error "ptpm is built only for 64-bit little-endian processors"
-#endif
-
 #ifdef __cplusplus
 extern "C" {
 #endif
@@ -54,9 +50,16 @@ enum {
     PTPM_ID_DELAY_MECHANISM = 0x6000, PTPM_ID_LOG_MIN_PDELAY_REQ_INTERVAL = 0x6001
 };
 
+/* A handle has 16 octets on every machine, eight of them for an address. */
+#if __SIZEOF_POINTER__ == 8
+#define PTPM_TO_EIGHT
+#else
+#define PTPM_TO_EIGHT uint32_t rest; __attribute__((__aligned__(8)))
+#endif
+
 /* A clock: 2,608 octets at one pointer with one manager, and 34,648 with sixteen. All zeros hold no clock: struct ptpm_clock
    clock = { 0 }; */
-struct ptpm_clock { void *at; bool live; };
+struct ptpm_clock { void *at; PTPM_TO_EIGHT bool live; };
 
 /* The start values of a clock's own members: ptpm_clock_defaults writes them all, then the host writes its own over them.
    A flag is set if it is not 0. Without its has_ flag a value is the clock's own, and parent_port is its port 0. An
@@ -238,7 +241,7 @@ enum {
 };
 
 /* A session of a manager, about 1,600 octets at one pointer. All zeros hold no session. */
-struct ptpm_session { void *at; bool live; };
+struct ptpm_session { void *at; PTPM_TO_EIGHT bool live; };
 
 /* One manager, the clock that it manages, and how its requests are numbered and sent. A clock treats a request as new if its
    number is up to 32,767 ahead of the latest that it accepted from this manager. So a manager that starts again continues with
@@ -258,11 +261,11 @@ struct ptpm_session_settings {
 enum { PTPM_GET = 0, PTPM_SET = 1, PTPM_COMMAND = 3 };
 
 /* A survey of a manager: what it asks and its answers, at one pointer. All zeros hold no survey. */
-struct ptpm_survey { void *at; bool live; };
+struct ptpm_survey { void *at; PTPM_TO_EIGHT bool live; };
 
 /* One manager, and the GET that it sends to every port of every clock, or of one. A clock answers one that is for every clock
    whatever numbers it took from this manager before. A late answer to an earlier GET with the same number and id is taken for this
-   survey's: use a number with nothing in flight. */
+   survey's: use a number with nothing in flight. No session has the same portIdentity. */
 struct ptpm_survey_settings {
     uint16_t port;                      /* portNumber of the manager */
     uint16_t number;                    /* sequenceId */
@@ -271,6 +274,8 @@ struct ptpm_survey_settings {
     uint8_t domain;
     uint8_t hops;                       /* startingBoundaryHops */
 };
+
+#undef PTPM_TO_EIGHT
 
 /* The port that gave an answer. */
 struct ptpm_source {
@@ -848,8 +853,8 @@ static inline enum ptpm_started ptpm_survey_start_sized(struct ptpm_survey *hand
 
 /* Starts a survey of one clock, without answers, instead of what the handle holds, which is freed first. Every port of the
    clock is asked, and another clock's answer is ignored (PTPM_OTHER_SOURCE). A clock treats such a GET from one of its managers
-   as a numbered request, like one of a session. So the manager here must not be one of them, for example another port number of
-   the same clockIdentity.
+   as a numbered request, like one of a session. And a session of the same manager may treat an answer as its own. So the manager
+   here is none of them, and has no session: for example, it is another port of the same identity.
    Takes:   the identity of the clock: another one than the manager's, and neither all ones nor all zeros.
    Returns: PTPM_STARTED; or why not, and then the handle holds nothing.
    Memory:  the survey, until it is stopped.

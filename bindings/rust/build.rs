@@ -1,6 +1,7 @@
 //! The library that the crate links. If PTPM_LIB_DIR names a folder, it is the `libptpm.a` there, as `make -C hosts install` puts
-//! it. Else it is put together from the assembly in `dist/` of this repository, by the C compiler of the target: `CC` with the
-//! target's name after it (`CC_aarch64_unknown_linux_gnu`), `CC`, or the usual one.
+//! it. Else it is put together from the assembly in `dist/` of this repository, or from the C there if the target has no assembly or
+//! `PORTABLE=1` asks for it. The C compiler of the target does that: `CC` with the target's name after it
+//! (`CC_aarch64_unknown_linux_gnu`), `CC`, or the usual one.
 
 use std::env;
 use std::path::{Path, PathBuf};
@@ -24,14 +25,19 @@ fn named(folder: PathBuf) -> PathBuf {
     folder
 }
 
-/// Makes `libptpm.a` of the assembly for the target. The folder that it is in.
+/// Makes `libptpm.a` of the assembly for the target, or of the C. The folder that it is in.
 fn assembled() -> PathBuf {
     let top = Path::new(&variable("CARGO_MANIFEST_DIR")).join("../..");
     let folder = PathBuf::from(variable("OUT_DIR"));
     let compiler = Compiler::of_target();
     let machine = compiler.machine();
-    for file in [&*format!("dist/{machine}/libptpm.s"), "dist/c/heap.c", "tools/assemble"] {
-        println!("cargo:rerun-if-changed={}", top.join(file).display());
+    println!("cargo:rerun-if-env-changed=PORTABLE");
+    let assembly = format!("dist/{machine}/libptpm.s");
+    for file in [&*assembly, "dist/c/heap.c", "dist/portable", "hosts/ptpm.h", "tools/assemble"] {
+        // What is missing counts as changed each time.
+        if top.join(file).exists() {
+            println!("cargo:rerun-if-changed={}", top.join(file).display());
+        }
     }
     let whole = folder.join("whole.o");
     let object = folder.join("ptpm.o");

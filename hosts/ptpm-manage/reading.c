@@ -6,11 +6,10 @@
 #include <stdbool.h>
 #include <unistd.h>
 
-enum { MOST_READINGS = 10 };
+enum { MOST_READINGS = 10, PROCESSES = 2047 };     /* so that the last port is 65533; one of every port is 65535 */
 
-uint16_t port_of_nobody(uint16_t managers) {
-    uint16_t port = (uint16_t)(getpid() % 65532 + 2);       /* 2 to 65533; one of every port is 65535 */
-    return port == managers ? (uint16_t)(port + 1) : port;
+uint16_t port_of_nobody(uint8_t action) {
+    return (uint16_t)(FIRST_OF_NOBODY + getpid() % PROCESSES * 2 + (action != PTPM_GET));
 }
 
 bool begin_reading(struct ptpm_session *session, const struct task *task, uint16_t id) {
@@ -19,7 +18,7 @@ bool begin_reading(struct ptpm_session *session, const struct task *task, uint16
     reading.action = PTPM_GET;
     reading.id = id;
     reading.size = 0;
-    reading.settings.port = port_of_nobody(task->settings.port);
+    reading.settings.port = port_of_nobody(PTPM_GET);
     reading.settings.first = draw_number();
     reading.settings.attempts = MOST_READINGS;
     return ptpm_session_start(session, &reading.settings) == PTPM_STARTED && begin_of_task(session, &reading) == PTPM_BEGUN;

@@ -6,8 +6,12 @@
 #include "task.h"
 #include <stdbool.h>
 
-/* The portNumber with which this process asks as nobody; not the one that is given. */
-uint16_t port_of_nobody(uint16_t managers);
+/* From this portNumber on none is of a manager. What is asked in no session is asked from one of these, so that no session treats
+   its answer as an answer of its own. */
+enum { FIRST_OF_NOBODY = 61440 };
+
+/* The portNumber with which this process asks in no session. For a GET it is even, and for a SET or a COMMAND odd. */
+uint16_t port_of_nobody(uint8_t action);
 
 /* Begins a GET of this id, at the task's clock and port, with a drawn number; whether it is begun. Its session takes the place
    of the one that the handle holds. */

@@ -7,6 +7,7 @@
 #include "identity.h"
 #include "names.h"
 #include "notices.h"
+#include "reading.h"
 #include <getopt.h>
 #include <stdbool.h>
 #include <stdio.h>
@@ -128,6 +129,7 @@ static void read_manager(struct task *task, const char *text) {
     const char *rest = identity_at(text, task->settings.clock);
     long port = rest == NULL ? -1 : port_behind(rest, 65534);
     if (port < 0) refuse("--manager %s: it takes aabbccfffeddee01/1 or aabbcc.fffe.ddee01-1", text);
+    if (port >= FIRST_OF_NOBODY) refuse("--manager %s: a port from %d on is of no manager", text, FIRST_OF_NOBODY);
     task->settings.port = (uint16_t)port;
     task->has_manager = true;
 }

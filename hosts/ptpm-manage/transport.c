@@ -145,9 +145,8 @@ static void find_unix(const struct task *task) {
 void find_transport(struct task *task) {
     if (task->path != NULL) find_unix(task);
     else find_at_interfaces(task);
-    bool asks_alike = task->is_survey && !task->is_of_clock && !task->site.is_collected;       /* every clock, no matter who asks */
-    bool is_nobodys = !task->is_kept && (task->path != NULL || !asks_alike);
-    if (!task->has_manager && is_nobodys) task->settings.port = port_of_nobody(task->settings.port);
+    bool is_nobodys = !task->is_kept && (task->action == PTPM_GET || !task->has_manager);
+    if (is_nobodys) task->settings.port = port_of_nobody(task->action);
 }
 
 /* Whether it can be opened; otherwise errno says why not, and `what` of what. */

@@ -10,7 +10,8 @@
 
 /* Finds the transport that the task names. If the task names no manager, its settings get the transport's own. Over UDP and
    Ethernet that is the interface's hardware address with ff and fe in its middle. On a Unix socket it is clock 0, like that of
-   pmc. Its port is 1, or, if no numbers are kept, one of this process. Ends the program with status 2 if there is none. */
+   pmc. Its port is 1. What is in no session has a port of this process instead (port_of_nobody). Only a SET or a COMMAND has that
+   of the manager, if one is named. Ends the program with status 2 if there is no transport. */
 void find_transport(struct task *task);
 
 /* Opens it. Ends the program with status 2 if it can't be opened. */

@@ -10,7 +10,8 @@ import subprocess
 import tempfile
 import time
 
-from attacking import (HOME, MANAGER, ME, OTHER, SLOW, Clock, Peer, asks, check, fill_disk, manage, path, read, response, run, start, work, write)
+from attacking import (HOME, MANAGER, ME, OTHER, SLOW, Clock, Peer, asks, check, fill_disk, manage, path, read, response, run, start,
+                       wait_until, work, write)
 
 PROGRAM = os.path.join(HOME, "manage")
 
@@ -230,6 +231,34 @@ def losses_of_power():
         calls = ["rename" if call.startswith("rename") else call for call in calls]
         check(f"{what} is on the disk when it has to be: {calls}", calls == wanted)
     clock.end()
+
+
+def next_sent(port, is_wanted):
+    """The next message that goes out at a port and is wanted."""
+    found = []
+    wait_until(lambda: found or found.extend(filter(is_wanted, port.sent())))
+    if not found:
+        raise OSError("nothing was asked")
+    return found[0]
+
+
+def answers_to_others(port):
+    """A SET is lost, and another run of this host asks for the same id with the same number, in no session. The answer to that one
+    is none to the SET."""
+    me = ("-m", MANAGER + "/1")
+    for who, words in [((), ("survey", "PRIORITY1")), (me, ("survey", "PRIORITY1")), (me, ("--target", ME + "-20", "get", "PRIORITY1"))]:
+        port.sent()
+        other = start("manage", *who, "-i", port.name, "-a", "1", "-t", str(3000 * SLOW), *words, stdout=subprocess.PIPE, text=True)
+        asked = next_sent(port, lambda request: request[52:54] == b"\x20\x05")
+        number = write("number", f"{(int.from_bytes(asked[30:32], 'big') - 1) % 65536}\n")
+        session = start("manage", *who, "-w", "0", "-i", port.name, "-k", number, "-a", "2", "-t", str(100 * SLOW), "--target", ME, "set",
+                        "PRIORITY1", "100", stdout=subprocess.PIPE, stderr=subprocess.DEVNULL, text=True)
+        port.come_in(response(next_sent(port, lambda request: request[52:54] == b"\x20\x00"), b"\x20\x00" + bytes(20)))
+        lost = next_sent(port, lambda request: request[46] == 1)
+        port.come_in(response(asked, b"\x20\x05\x64\x00"))
+        check(f"{who} {words} has the number of the SET", lost[30:32] == asked[30:32])
+        check("and an answer to it is none to the SET", (session.communicate()[0], session.returncode) == ("", 3))
+        check("but its own", other.communicate()[0].endswith("priority1 100\n") and other.returncode == 0)
 
 
 class TwoManagers:

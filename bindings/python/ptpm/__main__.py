@@ -14,9 +14,9 @@ from .asking import NoAnswer
 from .identity import Identity, PortIdentity
 from .ids import Action, ManagementId, id_of
 from .members import data_field, has_one_member, lines, parse, takes_no_value
-from .nobody import ask_as_nobody
+from .nobody import ask_as_nobody, nobody, refuse_nobody
 from .report import Report
-from .requests import EVERY_PORT, Requests, SessionSettings, begin_request
+from .requests import Requests, SessionSettings, begin_request
 from .session import Session
 from .session_file import SessionFile, SessionFileError
 from .site_command import main as show_site
@@ -145,8 +145,7 @@ class Task:
         words = self.words
         if words.manager is not None:
             manager = PortIdentity.of(words.manager)
-            if manager.port == EVERY_PORT:
-                raise ValueError(f"--manager {words.manager}: port {EVERY_PORT} means every port")
+            refuse_nobody(manager)
             return manager
         if words.unix is not None:
             return PortIdentity(Transport.identity, 1)
@@ -158,8 +157,9 @@ class Task:
         seconds = words.timeout / 1000
         asked = {"domain": words.domain, "hops": words.hops, "attempts": words.attempts}
         if self.action is None or self.target is None:
+            who = nobody(self._manager())
             with self.way() as way:
-                return _print(list(survey(way, self.id, manager=words.manager, timeout=seconds, **asked)), words.hexadecimal)
+                return _print(list(survey(way, self.id, manager=who, timeout=seconds, **asked)), words.hexadecimal)
         settings = SessionSettings(self._manager(), self.target, **asked)
         begin_request(Requests(settings), self.action, self.id, self.data, self.port)  # what is refused makes no file
         if self.is_numbered:

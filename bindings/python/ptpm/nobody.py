@@ -12,24 +12,35 @@ from .report import Report
 from .requests import Requests, SessionSettings, begin_request
 from .transport import Transport
 
+# From this portNumber on none is of a manager. Those of the processes go to 65533; one of every port is 65535.
+FIRST_OF_NOBODY = 61440
+_PROCESSES = 2047
+
 
 def draw() -> int:
     """A number that was drawn."""
     return int.from_bytes(os.urandom(2), "big")
 
 
-def nobody(manager: PortIdentity) -> PortIdentity:
-    """The manager's clock at a port of the number of this process: no clock keeps an answer to it."""
-    port = os.getpid() % 65532 + 2  # 2 to 65533; one of every port is 65535
-    return PortIdentity(manager.clock, port + 1 if port == manager.port else port)
+def refuse_nobody(manager: PortIdentity) -> None:
+    """Refuses a port at which no manager asks, and that which means every port."""
+    if manager.port >= FIRST_OF_NOBODY:
+        raise ValueError(f"manager {manager}: a port from {FIRST_OF_NOBODY} on is of no manager")
+
+
+def nobody(manager: PortIdentity, action: int = Action.GET) -> PortIdentity:
+    """The manager's clock at a port of this process that no manager has. No clock keeps an answer to it, and no session treats
+    that as its own. For a GET it is even, and for a SET or a COMMAND odd."""
+    port = FIRST_OF_NOBODY + os.getpid() % _PROCESSES * 2
+    return PortIdentity(manager.clock, port if action == Action.GET else port + 1)
 
 
 def ask_as_nobody(
     way: Transport, settings: SessionSettings, action: int, named: IdLike, data: bytes = b"", port: int = 0, *, timeout: float = 0.2
 ) -> Report:
-    """Asks in the place of a session's manager until it is answered. A clock of ptpm carries out a SET only from managers; a
+    """Asks at another port of a session's manager until it is answered. A clock of ptpm carries out a SET only from managers; a
     ptp4l takes some from anybody on its Unix socket, once for each copy."""
-    asking = Requests(replace(settings, manager=nobody(PortIdentity.of(settings.manager)), first=draw()))
+    asking = Requests(replace(settings, manager=nobody(PortIdentity.of(settings.manager), action), first=draw()))
     begin_request(asking, action, named, data, port)
     return carry_out(asking, way, timeout)
 

@@ -14,7 +14,7 @@ from .asking import NoAnswer, carry_out
 from .identity import Identity, PortIdentity
 from .ids import IdLike, id_of
 from .members import DataField, data_field
-from .nobody import draw
+from .nobody import draw, refuse_nobody
 from .report import Report
 from .requests import Requests, SessionSettings, begin_request
 from .session_file import SessionFile
@@ -35,7 +35,8 @@ class Session(Requests):
 
     def __init__(self, settings: SessionSettings, file: Optional[SessionFile] = None, *, wait: float = 3.0) -> None:
         """`wait` is how many seconds a session without a number waits before it asks, until no copy of an earlier one is on its
-        way."""
+        way. A manager has a port below 61440: at those from there on processes ask in no session, as `get` and `survey` do."""
+        refuse_nobody(PortIdentity.of(settings.manager))
         octets = None if file is None else file.octets
         self._asking = threading.RLock()
         self._file = file

@@ -48,9 +48,11 @@ class SurveySettings:
 class Survey(Handle):
     """What a survey asks, and its answers: the first of each port, of 512 ports at most.
 
+    A session of the same portIdentity may treat an answer as its own. So the manager here has no session: for example, it is
+    another port number of the same clockIdentity.
+
     With a target every port of that clock is asked, and no other clock answers. A clock treats such a GET from one of its
-    managers as a numbered request, like one of a session. So the manager must not be one of them then, for example another port
-    number of the same clockIdentity. """
+    managers as a numbered request, like one of a session. So the manager must not be one of them then either. """
 
     def __init__(self, settings: SurveySettings, target: Optional[IdentityLike] = None) -> None:
         super().__init__(header.ptpm_survey, library.ptpm_survey_stop)
@@ -109,7 +111,8 @@ def survey(
     timeout: float = 0.2,
 ) -> Iterator[Report]:
     """Asks every clock, and yields the answers as they come. It asks again until two rounds bring no new answer, or five if nobody
-    has answered, and `attempts` times at most."""
+    has answered, and `attempts` times at most. `manager` is who asks, and has no session: a session of the same portIdentity may
+    treat an answer as its own. By default it is a port of this process that no session has."""
     who = PortIdentity.of(manager) if manager is not None else nobody(PortIdentity(way.identity, 1))
     with Survey(SurveySettings(who, draw(), named, domain, hops)) as asked:
         message = asked.send()

@@ -282,7 +282,7 @@ def _opened(interface: str, family: socket.AddressFamily) -> Tuple[socket.socket
             copies = opened.enter_context(socket.socket(family, socket.SOCK_RAW | socket.SOCK_CLOEXEC, socket.IPPROTO_UDP))
             _at(copies, interface, _WANTED_COPIES_6 if family == socket.AF_INET6 else _WANTED_COPIES_4)
         opened.pop_all()
-        return group, asking, copies
+    return group, asking, copies
 
 
 class UnixTransport(Transport):

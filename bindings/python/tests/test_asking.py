@@ -10,9 +10,13 @@ import threading
 import time
 import unittest
 import unittest.mock
+from contextlib import redirect_stdout
+from io import StringIO
 from typing import List, Optional
 
 import ptpm
+from ptpm.__main__ import Task
+from ptpm.__main__ import _parser as command_line
 
 from . import CLOCK, MANAGER, TOP, Folder
 
@@ -35,6 +39,41 @@ class Both(ptpm.Transport):
         return None
 
 
+class Noted(ptpm.Transport):
+    """A way of which it is noted what comes in."""
+
+    def __init__(self, way: ptpm.Transport) -> None:  # it has no socket of its own
+        self._way = way
+        self.answers: List[bytes] = []
+
+    def close(self) -> None:
+        """Whoever made the way closes it."""
+
+    def send(self, octets: bytes) -> bool:
+        return self._way.send(octets)
+
+    def receive(self, until: float) -> Optional[bytes]:
+        datagram = self._way.receive(until)
+        if datagram is not None:
+            self.answers.append(datagram)
+        return datagram
+
+
+class Losing(ptpm.Transport):
+    """A way on which each SET is lost. Once one is, what others were answered comes in."""
+
+    def __init__(self, way: ptpm.Transport, answers: List[bytes]) -> None:  # it has no socket of its own
+        self._way, self._answers, self._has_lost = way, answers, False
+
+    def send(self, octets: bytes) -> bool:
+        is_set = octets[46] == ptpm.Action.SET
+        self._has_lost = self._has_lost or is_set
+        return is_set or self._way.send(octets)
+
+    def receive(self, until: float) -> Optional[bytes]:
+        return self._answers.pop() if self._has_lost and self._answers else self._way.receive(until)
+
+
 @unittest.skipUnless((TOP / "hosts/clock").exists(), "hosts/clock is not built")
 class Asking(Folder):
     def setUp(self) -> None:
@@ -55,6 +94,26 @@ class Asking(Folder):
         self.assertEqual(report.members, {"priority1": 128})
         [report] = ptpm.survey(self.way, "DEFAULT_DATA_SET", timeout=0.05)
         self.assertEqual((str(report.source), report.members["numberPorts"]), (f"{CLOCK}/1", 1))
+
+    def test_an_answer_to_a_survey_is_none_to_a_session(self) -> None:
+        """The SET is lost, and has the number of the survey, and the value that the clock has."""
+        def asks_by_words(way: ptpm.Transport) -> None:
+            words = ["-u", self.path, "-m", MANAGER, "-t", "50", "survey", "PRIORITY1"]
+            with unittest.mock.patch("ptpm.__main__.UnixTransport", return_value=way), redirect_stdout(StringIO()):
+                self.assertEqual(Task(command_line().parse_args(words)).ask(), 0)
+
+        for first, asks in ((100, lambda way: list(ptpm.survey(way, "PRIORITY1", timeout=0.05))), (200, asks_by_words)):
+            noted = Noted(self.way)
+            with unittest.mock.patch.object(sys.modules["ptpm.survey"], "draw", return_value=first + 1):
+                asks(noted)
+            self.assertEqual({answer[30:32] for answer in noted.answers}, {(first + 1).to_bytes(2, "big")})
+            with self.session(first) as session, self.assertRaises(ptpm.NoAnswer) as caught:
+                session.ask(Losing(self.way, noted.answers), ptpm.Action.SET, "PRIORITY1", 128, timeout=0.05)
+            self.assertEqual((caught.exception.was_sent, noted.answers), (True, []))
+
+    def test_a_session_has_a_port_of_a_manager(self) -> None:
+        settings = ptpm.SessionSettings("0011223344556677/61440", CLOCK)
+        self.assertRaisesRegex(ValueError, "a port from 61440 on is of no manager", ptpm.Session, settings)
 
     def test_nothing_that_was_kept_is_reported(self) -> None:
         self.assertEqual(self.ask(100, 50).members, {"priority1": 50})      # numbers 100 and 101
@@ -311,7 +370,8 @@ class Asking(Folder):
         self.assertEqual(run("-t", "20", "-a", "2", "get", "PRIORITY1", "--target", "0102030405060708"), (3, ""))
         self.assertEqual(run("survey", "PRIORITY1", "-x"), (0, f"{CLOCK}/1 value 6400\n"))
         self.assertEqual(run("survey", "PRIORITY1", "--target", CLOCK), (2, ""))
-        self.assertEqual(run("-m", "0011223344556677/65535", "get", "PRIORITY1", "--target", CLOCK), (2, ""))
+        for port in (61440, 65535):
+            self.assertEqual(run("-m", f"0011223344556677/{port}", "get", "PRIORITY1", "--target", CLOCK), (2, ""))
         self.assertEqual(run("-x", "set", "PRIORITY1", "64 00", "--target", CLOCK), (2, ""))
         with unittest.mock.patch.dict(os.environ, PYTHONIOENCODING="ascii"):
             said = run("-m", MANAGER, "set", "USER_DESCRIPTION", "--text", "Köln", "--target", CLOCK)

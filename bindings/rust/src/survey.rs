@@ -10,7 +10,8 @@ use core::fmt;
 use core::ptr::null_mut;
 
 /// One manager, and the GET that it sends to every port of every clock, or of one. Each survey gets a number that is not on its way
-/// any more.
+/// any more. A session of the same manager may treat an answer as its own. So the manager here has no session: for example, it is
+/// another port number of the same clockIdentity.
 #[derive(Clone, Copy, Debug, PartialEq, Eq)]
 pub struct SurveySettings {
     /// The manager; its clock is not all ones.
@@ -51,7 +52,7 @@ impl SurveySettings {
 /// # fn send(_octets: &[u8]) {}
 /// # fn next_datagram() -> Option<&'static [u8]> { None }
 ///
-/// let settings = SurveySettings::new("0011223344556677/1".parse()?, 7, ManagementId::PRIORITY1);
+/// let settings = SurveySettings::new("0011223344556677/2".parse()?, 7, ManagementId::PRIORITY1);
 /// let mut survey = Survey::start(&settings)?;
 /// let mut room = [0; MOST_OCTETS];
 /// send(survey.send(&mut room)?);
@@ -72,7 +73,7 @@ pub struct Survey {
 unsafe impl Send for Survey {}
 
 impl Survey {
-    /// Starts a survey of every clock, without answers.
+    /// Starts a survey of every clock, without answers. The manager has no session ([`SurveySettings`]).
     ///
     /// # Errors
     ///
@@ -87,8 +88,8 @@ impl Survey {
     }
 
     /// Starts a survey of one clock, without answers: every port of it is asked, and no other clock answers. A clock treats
-    /// such a GET from one of its managers as a numbered request, like one of a session. So the manager here must not be one of
-    /// them, for example another port number of the same clockIdentity.
+    /// such a GET from one of its managers as a numbered request, like one of a session. So the manager here is none of them, and
+    /// has no session: for example, it is another port number of the same clockIdentity.
     ///
     /// # Errors
     ///

@@ -57,6 +57,14 @@ static const struct member of_survey[] = {
     SURVEY(port), SURVEY(number), SURVEY(id), OCTETS_OF(ptpm_survey_settings, clock), SURVEY(domain), SURVEY(hops), { 0 },
 };
 
+/* Writes an integer of this many octets, in the order of the processor. */
+static void put_number(long long number, void *at, size_t size) {
+    const uint8_t octet = (uint8_t)number;
+    const uint16_t two = (uint16_t)number;
+    const uint32_t four = (uint32_t)number;
+    memcpy(at, size == 1 ? (const void *)&octet : size == 2 ? (const void *)&two : size == 4 ? (const void *)&four : &number, size);
+}
+
 /* Writes the member that the word `name=value` names. */
 static void put_member(const struct member *members, const char *word, void *settings) {
     const char *value = strchr(word, '=');
@@ -68,9 +76,7 @@ static void put_member(const struct member *members, const char *word, void *set
         return;
     }
     if (members->flag != 0) at[members->flag] = 1;
-    long long number = strtoll(value + 1, NULL, 0);
-    /* The processor is little-endian, as ptpm.h asks. */
-    if (members->kind == NUMBER) memcpy(at + members->place, &number, members->size);
+    if (members->kind == NUMBER) put_number(strtoll(value + 1, NULL, 0), at + members->place, members->size);
     else read_exactly(value + 1, at + members->place, members->size);
 }
 

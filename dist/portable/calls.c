@@ -1,0 +1,463 @@
+/* Made by tools/snapshot: the calls of ptpm.h over those of libptpm.c. It is C99 for any machine with octets. */
+#include "portable.h"
+#include "ptpm.h"
+#include <stddef.h>
+
+u64 portable_ptpm_answer_name(u32 a0, address a1, u64 a2);
+void portable_ptpm_clock_defaults(address a0);
+u32 portable_ptpm_clock_image(address a0, address a1, u64 a2, address a3);
+u32 portable_ptpm_clock_read(address a0, u16 a1, u16 a2, address a3, u64 a4, address a5);
+u32 portable_ptpm_clock_restore(address a0, address a1, u64 a2, address a3, u64 a4, address a5, u64 a6, address a7);
+u32 portable_ptpm_clock_start(address a0, address a1, address a2, u64 a3, address a4, u64 a5);
+void portable_ptpm_clock_stop(address a0);
+u64 portable_ptpm_error_name(u16 a0, address a1, u64 a2);
+u32 portable_ptpm_field_parse(u16 a0, address a1, u64 a2, address a3, u64 a4, address a5, address a6);
+u64 portable_ptpm_field_text(u16 a0, address a1, u64 a2, address a3, u64 a4);
+u32 portable_ptpm_id_at(u64 a0);
+u64 portable_ptpm_id_name(u16 a0, address a1, u64 a2);
+u32 portable_ptpm_id_named(address a0, u64 a1);
+u8 portable_ptpm_passed_on_is_first(address a0, address a1, u64 a2, u64 a3, u64 a4);
+void portable_ptpm_port_defaults(address a0);
+void portable_ptpm_rate_start(address a0, u64 a1, u64 a2);
+u8 portable_ptpm_rate_take(address a0, u64 a1);
+u32 portable_ptpm_session_restore(address a0, address a1, address a2, u64 a3);
+u32 portable_ptpm_session_start(address a0, address a1);
+void portable_ptpm_session_stop(address a0);
+u32 portable_ptpm_sizes_agree(address a0, u64 a1);
+void portable_ptpm_survey_stop(address a0);
+u32 portable_ptpm_version(void);
+u32 portable_ptpm_survey_start(address a0, address a1);
+u32 portable_ptpm_survey_start_at(address a0, address a1, address a2);
+u32 portable_ptpm_session_image(address a0, address a1, u64 a2, address a3);
+u64 portable_ptpm_session_issued(address a0);
+u32 portable_ptpm_session_report(address a0, address a1, u64 a2, address a3, address a4);
+u32 portable_ptpm_survey_answer(address a0, u64 a1, address a2, address a3, u64 a4, address a5, address a6);
+u64 portable_ptpm_survey_count(address a0);
+u32 portable_ptpm_survey_send(address a0, address a1, u64 a2, address a3);
+u32 portable_ptpm_clock_handle(address a0, u16 a1, address a2, u64 a3, address a4, u64 a5, address a6);
+u32 portable_ptpm_clock_handle_changed(address a0, u16 a1, address a2, u64 a3, address a4, u64 a5, address a6, address a7);
+u32 portable_ptpm_clock_observe(address a0, address a1, address a2, u64 a3, address a4);
+u32 portable_ptpm_session_begin(address a0, u8 a1, u16 a2, u16 a3, address a4, u64 a5);
+u32 portable_ptpm_session_begin_at(address a0, u8 a1, u16 a2, u16 a3, address a4, u64 a5);
+u32 portable_ptpm_session_give_up(address a0);
+u32 portable_ptpm_session_receive(address a0, address a1, u64 a2);
+u32 portable_ptpm_session_resume(address a0, u8 a1);
+u32 portable_ptpm_session_retune(address a0, u8 a1);
+u32 portable_ptpm_session_send(address a0, address a1, u64 a2, address a3);
+u32 portable_ptpm_survey_receive(address a0, address a1, u64 a2);
+
+#if IS_LITTLE_ENDIAN
+#define fill() ((void)0)
+#else
+void portable_fill(void);
+
+static void fill(void) {
+    static unsigned char is_filled;
+#ifdef __GNUC__
+    if (__atomic_load_n(&is_filled, __ATOMIC_ACQUIRE)) return;
+    portable_fill();
+    __atomic_store_n(&is_filled, 1, __ATOMIC_RELEASE);
+#else
+    if (is_filled) return;
+    portable_fill();
+    is_filled = 1;
+#endif
+}
+#endif
+#if IS_LITTLE_ENDIAN
+#define swap_ptpm_clock_settings(at) ((void)0)
+#define swap_ptpm_port_settings(at) ((void)0)
+#define swap_ptpm_observed_clock(at) ((void)0)
+#define swap_ptpm_observed_port(at) ((void)0)
+#define swap_ptpm_manager_settings(at) ((void)0)
+#define swap_ptpm_sent(at) ((void)0)
+#define swap_ptpm_changed(at) ((void)0)
+#define swap_ptpm_session_settings(at) ((void)0)
+#define swap_ptpm_survey_settings(at) ((void)0)
+#define swap_ptpm_source(at) ((void)0)
+#define swap_ptpm_rate(at) ((void)0)
+#else
+static void swap_ptpm_clock_settings(struct ptpm_clock_settings *at) {
+    at->offset_from_master = (int64_t)swap64((u64)at->offset_from_master);
+    at->mean_path_delay = (int64_t)swap64((u64)at->mean_path_delay);
+    at->observed_rate = (int32_t)swap32((u32)at->observed_rate);
+    at->variance = (uint16_t)swap16((u16)at->variance);
+    at->steps_removed = (uint16_t)swap16((u16)at->steps_removed);
+    at->observed_variance = (uint16_t)swap16((u16)at->observed_variance);
+    at->grandmaster_variance = (uint16_t)swap16((u16)at->grandmaster_variance);
+    at->parent_port_number = (uint16_t)swap16((u16)at->parent_port_number);
+    at->utc_offset = (int16_t)swap16((u16)at->utc_offset);
+}
+static void swap_ptpm_port_settings(struct ptpm_port_settings *at) {
+    at->peer_delay = (int64_t)swap64((u64)at->peer_delay);
+}
+static void swap_ptpm_observed_clock(struct ptpm_observed_clock *at) {
+    at->offset_from_master = (int64_t)swap64((u64)at->offset_from_master);
+    at->mean_path_delay = (int64_t)swap64((u64)at->mean_path_delay);
+    at->observed_rate = (int32_t)swap32((u32)at->observed_rate);
+    at->variance = (uint16_t)swap16((u16)at->variance);
+    at->steps_removed = (uint16_t)swap16((u16)at->steps_removed);
+    at->observed_variance = (uint16_t)swap16((u16)at->observed_variance);
+    at->grandmaster_variance = (uint16_t)swap16((u16)at->grandmaster_variance);
+    at->parent_port_number = (uint16_t)swap16((u16)at->parent_port_number);
+    at->utc_offset = (int16_t)swap16((u16)at->utc_offset);
+}
+static void swap_ptpm_observed_port(struct ptpm_observed_port *at) {
+    at->peer_delay = (int64_t)swap64((u64)at->peer_delay);
+}
+static void swap_ptpm_manager_settings(struct ptpm_manager_settings *at) {
+    at->port = (uint16_t)swap16((u16)at->port);
+}
+static void swap_ptpm_sent(struct ptpm_sent *at) {
+    at->port = (uint16_t)swap16((u16)at->port);
+    at->size = (uint16_t)swap16((u16)at->size);
+}
+static void swap_ptpm_changed(struct ptpm_changed *at) {
+    at->clock = (uint32_t)swap32((u32)at->clock);
+}
+static void swap_ptpm_session_settings(struct ptpm_session_settings *at) {
+    at->port = (uint16_t)swap16((u16)at->port);
+    at->target_ports = (uint16_t)swap16((u16)at->target_ports);
+    at->first = (uint16_t)swap16((u16)at->first);
+}
+static void swap_ptpm_survey_settings(struct ptpm_survey_settings *at) {
+    at->port = (uint16_t)swap16((u16)at->port);
+    at->number = (uint16_t)swap16((u16)at->number);
+    at->id = (uint16_t)swap16((u16)at->id);
+}
+static void swap_ptpm_source(struct ptpm_source *at) {
+    at->port = (uint16_t)swap16((u16)at->port);
+}
+static void swap_ptpm_rate(struct ptpm_rate *at) {
+    at->rate = (uint64_t)swap64((u64)at->rate);
+    at->left = (uint64_t)swap64((u64)at->left);
+    at->time = (uint64_t)swap64((u64)at->time);
+}
+#endif
+
+uint32_t ptpm_version(void) {
+    fill();
+    return (uint32_t)portable_ptpm_version();
+}
+
+enum ptpm_started ptpm_sizes_agree(const size_t *sizes, size_t count) {
+    fill();
+    u64 sizes_in[16];
+    if (count > 16) count = 16;
+    for (size_t i = 0; i < count; i++) store64(ADDRESS(&sizes_in[i]), sizes[i]);
+    return (enum ptpm_started)portable_ptpm_sizes_agree(ADDRESS(sizes_in), count);
+}
+
+void ptpm_clock_defaults(struct ptpm_clock_settings *settings) {
+    fill();
+    swap_ptpm_clock_settings(settings);
+    portable_ptpm_clock_defaults(ADDRESS(settings));
+    swap_ptpm_clock_settings(settings);
+}
+
+void ptpm_port_defaults(struct ptpm_port_settings *settings) {
+    fill();
+    swap_ptpm_port_settings(settings);
+    portable_ptpm_port_defaults(ADDRESS(settings));
+    swap_ptpm_port_settings(settings);
+}
+
+enum ptpm_started ptpm_clock_start(struct ptpm_clock *clock, const struct ptpm_clock_settings *settings, const struct ptpm_port_settings *ports, size_t port_count, const struct ptpm_manager_settings *managers, size_t manager_count) {
+    fill();
+#if !IS_LITTLE_ENDIAN
+    struct ptpm_clock_settings settings_in = *settings;
+    swap_ptpm_clock_settings(&settings_in);
+    settings = &settings_in;
+    struct ptpm_port_settings ports_in[9];
+    if (port_count > 9) port_count = 9;
+    for (size_t i = 0; i < port_count; i++) {
+        ports_in[i] = ports[i];
+        swap_ptpm_port_settings(&ports_in[i]);
+    }
+    ports = ports_in;
+    struct ptpm_manager_settings managers_in[17];
+    if (manager_count > 17) manager_count = 17;
+    for (size_t i = 0; i < manager_count; i++) {
+        managers_in[i] = managers[i];
+        swap_ptpm_manager_settings(&managers_in[i]);
+    }
+    managers = managers_in;
+#endif
+    return (enum ptpm_started)portable_ptpm_clock_start(ADDRESS(clock), ADDRESS(settings), ADDRESS(ports), port_count, ADDRESS(managers), manager_count);
+}
+
+enum ptpm_handled ptpm_clock_handle(struct ptpm_clock *clock, uint16_t port, const uint8_t *datagram, size_t size, struct ptpm_sent *sent, size_t room, size_t *count) {
+    fill();
+    u64 count_out = 0;
+    enum ptpm_handled answer = (enum ptpm_handled)portable_ptpm_clock_handle(ADDRESS(clock), port, ADDRESS(datagram), size, ADDRESS(sent), room, ADDRESS(&count_out));
+    *count = (size_t)load64(ADDRESS(&count_out));
+    for (size_t i = 0; i < *count; i++) swap_ptpm_sent(&sent[i]);
+    return answer;
+}
+
+enum ptpm_handled ptpm_clock_handle_changed(struct ptpm_clock *clock, uint16_t port, const uint8_t *datagram, size_t size, struct ptpm_sent *sent, size_t room, size_t *count, struct ptpm_changed *changed) {
+    fill();
+    u64 count_out = 0;
+    swap_ptpm_changed(changed);
+    enum ptpm_handled answer = (enum ptpm_handled)portable_ptpm_clock_handle_changed(ADDRESS(clock), port, ADDRESS(datagram), size, ADDRESS(sent), room, ADDRESS(&count_out), ADDRESS(changed));
+    *count = (size_t)load64(ADDRESS(&count_out));
+    swap_ptpm_changed(changed);
+    for (size_t i = 0; i < *count; i++) swap_ptpm_sent(&sent[i]);
+    return answer;
+}
+
+enum ptpm_observed ptpm_clock_observe(struct ptpm_clock *clock, const struct ptpm_observed_clock *observed, const struct ptpm_observed_port *ports, size_t port_count, uint8_t *left) {
+    fill();
+#if !IS_LITTLE_ENDIAN
+    struct ptpm_observed_clock observed_in = *observed;
+    swap_ptpm_observed_clock(&observed_in);
+    observed = &observed_in;
+    struct ptpm_observed_port ports_in[9];
+    if (port_count > 9) port_count = 9;
+    for (size_t i = 0; i < port_count; i++) {
+        ports_in[i] = ports[i];
+        swap_ptpm_observed_port(&ports_in[i]);
+    }
+    ports = ports_in;
+#endif
+    return (enum ptpm_observed)portable_ptpm_clock_observe(ADDRESS(clock), ADDRESS(observed), ADDRESS(ports), port_count, ADDRESS(left));
+}
+
+enum ptpm_read ptpm_clock_read(const struct ptpm_clock *clock, uint16_t id, uint16_t port, uint8_t *octets, size_t room, size_t *size) {
+    fill();
+    u64 size_out = 0;
+    enum ptpm_read answer = (enum ptpm_read)portable_ptpm_clock_read(ADDRESS(clock), id, port, ADDRESS(octets), room, ADDRESS(&size_out));
+    *size = (size_t)load64(ADDRESS(&size_out));
+    return answer;
+}
+
+enum ptpm_saved ptpm_clock_image(const struct ptpm_clock *clock, uint8_t *octets, size_t room, size_t *size) {
+    fill();
+    u64 size_out = 0;
+    enum ptpm_saved answer = (enum ptpm_saved)portable_ptpm_clock_image(ADDRESS(clock), ADDRESS(octets), room, ADDRESS(&size_out));
+    *size = (size_t)load64(ADDRESS(&size_out));
+    return answer;
+}
+
+enum ptpm_restored ptpm_clock_restore(struct ptpm_clock *clock, const uint8_t identity[8], size_t port_count, const struct ptpm_manager_settings *managers, size_t manager_count, const uint8_t *image, size_t size, size_t *gone) {
+    fill();
+#if !IS_LITTLE_ENDIAN
+    struct ptpm_manager_settings managers_in[17];
+    if (manager_count > 17) manager_count = 17;
+    for (size_t i = 0; i < manager_count; i++) {
+        managers_in[i] = managers[i];
+        swap_ptpm_manager_settings(&managers_in[i]);
+    }
+    managers = managers_in;
+#endif
+    u64 gone_out = 0;
+    enum ptpm_restored answer = (enum ptpm_restored)portable_ptpm_clock_restore(ADDRESS(clock), ADDRESS(identity), port_count, ADDRESS(managers), manager_count, ADDRESS(image), size, ADDRESS(&gone_out));
+    *gone = (size_t)load64(ADDRESS(&gone_out));
+    return answer;
+}
+
+void ptpm_clock_stop(struct ptpm_clock *clock) {
+    fill();
+    portable_ptpm_clock_stop(ADDRESS(clock));
+}
+
+enum ptpm_started ptpm_session_start(struct ptpm_session *session, const struct ptpm_session_settings *settings) {
+    fill();
+#if !IS_LITTLE_ENDIAN
+    struct ptpm_session_settings settings_in = *settings;
+    swap_ptpm_session_settings(&settings_in);
+    settings = &settings_in;
+#endif
+    return (enum ptpm_started)portable_ptpm_session_start(ADDRESS(session), ADDRESS(settings));
+}
+
+enum ptpm_begun ptpm_session_begin(struct ptpm_session *session, uint8_t action, uint16_t id, uint16_t port, const uint8_t *octets, size_t size) {
+    fill();
+    return (enum ptpm_begun)portable_ptpm_session_begin(ADDRESS(session), action, id, port, ADDRESS(octets), size);
+}
+
+enum ptpm_begun ptpm_session_begin_at(struct ptpm_session *session, uint8_t action, uint16_t id, uint16_t port, const uint8_t *octets, size_t size) {
+    fill();
+    return (enum ptpm_begun)portable_ptpm_session_begin_at(ADDRESS(session), action, id, port, ADDRESS(octets), size);
+}
+
+enum ptpm_sending ptpm_session_send(struct ptpm_session *session, uint8_t *octets, size_t room, size_t *size) {
+    fill();
+    u64 size_out = 0;
+    enum ptpm_sending answer = (enum ptpm_sending)portable_ptpm_session_send(ADDRESS(session), ADDRESS(octets), room, ADDRESS(&size_out));
+    *size = (size_t)load64(ADDRESS(&size_out));
+    return answer;
+}
+
+enum ptpm_resumed ptpm_session_resume(struct ptpm_session *session, uint8_t attempts) {
+    fill();
+    return (enum ptpm_resumed)portable_ptpm_session_resume(ADDRESS(session), attempts);
+}
+
+enum ptpm_given_up ptpm_session_give_up(struct ptpm_session *session) {
+    fill();
+    return (enum ptpm_given_up)portable_ptpm_session_give_up(ADDRESS(session));
+}
+
+enum ptpm_retuned ptpm_session_retune(struct ptpm_session *session, uint8_t domain) {
+    fill();
+    return (enum ptpm_retuned)portable_ptpm_session_retune(ADDRESS(session), domain);
+}
+
+enum ptpm_session_received ptpm_session_receive(struct ptpm_session *session, const uint8_t *datagram, size_t size) {
+    fill();
+    return (enum ptpm_session_received)portable_ptpm_session_receive(ADDRESS(session), ADDRESS(datagram), size);
+}
+
+enum ptpm_saved ptpm_session_image(const struct ptpm_session *session, uint8_t *octets, size_t room, size_t *size) {
+    fill();
+    u64 size_out = 0;
+    enum ptpm_saved answer = (enum ptpm_saved)portable_ptpm_session_image(ADDRESS(session), ADDRESS(octets), room, ADDRESS(&size_out));
+    *size = (size_t)load64(ADDRESS(&size_out));
+    return answer;
+}
+
+enum ptpm_restored ptpm_session_restore(struct ptpm_session *session, const struct ptpm_session_settings *settings, const uint8_t *image, size_t size) {
+    fill();
+#if !IS_LITTLE_ENDIAN
+    struct ptpm_session_settings settings_in = *settings;
+    swap_ptpm_session_settings(&settings_in);
+    settings = &settings_in;
+#endif
+    return (enum ptpm_restored)portable_ptpm_session_restore(ADDRESS(session), ADDRESS(settings), ADDRESS(image), size);
+}
+
+uint64_t ptpm_session_issued(const struct ptpm_session *session) {
+    fill();
+    return (uint64_t)portable_ptpm_session_issued(ADDRESS(session));
+}
+
+enum ptpm_reported ptpm_session_report(const struct ptpm_session *session, uint8_t *octets, size_t room, size_t *size, uint16_t *error) {
+    fill();
+    u64 size_out = 0;
+    u16 error_out = 0;
+    enum ptpm_reported answer = (enum ptpm_reported)portable_ptpm_session_report(ADDRESS(session), ADDRESS(octets), room, ADDRESS(&size_out), ADDRESS(&error_out));
+    *size = (size_t)load64(ADDRESS(&size_out));
+    *error = load16(ADDRESS(&error_out));
+    return answer;
+}
+
+void ptpm_session_stop(struct ptpm_session *session) {
+    fill();
+    portable_ptpm_session_stop(ADDRESS(session));
+}
+
+enum ptpm_started ptpm_survey_start(struct ptpm_survey *survey, const struct ptpm_survey_settings *settings) {
+    fill();
+#if !IS_LITTLE_ENDIAN
+    struct ptpm_survey_settings settings_in = *settings;
+    swap_ptpm_survey_settings(&settings_in);
+    settings = &settings_in;
+#endif
+    return (enum ptpm_started)portable_ptpm_survey_start(ADDRESS(survey), ADDRESS(settings));
+}
+
+enum ptpm_started ptpm_survey_start_at(struct ptpm_survey *survey, const struct ptpm_survey_settings *settings, const uint8_t target[8]) {
+    fill();
+#if !IS_LITTLE_ENDIAN
+    struct ptpm_survey_settings settings_in = *settings;
+    swap_ptpm_survey_settings(&settings_in);
+    settings = &settings_in;
+#endif
+    return (enum ptpm_started)portable_ptpm_survey_start_at(ADDRESS(survey), ADDRESS(settings), ADDRESS(target));
+}
+
+enum ptpm_sending ptpm_survey_send(const struct ptpm_survey *survey, uint8_t *octets, size_t room, size_t *size) {
+    fill();
+    u64 size_out = 0;
+    enum ptpm_sending answer = (enum ptpm_sending)portable_ptpm_survey_send(ADDRESS(survey), ADDRESS(octets), room, ADDRESS(&size_out));
+    *size = (size_t)load64(ADDRESS(&size_out));
+    return answer;
+}
+
+enum ptpm_survey_received ptpm_survey_receive(struct ptpm_survey *survey, const uint8_t *datagram, size_t size) {
+    fill();
+    return (enum ptpm_survey_received)portable_ptpm_survey_receive(ADDRESS(survey), ADDRESS(datagram), size);
+}
+
+size_t ptpm_survey_count(const struct ptpm_survey *survey) {
+    fill();
+    return (size_t)portable_ptpm_survey_count(ADDRESS(survey));
+}
+
+enum ptpm_reported ptpm_survey_answer(const struct ptpm_survey *survey, size_t place, struct ptpm_source *source, uint8_t *octets, size_t room, size_t *size, uint16_t *error) {
+    fill();
+    swap_ptpm_source(source);
+    u64 size_out = 0;
+    u16 error_out = 0;
+    enum ptpm_reported answer = (enum ptpm_reported)portable_ptpm_survey_answer(ADDRESS(survey), place, ADDRESS(source), ADDRESS(octets), room, ADDRESS(&size_out), ADDRESS(&error_out));
+    swap_ptpm_source(source);
+    *size = (size_t)load64(ADDRESS(&size_out));
+    *error = load16(ADDRESS(&error_out));
+    return answer;
+}
+
+void ptpm_survey_stop(struct ptpm_survey *survey) {
+    fill();
+    portable_ptpm_survey_stop(ADDRESS(survey));
+}
+
+bool ptpm_passed_on_is_first(struct ptpm_passed_on *table, const uint8_t *message, size_t size, uint64_t now, uint64_t time) {
+    fill();
+    return (bool)portable_ptpm_passed_on_is_first(ADDRESS(table), ADDRESS(message), size, now, time);
+}
+
+void ptpm_rate_start(struct ptpm_rate *rate, uint64_t tokens, uint64_t now) {
+    fill();
+    swap_ptpm_rate(rate);
+    portable_ptpm_rate_start(ADDRESS(rate), tokens, now);
+    swap_ptpm_rate(rate);
+}
+
+bool ptpm_rate_take(struct ptpm_rate *rate, uint64_t now) {
+    fill();
+    swap_ptpm_rate(rate);
+    bool answer = (bool)portable_ptpm_rate_take(ADDRESS(rate), now);
+    swap_ptpm_rate(rate);
+    return answer;
+}
+
+uint32_t ptpm_id_named(const char *name, size_t size) {
+    fill();
+    return (uint32_t)portable_ptpm_id_named(ADDRESS(name), size);
+}
+
+uint32_t ptpm_id_at(size_t place) {
+    fill();
+    return (uint32_t)portable_ptpm_id_at(place);
+}
+
+size_t ptpm_id_name(uint16_t id, char *text, size_t room) {
+    fill();
+    return (size_t)portable_ptpm_id_name(id, ADDRESS(text), room);
+}
+
+size_t ptpm_answer_name(uint32_t number, char *text, size_t room) {
+    fill();
+    return (size_t)portable_ptpm_answer_name(number, ADDRESS(text), room);
+}
+
+size_t ptpm_error_name(uint16_t error, char *text, size_t room) {
+    fill();
+    return (size_t)portable_ptpm_error_name(error, ADDRESS(text), room);
+}
+
+size_t ptpm_field_text(uint16_t id, const uint8_t *octets, size_t size, char *text, size_t room) {
+    fill();
+    return (size_t)portable_ptpm_field_text(id, ADDRESS(octets), size, ADDRESS(text), room);
+}
+
+enum ptpm_parsed ptpm_field_parse(uint16_t id, const char *words, size_t size, uint8_t *octets, size_t room, size_t *count, size_t *member) {
+    fill();
+    u64 count_out = 0;
+    u64 member_out = 0;
+    enum ptpm_parsed answer = (enum ptpm_parsed)portable_ptpm_field_parse(id, ADDRESS(words), size, ADDRESS(octets), room, ADDRESS(&count_out), ADDRESS(&member_out));
+    *count = (size_t)load64(ADDRESS(&count_out));
+    *member = (size_t)load64(ADDRESS(&member_out));
+    return answer;
+}

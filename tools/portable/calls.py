@@ -1,0 +1,133 @@
+"""Calls as C: of the module's own functions, of the heap, and of what LLVM has by itself (`llvm.umin.i32`)."""
+import re
+
+from .instructions import calculation, cut, signed
+from .llvm import NAME, bracketed, box, members_of, not_known, parts_of, take_type, width, without_attributes
+
+NOTHING = ('assume', 'lifetime', 'experimental', 'donothing')
+SIDES = {'umin': '<', 'umax': '>', 'smin': '<', 'smax': '>'}
+OVERFLOWS = {'uadd': '+', 'usub': '-', 'umul': '*'}
+
+
+class Call:
+    """A call: the function that has it, its result and what it is given, as types and as C."""
+
+    def __init__(self, function, name, kind, taken):
+        self.function, self.name, self.kind, self.taken = function, name, kind, taken
+        self.kinds = [kind for kind, _ in taken]
+        self.values = [function.value(kind, text) for kind, text in taken]
+
+    def result(self, expression):
+        return [f'{self.function.variable(self.name, self.kind)} = {expression};']
+
+
+def call(function, name, words):
+    words = re.sub(r'^(?:fastcc )', '', words)
+    kind, rest = take_type(without_attributes(words))
+    found = re.match(rf'@({NAME})(?=\()', rest)
+    if not found:
+        not_known('a call', words)
+    inner, _ = bracketed(rest[found.end():])
+    called = found[1]
+    if called.startswith('llvm.') and called.split('.')[1] in NOTHING:
+        return []
+    taken = []
+    for part in parts_of(inner):
+        part_kind, text = take_type(part)
+        taken.append((part_kind, without_attributes(text)))
+    here = Call(function, name, kind, taken)
+    if called.startswith('llvm.'):
+        _, operation, *more = called.split('.')
+        if operation not in INTRINSICS:
+            not_known('a call', words)
+        return INTRINSICS[operation](here, operation, more)
+    expression = f'{function.functions.of(called, kind, here.kinds)}({", ".join(here.values)})'
+    return [f'{expression};'] if kind == 'void' or name is None else here.result(expression)
+
+
+def trap(it, operation, more):
+    return ['TRAP;']
+
+
+def memory(it, operation, more):
+    """memcpy, memmove and memset."""
+    if it.taken[3][1] != 'false':
+        not_known('a volatile', operation)
+    return [f'{operation.replace("mem", "memory_")}({", ".join(it.values[:3])});']
+
+
+def least_or_most(it, operation, more):
+    x, y = it.values
+    left, right = (signed(it.kind, x), signed(it.kind, y)) if operation[0] == 's' else (x, y)
+    return it.result(f'{left} {SIDES[operation]} {right} ? {x} : {y}')
+
+
+def saturating(it, operation):
+    x, y = it.values
+    wide = calculation(it.kind)
+    most = it.function.value(it.kind, '-1')
+    difference, total = f'({wide}){x} - ({wide}){y}', f'({wide}){x} + ({wide}){y}'
+    if operation == 'usub':
+        return it.result(f'{x} > {y} ? {cut(it.kind, difference)} : 0u')
+    return it.result(f'{cut(it.kind, total)} < {x} ? {most} : {cut(it.kind, total)}')
+
+
+def overflowing(it, operation, more):
+    """A result, and whether it is another one than that of numbers without bounds."""
+    if more[0] == 'sat' and operation != 'umul':
+        return saturating(it, operation)
+    if more[0] != 'with':
+        not_known('a call', operation)
+    kind, (x, y) = members_of(it.kind)[0], it.values
+    wide = calculation(kind)
+    most = it.function.value(kind, '-1')
+    pair = it.function.variable(it.name, it.kind)
+    exceeds = {'uadd': f'{pair}.m0 < {x}', 'usub': f'{x} < {y}', 'umul': f'{y} != 0u && {x} > {most} / {y}'}[operation]
+    result = cut(kind, f'({wide}){x} {OVERFLOWS[operation]} ({wide}){y}')
+    return [f'{pair}.m0 = {result};', f'{pair}.m1 = {exceeds};']
+
+
+def swap_octets(it, operation, more):
+    if width(it.kind) not in (16, 32, 64):
+        not_known('a swap of octets', it.kind)
+    return it.result(f'swap{width(it.kind)}({it.values[0]})')
+
+
+def funnel_shift(it, operation, more):
+    """Two integers side by side, shifted: a rotation if they are the same."""
+    high, low, count = it.values
+    bits, wide = width(it.kind), calculation(it.kind)
+    if bits != box(it.kind):
+        not_known('a shift of two', it.kind)
+    count = f'({count} & {bits - 1}u)'
+    left, right = (count, f'({bits}u - {count})') if operation == 'fshl' else (f'({bits}u - {count})', count)
+    both = cut(it.kind, f'(({wide}){high} << {left}) | (({wide}){low} >> {right})')
+    return it.result(f'{count} ? {both} : {high if operation == "fshl" else low}')
+
+
+def count_bits(it, operation, more):
+    """ctpop, ctlz and cttz: of zero as many as it has, whether that is asked or not."""
+    bits = '' if operation == 'ctpop' else f', {width(it.kind)}u'
+    return it.result(f'(u{box(it.kind)}){operation}({it.values[0]}{bits})')
+
+
+def without_sign(it, operation, more):
+    x = it.values[0]
+    return it.result(f'{signed(it.kind, x)} < 0 ? {cut(it.kind, f"0u - ({calculation(it.kind)}){x}")} : {x}')
+
+
+def three_way(it, operation, more):
+    x, y = (signed(it.kinds[0], value) if operation == 'scmp' else value for value in it.values)
+    return it.result(cut(it.kind, f'(u32)({x} > {y}) - (u32)({x} < {y})'))
+
+
+def expected(it, operation, more):
+    return it.result(it.values[0])
+
+
+INTRINSICS = {
+    'trap': trap, **dict.fromkeys(['memcpy', 'memmove', 'memset'], memory), **dict.fromkeys(SIDES, least_or_most),
+    **dict.fromkeys(OVERFLOWS, overflowing), 'bswap': swap_octets, **dict.fromkeys(['fshl', 'fshr'], funnel_shift),
+    **dict.fromkeys(['ctpop', 'ctlz', 'cttz'], count_bits), 'abs': without_sign, **dict.fromkeys(['ucmp', 'scmp'], three_way),
+    'expect': expected,
+}

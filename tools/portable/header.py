@@ -1,0 +1,126 @@
+"""The calls of ptpm.h over those of libptpm.c, as C. An address, and each size, has 64 bits there. Octets of numbers in structs are
+in the order of a little-endian machine, so another one swaps them before a call, after it, or both."""
+import re
+
+WIDTHS = {'uint16_t': 16, 'int16_t': 16, 'uint32_t': 32, 'int32_t': 32, 'uint64_t': 64, 'int64_t': 64}
+# Only the library reads and writes these inside. The seed of a table is drawn: in whatever order its octets are, it is one.
+CLOSED = ('ptpm_clock', 'ptpm_session', 'ptpm_survey', 'ptpm_passed_on')
+# The most structs of an array that a call judges, and one more. With as many any further ones change no answer.
+MOST = {'ptpm_port_settings': 9, 'ptpm_observed_port': 9, 'ptpm_manager_settings': 17}
+# The arrays, with the parameter that has their number. What a call writes is counted by another one than what it reads.
+COUNTS = {'ports': 'port_count', 'managers': 'manager_count', 'sent': 'count'}
+MOST_SIZES = 16
+
+
+class Header:
+    """The structs that have numbers of several octets, and the calls."""
+
+    def __init__(self, text):
+        text = re.sub(r'/\*.*?\*/', '', text, flags=re.S)
+        self.numbers = {}
+        for name, body in re.findall(r'^struct (ptpm_\w+) \{(.*?)\};', text, flags=re.M | re.S):
+            members = re.findall(r'(\w+) (\w+)(?:\[\w+\])*;', body)
+            wide = [(kind, member) for kind, member in members if kind in WIDTHS]
+            if wide and name not in CLOSED:
+                self.numbers[name] = wide
+        self.calls = []
+        found = re.findall(r'^(?!static)((?:enum )?\w+) (ptpm_\w+)\(([^;{]*)\);', text, flags=re.M)
+        for answer, name, taken in found:
+            words = re.sub(r'\s+', ' ', taken)
+            self.calls.append((answer, name, [] if words == 'void' else words.split(', ')))
+
+    def text(self, head, declarations):
+        """The file in C; the declarations are those of libptpm.c."""
+        lines = [head, '#include "portable.h"', '#include "ptpm.h"', '#include <stddef.h>', '', *declarations, '', *FILLING]
+        lines += ['#if IS_LITTLE_ENDIAN', *(f'#define swap_{name}(at) ((void)0)' for name in self.numbers), '#else']
+        for name, members in self.numbers.items():
+            lines.append(f'static void swap_{name}(struct {name} *at) {{')
+            for kind, member in members:
+                lines.append(f'    at->{member} = ({kind})swap{WIDTHS[kind]}((u{WIDTHS[kind]})at->{member});')
+            lines.append('}')
+        lines.append('#endif')
+        for call in self.calls:
+            lines += ['', *self._call(*call)]
+        return '\n'.join(lines).replace('#endif\n#if !IS_LITTLE_ENDIAN\n', '') + '\n'
+
+    def _call(self, answer, name, taken):
+        before, given, after = [], [], []
+        for parameter in taken:
+            for lines, more in zip((before, given, after), self._parameter(parameter)):
+                lines += more
+        # A size comes before what it counts.
+        after.sort(key=lambda line: line.startswith('for'))
+        call = f'portable_{name}({", ".join(given)})'
+        lines = [f'{answer} {name}({", ".join(taken) or "void"}) {{']
+        lines += ['    fill();', *(line if line[0] == '#' else f'    {line}' for line in before)]
+        if answer == 'void':
+            lines += [f'    {line}' for line in [f'{call};', *after]]
+        elif after:
+            lines += [f'    {line}' for line in [f'{answer} answer = ({answer}){call};', *after, 'return answer;']]
+        else:
+            lines.append(f'    return ({answer}){call};')
+        return lines + ['}']
+
+    def _parameter(self, text):
+        """What is done before a call for a parameter, what is handed on, and what is done after it."""
+        name = re.search(r'(\w+)(?:\[\w+\])?$', text)[1]
+        struct = re.match(r'(const )?struct (ptpm_\w+) \*', text)
+        if '*' not in text and '[' not in text:
+            return [], [name], []
+        if 'const size_t *' in text:
+            return sizes_in(name), [f'ADDRESS({name}_in)'], []
+        if 'size_t *' in text:
+            return [f'u64 {name}_out = 0;'], [f'ADDRESS(&{name}_out)'], [f'*{name} = (size_t)load64(ADDRESS(&{name}_out));']
+        if 'uint16_t *' in text:
+            return [f'u16 {name}_out = 0;'], [f'ADDRESS(&{name}_out)'], [f'*{name} = load16(ADDRESS(&{name}_out));']
+        if struct and struct[2] in self.numbers:
+            return (structs_in if struct[1] else structs_out)(name, struct[2])
+        return [], [f'ADDRESS({name})'], []
+
+
+def sizes_in(name):
+    """An array of sizes with its number, `count`."""
+    return [f'u64 {name}_in[{MOST_SIZES}];', f'if (count > {MOST_SIZES}) count = {MOST_SIZES};',
+            f'for (size_t i = 0; i < count; i++) store64(ADDRESS(&{name}_in[i]), {name}[i]);']
+
+
+def structs_in(name, struct):
+    """What a call reads: on a machine of another order a copy of it."""
+    lines = ['#if !IS_LITTLE_ENDIAN']
+    if name in COUNTS:
+        count = COUNTS[name]
+        lines += [f'struct {struct} {name}_in[{MOST[struct]}];', f'if ({count} > {MOST[struct]}) {count} = {MOST[struct]};',
+                  f'for (size_t i = 0; i < {count}; i++) {{', f'    {name}_in[i] = {name}[i];', f'    swap_{struct}(&{name}_in[i]);', '}',
+                  f'{name} = {name}_in;']
+    else:
+        lines += [f'struct {struct} {name}_in = *{name};', f'swap_{struct}(&{name}_in);', f'{name} = &{name}_in;']
+    return [*lines, '#endif'], [f'ADDRESS({name})'], []
+
+
+def structs_out(name, struct):
+    """What a call writes, all of it or nothing; of an array the first of them."""
+    if name in COUNTS:
+        return [], [f'ADDRESS({name})'], [f'for (size_t i = 0; i < *{COUNTS[name]}; i++) swap_{struct}(&{name}[i]);']
+    return [f'swap_{struct}({name});'], [f'ADDRESS({name})'], [f'swap_{struct}({name});']
+
+
+# On a big-endian machine the first call of each thread may write the addresses in constants, the same ones; then it says so.
+FILLING = '''#if IS_LITTLE_ENDIAN
+#define fill() ((void)0)
+#else
+void portable_fill(void);
+
+static void fill(void) {
+    static unsigned char is_filled;
+#ifdef __GNUC__
+    if (__atomic_load_n(&is_filled, __ATOMIC_ACQUIRE)) return;
+    portable_fill();
+    __atomic_store_n(&is_filled, 1, __ATOMIC_RELEASE);
+#else
+    if (is_filled) return;
+    portable_fill();
+    is_filled = 1;
+#endif
+}
+#endif
+'''.splitlines()
