@@ -5,6 +5,6 @@ use Rattle.ptpm_host.specs.Numbers.{parse_number}
 use Rattle.ptpm_host.specs.Parsing.{fault_place}
 
 -- the number of an answer, how many octets the dataField has, and the place of the member that is at fault; 0 without any
-abbrev pub IsTold : Result ℕ ParseRefusal → ℕ → ℕ → ℕ → Type 0
-IsTold (Ok size) number count member = (number ≡ 0) × (count ≡ size) × (member ≡ 0)
-IsTold (Err refusal) number count member = (number ≡ parse_number refusal) × (count ≡ 0) × (member ≡ fault_place refusal)
+abbrev pub IsReported : Result ℕ ParseRefusal → ℕ → ℕ → ℕ → Type 0
+IsReported (Ok size) number count member = (number ≡ 0) × (count ≡ size) × (member ≡ 0)
+IsReported (Err refusal) number count member = (number ≡ parse_number refusal) × (count ≡ 0) × (member ≡ fault_place refusal)

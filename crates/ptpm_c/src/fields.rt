@@ -2,7 +2,7 @@
 //! a handle or memory.
 
 ghost use Rattle.std.specs.Prelude.{◌≡◌, ◌≢◌, ◌<◌, ◌≤◌, ℕ, [], Err, IfSome, IfNone, List, Result, Some, length};
-ghost use Rattle.ptpm_c.specs.Fields.{IsTold};
+ghost use Rattle.ptpm_c.specs.Fields.{IsReported};
 ghost use Rattle.ptpm_host.specs.Names.{id_at, no_id};
 ghost use Rattle.ptpm_host.specs.declared.refusal.ParseRefusal.{ParseRefusal};
 ghost use Rattle.ptpm_host.specs.declared.refusal.ParseRefusal.TheVariants.{NotWords};
@@ -60,9 +60,9 @@ pub extern "C" fn ptpm_field_parse(
         → length ws ≤ most_words
         → (answer : Result ℕ ParseRefusal)
         × IsParsed id ws octets.old octets.new answer
-        × IsTold answer result count.new member.new }
+        × IsReported answer result count.new member.new }
     ensures no_words { ((ws : List (List ℕ)) → AreWords ws words.now → most_words < length ws)
-        → IsTold (Err NotWords) result count.new member.new }
+        → IsReported (Err NotWords) result count.new member.new }
     ensures untouched { result ≢ 0 → octets.new ≡ octets.old }
 {
     match parse_field(id, words, octets) {

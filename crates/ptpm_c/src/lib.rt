@@ -14,7 +14,7 @@ ghost use Rattle.ptpm_host.specs.Clock.{IsFreshClock, start_by, start_refusal};
 ghost use Rattle.ptpm_host.specs.Numbers.{no_clock, no_memory, observe_number, read_number, start_number, verdict_number};
 ghost use Rattle.ptpm_agent.specs.declared.verdict.Verdict.{Verdict};
 ghost use Rattle.ptpm_host.specs.Observing.{IsObserved, left_number, observe_refusal, ports_left};
-ghost use Rattle.ptpm_host.specs.Reading.{read_refusal};
+ghost use Rattle.ptpm_host.specs.DataSetReading.{read_refusal};
 ghost use Rattle.ptpm_host.specs.Settings.{clock_start, default_identity, port_start};
 ghost use Rattle.ptpm_c.specs.declared.kept.Hosted.TheVariants.{Nothing};
 ghost use Rattle.ptpm_c.specs.Held.{clock_held, held};

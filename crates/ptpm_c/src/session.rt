@@ -13,10 +13,10 @@ ghost use Rattle.ptpm_host.specs.declared.refusal.ReportRefusal.{ReportRefusal};
 ghost use Rattle.ptpm_host.specs.declared.refusal.SendRefusal.{SendRefusal};
 ghost use Rattle.ptpm_host.specs.declared.refusal.SessionRefusal.{SessionRefusal};
 ghost use Rattle.ptpm_host.specs.declared.session.HostedSession.{HostedSession};
-ghost use Rattle.ptpm_host.specs.Numbers.{begin_number, give_up_number, heard_number, no_memory, no_session, report_number, resume_number, send_number, session_number, told_number};
+ghost use Rattle.ptpm_host.specs.Numbers.{begin_number, give_up_number, heard_number, no_memory, no_session, report_number, resume_number, send_number, session_number, outcome_number};
 ghost use Rattle.ptpm_host.specs.Session.{HasBegun, IsAt, ask_of, hand_refusal, heard_of, report_refusal};
 ghost use Rattle.ptpm_host.specs.SessionSettings.{session_refusal, session_start};
-ghost use Rattle.ptpm_host.specs.Told.{told_error, told_octets, told_of};
+ghost use Rattle.ptpm_host.specs.ReportedOutcome.{reported_error, outcome_octets, reported_of};
 ghost use Rattle.ptpm_c.specs.declared.kept.Hosted.TheVariants.{Nothing};
 ghost use Rattle.ptpm_c.specs.Held.{FindsNoSession, held, session_held};
 ghost use Rattle.ptpm_c.specs.Numbered.{IsNumberedBy};
@@ -26,7 +26,7 @@ use crate::handle::Handle;
 use crate::kept::{Hosted, Kept};
 use ptpm_host::{
     HostedSession, NO_MEMORY, NO_SESSION, SessionSettings, begin_number, give_up_number,
-    heard_number, report_number, resume_number, send_number, session_number, told_number,
+    heard_number, outcome_number, report_number, resume_number, send_number, session_number,
 };
 use std::alloc::Global;
 
@@ -308,17 +308,17 @@ pub extern "C" fn ptpm_session_report(
     error: &mut u16,
 ) -> u32
     ensures kept { held handle.new.keeping ≡ held handle.old.keeping }
-    ensures told { (s : HostedSession) (r : Report)
+    ensures outcome { (s : HostedSession) (r : Report)
         → session_held handle.old.keeping ≡ Some s
         → s.report ≡ Some r
         → report_refusal (length octets.old) s.report ≡ None
-        → (result ≡ told_number (told_of r.outcome))
-        × (take size.new octets.new ≡ told_octets r.outcome) }
+        → (result ≡ outcome_number (reported_of r.outcome))
+        × (take size.new octets.new ≡ outcome_octets r.outcome) }
     ensures error { (s : HostedSession) (r : Report)
         → session_held handle.old.keeping ≡ Some s
         → s.report ≡ Some r
         → report_refusal (length octets.old) s.report ≡ None
-        → error.new ≡ told_error (told_of r.outcome) }
+        → error.new ≡ reported_error (reported_of r.outcome) }
     ensures within { size.new ≤ length octets.new }
     ensures behind { drop size.new octets.new ≡ drop size.new octets.old }
     ensures refused { (s : HostedSession) (e : ReportRefusal)
@@ -337,10 +337,10 @@ pub extern "C" fn ptpm_session_report(
         return NO_SESSION;
     };
     match session.report(octets) {
-        Ok(told) => {
-            *size = told.size();
-            *error = told.error();
-            told_number(told)
+        Ok(outcome) => {
+            *size = outcome.size();
+            *error = outcome.error();
+            outcome_number(outcome)
         }
         Err(refusal) => report_number(refusal),
     }

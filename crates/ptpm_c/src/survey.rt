@@ -9,11 +9,11 @@ ghost use Rattle.ptpm_host.specs.declared.refusal.ReportRefusal.{ReportRefusal};
 ghost use Rattle.ptpm_host.specs.declared.refusal.SendRefusal.{SendRefusal};
 ghost use Rattle.ptpm_host.specs.declared.refusal.SessionRefusal.{SessionRefusal};
 ghost use Rattle.ptpm_host.specs.declared.survey.HostedSurvey.{HostedSurvey};
-ghost use Rattle.ptpm_host.specs.Numbers.{no_memory, no_survey, report_number, send_number, session_number, surveyed_number, told_number};
+ghost use Rattle.ptpm_host.specs.Numbers.{no_memory, no_survey, report_number, send_number, session_number, surveyed_number, outcome_number};
 ghost use Rattle.ptpm_host.specs.Session.{message_refusal};
 ghost use Rattle.ptpm_host.specs.Survey.{answer_refusal, source_of};
 ghost use Rattle.ptpm_host.specs.SurveySettings.{enquiry_at, enquiry_of, survey_refusal, survey_refusal_at};
-ghost use Rattle.ptpm_host.specs.Told.{told_error, told_octets, told_of};
+ghost use Rattle.ptpm_host.specs.ReportedOutcome.{reported_error, outcome_octets, reported_of};
 ghost use Rattle.ptpm_c.specs.declared.kept.Hosted.TheVariants.{Nothing};
 ghost use Rattle.ptpm_c.specs.Held.{held, survey_held};
 ghost use Rattle.ptpm_c.specs.Survey.{HasSurveyed, IsAt};
@@ -21,8 +21,8 @@ ghost use Rattle.ptpm_c.specs.Survey.{HasSurveyed, IsAt};
 use crate::handle::Handle;
 use crate::kept::{Hosted, Kept};
 use ptpm_host::{
-    HostedSurvey, NO_MEMORY, NO_SURVEY, Source, SurveySettings, report_number, send_number,
-    session_number, surveyed_number, told_number,
+    HostedSurvey, NO_MEMORY, NO_SURVEY, Source, SurveySettings, outcome_number, report_number,
+    send_number, session_number, surveyed_number,
 };
 use std::alloc::Global;
 
@@ -198,16 +198,16 @@ pub extern "C" fn ptpm_survey_answer(
     error: &mut u16,
 ) -> u32
     ensures kept { held handle.new.keeping ≡ held handle.old.keeping }
-    ensures told { (s : HostedSurvey) (a : Answer)
+    ensures outcome { (s : HostedSurvey) (a : Answer)
         → survey_held handle.old.keeping ≡ Some s
         → slice_get s.survey.answers place ≡ Some a
         → answer_refusal (length octets.old) (slice_get s.survey.answers place) ≡ None
-        → (result ≡ told_number (told_of a.1)) × (take size.new octets.new ≡ told_octets a.1) }
+        → (result ≡ outcome_number (reported_of a.1)) × (take size.new octets.new ≡ outcome_octets a.1) }
     ensures who { (s : HostedSurvey) (a : Answer)
         → survey_held handle.old.keeping ≡ Some s
         → slice_get s.survey.answers place ≡ Some a
         → answer_refusal (length octets.old) (slice_get s.survey.answers place) ≡ None
-        → (source.new ≡ source_of a.0) × (error.new ≡ told_error (told_of a.1)) }
+        → (source.new ≡ source_of a.0) × (error.new ≡ reported_error (reported_of a.1)) }
     ensures within { size.new ≤ length octets.new }
     ensures behind { drop size.new octets.new ≡ drop size.new octets.old }
     ensures refused { (s : HostedSurvey) (e : ReportRefusal)
@@ -230,9 +230,9 @@ pub extern "C" fn ptpm_survey_answer(
     match survey.answer(place, octets) {
         Ok(answer) => {
             *source = answer.source;
-            *size = answer.told.size();
-            *error = answer.told.error();
-            told_number(answer.told)
+            *size = answer.outcome.size();
+            *error = answer.outcome.error();
+            outcome_number(answer.outcome)
         }
         Err(refusal) => report_number(refusal),
     }

@@ -7,7 +7,7 @@ ghost use Rattle.ptpm_commands.specs.Ids.{id_line, letter, row_line, scope_text,
 
 use crate::faults::Fault;
 use bitflags::Flags;
-use ptpm_data::{Actions, MANAGEMENT_IDS, Row, Scope, row};
+use ptpm_data::{Actions, MANAGEMENT_IDS, ManagementIdRow, Scope, row};
 use ptpm_script::Hexadecimal;
 use std::io;
 use std::io::Write;
@@ -36,7 +36,7 @@ fn write_id<O: Write>(id: u16, out: &mut O) -> io::Result<()>
 /// The id, its name, and whether it is of the clock or of each port. Then G, S and C for the GET, SET and COMMAND that
 /// are permitted.
 #[tactic(auto, unfolding(crate::specs::Ids::row_line))]
-fn write_row<O: Write>(row: &Row, out: &mut O) -> io::Result<()>
+fn write_row<O: Write>(row: &ManagementIdRow, out: &mut O) -> io::Result<()>
     ensures { OnOk result (Appends (O.contents out.old) (O.contents out.new)
         (row_line (row_value row.now))) }
 {

@@ -4,7 +4,7 @@ use Rattle.std.specs.Option.{option_map}
 use Rattle.ptpm_codec.specs.declared.error.ErrorId.{ErrorId}
 use Rattle.ptpm_codec.specs.declared.error.ErrorId.TheVariants.{NoSuchId, NotSupported}
 use Rattle.ptpm_codec.specs.Message.{reply_action}
-use Rattle.ptpm_data.specs.declared.management_id.Row.{Row}
+use Rattle.ptpm_data.specs.declared.management_id.ManagementIdRow.{ManagementIdRow}
 use Rattle.ptpm_data.specs.declared.management_id.Scope.TheVariants as scopes
 use Rattle.ptpm_data.specs.declared.rights.Rights.{Rights}
 use Rattle.ptpm_data.specs.ManagementId.{RowValue, row_value, row_of}
@@ -17,11 +17,11 @@ use Rattle.ptpm_data.specs.Rights.{no_rights}
 use Rattle.ptpm_data.specs.DataField.{data_field_of, field_of_row}
 use Rattle.ptpm_data.specs.Replies.{answer, named_ports, outcome, reply_of, reply_to, is_get, read_reply_to}
 
-pub no_entry : {r : Option Row} {e : Option RowValue} → option_map row_value r ≡ e → r ≡ None → e ≡ None
+pub no_entry : {r : Option ManagementIdRow} {e : Option RowValue} → option_map row_value r ≡ e → r ≡ None → e ≡ None
 no_entry {r = None} is gone = sym is
 no_entry {r = Some row} is gone = cc
 
-pub entry_is : {r : Option Row} {e : Option RowValue} {row : Row}
+pub entry_is : {r : Option ManagementIdRow} {e : Option RowValue} {row : ManagementIdRow}
     → option_map row_value r ≡ e
     → r ≡ Some row
     → e ≡ Some (row_value row)

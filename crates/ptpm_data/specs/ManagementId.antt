@@ -8,7 +8,7 @@ use Rattle.ptpm_data.specs.declared.management_id.Scope.{Scope}
 use Rattle.ptpm_data.specs.declared.management_id.Scope.TheVariants.{Clock, Port}
 use Rattle.ptpm_data.specs.declared.management_id.Layout.{Layout}
 use Rattle.ptpm_data.specs.declared.management_id.Layout.TheVariants.{NullPtpManagement, UserDescription, DefaultDataSet, CurrentDataSet, ParentDataSet, TimePropertiesDataSet, PortDataSet, Priority1, Priority2, Domain, SlaveOnly, Setting, VersionNumber, EnablePort, DisablePort, ClockAccuracy, UtcProperties}
-use Rattle.ptpm_data.specs.declared.management_id.Row.{Row}
+use Rattle.ptpm_data.specs.declared.management_id.ManagementIdRow.{ManagementIdRow}
 use Rattle.ptpm_data.specs.declared.port_setting.PortSetting.TheVariants.{LogAnnounceInterval, AnnounceReceiptTimeout, LogSyncInterval, DelayMechanism, LogMinPdelayReqInterval}
 use Rattle.ptpm_data.specs.PortSetting as settings
 use Rattle.ptpm_data.specs.SetForm.{SetField, NoSet, Empty, TextUpTo, AnyOctet, either◌to◌or◌, NotBothLeaps}
@@ -115,7 +115,7 @@ if_named name None = None
 if_named name (Some e) = if bytes_eq e.name name then Some e else None
 
 -- a row of the program, as a value
-abbrev pub row_value : Row → RowValue
+abbrev pub row_value : ManagementIdRow → RowValue
 row_value r = record { id = r.id; name = r.name.now; scope = r.scope; actions = r.actions.0; layout = r.layout }
 
 abbrev pub is_port_scope : Scope → Bool

@@ -7,7 +7,7 @@ ghost use Rattle.ptpm_data.specs.PrecedenceChange.{is_precedence_in_range};
 ghost use Rattle.ptpm_data.specs.Ranges.{is_description};
 
 use crate::data_sets::{DataSets, PortDataSet, TimePropertiesDataSet};
-use crate::management_id::{Layout, Row};
+use crate::management_id::{Layout, ManagementIdRow};
 use crate::port_change::PortChange;
 use crate::precedence_change::PrecedenceChange;
 use crate::refusals::refusal;
@@ -25,7 +25,7 @@ impl DataSets {
     /// it is refused.
     pub(crate) fn carry_out(
         &mut self,
-        row: &Row,
+        row: &ManagementIdRow,
         request: &Request<'_>,
         rights: Rights,
     ) -> Option<ErrorId>

@@ -12,18 +12,17 @@ mod deciding;
 mod description;
 mod image;
 mod image_laws;
+mod image_places;
 mod laws;
 mod management_id;
 mod members;
 mod observation;
-mod places;
 mod port_change;
 mod port_setting;
 mod port_settings;
 mod port_state;
 mod precedence_change;
 mod ranges;
-mod reading;
 mod refusals;
 mod replies;
 mod reply;
@@ -32,6 +31,7 @@ mod restoring;
 mod rights;
 mod set_field;
 mod start;
+mod unnumbered;
 
 pub use actions::Actions;
 pub use answers::Answers;
@@ -46,7 +46,7 @@ pub use laws::{
     change_law, data_sets_law, grandmaster_law, id_table_law, member_map_law, observation_back_law,
     observation_law, plain_map_law, read_reply_law, reply_law, set_law, sized_observation_law,
 };
-pub use management_id::{Layout, MANAGEMENT_IDS, Row, Scope, by_id as row, by_name};
+pub use management_id::{Layout, MANAGEMENT_IDS, ManagementIdRow, Scope, by_id as row, by_name};
 pub use members::Member;
 pub use observation::{
     AnnouncedGrandmaster, ClockObservation, ObservationError, ObservedGrandmaster, PortObservation,

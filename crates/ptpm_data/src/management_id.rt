@@ -67,7 +67,7 @@ pub(crate) fn set_of(layout: Layout) -> SetForm
 
 /// A management id of this profile.
 #[derive(Clone, Copy, Debug)]
-pub struct Row {
+pub struct ManagementIdRow {
     /// managementId.
     pub id: u16,
     /// The standard's name, for example `PRIORITY1`.
@@ -94,10 +94,10 @@ pub static MANAGEMENT_IDS: [u16; 21] = [
 ];
 
 /// A row of an id of the clock.
-fn clock(id: u16, name: &'static str, actions: Actions, layout: Layout) -> Option<Row>
+fn clock(id: u16, name: &'static str, actions: Actions, layout: Layout) -> Option<ManagementIdRow>
     ensures { option_map row_value result ≡ Some (row_with id name.now Clock actions.0 layout) }
 {
-    Some(Row {
+    Some(ManagementIdRow {
         id,
         name,
         scope: Scope::Clock,
@@ -107,10 +107,10 @@ fn clock(id: u16, name: &'static str, actions: Actions, layout: Layout) -> Optio
 }
 
 /// A row of an id of each port.
-fn port(id: u16, name: &'static str, actions: Actions, layout: Layout) -> Option<Row>
+fn port(id: u16, name: &'static str, actions: Actions, layout: Layout) -> Option<ManagementIdRow>
     ensures { option_map row_value result ≡ Some (row_with id name.now Port actions.0 layout) }
 {
-    Some(Row {
+    Some(ManagementIdRow {
         id,
         name,
         scope: Scope::Port,
@@ -121,7 +121,7 @@ fn port(id: u16, name: &'static str, actions: Actions, layout: Layout) -> Option
 
 /// The row of a port's setting.
 #[inline(always)]
-fn setting(setting: PortSetting) -> Option<Row>
+fn setting(setting: PortSetting) -> Option<ManagementIdRow>
     ensures { option_map row_value result ≡ Some (row_at (Setting setting)) }
 {
     let known = setting.row();
@@ -131,7 +131,7 @@ fn setting(setting: PortSetting) -> Option<Row>
 /// What the table says of an id; `None` if it is not in the table.
 #[tactic(auto, unfolding(crate::specs::ManagementId::row_of))]
 #[inline(always)]
-pub fn by_id(id: u16) -> Option<Row>
+pub fn by_id(id: u16) -> Option<ManagementIdRow>
     ensures { option_map row_value result ≡ row_of id }
 {
     use Layout::*;
@@ -162,7 +162,7 @@ pub fn by_id(id: u16) -> Option<Row>
 }
 
 /// The row of an id, if it has that name.
-fn row_if_named(id: u16, name: &str) -> Option<Row>
+fn row_if_named(id: u16, name: &str) -> Option<ManagementIdRow>
     ensures { option_map row_value result ≡ if_named name.now (row_of id) }
 {
     match by_id(id) {
@@ -172,7 +172,7 @@ fn row_if_named(id: u16, name: &str) -> Option<Row>
 }
 
 /// What the table says of the id of a name, such as `PRIORITY1`; `None` if no id has that name.
-pub fn by_name(name: &str) -> Option<Row>
+pub fn by_name(name: &str) -> Option<ManagementIdRow>
     ensures { option_map row_value result ≡ row_named name.now }
 {
     for id in &MANAGEMENT_IDS {

@@ -6,7 +6,7 @@ ghost use Rattle.ptpm_data.specs.Refusals.{row_refusal, is_length, is_set_length
 ghost use Rattle.ptpm_data.specs.SetForm.{set_field};
 
 use crate::actions::Actions;
-use crate::management_id::{Layout, Row, Scope, set_of};
+use crate::management_id::{Layout, ManagementIdRow, Scope, set_of};
 use crate::ranges::SetForm;
 use crate::request::Request;
 use crate::rights::Rights;
@@ -18,7 +18,11 @@ use ptpm_codec::{Action, ErrorId, is_ptp_text, text_of_ptp_text};
 /// action, the manager's right, the dataField's length, its value.
 #[tactic(auto, unfolding(crate::specs::Refusals::row_refusal))]
 #[inline(always)]
-pub(crate) fn refusal(row: &Row, request: &Request<'_>, rights: Rights) -> Option<ErrorId>
+pub(crate) fn refusal(
+    row: &ManagementIdRow,
+    request: &Request<'_>,
+    rights: Rights,
+) -> Option<ErrorId>
     ensures { result ≡ row_refusal (row_value row.now) request.now rights }
 {
     let action = request.action;

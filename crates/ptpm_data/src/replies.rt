@@ -3,7 +3,7 @@
 use crate::answers::Answers;
 use crate::data_field::put_port_data_set;
 use crate::data_sets::DataSets;
-use crate::management_id::{Layout, Row, Scope};
+use crate::management_id::{Layout, ManagementIdRow, Scope};
 use crate::reply::{PortValue, Value};
 use crate::request::Request;
 use ptpm_codec::{Action, ErrorId, PortIdentity};
@@ -21,7 +21,7 @@ impl DataSets {
     #[inline(always)]
     pub(crate) fn put_reply<A: Answers>(
         &self,
-        row: &Row,
+        row: &ManagementIdRow,
         request: &Request<'_>,
         refusal: Option<ErrorId>,
         answers: &mut A,
@@ -41,7 +41,7 @@ impl DataSets {
     #[inline(never)]
     fn put_answers<A: Answers>(
         &self,
-        row: &Row,
+        row: &ManagementIdRow,
         request: &Request<'_>,
         refusal: Option<ErrorId>,
         answers: &mut A,

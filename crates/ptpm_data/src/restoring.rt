@@ -13,8 +13,8 @@ use crate::data_sets::{
 };
 use crate::image::{CLOCK_OCTETS, PORT_OCTETS};
 use crate::image_laws::fits_law;
+use crate::image_places::{flag_at, i8_at, i16_at, i32_at, i64_at, precedence_at};
 use crate::laws::data_sets_law;
-use crate::places::{flag_at, i8_at, i16_at, i32_at, i64_at, precedence_at};
 use crate::start::{ClockStart, PortStart};
 use arrayvec::ArrayVec;
 use ptpm_codec::{clock_identity_at, port_identity_at, put, u16_at};

@@ -9,10 +9,10 @@ use crate::data_sets::{
     TimePropertiesDataSet,
 };
 use crate::description::Description;
+use crate::image_places::i8_at;
 use crate::management_id::{Layout, set_of};
 use crate::members::Member;
 use crate::observation::grandmaster_differs;
-use crate::places::i8_at;
 use crate::port_setting::PortSetting;
 use crate::port_settings::PortSettings;
 use crate::port_state::PortState;

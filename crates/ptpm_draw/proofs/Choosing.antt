@@ -6,7 +6,7 @@ use Rattle.ptpm_draw.specs.Chosen.{chosen_of, is_chosen}
 use Rattle.ptpm_draw.specs.Parts.{AddsParts, ArePartsOf, ShowsLines, opening}
 use Rattle.ptpm_draw.specs.Picture.{Drawn, drawn, picture_of}
 use Rattle.ptpm_draw.specs.declared.chosen.Chosen.{Chosen}
-use Rattle.ptpm_draw.specs.declared.picture.Row.{Row}
+use Rattle.ptpm_draw.specs.declared.picture.EventRow.{EventRow}
 use Rattle.ptpm_world.specs.declared.whole_script.EventLine.{EventLine}
 
 -- ---- numbers of lines
@@ -25,26 +25,26 @@ numbers-chosen f test (x ∷ xs) = kept-first f (test (f x)) x _ _ (numbers-chos
 
 -- each event's row has its line's number
 drawn-numbers : (N : Network) (names : Names) (r : RunningNetwork) (lines : List EventLine)
-    → map (λ (row : Row). row.line) (drawn N names r lines).rows ≡ map (λ (line : EventLine). line.number) lines
+    → map (λ (row : EventRow). row.line) (drawn N names r lines).rows ≡ map (λ (line : EventLine). line.number) lines
 drawn-numbers N names r [] = refl
 drawn-numbers N names r (line ∷ lines) =
     ap (λ ns. line.number ∷ ns) (drawn-numbers N names (after N r (placed names line.event)) lines)
 
 pub picture-numbers : (n : NetworkValue) (lines : List EventLine) (d : Drawn)
     → d ≡ picture_of n lines
-    → map (λ (row : Row). row.line) d.rows ≡ map (λ (line : EventLine). line.number) lines
+    → map (λ (row : EventRow). row.line) d.rows ≡ map (λ (line : EventLine). line.number) lines
 picture-numbers n lines d is =
-    ap (λ (x : Drawn). map (λ (row : Row). row.line) x.rows) is ∙ drawn-numbers (described n) (names_of n) (started n) lines
+    ap (λ (x : Drawn). map (λ (row : EventRow). row.line) x.rows) is ∙ drawn-numbers (described n) (names_of n) (started n) lines
 
 -- what is left of both has the same numbers
 pub numbers-left : (chosen : Chosen) (all : Drawn) (left : Drawn) (lines kept : List EventLine)
-    → map (λ (row : Row). row.line) all.rows ≡ map (λ (line : EventLine). line.number) lines
+    → map (λ (row : EventRow). row.line) all.rows ≡ map (λ (line : EventLine). line.number) lines
     → left ≡ chosen_of chosen all
     → kept ≡ filter (λ (line : EventLine). is_chosen chosen line.number) lines
-    → map (λ (row : Row). row.line) left.rows ≡ map (λ (line : EventLine). line.number) kept
+    → map (λ (row : EventRow). row.line) left.rows ≡ map (λ (line : EventLine). line.number) kept
 numbers-left chosen all left lines kept same rows is =
-    ap (λ (d : Drawn). map (λ (row : Row). row.line) d.rows) rows
-    ∙ numbers-chosen (λ (row : Row). row.line) (is_chosen chosen) all.rows
+    ap (λ (d : Drawn). map (λ (row : EventRow). row.line) d.rows) rows
+    ∙ numbers-chosen (λ (row : EventRow). row.line) (is_chosen chosen) all.rows
     ∙ ap (filter (is_chosen chosen)) same
     ∙ sym (numbers-chosen (λ (line : EventLine). line.number) (is_chosen chosen) lines)
     ∙ sym (ap (map (λ (line : EventLine). line.number)) is)
@@ -64,17 +64,17 @@ pub parts-none : (a : Option (List ℕ)) → AddsParts [] a a
 parts-none a = ([], (refl, Appends-nil a))
 
 -- that of the row at a place comes after those of the rows before it
-pub parts-row : (rows : List Row) (place : ℕ) (row : Row) (a b c : Option (List ℕ)) (text : List ℕ)
+pub parts-row : (rows : List EventRow) (place : ℕ) (row : EventRow) (a b c : Option (List ℕ)) (text : List ℕ)
     → place < length rows
     → row ≡ get_or rows place row
-    → AddsParts (map (λ (row : Row). row.line) (take place rows)) a b
+    → AddsParts (map (λ (row : EventRow). row.line) (take place rows)) a b
     → Appends b c (opening row.line ++ text)
-    → AddsParts (map (λ (row : Row). row.line) (take (place + 1) rows)) a c
+    → AddsParts (map (λ (row : EventRow). row.line) (take (place + 1) rows)) a c
 parts-row rows place row a b c text below is (before, (parts, written)) more =
     subst (λ ns. AddsParts ns a c)
-    (sym (ap (map (λ (r : Row). r.line)) (take_more rows place row below ∙ ap (λ r. take place rows ++ r ∷ []) (sym is))
-    ∙ map-append (λ (r : Row). r.line) (take place rows) (row ∷ [])))
-    (before ++ (opening row.line ++ text), (parts-more (map (λ (r : Row). r.line) (take place rows)) row.line before text parts, Appends-trans a b c before (opening row.line ++ text) written more))
+    (sym (ap (map (λ (r : EventRow). r.line)) (take_more rows place row below ∙ ap (λ r. take place rows ++ r ∷ []) (sym is))
+    ∙ map-append (λ (r : EventRow). r.line) (take place rows) (row ∷ [])))
+    (before ++ (opening row.line ++ text), (parts-more (map (λ (r : EventRow). r.line) (take place rows)) row.line before text parts, Appends-trans a b c before (opening row.line ++ text) written more))
 
 -- what comes before them and after them
 pub shown-all : (lines : List ℕ) (a b c d : Option (List ℕ)) (head : List ℕ)

@@ -4,7 +4,7 @@ use Rattle.std.proofs.lemmas.Bool.{or_right}
 use Rattle.std.specs.Prelude.{replicate}
 use Rattle.std.proofs.lemmas.List.Folds.{list_any-append}
 use Rattle.ptpm_draw.specs.Picture.{is_arrow_of, is_delivered, marked, marked_by}
-use Rattle.ptpm_draw.specs.declared.picture.Row.{Row}
+use Rattle.ptpm_draw.specs.declared.picture.EventRow.{EventRow}
 use Rattle.ptpm_draw.specs.declared.picture.Way.{Way}
 use Rattle.ptpm_draw.specs.declared.picture.Way.TheVariants as ways
 
@@ -64,12 +64,12 @@ way-marks g ways.Mark n = λ i. map (λ k. or-false (g k) i) (range_with_len 1 n
 way-marks g ways.FromEdge n = λ i. map (λ k. or-false (g k) i) (range_with_len 1 n)
 
 -- a row more
-one-more : (rows : List Row) (row : Row) (k : ℕ)
+one-more : (rows : List EventRow) (row : EventRow) (k : ℕ)
     → is_delivered (rows ++ row ∷ []) k ≡ (is_delivered rows k || is_arrow_of k row.way)
 one-more rows row k =
     list_any-append (λ r. is_arrow_of k r.way) rows (row ∷ []) ∙ ap (λ b. is_delivered rows k || b) (or-false (is_arrow_of k row.way))
 
-delivered-more : (rows : List Row) (row : Row) (n : ℕ) (flags new : List Bool)
+delivered-more : (rows : List EventRow) (row : EventRow) (n : ℕ) (flags new : List Bool)
     → flags ≡ map (is_delivered rows) (range_with_len 1 n)
     → new ≡ marked_by row.way flags
     → new ≡ map (is_delivered (rows ++ row ∷ [])) (range_with_len 1 n)
@@ -79,7 +79,7 @@ delivered-more rows row n flags new so_far noted =
     ∙ sym (λ i. map (λ k. one-more rows row k i) (range_with_len 1 n))
 
 -- the row at this place
-pub delivered-row : (items rows : List Row) (place n : ℕ) (d : Row) (flags new : List Bool)
+pub delivered-row : (items rows : List EventRow) (place n : ℕ) (d : EventRow) (flags new : List Bool)
     → items ≡ rows
     → place < length items
     → flags ≡ map (is_delivered (take place rows)) (range_with_len 1 n)

@@ -8,7 +8,7 @@ use Rattle.ptpm_draw.specs.Party.{party_at}
 use Rattle.ptpm_draw.specs.Picture.{Drawn, IsWorldOf, drawn, drawn_by, message_of, picture_of, row_of, then_drawn, way_of}
 use Rattle.ptpm_draw.specs.declared.changes.Change.{Change}
 use Rattle.ptpm_draw.specs.declared.party.Party.{Party}
-use Rattle.ptpm_draw.specs.declared.picture.Row.{Row}
+use Rattle.ptpm_draw.specs.declared.picture.EventRow.{EventRow}
 use Rattle.ptpm_world.proofs.StartedWorld.{started-is}
 use Rattle.ptpm_world.specs.Trace.{is_late_event}
 use Rattle.ptpm_world.specs.declared.world.World.{World}
@@ -16,7 +16,7 @@ use Rattle.ptpm_world.specs.declared.whole_script.EventLine.{EventLine}
 
 -- ---- one event
 
-pub row-is : (N : Network) (names : Names) (r : RunningNetwork) (at : Option Party) (line : EventLine) (row : Row)
+pub row-is : (N : Network) (names : Names) (r : RunningNetwork) (at : Option Party) (line : EventLine) (row : EventRow)
     → row.line ≡ line.number
     → row.at ≡ at
     → row.way ≡ way_of line.event row.answer
@@ -35,7 +35,7 @@ row-is N names r at line row number where_at way told late before behind = λ i.
   after = behind i;
 }
 
-pub event-drawn : (n : NetworkValue) (r next : RunningNetwork) (line : EventLine) (at : Option Party) (row : Row)
+pub event-drawn : (n : NetworkValue) (r next : RunningNetwork) (line : EventLine) (at : Option Party) (row : EventRow)
     (change : Option Change)
     (old new : Drawn)
     → at ≡ party_at (names_of n) r.frames line.event
@@ -48,7 +48,7 @@ pub event-drawn : (n : NetworkValue) (r next : RunningNetwork) (line : EventLine
 event-drawn n r next line at row change old new party is changed rows messages changes = λ i. record {
   rows = (rows ∙ ap (λ x. old.rows ++ x ∷ []) (is ∙ ap (λ a. row_of (described n) (names_of n) r a line) party)) i;
   messages = (messages
-      ∙ ap (λ (x : Row). old.messages ++ map (message_of x.at) (drop x.before next.frames)) is
+      ∙ ap (λ (x : EventRow). old.messages ++ map (message_of x.at) (drop x.before next.frames)) is
       ∙ ap (λ a. old.messages ++ map (message_of a) (drop (length r.frames) next.frames)) party) i;
   changes = (changes ∙ ap (λ x. old.changes ++ option_to_list x) (changed ∙ ap (λ a. change_at line.number a r next) party)) i;
 }

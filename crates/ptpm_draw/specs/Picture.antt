@@ -10,12 +10,12 @@ use Rattle.ptpm_codec.specs.Reading.{reading}
 use Rattle.ptpm_draw.specs.Changes.{change_at}
 use Rattle.ptpm_draw.specs.Party.{party_at, party_of}
 use Rattle.ptpm_draw.specs.declared.changes.Change.{Change}
-use Rattle.ptpm_draw.specs.declared.outcome.Outcome.{Outcome}
-use Rattle.ptpm_draw.specs.declared.outcome.Outcome.TheVariants as outcomes
+use Rattle.ptpm_draw.specs.declared.outcome.EventOutcome.{EventOutcome}
+use Rattle.ptpm_draw.specs.declared.outcome.EventOutcome.TheVariants as outcomes
 use Rattle.ptpm_draw.specs.declared.party.Party.{Party}
 use Rattle.ptpm_draw.specs.declared.picture.Message as drawn_message
 use Rattle.ptpm_draw.specs.declared.picture.Picture.{Picture}
-use Rattle.ptpm_draw.specs.declared.picture.Row.{Row}
+use Rattle.ptpm_draw.specs.declared.picture.EventRow.{EventRow}
 use Rattle.ptpm_draw.specs.declared.picture.Says.{Says}
 use Rattle.ptpm_draw.specs.declared.picture.Way.{Way}
 use Rattle.ptpm_draw.specs.declared.picture.Way.TheVariants as ways
@@ -54,14 +54,14 @@ says_in (Ok m) = Some (says_of m)
 says_in (Err refusal) = None
 
 -- what a clock's verdict comes to, whether it sent messages or none
-abbrev pub decided : Verdict → Bool → Outcome
+abbrev pub decided : Verdict → Bool → EventOutcome
 decided verdicts.AnsweredNew has_sent = outcomes.CarriedOut
 decided verdicts.AnsweredRepeat has_sent = outcomes.AnsweredAgain
 decided verdicts.AnsweredUnnumbered has_sent = outcomes.Answered
 decided verdict has_sent = if has_sent then outcomes.PassedOn else outcomes.Dropped verdict
 
 -- what became of an event
-abbrev pub outcome_of : Result Took StepError → Bool → Outcome
+abbrev pub outcome_of : Result Took StepError → Bool → EventOutcome
 outcome_of (Ok took.Fine) has_sent = outcomes.Done
 outcome_of (Ok (took.AtClock verdict)) has_sent = decided verdict has_sent
 outcome_of (Ok took.Answered) has_sent = outcomes.Reported
@@ -71,7 +71,7 @@ outcome_of (Err error) has_sent = outcomes.Refused error
 -- ---- what an event comes to, in this state of the network
 
 -- an event's row, at this party: what the trace says of it, and how it is drawn
-abbrev pub row_of : Network → Names → RunningNetwork → Option Party → EventLine → Row
+abbrev pub row_of : Network → Names → RunningNetwork → Option Party → EventLine → EventRow
 row_of N names r at line =
     let event = placed names line.event in
     record {
@@ -90,7 +90,7 @@ message_of from h = record { from = from; to = party_of h.end; says = says_in (r
 
 -- what is drawn
 pub record Drawn : Type 0 where
-  pub rows : List Row
+  pub rows : List EventRow
   pub messages : List drawn_message.Message
   pub changes : List Change
 
@@ -141,7 +141,7 @@ is_arrow_of number ways.Mark = false
 is_arrow_of number ways.FromEdge = false
 
 -- a row is the arrow of the frame of this number
-abbrev pub is_delivered : List Row → ℕ → Bool
+abbrev pub is_delivered : List EventRow → ℕ → Bool
 is_delivered rows number = list_any (λ row. is_arrow_of number row.way) rows
 
 -- the flags of frames 1, 2, 3 and so on: the one of this number is set, if it is there

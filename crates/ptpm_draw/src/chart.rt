@@ -9,14 +9,14 @@ use crate::changes::{Change, Changes};
 use crate::lifelines::{CHARACTER, Lifelines, kind_of};
 use crate::members::member_texts;
 use crate::party::Party;
-use crate::picture::{Message, Row, Way};
+use crate::picture::{EventRow, Message, Way};
 use crate::selection::Selection;
 use crate::shapes::{Arrow, write_mark};
 use crate::sizes::{MEMBER, STUB, Sizes, row_height};
 use crate::strokes::{LOST, Stroke, stroke_of};
 use crate::text::Escaped;
 use crate::words::{
-    LabelText, LineText, ListText, LostText, OutcomeText, VerbText, error_told, spell,
+    LabelText, LineText, ListText, LostText, OutcomeText, VerbText, error_shown, spell,
 };
 use ptpm_world::{Event, ScriptError};
 use std::alloc::{AllocError, Global};
@@ -52,7 +52,7 @@ pub(crate) struct Chart<'a> {
 /// A row with its event, and what that changed.
 #[derive(Clone, Copy)]
 struct Act<'a> {
-    row: &'a Row,
+    row: &'a EventRow,
     event: &'a Event,
     change: Option<&'a Change>,
 }
@@ -60,7 +60,7 @@ struct Act<'a> {
 /// A row with all that is written in it.
 #[derive(Clone, Copy)]
 struct Line<'a> {
-    row: &'a Row,
+    row: &'a EventRow,
     event: &'a Event,
     /// The members that the event changed.
     changed: &'a [String],
@@ -297,7 +297,7 @@ impl<'a> Chart<'a> {
     }
 
     /// Who sent a row's message, and who got it; of a mark, at whom it is.
-    fn write_ends(&self, row: &Row, text: &mut String) -> Result<(), AllocError> {
+    fn write_ends(&self, row: &EventRow, text: &mut String) -> Result<(), AllocError> {
         match row.way {
             Way::Mark => write!(text, ", at {}", self.lifelines.name(row.at)),
             Way::FromEdge => write!(text, ", from a stranger to {}", self.lifelines.name(row.at)),
@@ -317,7 +317,7 @@ impl<'a> Chart<'a> {
     /// Writes the arrow or the mark of a row.
     fn write_way(
         &self,
-        row: &Row,
+        row: &EventRow,
         y: usize,
         label: &str,
         text: &mut String,
@@ -346,7 +346,7 @@ impl<'a> Chart<'a> {
     /// Writes the messages of a row that no event delivered, one below the other from here on. Answers where they end.
     fn write_lost(
         &self,
-        row: &Row,
+        row: &EventRow,
         top: usize,
         label: &mut String,
         text: &mut String,
@@ -378,10 +378,10 @@ impl<'a> Chart<'a> {
     }
 
     /// How a row is drawn.
-    fn stroke(&self, row: &Row) -> Stroke {
+    fn stroke(&self, row: &EventRow) -> Stroke {
         stroke_of(
             row.outcome(),
-            error_told(&self.selection.picture, row).is_some(),
+            error_shown(&self.selection.picture, row).is_some(),
         )
     }
 

@@ -20,6 +20,6 @@ mod words;
 pub use changes::Change;
 pub use chosen::Chosen;
 pub use drawing::draw;
-pub use outcome::Outcome;
+pub use outcome::EventOutcome;
 pub use party::Party;
-pub use picture::{Message, Picture, Row, Says, Way};
+pub use picture::{EventRow, Message, Picture, Says, Way};

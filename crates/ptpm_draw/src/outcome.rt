@@ -3,7 +3,7 @@
 ghost use Rattle.std.specs.Prelude.{◌≡◌, nat_lt};
 ghost use Rattle.ptpm_draw.specs.Picture.{decided, outcome_of};
 
-use crate::picture::Row;
+use crate::picture::EventRow;
 use ptpm_agent::Verdict;
 use ptpm_manager::Reason;
 use ptpm_world::{StepError, Took};
@@ -11,7 +11,7 @@ use std::fmt;
 
 /// What became of an event.
 #[derive(Clone, Copy, Debug, PartialEq, Eq)]
-pub enum Outcome {
+pub enum EventOutcome {
     /// A session did what it was asked.
     Done,
     /// A clock carried out a new request, and answered it.
@@ -32,47 +32,47 @@ pub enum Outcome {
     Refused(StepError),
 }
 
-impl Row {
+impl EventRow {
     /// What became of its event.
-    pub fn outcome(&self) -> Outcome
+    pub fn outcome(&self) -> EventOutcome
         ensures { result ≡ outcome_of self.now.answer (nat_lt self.now.before self.now.after) }
     {
         match self.answer {
-            Ok(Took::Fine) => Outcome::Done,
+            Ok(Took::Fine) => EventOutcome::Done,
             Ok(Took::AtClock(verdict)) => decided(verdict, self.before < self.after),
-            Ok(Took::Answered) => Outcome::Reported,
-            Ok(Took::Ignored(reason)) => Outcome::Ignored(reason),
-            Err(error) => Outcome::Refused(error),
+            Ok(Took::Answered) => EventOutcome::Reported,
+            Ok(Took::Ignored(reason)) => EventOutcome::Ignored(reason),
+            Err(error) => EventOutcome::Refused(error),
         }
     }
 }
 
 /// What a clock's verdict comes to, whether it sent messages or none.
-fn decided(verdict: Verdict, has_sent: bool) -> Outcome
+fn decided(verdict: Verdict, has_sent: bool) -> EventOutcome
     ensures { result ≡ decided verdict has_sent }
 {
     match verdict {
-        Verdict::AnsweredNew => Outcome::CarriedOut,
-        Verdict::AnsweredRepeat => Outcome::AnsweredAgain,
-        Verdict::AnsweredUnnumbered => Outcome::Answered,
-        _ if has_sent => Outcome::PassedOn,
-        _ => Outcome::Dropped(verdict),
+        Verdict::AnsweredNew => EventOutcome::CarriedOut,
+        Verdict::AnsweredRepeat => EventOutcome::AnsweredAgain,
+        Verdict::AnsweredUnnumbered => EventOutcome::Answered,
+        _ if has_sent => EventOutcome::PassedOn,
+        _ => EventOutcome::Dropped(verdict),
     }
 }
 
 /// In words, and after a colon why, by the names of the trace.
-impl fmt::Display for Outcome {
+impl fmt::Display for EventOutcome {
     fn fmt<W: fmt::Write>(&self, f: &mut fmt::Formatter<W>) -> fmt::Result {
         match self {
-            Outcome::Done => f.write_str("done"),
-            Outcome::CarriedOut => f.write_str("carried out"),
-            Outcome::AnsweredAgain => f.write_str("answered again"),
-            Outcome::Answered => f.write_str("answered"),
-            Outcome::PassedOn => f.write_str("passed on"),
-            Outcome::Dropped(verdict) => write!(f, "dropped: {verdict}"),
-            Outcome::Reported => f.write_str("reported"),
-            Outcome::Ignored(reason) => write!(f, "ignored: {reason}"),
-            Outcome::Refused(error) => write!(f, "refused: {error}"),
+            EventOutcome::Done => f.write_str("done"),
+            EventOutcome::CarriedOut => f.write_str("carried out"),
+            EventOutcome::AnsweredAgain => f.write_str("answered again"),
+            EventOutcome::Answered => f.write_str("answered"),
+            EventOutcome::PassedOn => f.write_str("passed on"),
+            EventOutcome::Dropped(verdict) => write!(f, "dropped: {verdict}"),
+            EventOutcome::Reported => f.write_str("reported"),
+            EventOutcome::Ignored(reason) => write!(f, "ignored: {reason}"),
+            EventOutcome::Refused(error) => write!(f, "refused: {error}"),
         }
     }
 }

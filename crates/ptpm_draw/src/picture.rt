@@ -60,7 +60,7 @@ pub enum Way {
 
 /// An event as it is drawn.
 #[derive(Clone, Copy, Debug, PartialEq, Eq)]
-pub struct Row {
+pub struct EventRow {
     /// The number of its line, counted from 1 after the divider.
     pub line: u32,
     /// At whom it happens, if that is somebody of the network.
@@ -80,7 +80,7 @@ pub struct Row {
 #[derive(Drop)]
 pub struct Picture {
     /// A row for each event, in their order.
-    pub rows: Vec<Row>,
+    pub rows: Vec<EventRow>,
     /// The message of each frame, in the order of their numbers from 1.
     pub messages: Vec<Message>,
     /// What events changed at their clocks, in their order.
@@ -148,7 +148,7 @@ impl Picture {
         Ok(())
     }
 
-    fn keep_row(&mut self, row: Row) -> Result<(), OutOfMemory>
+    fn keep_row(&mut self, row: EventRow) -> Result<(), OutOfMemory>
         ensures rows { OnOk result (self.new.rows.items ≡ self.old.rows.items ++ row ∷ []) }
         ensures messages { self.new.messages.items ≡ self.old.messages.items }
         ensures changes { self.new.changes.items ≡ self.old.changes.items }
@@ -157,7 +157,7 @@ impl Picture {
     }
 
     /// Keeps the messages that the event of a row made, which was the last.
-    fn keep_messages(&mut self, world: &World, row: &Row) -> Result<(), OutOfMemory>
+    fn keep_messages(&mut self, world: &World, row: &EventRow) -> Result<(), OutOfMemory>
         requires { row.now.after ≡ length (running world.now).frames }
         ensures messages { OnOk result
             (self.new.messages.items
@@ -249,7 +249,7 @@ impl Picture {
 }
 
 /// Keeps the rows of the lines that are chosen.
-fn choose_rows(rows: &mut Vec<Row>, chosen: Chosen)
+fn choose_rows(rows: &mut Vec<EventRow>, chosen: Chosen)
     ensures { rows.new.items ≡ filter (λ row. is_chosen chosen row.line) rows.old.items }
 {
     rows.retain(|row| chosen.contains(row.line));
@@ -282,7 +282,11 @@ fn note_delivered(flags: &mut Vec<bool>, number: usize)
 }
 
 /// Lets an event happen at a party, and answers its row.
-fn play_event(world: &mut World, line: &EventLine, at: Option<Party>) -> Result<Row, OutOfMemory>
+fn play_event(
+    world: &mut World,
+    line: &EventLine,
+    at: Option<Party>,
+) -> Result<EventRow, OutOfMemory>
     ensures line { IfOk result (λ row. row.line ≡ line.now.number) }
     ensures at { IfOk result (λ row. row.at ≡ at) }
     ensures way { IfOk result (λ row. row.way ≡ way_of line.now.event row.answer) }
@@ -311,7 +315,7 @@ fn play_event(world: &mut World, line: &EventLine, at: Option<Party>) -> Result<
     if is_out_of_memory(&answer) {
         return Err(OutOfMemory);
     }
-    Ok(Row {
+    Ok(EventRow {
         line: line.number,
         at,
         way: way_of(event, &answer),

@@ -3,7 +3,7 @@
 use crate::changes::{Change, Changes};
 use crate::members::member_texts;
 use crate::party::Party;
-use crate::picture::{Picture, Row, Way};
+use crate::picture::{EventRow, Picture, Way};
 use crate::selection::Selection;
 use crate::words::{LabelText, LineText, LostText, OutcomeText, spell};
 use ptpm_world::{Event, Network};
@@ -72,7 +72,7 @@ impl Sizes {
     fn note_row(
         &mut self,
         picture: &Picture,
-        row: &Row,
+        row: &EventRow,
         event: &Event,
         text: &mut String,
     ) -> Result<(), AllocError> {
@@ -105,7 +105,7 @@ impl Sizes {
     fn note_lost(
         &mut self,
         picture: &Picture,
-        row: &Row,
+        row: &EventRow,
         is_delivered: &[bool],
         text: &mut String,
     ) -> Result<(), AllocError> {
@@ -125,7 +125,7 @@ impl Sizes {
     }
 
     /// Notes what reaches past the first and the last lifeline.
-    fn note_ends(&mut self, network: &Network, picture: &Picture, row: &Row) {
+    fn note_ends(&mut self, network: &Network, picture: &Picture, row: &EventRow) {
         match row.way {
             Way::FromEdge => self.has_edge = true,
             Way::Mark if row.at.is_none() => self.has_edge = true,

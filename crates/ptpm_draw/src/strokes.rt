@@ -1,6 +1,6 @@
 //! How arrows and marks look, so that each outcome is recognized without colours.
 
-use crate::outcome::Outcome;
+use crate::outcome::EventOutcome;
 
 /// How the end of an arrow looks.
 #[derive(Clone, Copy, Debug, PartialEq, Eq)]
@@ -40,21 +40,21 @@ pub(crate) const LOST: Stroke = Stroke {
 
 /// How an event with an outcome is drawn. If a clock answered by an error, or a session received one, it is red, and nothing is
 /// drawn as carried out.
-pub(crate) fn stroke_of(outcome: Outcome, has_error: bool) -> Stroke {
+pub(crate) fn stroke_of(outcome: EventOutcome, has_error: bool) -> Stroke {
     match outcome {
-        Outcome::CarriedOut if has_error => make_stroke(RED, "1.5", "none", Head::Empty),
-        Outcome::CarriedOut => make_stroke("#1a7f37", "2.5", "none", Head::Filled),
-        Outcome::AnsweredAgain if has_error => make_stroke(RED, "2", "10 4", Head::Empty),
-        Outcome::AnsweredAgain => make_stroke("#0550ae", "2", "10 4", Head::Empty),
-        Outcome::Answered if has_error => make_stroke(RED, "1.5", "none", Head::Empty),
-        Outcome::Answered => make_stroke("#0550ae", "1.5", "none", Head::Empty),
-        Outcome::PassedOn => make_stroke("#57606a", "1.5", "none", Head::Open),
-        Outcome::Reported if has_error => make_stroke(RED, "1.5", "none", Head::Filled),
-        Outcome::Reported => make_stroke("#1a7f37", "1.5", "none", Head::Filled),
-        Outcome::Dropped(_) => make_stroke(RED, "1.5", "6 4", Head::Cross),
-        Outcome::Ignored(_) => make_stroke("#8a4600", "1.5", "6 4", Head::Ring),
-        Outcome::Refused(_) => make_stroke(RED, "1.5", "none", Head::Cross),
-        Outcome::Done => make_stroke("#24292f", "1.5", "none", Head::Ring),
+        EventOutcome::CarriedOut if has_error => make_stroke(RED, "1.5", "none", Head::Empty),
+        EventOutcome::CarriedOut => make_stroke("#1a7f37", "2.5", "none", Head::Filled),
+        EventOutcome::AnsweredAgain if has_error => make_stroke(RED, "2", "10 4", Head::Empty),
+        EventOutcome::AnsweredAgain => make_stroke("#0550ae", "2", "10 4", Head::Empty),
+        EventOutcome::Answered if has_error => make_stroke(RED, "1.5", "none", Head::Empty),
+        EventOutcome::Answered => make_stroke("#0550ae", "1.5", "none", Head::Empty),
+        EventOutcome::PassedOn => make_stroke("#57606a", "1.5", "none", Head::Open),
+        EventOutcome::Reported if has_error => make_stroke(RED, "1.5", "none", Head::Filled),
+        EventOutcome::Reported => make_stroke("#1a7f37", "1.5", "none", Head::Filled),
+        EventOutcome::Dropped(_) => make_stroke(RED, "1.5", "6 4", Head::Cross),
+        EventOutcome::Ignored(_) => make_stroke("#8a4600", "1.5", "6 4", Head::Ring),
+        EventOutcome::Refused(_) => make_stroke(RED, "1.5", "none", Head::Cross),
+        EventOutcome::Done => make_stroke("#24292f", "1.5", "none", Head::Ring),
     }
 }
 

@@ -1,7 +1,7 @@
 //! What is written at an arrow or a mark.
 
-use crate::outcome::Outcome;
-use crate::picture::{Picture, Row, Says, Way, said_by};
+use crate::outcome::EventOutcome;
+use crate::picture::{EventRow, Picture, Says, Way, said_by};
 use crate::text::Escaped;
 use ptpm_codec::ErrorId;
 use ptpm_data::row;
@@ -96,14 +96,14 @@ impl fmt::Display for AskText<'_> {
 #[derive(Clone, Copy)]
 pub(crate) struct OutcomeText<'a> {
     pub(crate) picture: &'a Picture,
-    pub(crate) row: &'a Row,
+    pub(crate) row: &'a EventRow,
 }
 
 impl fmt::Display for OutcomeText<'_> {
     fn fmt<W: fmt::Write>(&self, f: &mut fmt::Formatter<W>) -> fmt::Result {
         let row = self.row;
-        match (row.outcome(), error_told(self.picture, row)) {
-            (Outcome::CarriedOut, Some(error)) => write!(f, "answered: {}", ErrorText(error))?,
+        match (row.outcome(), error_shown(self.picture, row)) {
+            (EventOutcome::CarriedOut, Some(error)) => write!(f, "answered: {}", ErrorText(error))?,
             (outcome, Some(error)) => write!(f, "{outcome}: {}", ErrorText(error))?,
             (outcome, None) => write!(f, "{outcome}")?,
         }
@@ -118,18 +118,18 @@ impl fmt::Display for OutcomeText<'_> {
 }
 
 /// The managementErrorId by which a clock answered a row's event, or which it brought to a session; none if there is no error.
-pub(crate) fn error_told(picture: &Picture, row: &Row) -> Option<u16> {
+pub(crate) fn error_shown(picture: &Picture, row: &EventRow) -> Option<u16> {
     match (row.outcome(), row.way) {
-        (Outcome::CarriedOut | Outcome::AnsweredAgain | Outcome::Answered, _) => {
+        (EventOutcome::CarriedOut | EventOutcome::AnsweredAgain | EventOutcome::Answered, _) => {
             error_sent(picture, row)
         }
-        (Outcome::Reported, Way::Arrow(frame)) => picture.says(frame)?.error,
+        (EventOutcome::Reported, Way::Arrow(frame)) => picture.says(frame)?.error,
         _ => None,
     }
 }
 
 /// The first error among the messages that a row's event made.
-fn error_sent(picture: &Picture, row: &Row) -> Option<u16> {
+fn error_sent(picture: &Picture, row: &EventRow) -> Option<u16> {
     for count in row.before..row.after {
         if let Some(says) = picture.says(count.saturating_add(1)) {
             if says.error.is_some() {
@@ -155,7 +155,7 @@ impl fmt::Display for ListText<'_> {
 
 /// The numbers of the frames that a row's event made.
 #[derive(Clone, Copy)]
-struct FramesText<'a>(&'a Row);
+struct FramesText<'a>(&'a EventRow);
 
 impl fmt::Display for FramesText<'_> {
     fn fmt<W: fmt::Write>(&self, f: &mut fmt::Formatter<W>) -> fmt::Result {
@@ -200,7 +200,7 @@ impl fmt::Display for LineText<'_> {
 #[derive(Clone, Copy)]
 pub(crate) struct LabelText<'a> {
     pub(crate) picture: &'a Picture,
-    pub(crate) row: &'a Row,
+    pub(crate) row: &'a EventRow,
     pub(crate) event: &'a Event,
 }
 

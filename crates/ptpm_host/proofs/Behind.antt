@@ -3,10 +3,10 @@ use Rattle.std.proofs.Common.{◌≡◌, ◌+◌, ℕ, zero, suc, List, [], ◌�
 use Rattle.std.proofs.lemmas.List.{drop-set-lt, take-set}
 use Rattle.std.specs.List.{AllZip}
 use Rattle.ptpm_host.specs.declared.sent.Sent.{Sent}
-use Rattle.ptpm_host.specs.declared.places.Places.{Places}
+use Rattle.ptpm_host.specs.declared.outbox.Outbox.{Outbox}
 use Rattle.ptpm_host.specs.Clock.{KeepsBehind}
-use Rattle.ptpm_host.specs.Places.{HasGrown}
-use Rattle.ptpm_host.specs.PlacesLaws.{first_same, kept_by_none}
+use Rattle.ptpm_host.specs.Outbox.{HasGrown}
+use Rattle.ptpm_host.specs.OutboxLaws.{first_same, kept_by_none}
 
 -- the place that is written is still as it was before
 pub kept_at_write : (before room : List Sent) (place : ℕ) (d s : Sent)
@@ -41,7 +41,7 @@ places_at_write before room place s same =
     ∙ sym (ap (λ (n : ℕ). drop n before) next)
 
 -- a message more, after those that are there
-pub grown_at_write : (a b : Places) (d s : Sent)
+pub grown_at_write : (a b : Outbox) (d s : Sent)
     → b.room.ghost_name ≡ a.room.ghost_name
     → b.room.now ≡ slice_set a.room.now a.count s
     → b.count ≡ a.count + 1

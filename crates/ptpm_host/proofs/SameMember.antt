@@ -19,12 +19,12 @@ use Rattle.ptpm_members.specs.contracts.names.MemberPartialEq.TheImpl.{ghosts as
 
 -- ---- the `==` of an enum distinguishes its values, if that of each variant with fields does
 
-abbrev AreToldApart : (Fss : List (List Part)) → Each Bool Fss → Type 0
-AreToldApart [] each = Unit {0}
-AreToldApart ([] ∷ Fss) each = AreToldApart Fss each.1
-AreToldApart ((F ∷ Fs) ∷ Fss) each = ((x y : Values (F ∷ Fs)) → each.0 x y ≡ true → x ≡ y) × AreToldApart Fss each.1
+abbrev AreDistinguished : (Fss : List (List Part)) → Each Bool Fss → Type 0
+AreDistinguished [] each = Unit {0}
+AreDistinguished ([] ∷ Fss) each = AreDistinguished Fss each.1
+AreDistinguished ((F ∷ Fs) ∷ Fss) each = ((x y : Values (F ∷ Fs)) → each.0 x y ≡ true → x ≡ y) × AreDistinguished Fss each.1
 
-same_choice : (Fss : List (List Part)) (each : Each Bool Fss) → AreToldApart Fss each
+same_choice : (Fss : List (List Part)) (each : Each Bool Fss) → AreDistinguished Fss each
     → (c d : Choice Fss) → by false false Fss each c d ≡ true → c ≡ d
 same_choice [] each apart c d is = absurd c
 same_choice ([] ∷ Fss) each apart (inl x) (inl y) is = refl

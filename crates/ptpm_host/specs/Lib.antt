@@ -1,10 +1,10 @@
 pub mod Settings
 pub mod Numbers
 pub mod Clock
-pub mod Places
-pub mod PlacesLaws
-pub mod Reading
-pub mod Told
+pub mod Outbox
+pub mod OutboxLaws
+pub mod DataSetReading
+pub mod ReportedOutcome
 pub mod SessionSettings
 pub mod Session
 pub mod SurveySettings

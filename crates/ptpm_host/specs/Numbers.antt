@@ -45,8 +45,8 @@ use Rattle.ptpm_host.specs.declared.refusal.SessionRefusal.{SessionRefusal}
 use Rattle.ptpm_host.specs.declared.refusal.SessionRefusal.TheVariants as sessions
 use Rattle.ptpm_host.specs.declared.session.Heard.{Heard}
 use Rattle.ptpm_host.specs.declared.session.Heard.TheVariants as heard
-use Rattle.ptpm_host.specs.declared.told.Told.{Told}
-use Rattle.ptpm_host.specs.declared.told.Told.TheVariants as told
+use Rattle.ptpm_host.specs.declared.reported_outcome.ReportedOutcome.{ReportedOutcome}
+use Rattle.ptpm_host.specs.declared.reported_outcome.ReportedOutcome.TheVariants as reported
 
 -- ---- what became of a datagram or of a request
 
@@ -98,10 +98,10 @@ surveyed_number surveyed.Full = 28
 surveyed_number (surveyed.Ignored reason) = reason_number reason
 
 -- what became of a request, 0, 25 or 26
-abbrev pub told_number : Told → ℕ
-told_number (told.Value size) = 0
-told_number told.Done = 25
-told_number (told.Refused error) = 26
+abbrev pub outcome_number : ReportedOutcome → ℕ
+outcome_number (reported.Value size) = 0
+outcome_number reported.Done = 25
+outcome_number (reported.Refused error) = 26
 
 -- ---- why a call changed nothing
 

@@ -17,7 +17,7 @@ use Rattle.ptpm_host.specs.declared.refusal.SendRefusal.TheVariants as sends
 use Rattle.ptpm_host.specs.declared.session.Heard.{Heard}
 use Rattle.ptpm_host.specs.declared.session.Heard.TheVariants as heard
 use Rattle.ptpm_host.specs.declared.session.HostedSession.{HostedSession}
-use Rattle.ptpm_host.specs.Told.{room_refusal}
+use Rattle.ptpm_host.specs.ReportedOutcome.{room_refusal}
 
 -- ---- what is asked
 

@@ -5,7 +5,7 @@ use Rattle.ptpm_manager.specs.Answers.{Answer}
 use Rattle.ptpm_host.specs.declared.refusal.ReportRefusal.{ReportRefusal}
 use Rattle.ptpm_host.specs.declared.refusal.ReportRefusal.TheVariants.{NoReport}
 use Rattle.ptpm_host.specs.declared.survey.Source.{Source}
-use Rattle.ptpm_host.specs.Told.{room_refusal}
+use Rattle.ptpm_host.specs.ReportedOutcome.{room_refusal}
 
 abbrev pub source_of : PortIdentity → Source
 source_of identity = record { clock = identity.clock.0; port = identity.port }

@@ -13,7 +13,7 @@ ghost use Rattle.ptpm_data.specs.Start.{unless};
 
 use crate::judged::JudgedStart;
 use crate::observing::{ObservedClock, ObservedPort, port_observations};
-use crate::places::Places;
+use crate::outbox::Outbox;
 use crate::refusal::{HandleRefusal, StartRefusal};
 use crate::sent::Sent;
 use crate::settings::{ClockSettings, ManagerSettings, PortSettings};
@@ -133,7 +133,7 @@ impl HostedClock {
     /// of `room`. The places after them stay as they are, and so does what follows each message. If it is refused, nothing
     /// changes. The data sets change with the verdict `AnsweredNew` alone. A host that acts on what changed keeps a copy of them,
     /// and then asks `sets` what has changed since. Takes no memory.
-    #[tactic(auto, using(crate::specs::PlacesLaws::kept_by_none))]
+    #[tactic(auto, using(crate::specs::OutboxLaws::kept_by_none))]
     pub fn handle(
         &mut self,
         port: u16,
@@ -163,7 +163,7 @@ impl HostedClock {
         if room.len() < MOST_SENT {
             return Err(HandleRefusal::NoRoom);
         }
-        let mut places = Places::new(room);
+        let mut places = Outbox::new(room);
         let verdict = self.agent.handle_into(port, datagram, &mut places);
         Ok(Handled {
             verdict,

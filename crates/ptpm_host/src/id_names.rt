@@ -4,7 +4,7 @@ ghost use Rattle.std.specs.Prelude.{◌≡◌, ℕ, IfSome, Some, option_map};
 ghost use Rattle.ptpm_data.specs.ManagementId.{if_named, row_named, row_of, row_value};
 ghost use Rattle.ptpm_host.specs.Names.{capitals, id_at, id_name};
 
-use ptpm_data::{MANAGEMENT_IDS, Row, row};
+use ptpm_data::{MANAGEMENT_IDS, ManagementIdRow, row};
 
 /// Means no managementId, since an id has 16 bits.
 pub const NO_ID: u32 = 65_536;
@@ -34,7 +34,7 @@ pub fn id_at(place: usize) -> Option<u16>
     MANAGEMENT_IDS.get(place).copied()
 }
 
-fn row_named(name: &[u8]) -> Option<Row>
+fn row_named(name: &[u8]) -> Option<ManagementIdRow>
     ensures { option_map row_value result ≡ row_named (capitals name.now) }
 {
     for id in &MANAGEMENT_IDS {
@@ -46,7 +46,7 @@ fn row_named(name: &[u8]) -> Option<Row>
 }
 
 /// The row of an id, if it has that name.
-fn row_if_named(id: u16, name: &[u8]) -> Option<Row>
+fn row_if_named(id: u16, name: &[u8]) -> Option<ManagementIdRow>
     ensures { option_map row_value result ≡ if_named (capitals name.now) (row_of id) }
 {
     match row(id) {

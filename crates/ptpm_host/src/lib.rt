@@ -4,6 +4,7 @@
 
 mod answer_names;
 mod clock;
+mod data_set_reading;
 mod error_names;
 mod id_names;
 mod judged;
@@ -12,12 +13,12 @@ mod managers;
 mod names;
 mod numbers;
 mod observing;
+mod outbox;
 mod parsing;
 mod passed_on;
-mod places;
 mod rate;
-mod reading;
 mod refusal;
+mod reported_outcome;
 mod restoring;
 mod sent;
 mod session;
@@ -26,7 +27,6 @@ mod settings;
 mod survey;
 mod survey_settings;
 mod texts;
-mod told;
 mod version;
 mod words;
 
@@ -39,8 +39,8 @@ pub use names::hand_out_name;
 pub use numbers::{
     NO_CLOCK, NO_MEMORY, NO_ROOM, NO_SESSION, NO_SURVEY, OTHER_SIZES, begin_number,
     clock_restore_number, give_up_number, handle_number, heard_number, observe_number,
-    parse_number, read_number, report_number, restore_number, resume_number, send_number,
-    session_number, start_number, surveyed_number, told_number, verdict_number,
+    outcome_number, parse_number, read_number, report_number, restore_number, resume_number,
+    send_number, session_number, start_number, surveyed_number, verdict_number,
 };
 pub use observing::{ObservedClock, ObservedPort, left_number};
 pub use parsing::parse_field;
@@ -50,6 +50,7 @@ pub use refusal::{
     ClockRestoreRefusal, HandleRefusal, ParseRefusal, ReadRefusal, ReportRefusal, SendRefusal,
     SessionRefusal, StartRefusal,
 };
+pub use reported_outcome::ReportedOutcome;
 pub use sent::Sent;
 pub use session::{Heard, HostedSession};
 pub use session_settings::SessionSettings;
@@ -57,5 +58,4 @@ pub use settings::{ClockSettings, ManagerSettings, PortSettings};
 pub use survey::{HostedSurvey, Source, SurveyAnswer};
 pub use survey_settings::SurveySettings;
 pub use texts::hand_out_lines;
-pub use told::Told;
 pub use version::VERSION_NUMBER;

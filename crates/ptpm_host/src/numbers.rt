@@ -7,14 +7,14 @@
 //! refusals of a restore, and those from 112 on are further refusals of a call.
 
 ghost use Rattle.std.specs.Prelude.{◌≡◌, ◌≤◌};
-ghost use Rattle.ptpm_host.specs.Numbers.{begin_number, cause_number, clock_restore_number, give_up_number, handle_number, heard_number, image_number, managers_number, member_number, observe_number, parse_number, read_number, reason_number, report_number, restore_number, resume_number, send_number, session_number, start_number, surveyed_number, told_number, values_number, verdict_number};
+ghost use Rattle.ptpm_host.specs.Numbers.{begin_number, cause_number, clock_restore_number, give_up_number, handle_number, heard_number, image_number, managers_number, member_number, observe_number, parse_number, read_number, reason_number, report_number, restore_number, resume_number, send_number, session_number, start_number, surveyed_number, outcome_number, values_number, verdict_number};
 
 use crate::refusal::{
     ClockRestoreRefusal, HandleRefusal, ParseRefusal, ReadRefusal, ReportRefusal, SendRefusal,
     SessionRefusal, StartRefusal,
 };
+use crate::reported_outcome::ReportedOutcome;
 use crate::session::Heard;
-use crate::told::Told;
 use ptpm_agent::Verdict;
 use ptpm_codec::DecodeError;
 use ptpm_data::{Member, ObservationError, StartError};
@@ -105,13 +105,13 @@ fn cause_number(cause: DecodeError) -> u32
 }
 
 /// What became of a request, 0, 25 or 26.
-pub fn told_number(told: Told) -> u32
-    ensures { result ≡ told_number told }
+pub fn outcome_number(outcome: ReportedOutcome) -> u32
+    ensures { result ≡ outcome_number outcome }
 {
-    match told {
-        Told::Value(_) => 0,
-        Told::Done => 25,
-        Told::Refused(_) => 26,
+    match outcome {
+        ReportedOutcome::Value(_) => 0,
+        ReportedOutcome::Done => 25,
+        ReportedOutcome::Refused(_) => 26,
     }
 }
 

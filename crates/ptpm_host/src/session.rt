@@ -14,12 +14,12 @@ ghost use Rattle.ptpm_manager.specs.Receiving.{NeedsMemory, left_by, received_of
 ghost use Rattle.ptpm_manager.specs.Session.{begin_at_refusal, begin_refusal, due_message, give_up_refusal, given_up, is_waiting, resumed, retuned, sent};
 ghost use Rattle.ptpm_host.specs.Session.{HasBegun, IsJudgedBy, ask_of, asked_action, hand_refusal, heard_of, report_after, report_refusal};
 ghost use Rattle.ptpm_host.specs.SessionSettings.{settings_refusal, session_refusal, session_start};
-ghost use Rattle.ptpm_host.specs.Told.{told_octets, told_of, told_size};
+ghost use Rattle.ptpm_host.specs.ReportedOutcome.{outcome_octets, reported_of, reported_size};
 
 use crate::refusal::{ReportRefusal, SendRefusal, SessionRefusal};
+use crate::reported_outcome::{ReportedOutcome, report_outcome};
 use crate::session_settings::SessionSettings;
 use crate::settings::NO_IDENTITY;
-use crate::told::{Told, tell};
 use ptpm_codec::{Action, Buffer, ClockIdentity, MESSAGE_OCTETS, OutOfMemory};
 use ptpm_manager::{
     BeginError, GiveUpRefusal, Reason, Received, Report, RestoreError, SendError, Session,
@@ -268,25 +268,25 @@ impl HostedSession {
 
     /// What the answer to the latest request says; a dataField is left at the head of `octets`, and what follows it
     /// stays. If it is refused, nothing is written. Takes no memory.
-    pub fn report(&self, octets: &mut [u8]) -> Result<Told, ReportRefusal>
+    pub fn report(&self, octets: &mut [u8]) -> Result<ReportedOutcome, ReportRefusal>
         ensures refusal { MatchResult result
             (λ _. report_refusal (length octets.old) self.now.report ≡ None)
             (λ e. report_refusal (length octets.old) self.now.report ≡ Some e) }
-        ensures told { (r : Report)
+        ensures outcome { (r : Report)
             → self.now.report ≡ Some r
-            → IfOk result (λ t. t ≡ told_of r.outcome) }
+            → IfOk result (λ t. t ≡ reported_of r.outcome) }
         ensures octets { (r : Report) → self.now.report ≡ Some r →
-            IfOk result (λ t. take (told_size t) octets.new ≡ told_octets r.outcome) }
-        ensures within { IfOk result (λ t. told_size t ≤ length octets.new) }
+            IfOk result (λ t. take (reported_size t) octets.new ≡ outcome_octets r.outcome) }
+        ensures within { IfOk result (λ t. reported_size t ≤ length octets.new) }
         ensures behind { IfOk result
-            (λ t. drop (told_size t) octets.new ≡ drop (told_size t) octets.old) }
+            (λ t. drop (reported_size t) octets.new ≡ drop (reported_size t) octets.old) }
         ensures size { length octets.new ≡ length octets.old }
         ensures untouched { OnErr result (octets.new ≡ octets.old) }
     {
         let Some(report) = &self.report else {
             return Err(ReportRefusal::NoReport);
         };
-        tell(&report.outcome, octets)
+        report_outcome(&report.outcome, octets)
     }
 }
 

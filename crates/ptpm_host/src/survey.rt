@@ -8,12 +8,12 @@ ghost use Rattle.ptpm_manager.specs.Enquiry.{survey_message};
 ghost use Rattle.ptpm_host.specs.Session.{message_refusal};
 ghost use Rattle.ptpm_host.specs.Survey.{answer_refusal, source_of};
 ghost use Rattle.ptpm_host.specs.SurveySettings.{enquiry_at, enquiry_of, survey_refusal, survey_refusal_at};
-ghost use Rattle.ptpm_host.specs.Told.{told_octets, told_of, told_size};
+ghost use Rattle.ptpm_host.specs.ReportedOutcome.{outcome_octets, reported_of, reported_size};
 
 use crate::refusal::{ReportRefusal, SendRefusal, SessionRefusal};
+use crate::reported_outcome::{ReportedOutcome, report_outcome};
 use crate::settings::NO_IDENTITY;
 use crate::survey_settings::SurveySettings;
-use crate::told::{Told, tell};
 use ptpm_codec::{Buffer, ClockIdentity, MESSAGE_OCTETS, OutOfMemory, PortIdentity};
 use ptpm_manager::{Survey, Surveyed};
 use std::alloc::Global;
@@ -50,7 +50,7 @@ impl Source {
 pub struct SurveyAnswer {
     /// The port that gave it.
     pub source: Source,
-    pub told: Told,
+    pub outcome: ReportedOutcome,
 }
 
 impl HostedSurvey {
@@ -188,23 +188,23 @@ impl HostedSurvey {
             ≡ Some e) }
         ensures source { (a : Answer) → slice_get self.now.survey.answers place ≡ Some a →
             IfOk result (λ t. t.source ≡ source_of a.0) }
-        ensures told { (a : Answer) → slice_get self.now.survey.answers place ≡ Some a →
-            IfOk result (λ t. t.told ≡ told_of a.1) }
+        ensures outcome { (a : Answer) → slice_get self.now.survey.answers place ≡ Some a →
+            IfOk result (λ t. t.outcome ≡ reported_of a.1) }
         ensures octets { (a : Answer) → slice_get self.now.survey.answers place ≡ Some a →
-            IfOk result (λ t. take (told_size t.told) octets.new ≡ told_octets a.1) }
-        ensures within { IfOk result (λ t. told_size t.told ≤ length octets.new) }
+            IfOk result (λ t. take (reported_size t.outcome) octets.new ≡ outcome_octets a.1) }
+        ensures within { IfOk result (λ t. reported_size t.outcome ≤ length octets.new) }
         ensures behind { IfOk result
-            (λ t. drop (told_size t.told) octets.new ≡ drop (told_size t.told) octets.old) }
+            (λ t. drop (reported_size t.outcome) octets.new ≡ drop (reported_size t.outcome) octets.old) }
         ensures size { length octets.new ≡ length octets.old }
         ensures untouched { OnErr result (octets.new ≡ octets.old) }
     {
         let Some((source, outcome)) = self.survey.answers().get_index(place) else {
             return Err(ReportRefusal::NoReport);
         };
-        let told = tell(outcome, octets)?;
+        let outcome = report_outcome(outcome, octets)?;
         Ok(SurveyAnswer {
             source: Source::of(source),
-            told,
+            outcome,
         })
     }
 }

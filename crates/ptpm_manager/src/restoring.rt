@@ -10,7 +10,7 @@ ghost use Rattle.ptpm_manager.specs.Setup.{is_setup_of};
 
 use crate::error::RestoreError;
 use crate::image::{IMAGE_HEAD_OCTETS, IMAGE_VERSION, MARK, SESSION_KIND};
-use crate::places::u64_at;
+use crate::image_places::u64_at;
 use crate::saved::Saved;
 use crate::session::Session;
 use crate::setup::Setup;

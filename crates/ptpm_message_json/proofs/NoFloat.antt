@@ -17,7 +17,7 @@ use Rattle.ptpm_members.specs.declared.forms.Form.{Form}
 use Rattle.ptpm_members.specs.declared.forms.Form.TheVariants as forms
 use Rattle.ptpm_members.specs.FieldText.{members_in}
 use Rattle.ptpm_message_json.specs.DataField.{members_data, put_by, put_data, put_data_field, put_field}
-use Rattle.ptpm_message_json.specs.MessageJson.{head, message_data, message_text, put_body, put_columns, put_head, put_rest, put_told, refusal, rest, with_members}
+use Rattle.ptpm_message_json.specs.MessageJson.{head, message_data, message_text, put_body, put_columns, put_head, put_rest, put_content, refusal, rest, with_members}
 use Rattle.ptpm_message_json.specs.Names.{is_in_quality, quality_name}
 use Rattle.ptpm_message_json.specs.Values.{value_data}
 
@@ -111,7 +111,7 @@ unfolding put_rest
 rest_plain m ms q = with_plain (rest m) ms (refl, (refl, (refl, (refl, tt)))) q
 
 told_plain : (error : Option ℕ) (body : Body) (ms : Members) → members_have_float ms ≡ false
-    → members_have_float (put_told error body ms) ≡ false
+    → members_have_float (put_content error body ms) ≡ false
 told_plain None body ms q = data_field_plain _ _ ms q
 told_plain (Some error) body ms q = with_plain (refusal error (text_of body)) ms (refl, (refl, tt)) q
 

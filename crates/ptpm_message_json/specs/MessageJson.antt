@@ -80,12 +80,12 @@ unfoldable pub put_rest : Message → Members → Members
 put_rest m = with_members (rest m)
 
 -- an error status has its error and its text, any other message its dataField
-abbrev pub put_told : Option ℕ → Body → Members → Members
-put_told None body ms = put_data_field (id_of body) (octets_of body) ms
-put_told (Some error) body ms = with_members (refusal error (text_of body)) ms
+abbrev pub put_content : Option ℕ → Body → Members → Members
+put_content None body ms = put_data_field (id_of body) (octets_of body) ms
+put_content (Some error) body ms = with_members (refusal error (text_of body)) ms
 
 unfoldable pub put_body : Body → Members → Members
-put_body body ms = put_told (error_of body) body ms
+put_body body ms = put_content (error_of body) body ms
 
 -- texts that came with the message, unless there is none
 unfoldable pub put_columns : List (List ℕ) → Members → Members

@@ -20,7 +20,7 @@ use Rattle.ptpm_table.proofs.ListLemmas.{All-unmap}
 use Rattle.ptpm_manager.specs.Image.{request_image}
 use Rattle.ptpm_table.specs.Lending.{AnswerFits, EntryFits, IsKeepable}
 use Rattle.ptpm_saved.specs.Image.{answer_image, answers_image, entry_image, front_image, reply_image}
-use Rattle.ptpm_saved.specs.Reading.{IsOfPort, IsSmall, RequestFits}
+use Rattle.ptpm_saved.specs.EntryReading.{IsOfPort, IsSmall, RequestFits}
 use Rattle.ptpm_saved.proofs.EntryOrder.{Pair}
 use Rattle.ptpm_saved.proofs.ImageLemmas.{answer_small}
 use Rattle.std.specs.Prelude.{is_some}

@@ -1,6 +1,6 @@
 pub mod ErrorText
 pub mod Image
-pub mod Reading
+pub mod EntryReading
 pub mod Restoring
 pub mod Saving
 pub mod SavingClock

@@ -1,11 +1,11 @@
 //! What survives a clock's loss of power: its image, and the clock that is restored from it.
 #![tactic(auto)]
 
+mod entry_reading;
 mod error;
 mod image;
 mod keepable;
 pub mod laws;
-mod reading;
 mod restoring;
 
 pub use error::RestoreError;

@@ -15,11 +15,11 @@ ghost use Rattle.ptpm_table.specs.Lending.{IsAfter, IsKeepable};
 ghost use Rattle.ptpm_manager.specs.Image.{image_head};
 ghost use Rattle.ptpm_saved.specs.Image.{AreEntries, IsSaved, SavedClock, clock_image, entries_image, saved_of};
 ghost use Rattle.ptpm_saved.specs.Restoring.{IsBegun, IsImageOf, IsOpened, IsRefused, IsRefusedByHead, IsRestored, OpensAs, head_refusal, kept_by};
-ghost use Rattle.ptpm_saved.specs.Reading.{entry_read};
+ghost use Rattle.ptpm_saved.specs.EntryReading.{entry_read};
 
+use crate::entry_reading::{SavedRequest, read_entry};
 use crate::error::RestoreError;
 use crate::image::{HEAD_OCTETS, head};
-use crate::reading::{SavedRequest, read_entry};
 use ptpm_agent::Agent;
 use ptpm_codec::{ClockIdentity, PortIdentity};
 use ptpm_data::{DataSets, Reply, image_end};

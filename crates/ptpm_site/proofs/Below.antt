@@ -8,14 +8,14 @@ use Rattle.std.specs.List.{All}
 use Rattle.std.specs.List.Sorted.{IsNonDecreasingBy}
 use Rattle.ptpm_codec.specs.declared.identity.PortIdentity.{PortIdentity}
 use Rattle.ptpm_site.specs.declared.forest.Forest.{Forest}
-use Rattle.ptpm_site.specs.declared.tree.Row.{Row}
-use Rattle.ptpm_site.specs.declared.tree.Row.TheVariants as row
+use Rattle.ptpm_site.specs.declared.tree.TreeRow.{TreeRow}
+use Rattle.ptpm_site.specs.declared.tree.TreeRow.TheVariants as row
 use Rattle.ptpm_site.specs.Growing.{AreTrue, AreWaiting, IsFollowedIn, MayStand, StaysAbove, WaitBelow}
 use Rattle.ptpm_site.specs.Tree.{AreBelow, IsAbove, StandsBelow, depth_of}
 
 -- ---- one more row
 
-pub IsAbove-push : (rows : List Row) (r : Row) (depth : ℕ) (above : Row) → depth ≤ depth_of r → IsAbove rows depth above → IsAbove (rows ++ r ∷ []) depth above
+pub IsAbove-push : (rows : List TreeRow) (r : TreeRow) (depth : ℕ) (above : TreeRow) → depth ≤ depth_of r → IsAbove rows depth above → IsAbove (rows ++ r ∷ []) depth above
 IsAbove-push rows r depth above le h = record {
   earlier = h.earlier;
   later = h.later ++ r ∷ [];
@@ -24,7 +24,7 @@ IsAbove-push rows r depth above le h = record {
   nearest = All-push (λ s. depth ≤ depth_of s) h.later r h.nearest le;
 }
 
-pub IsAbove-last : (rows : List Row) (r : Row) → IsAbove (rows ++ r ∷ []) (depth_of r + 1) r
+pub IsAbove-last : (rows : List TreeRow) (r : TreeRow) → IsAbove (rows ++ r ∷ []) (depth_of r + 1) r
 IsAbove-last rows r = record {
   earlier = rows;
   later = [];
@@ -33,13 +33,13 @@ IsAbove-last rows r = record {
   nearest = All-nil (λ s. depth_of r + 1 ≤ depth_of s);
 }
 
-StandsBelow-push : (follows : ℕ → Row → Type 0) (rows : List Row) (r : Row) (place depth : ℕ) → depth ≤ depth_of r
+StandsBelow-push : (follows : ℕ → TreeRow → Type 0) (rows : List TreeRow) (r : TreeRow) (place depth : ℕ) → depth ≤ depth_of r
     → StandsBelow follows rows (row.Clock place depth)
     → StandsBelow follows (rows ++ r ∷ []) (row.Clock place depth)
 StandsBelow-push follows rows r place depth le h =
     ⊎_elim (λ root. inl root) (λ (above, is, followed). inr (above, IsAbove-push rows r depth above le is, followed)) h
 
-pub AreBelow-push : (follows : ℕ → Row → Type 0) (rows : List Row) (r : Row) → AreBelow follows rows → StandsBelow follows rows r → AreBelow follows (rows ++ r ∷ [])
+pub AreBelow-push : (follows : ℕ → TreeRow → Type 0) (rows : List TreeRow) (r : TreeRow) → AreBelow follows rows → StandsBelow follows rows r → AreBelow follows (rows ++ r ∷ [])
 AreBelow-push follows rows r h one k d lt = ⊎_elim
     (λ (below : k < length rows).
     let before : take k (rows ++ r ∷ []) ≡ take k rows = take-append-le k rows (r ∷ []) (omega arith) in
@@ -52,17 +52,17 @@ AreBelow-push follows rows r h one k d lt = ⊎_elim
     (subst (λ s. StandsBelow follows rows s) (sym (get_or_push rows r d k last)) one))
     (cases_lt k (length rows))
 
-pub AreBelow-none : (follows : ℕ → Row → Type 0) → AreBelow follows []
+pub AreBelow-none : (follows : ℕ → TreeRow → Type 0) → AreBelow follows []
 AreBelow-none follows k d lt = absurd (omega arith)
 
 -- ---- the same by another relation
 
-StandsBelow-weaker : (f g : ℕ → Row → Type 0) (rows : List Row) → ((p : ℕ) (r : Row) → f p r → g p r) → (r : Row) → StandsBelow f rows r → StandsBelow g rows r
+StandsBelow-weaker : (f g : ℕ → TreeRow → Type 0) (rows : List TreeRow) → ((p : ℕ) (r : TreeRow) → f p r → g p r) → (r : TreeRow) → StandsBelow f rows r → StandsBelow g rows r
 StandsBelow-weaker f g rows weaker (row.Clock place depth) h =
     ⊎_elim (λ root. inl root) (λ (above, is, followed). inr (above, is, weaker place above followed)) h
 StandsBelow-weaker f g rows weaker (row.NotSeen domain parent) h = h
 
-pub AreBelow-weaker : (f g : ℕ → Row → Type 0) (rows : List Row) → ((p : ℕ) (r : Row) → f p r → g p r) → AreBelow f rows → AreBelow g rows
+pub AreBelow-weaker : (f g : ℕ → TreeRow → Type 0) (rows : List TreeRow) → ((p : ℕ) (r : TreeRow) → f p r → g p r) → AreBelow f rows → AreBelow g rows
 AreBelow-weaker f g rows weaker h k d lt = StandsBelow-weaker f g (take k rows) weaker (get_or rows k d) (h k d lt)
 
 -- ---- what waits
@@ -88,11 +88,11 @@ rising xs ys top ordered low same i j d le lt =
     (cases_lt j (length xs))
 
 -- a clock gets its row, and those that follow it wait
-module _ (forest : Forest) (rows : List Row) (place depth : ℕ) where
+module _ (forest : Forest) (rows : List TreeRow) (place depth : ℕ) where
   follower_stands : (w : ℕ × ℕ) → (get_or forest.followed.items w.0 None ≡ Some place) × (w.1 ≡ depth + 1)
       → MayStand forest (rows ++ row.Clock place depth ∷ []) (row.Clock w.0 w.1)
   follower_stands w (follows, deep) =
-      let here : Row = row.Clock place depth in
+      let here : TreeRow = row.Clock place depth in
       inr (here, subst (λ n. IsAbove (rows ++ here ∷ []) n here) (sym deep) (IsAbove-last rows here), follows)
 
   waiting_more : (from : ℕ) (old more : List (ℕ × ℕ))
@@ -118,7 +118,7 @@ module _ (forest : Forest) (rows : List Row) (place depth : ℕ) where
   AreWaiting-put from old new le shallow below h =
       subst (AreWaiting forest (rows ++ row.Clock place depth ∷ []) from) (sym below.is) (waiting_more from old below.more le shallow h below.follow)
 
-pub AreWaiting-none : (forest : Forest) (rows : List Row) (from : ℕ) → AreWaiting forest rows from []
+pub AreWaiting-none : (forest : Forest) (rows : List TreeRow) (from : ℕ) → AreWaiting forest rows from []
 AreWaiting-none forest rows from = record {
   stand = All-nil (λ w. MayStand forest rows (row.Clock w.0 w.1));
   deep = All-nil (λ w. from ≤ w.1);
@@ -126,7 +126,7 @@ AreWaiting-none forest rows from = record {
 }
 
 -- the last of those that wait comes next
-module _ (forest : Forest) (rows : List Row) (from : ℕ) (rest : List (ℕ × ℕ)) (w : ℕ × ℕ) (h : AreWaiting forest rows from (rest ++ w ∷ [])) where
+module _ (forest : Forest) (rows : List TreeRow) (from : ℕ) (rest : List (ℕ × ℕ)) (w : ℕ × ℕ) (h : AreWaiting forest rows from (rest ++ w ∷ [])) where
   within : (k : ℕ) → k < length rest → k < length (rest ++ w ∷ [])
   within k lt = omega (arith, length-append rest (w ∷ []))
 
@@ -158,5 +158,5 @@ module _ (forest : Forest) (rows : List Row) (from : ℕ) (rest : List (ℕ × �
   pub last_deep : from ≤ w.1
   last_deep = subst (λ (v : ℕ × ℕ). from ≤ v.1) (last w) (h.deep (length rest) w all_within)
 
-pub StaysAbove-push : (rows : List Row) (r : Row) → StaysAbove (depth_of r) rows (rows ++ r ∷ [])
+pub StaysAbove-push : (rows : List TreeRow) (r : TreeRow) → StaysAbove (depth_of r) rows (rows ++ r ∷ [])
 StaysAbove-push rows r n above le h = IsAbove-push rows r n above le h

@@ -7,8 +7,8 @@ use Rattle.std.proofs.lemmas.Option.{none-some}
 use Rattle.std.specs.List.{All}
 use Rattle.std.specs.Option.{option_map}
 use Rattle.ptpm_site.specs.declared.forest.Lost.{Lost}
-use Rattle.ptpm_site.specs.declared.tree.Row.{Row}
-use Rattle.ptpm_site.specs.declared.tree.Row.TheVariants as row
+use Rattle.ptpm_site.specs.declared.tree.TreeRow.{TreeRow}
+use Rattle.ptpm_site.specs.declared.tree.TreeRow.TheVariants as row
 use Rattle.ptpm_site.specs.Following.{ArePlaced}
 use Rattle.ptpm_site.specs.Forest.{IsKeptFollowed, IsLost}
 use Rattle.ptpm_site.specs.SiteAnswers.{SiteAnswers}
@@ -22,7 +22,7 @@ module _ (t : SiteAnswers) (followed : List (Option ℕ)) (lost : List Lost) (pl
       (λ (past : length t.clocks ≤ p). absurd (none-some q (sym (get_or_past followed p None (omega (arith, placed.count))) ∙ e)))
       (cases_lt p (length t.clocks))
 
-  pub IsFollowed-kept : (p : ℕ) (r : Row) → IsKeptFollowed followed lost p r → IsFollowed t p r
+  pub IsFollowed-kept : (p : ℕ) (r : TreeRow) → IsKeptFollowed followed lost p r → IsFollowed t p r
   IsFollowed-kept p (row.Clock above depth) h =
       let inside = AreWithin-placed t followed placed p above h in
       (within p above h, omega (arith, inside, placed.count), λ d. (placed.each p d (within p above h)).parent d ∙ ap (option_map (λ q. get_or t.clocks q d)) h)

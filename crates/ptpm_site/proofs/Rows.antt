@@ -6,8 +6,8 @@ use Rattle.std.proofs.lemmas.List.Elements.{filter_map-append}
 use Rattle.std.proofs.lemmas.List.Sums.{sum_by-append}
 use Rattle.std.specs.List.{count_by}
 use Rattle.ptpm_codec.specs.declared.identity.PortIdentity.{PortIdentity}
-use Rattle.ptpm_site.specs.declared.tree.Row.{Row}
-use Rattle.ptpm_site.specs.declared.tree.Row.TheVariants as row
+use Rattle.ptpm_site.specs.declared.tree.TreeRow.{TreeRow}
+use Rattle.ptpm_site.specs.declared.tree.TreeRow.TheVariants as row
 use Rattle.ptpm_site.specs.Tree.{IsGrown, place_of, places_of, rows_at}
 
 -- no mark past the last is as good as one that says no
@@ -18,19 +18,19 @@ get_or-more_false (x ∷ xs) zero = refl
 get_or-more_false (x ∷ xs) (suc p) = get_or-more_false xs p
 
 -- one more row of a clock
-pub rows_at-clock : (rows : List Row) (p depth q : ℕ) → rows_at q (rows ++ row.Clock p depth ∷ []) ≡ rows_at q rows + cond (p == q) 1 0
+pub rows_at-clock : (rows : List TreeRow) (p depth q : ℕ) → rows_at q (rows ++ row.Clock p depth ∷ []) ≡ rows_at q rows + cond (p == q) 1 0
 rows_at-clock rows p depth q =
     ap (count_by (λ r. r == q)) (filter_map-append place_of rows (row.Clock p depth ∷ []))
     ∙ sum_by-append (λ r. cond (r == q) 1 0) (places_of rows) (p ∷ [])
     ∙ ap (λ n. rows_at q rows + n) (zero-add (cond (p == q) 1 0))
 
 -- one that names a port
-pub rows_at-not_seen : (rows : List Row) (domain : ℕ) (parent : PortIdentity) (q : ℕ) → rows_at q (rows ++ row.NotSeen domain parent ∷ []) ≡ rows_at q rows
+pub rows_at-not_seen : (rows : List TreeRow) (domain : ℕ) (parent : PortIdentity) (q : ℕ) → rows_at q (rows ++ row.NotSeen domain parent ∷ []) ≡ rows_at q rows
 rows_at-not_seen rows domain parent q =
     ap (count_by (λ p. p == q)) (filter_map-append place_of rows (row.NotSeen domain parent ∷ []) ∙ append-nil (places_of rows))
 
 -- a clock that has no row gets one, and its mark
-pub IsGrown-clock : (marks : List Bool) (rows : List Row) (p depth : ℕ)
+pub IsGrown-clock : (marks : List Bool) (rows : List TreeRow) (p depth : ℕ)
     → IsGrown marks rows
     → p < length marks
     → get_or marks p false ≡ false
@@ -44,11 +44,11 @@ IsGrown-clock marks rows p depth h within none q =
     ∙ sym (ap (λ b. cond b 1 0) (get_or-set_other marks p q true false other)))
     (cases_eq p q)
 
-pub IsGrown-not_seen : (marks : List Bool) (rows : List Row) (domain : ℕ) (parent : PortIdentity) → IsGrown marks rows → IsGrown marks (rows ++ row.NotSeen domain parent ∷ [])
+pub IsGrown-not_seen : (marks : List Bool) (rows : List TreeRow) (domain : ℕ) (parent : PortIdentity) → IsGrown marks rows → IsGrown marks (rows ++ row.NotSeen domain parent ∷ [])
 IsGrown-not_seen marks rows domain parent h q = rows_at-not_seen rows domain parent q ∙ h q
 
 -- the same, with the marks covered first
-pub IsGrown-more : (old_marks covered marks : List Bool) (old_rows rows : List Row) (p depth : ℕ)
+pub IsGrown-more : (old_marks covered marks : List Bool) (old_rows rows : List TreeRow) (p depth : ℕ)
     → IsGrown old_marks old_rows
     → ((q : ℕ) → get_or covered q false ≡ get_or old_marks q false)
     → p < length covered

@@ -5,8 +5,8 @@ use Rattle.std.specs.List.Sorted.{IsNonDecreasingBy}
 use Rattle.ptpm_codec.specs.declared.identity.PortIdentity.{PortIdentity}
 use Rattle.ptpm_site.specs.declared.forest.Follower.{Follower}
 use Rattle.ptpm_site.specs.declared.forest.Lost.{Lost}
-use Rattle.ptpm_site.specs.declared.tree.Row.{Row}
-use Rattle.ptpm_site.specs.declared.tree.Row.TheVariants as row
+use Rattle.ptpm_site.specs.declared.tree.TreeRow.{TreeRow}
+use Rattle.ptpm_site.specs.declared.tree.TreeRow.TheVariants as row
 use Rattle.ptpm_site.specs.SiteAnswers.{SiteAnswers}
 use Rattle.ptpm_site.specs.Tree.{IsFollowed}
 
@@ -28,6 +28,6 @@ abbrev pub IsLost : SiteAnswers → Lost → Type 0
 IsLost site l = IsFollowed site l.place (row.NotSeen l.domain l.parent)
 
 -- a row is of what the clock at a place follows, as it is kept
-abbrev pub IsKeptFollowed : List (Option ℕ) → List Lost → ℕ → Row → Type 0
+abbrev pub IsKeptFollowed : List (Option ℕ) → List Lost → ℕ → TreeRow → Type 0
 IsKeptFollowed followed lost place (row.Clock above depth) = slice_index_or followed place None ≡ Some above
 IsKeptFollowed followed lost place (row.NotSeen domain parent) = let l : Lost = record { domain = domain; parent = parent; place = place } in Contains lost l

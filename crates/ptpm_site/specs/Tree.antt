@@ -2,53 +2,53 @@
 use Rattle.std.specs.Prelude.{◌≡◌, ℕ, ◌+◌, ◌==◌, ◌<◌, ◌≤◌, ◌⊎◌, Bool, true, false, List, ◌∷◌, ◌++◌, length, take, Option, Some, None, if◌then◌else◌, slice_index_or, count_by}
 use Rattle.std.specs.List.{All, filter_map}
 use Rattle.ptpm_site.specs.declared.source.Source.{Source}
-use Rattle.ptpm_site.specs.declared.tree.Row.{Row}
-use Rattle.ptpm_site.specs.declared.tree.Row.TheVariants as row
+use Rattle.ptpm_site.specs.declared.tree.TreeRow.{TreeRow}
+use Rattle.ptpm_site.specs.declared.tree.TreeRow.TheVariants as row
 use Rattle.ptpm_site.specs.Following.{followed, parent_clock}
 use Rattle.ptpm_site.specs.SiteAnswers.{SiteAnswers}
 
 -- the clock of a row, by its place; a row that names a port has none
-abbrev pub place_of : Row → Option ℕ
+abbrev pub place_of : TreeRow → Option ℕ
 place_of (row.Clock place depth) = Some place
 place_of (row.NotSeen domain parent) = None
 
-abbrev pub places_of : List Row → List ℕ
+abbrev pub places_of : List TreeRow → List ℕ
 places_of rows = filter_map place_of rows
 
 -- how many rows a clock has
-abbrev pub rows_at : ℕ → List Row → ℕ
+abbrev pub rows_at : ℕ → List TreeRow → ℕ
 rows_at p rows = count_by (λ q. q == p) (places_of rows)
 
 -- each of this many clocks has one row
-abbrev pub StandsOnce : ℕ → List Row → Type 0
+abbrev pub StandsOnce : ℕ → List TreeRow → Type 0
 StandsOnce count rows = (p : ℕ) → p < count → rows_at p rows ≡ 1
 
 -- ---- below which row a clock is
 
 -- a row that names a port is a root
-abbrev pub depth_of : Row → ℕ
+abbrev pub depth_of : TreeRow → ℕ
 depth_of (row.Clock place depth) = depth
 depth_of (row.NotSeen domain parent) = 0
 
 -- what is above a row of this depth that comes after these: the nearest that is less deep, and it is one less deep
-pub record IsAbove (rows : List Row) (depth : ℕ) (above : Row) : Type 0 where
-  pub earlier : List Row
-  pub later : List Row
+pub record IsAbove (rows : List TreeRow) (depth : ℕ) (above : TreeRow) : Type 0 where
+  pub earlier : List TreeRow
+  pub later : List TreeRow
   pub split : rows ≡ earlier ++ above ∷ later
   pub step : depth_of above + 1 ≡ depth
   pub nearest : All (λ r. depth ≤ depth_of r) later
 
 -- a row after these is a root, or below the row of what its clock follows
-abbrev pub StandsBelow : (ℕ → Row → Type 0) → List Row → Row → Type 0
-StandsBelow follows rows (row.Clock place depth) = (depth ≡ 0) ⊎ ((above : Row) × IsAbove rows depth above × follows place above)
+abbrev pub StandsBelow : (ℕ → TreeRow → Type 0) → List TreeRow → TreeRow → Type 0
+StandsBelow follows rows (row.Clock place depth) = (depth ≡ 0) ⊎ ((above : TreeRow) × IsAbove rows depth above × follows place above)
 StandsBelow follows rows (row.NotSeen domain parent) = Unit {0}
 
 -- each row after those before it
-abbrev pub AreBelow : (ℕ → Row → Type 0) → List Row → Type 0
-AreBelow follows rows = (k : ℕ) (d : Row) → k < length rows → StandsBelow follows (take k rows) (slice_index_or rows k d)
+abbrev pub AreBelow : (ℕ → TreeRow → Type 0) → List TreeRow → Type 0
+AreBelow follows rows = (k : ℕ) (d : TreeRow) → k < length rows → StandsBelow follows (take k rows) (slice_index_or rows k d)
 
 -- a row is of what the clock at a place follows: of the clock, or of its port, if that clock is not seen
-abbrev pub IsFollowed : SiteAnswers → ℕ → Row → Type 0
+abbrev pub IsFollowed : SiteAnswers → ℕ → TreeRow → Type 0
 IsFollowed site place (row.Clock above depth) = (place < length site.clocks) × (above < length site.clocks)
     × ((d : Source) → parent_clock site (slice_index_or site.clocks place d) ≡ Some (slice_index_or site.clocks above d))
 IsFollowed site place (row.NotSeen domain parent) = (place < length site.clocks)
@@ -58,7 +58,7 @@ IsFollowed site place (row.NotSeen domain parent) = (place < length site.clocks)
 -- ---- while the tree grows
 
 -- each clock that is marked has one row, and no other has any
-abbrev pub IsGrown : List Bool → List Row → Type 0
+abbrev pub IsGrown : List Bool → List TreeRow → Type 0
 IsGrown marks rows = (p : ℕ) → rows_at p rows ≡ (if slice_index_or marks p false then 1 else 0)
 
 -- each clock that was marked stays marked

@@ -12,7 +12,7 @@ use crate::left_out::LeftOut;
 use crate::limits::Limits;
 use crate::loops::least_of_loops;
 use crate::site::Site;
-use crate::tree::{Row, rows};
+use crate::tree::{TreeRow, rows};
 use std::alloc::{AllocError, Global};
 
 /// A site with its tree and its findings.
@@ -20,7 +20,7 @@ use std::alloc::{AllocError, Global};
 pub struct Picture<'a> {
     pub site: &'a Site,
     pub forest: Forest,
-    pub rows: Vec<Row>,
+    pub rows: Vec<TreeRow>,
     pub findings: Vec<Finding<'a>>,
     pub left_out: LeftOut,
 }

@@ -13,7 +13,7 @@ use std::alloc::{AllocError, Global};
 
 /// A line of the tree.
 #[derive(Clone, Copy)]
-pub enum Row {
+pub enum TreeRow {
     /// The clock at this place of the site, and how many rows are above it on the way to its root.
     Clock { place: usize, depth: u32 },
     /// A port that the clocks below this row follow, and whose clock is not seen.
@@ -28,7 +28,7 @@ pub fn rows(
     site: &Site,
     forest: &Forest,
     least: &[bool],
-) -> Result<Vec<Row>, AllocError>
+) -> Result<Vec<TreeRow>, AllocError>
     ensures once { IfOk result (λ rows. StandsOnce (vec_len forest.now.sources) rows.items) }
     ensures below { IfOk result (λ rows. AreTrue forest.now rows.items) }
 {

@@ -7,14 +7,14 @@ ghost use Rattle.ptpm_site.specs.Tree.{IsGrown, StandsOnce, StaysMarked, rows_at
 
 use crate::forest::Forest;
 use crate::marks::is_marked;
-use crate::tree::Row;
+use crate::tree::TreeRow;
 use ptpm_codec::PortIdentity;
 use std::alloc::{AllocError, Global};
 
 /// A tree that grows.
 #[derive(Drop)]
 pub struct TreeBuilder {
-    rows: Vec<Row>,
+    rows: Vec<TreeRow>,
     /// Whether a clock has its row, by its place. A clock past the last mark has none.
     marks: Vec<bool>,
     /// Places and depths of clocks that follow one that has its row. The next one is the last.
@@ -42,7 +42,7 @@ impl TreeBuilder {
         place: usize,
         depth: u32,
     ) -> Result<(), AllocError>
-        requires stands { MayStand forest.now self.old.rows.items (Row.Clock place depth) }
+        requires stands { MayStand forest.now self.old.rows.items (TreeRow.Clock place depth) }
         requires below { AreTrue forest.now self.old.rows.items }
         ensures marked { OnOk result (slice_index_or self.new.marks.items place false ≡ true) }
         ensures stays { OnOk result (StaysMarked self.old.marks.items self.new.marks.items) }
@@ -64,7 +64,7 @@ impl TreeBuilder {
     /// Gives a clock its row at this depth, unless it has one. Then those that follow it are next, the first of
     /// them last.
     fn put(&mut self, forest: &Forest, place: usize, depth: u32) -> Result<(), AllocError>
-        requires stands { MayStand forest.now self.old.rows.items (Row.Clock place depth) }
+        requires stands { MayStand forest.now self.old.rows.items (TreeRow.Clock place depth) }
         requires below { AreTrue forest.now self.old.rows.items }
         requires shallow { All (λ w. w.1 ≤ depth) self.old.waiting.items }
         ensures marked { OnOk result (slice_index_or self.new.marks.items place false ≡ true) }
@@ -82,13 +82,13 @@ impl TreeBuilder {
 
     /// A row that names a port whose clock is not seen.
     pub fn add_not_seen(&mut self, domain: u8, parent: PortIdentity) -> Result<(), AllocError>
-        ensures { OnOk result (self.new.rows.items ≡ self.old.rows.items ++ Row.NotSeen domain parent ∷ []) }
+        ensures { OnOk result (self.new.rows.items ≡ self.old.rows.items ++ TreeRow.NotSeen domain parent ∷ []) }
     {
         add_port(&mut self.rows, domain, parent)
     }
 
     /// The rows. A clock that has none yet gets one at depth 0.
-    pub fn finish(mut self, forest: &Forest) -> Result<Vec<Row>, AllocError>
+    pub fn finish(mut self, forest: &Forest) -> Result<Vec<TreeRow>, AllocError>
         requires { AreTrue forest.now self.rows.items }
         ensures once { IfOk result (λ rows. StandsOnce (vec_len forest.now.sources) rows.items) }
         ensures below { IfOk result (λ rows. AreTrue forest.now rows.items) }
@@ -121,7 +121,7 @@ fn wait_below(
 
 /// Adds a row for a clock that has none, and marks it.
 fn add_clock(
-    rows: &mut Vec<Row>,
+    rows: &mut Vec<TreeRow>,
     marks: &mut Vec<bool>,
     place: usize,
     depth: u32,
@@ -131,10 +131,10 @@ fn add_clock(
     ensures grown { IsGrown marks.new.items rows.new.items }
     ensures marked { OnOk result (slice_index_or marks.new.items place false ≡ true) }
     ensures stays { StaysMarked marks.old.items marks.new.items }
-    ensures row { OnOk result (rows.new.items ≡ rows.old.items ++ Row.Clock place depth ∷ []) }
+    ensures row { OnOk result (rows.new.items ≡ rows.old.items ++ TreeRow.Clock place depth ∷ []) }
 {
     cover(marks, place)?;
-    rows.push(Row::Clock { place, depth })?;
+    rows.push(TreeRow::Clock { place, depth })?;
     mark(marks, place);
     Ok(())
 }
@@ -148,11 +148,11 @@ fn mark(marks: &mut Vec<bool>, place: usize)
 }
 
 /// A row that names a port.
-fn add_port(rows: &mut Vec<Row>, domain: u8, parent: PortIdentity) -> Result<(), AllocError>
+fn add_port(rows: &mut Vec<TreeRow>, domain: u8, parent: PortIdentity) -> Result<(), AllocError>
     ensures same { (p : ℕ) → rows_at p rows.new.items ≡ rows_at p rows.old.items }
-    ensures row { OnOk result (rows.new.items ≡ rows.old.items ++ Row.NotSeen domain parent ∷ []) }
+    ensures row { OnOk result (rows.new.items ≡ rows.old.items ++ TreeRow.NotSeen domain parent ∷ []) }
 {
-    rows.push(Row::NotSeen { domain, parent })?;
+    rows.push(TreeRow::NotSeen { domain, parent })?;
     Ok(())
 }
 

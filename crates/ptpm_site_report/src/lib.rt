@@ -11,9 +11,9 @@ mod intervals;
 mod json;
 mod lines;
 mod ports_text;
-mod reading;
 mod reporting;
 mod rows;
+mod site_lines;
 mod text;
 
-pub use reporting::{Form, Options, Outcome, report};
+pub use reporting::{Conclusion, Form, Options, report};

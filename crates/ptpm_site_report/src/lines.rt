@@ -7,7 +7,7 @@ use crate::rows::{Rows, notes_of};
 use ptpm_site::clock::Clock;
 use ptpm_site::picture::Picture;
 use ptpm_site::source::Source;
-use ptpm_site::tree::Row;
+use ptpm_site::tree::TreeRow;
 use std::alloc::{AllocError, Global};
 
 /// What is drawn round the name of a row.
@@ -75,9 +75,9 @@ fn said(alloc: Global, name: String) -> Line {
     }
 }
 
-fn line_of(alloc: Global, all: Rows<'_>, row: &Row) -> Result<Option<Line>, AllocError> {
+fn line_of(alloc: Global, all: Rows<'_>, row: &TreeRow) -> Result<Option<Line>, AllocError> {
     match row {
-        Row::NotSeen { parent, .. } => Ok(Some(Line {
+        TreeRow::NotSeen { parent, .. } => Ok(Some(Line {
             frame: Frame::Dashed,
             depth: 0,
             name: format!(in alloc; "not seen: {parent}")?,
@@ -85,7 +85,7 @@ fn line_of(alloc: Global, all: Rows<'_>, row: &Row) -> Result<Option<Line>, Allo
             facts: String::new(alloc),
             findings: Vec::new(alloc),
         })),
-        Row::Clock { place, depth } => match all.clock_of(row) {
+        TreeRow::Clock { place, depth } => match all.clock_of(row) {
             Some((source, clock)) => {
                 let cut = all.cut(*place, *depth);
                 Ok(Some(clock_line(alloc, all, source, clock, *depth, cut)?))

@@ -7,7 +7,7 @@ ghost use Rattle.ptpm_site_report.specs.Reporting.{outcome, status};
 
 use crate::drawing::draw;
 use crate::json::Object;
-use crate::reading::read_site;
+use crate::site_lines::read_site;
 use crate::text::Sheet;
 use ptpm_commands::Fault;
 use ptpm_site::left_out::LeftOut;
@@ -37,7 +37,7 @@ pub struct Options {
 
 /// What came of it.
 #[derive(Clone, Copy)]
-pub enum Outcome {
+pub enum Conclusion {
     /// No clock answered.
     NoClock,
     /// Nothing is wrong.
@@ -46,15 +46,15 @@ pub enum Outcome {
     Findings,
 }
 
-impl Outcome {
+impl Conclusion {
     /// The exit status.
     pub fn status(self) -> u8
         ensures { result ≡ status self }
     {
         match self {
-            Outcome::Sound => 0,
-            Outcome::Findings => 1,
-            Outcome::NoClock => 3,
+            Conclusion::Sound => 0,
+            Conclusion::Findings => 1,
+            Conclusion::NoClock => 3,
         }
     }
 }
@@ -65,7 +65,7 @@ pub fn report<R: Read + Drop, O: Write>(
     options: Options,
     reader: R,
     out: &mut O,
-) -> Result<Outcome, Fault> {
+) -> Result<Conclusion, Fault> {
     let mut site = read_site(alloc, reader)?;
     let left_out = site.keep_first();
     report_of(alloc, options, &site, left_out, out)
@@ -78,7 +78,7 @@ fn report_of<O: Write>(
     site: &Site,
     left_out: LeftOut,
     out: &mut O,
-) -> Result<Outcome, Fault>
+) -> Result<Conclusion, Fault>
     ensures { IfOk result (λ came. came ≡ outcome (site_answers site.now).clocks (findings_of (site_answers site.now) options.limits)) }
 {
     match Picture::of(alloc, site, left_out, options.limits) {
@@ -105,14 +105,14 @@ fn print_picture<O: Write>(
 
 /// What came of a site that is judged.
 #[tactic(auto, unfolding(ptpm_site::specs::Findings::reported))]
-fn outcome_of(picture: &Picture<'_>) -> Outcome
+fn outcome_of(picture: &Picture<'_>) -> Conclusion
     ensures { result ≡ outcome picture.now.forest.sources.items (reported picture.now.findings.items) }
 {
     if picture.forest.sources.is_empty() {
-        Outcome::NoClock
+        Conclusion::NoClock
     } else if picture.findings.is_empty() {
-        Outcome::Sound
+        Conclusion::Sound
     } else {
-        Outcome::Findings
+        Conclusion::Findings
     }
 }

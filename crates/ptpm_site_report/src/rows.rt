@@ -6,7 +6,7 @@ use ptpm_site::clock::Clock;
 use ptpm_site::left_out::{CLOCKS, PORTS};
 use ptpm_site::picture::Picture;
 use ptpm_site::source::Source;
-use ptpm_site::tree::Row;
+use ptpm_site::tree::TreeRow;
 use std::alloc::{AllocError, Global};
 
 /// The rows of a picture.
@@ -14,15 +14,15 @@ use std::alloc::{AllocError, Global};
 pub(crate) struct Rows<'a>(pub(crate) &'a Picture<'a>);
 
 impl<'a> Rows<'a> {
-    pub(crate) fn domain_of(&self, row: &Row) -> u8 {
+    pub(crate) fn domain_of(&self, row: &TreeRow) -> u8 {
         match row {
-            Row::Clock { place, .. } => self.0.forest.domain_of(*place).unwrap_or(0),
-            Row::NotSeen { domain, .. } => *domain,
+            TreeRow::Clock { place, .. } => self.0.forest.domain_of(*place).unwrap_or(0),
+            TreeRow::NotSeen { domain, .. } => *domain,
         }
     }
 
     /// How many of these rows, from the first on, are of a domain.
-    pub(crate) fn count_of(&self, domain: u8, rows: &[Row]) -> usize
+    pub(crate) fn count_of(&self, domain: u8, rows: &[TreeRow]) -> usize
         ensures { result ≤ length rows.now }
     {
         for (count, row) in rows.iter().enumerate() {
@@ -34,13 +34,13 @@ impl<'a> Rows<'a> {
     }
 
     /// The clock of a row, and what is known of it; none if the row names one that is not seen.
-    pub(crate) fn clock_of(&self, row: &Row) -> Option<(Source, &Clock)> {
+    pub(crate) fn clock_of(&self, row: &TreeRow) -> Option<(Source, &Clock)> {
         match row {
-            Row::Clock { place, .. } => {
+            TreeRow::Clock { place, .. } => {
                 let source = self.0.forest.sources.get(*place)?;
                 Some((*source, self.0.site.clocks.get(source)?))
             }
-            Row::NotSeen { .. } => None,
+            TreeRow::NotSeen { .. } => None,
         }
     }
 
@@ -57,11 +57,11 @@ impl<'a> Rows<'a> {
         &self,
         alloc: Global,
         domain: u8,
-        rows: &[Row],
+        rows: &[TreeRow],
     ) -> Result<String, AllocError> {
         let clocks = rows
             .iter()
-            .filter(|row| matches!(row, Row::Clock { .. }))
+            .filter(|row| matches!(row, TreeRow::Clock { .. }))
             .count();
         let noun = if clocks == 1 { "clock" } else { "clocks" };
         let mut head = format!(in alloc; "domain {domain}: {clocks} {noun}")?;

@@ -8,7 +8,7 @@ use ptpm_commands::Fault;
 use ptpm_site::finding::{Finding, What};
 use ptpm_site::picture::Picture;
 use ptpm_site::source::Source;
-use ptpm_site::tree::Row;
+use ptpm_site::tree::TreeRow;
 use std::alloc::{AllocError, Global};
 use std::io;
 use std::io::Write;
@@ -87,13 +87,13 @@ impl Sheet<'_> {
 fn print_rows<O: Write>(
     alloc: Global,
     all: Rows<'_>,
-    rows: &[Row],
+    rows: &[TreeRow],
     out: &mut O,
 ) -> Result<(), Fault> {
     let widths = widths_of(alloc, all, rows).map_err(|_| Fault::OutOfMemory)?;
     for row in rows {
         match row {
-            Row::Clock { place, depth } => {
+            TreeRow::Clock { place, depth } => {
                 if let Some((source, clock)) = all.clock_of(row) {
                     let columns = Columns::of(alloc, clock).map_err(|_| Fault::OutOfMemory)?;
                     print_clock(source, indent(*depth), &columns, &widths, out)?;
@@ -101,7 +101,7 @@ fn print_rows<O: Write>(
                     writeln!(out, "  {}{cut}", PortsText(clock))?;
                 }
             }
-            Row::NotSeen { parent, .. } => {
+            TreeRow::NotSeen { parent, .. } => {
                 print_spaces(MARGIN, out)?;
                 writeln!(out, "not seen: {parent}")?;
             }
@@ -124,10 +124,10 @@ fn print_clock<O: Write>(
 }
 
 /// The widths that the columns of these rows need.
-fn widths_of(alloc: Global, all: Rows<'_>, rows: &[Row]) -> Result<Widths, AllocError> {
+fn widths_of(alloc: Global, all: Rows<'_>, rows: &[TreeRow]) -> Result<Widths, AllocError> {
     let mut widths = Widths::of_none();
     for row in rows {
-        if let Row::Clock { depth, .. } = row {
+        if let TreeRow::Clock { depth, .. } = row {
             if let Some((_, clock)) = all.clock_of(row) {
                 widths.widen(indent(*depth), &Columns::of(alloc, clock)?);
             }

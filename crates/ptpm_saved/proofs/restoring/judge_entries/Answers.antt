@@ -1,7 +1,7 @@
 use Rattle.std.proofs.Common.{◌∙◌, List, ℕ, ap, arith, length, sym}
 use Rattle.std.proofs.lemmas.Bool.{false≢true}
 use Rattle.std.specs.Prelude.{◌==◌}
-use Rattle.ptpm_saved.specs.Reading.{entry_read}
+use Rattle.ptpm_saved.specs.EntryReading.{entry_read}
 use Rattle.ptpm_saved.proofs.RestoringLemmas.{cut_short, empty_of, found_whole, none_read, out_of_order, read_on, read_whole}
 use Rattle.ptpm_saved.proofs.restoring.judge_entries.Goals as goal
 

@@ -1,7 +1,7 @@
 use Rattle.std.proofs.Common.{◌<◌, ◌∙◌, ap, arith, length, refl}
 use Rattle.ptpm_table.specs.Entries.{is_known}
 use Rattle.ptpm_table.specs.Managers.{Clock}
-use Rattle.ptpm_saved.specs.Reading.{entry_read}
+use Rattle.ptpm_saved.specs.EntryReading.{entry_read}
 use Rattle.ptpm_saved.specs.Restoring.{kept_by}
 use Rattle.ptpm_saved.proofs.EntryOrder.{Pair}
 use Rattle.ptpm_saved.proofs.RestoringLemmas.{all_kept, gone_on, in_front, keep_on, none_kept, one_of, one_small}

@@ -7,8 +7,8 @@ use Rattle.ptpm_codec.specs.Identity.{same_identity}
 use Rattle.ptpm_codec.proofs.IdentityLaws.{same_identity-true}
 use Rattle.ptpm_codec.specs.declared.identity.PortIdentity.{PortIdentity}
 use Rattle.ptpm_site.specs.declared.forest.Lost.{Lost}
-use Rattle.ptpm_site.specs.declared.tree.Row.{Row}
-use Rattle.ptpm_site.specs.declared.tree.Row.TheVariants as row
+use Rattle.ptpm_site.specs.declared.tree.TreeRow.{TreeRow}
+use Rattle.ptpm_site.specs.declared.tree.TreeRow.TheVariants as row
 use Rattle.ptpm_site.specs.declared.tree_builder.TreeBuilder.{TreeBuilder}
 use Rattle.ptpm_site.specs.Tree.{IsAbove}
 use Rattle.ptpm_site.proofs.Below.{IsAbove-last}
@@ -23,7 +23,7 @@ pub add_subtree-requires-clause-stands : goal.add_subtree-requires-clause-stands
 add_subtree-requires-clause-stands c =
     let none : Lost = record { domain = 0; parent = record { clock = record { 0 = [] }; port = 0 }; place = 0 } in
     let lost : Lost = get_or c.lost_of-lost-items.result.now c.loop-lost.lost-index none in
-    let port : Row = row.NotSeen c.args.domain lost.parent in
+    let port : TreeRow = row.NotSeen c.args.domain lost.parent in
     let read = c.lost_of-lost-items.ensures c.loop-lost.lost-index none (omega arith) in
     let above : IsAbove c.if-ne.builder.rows.items 1 port = elim c.if-ne.branch [
       | then-ne+in_ok-add_not_seen w ↦

@@ -1,15 +1,15 @@
 -- The clock has its row after those of before, and those that follow it wait.
 use Rattle.std.proofs.Common.{◌≡◌, ◌∷◌, [], ◌++◌, subst, sym}
 use Rattle.std.proofs.lemmas.Result.{on_ok_weaker}
-use Rattle.ptpm_site.specs.declared.tree.Row.{Row}
-use Rattle.ptpm_site.specs.declared.tree.Row.TheVariants as row
+use Rattle.ptpm_site.specs.declared.tree.TreeRow.{TreeRow}
+use Rattle.ptpm_site.specs.declared.tree.TreeRow.TheVariants as row
 use Rattle.ptpm_site.specs.Growing.{AreTrue, AreWaiting, IsFollowedIn, StaysAbove}
 use Rattle.ptpm_site.proofs.Below.{AreBelow-push, AreWaiting-put, StaysAbove-push}
 use Rattle.ptpm_site.proofs.tree_builder.TreeBuilder.put.Goals as goal
 
 pub returns-clause-below : goal.returns-clause-below
 returns-clause-below c =
-    let here : Row = row.Clock c.args.place c.args.depth in
+    let here : TreeRow = row.Clock c.args.place c.args.depth in
     on_ok_weaker c.wait_below.result
     (λ _. subst (AreTrue c.args.forest.now) (sym c.in_ok-add_clock.ensures.row)
     (AreBelow-push (IsFollowedIn c.args.forest.now) c.args.self.now.rows.items here c.requires.below c.requires.stands))
@@ -17,7 +17,7 @@ returns-clause-below c =
 
 pub returns-clause-above : goal.returns-clause-above
 returns-clause-above c =
-    let here : Row = row.Clock c.args.place c.args.depth in
+    let here : TreeRow = row.Clock c.args.place c.args.depth in
     let old = c.args.self.now.rows.items in
     on_ok_weaker c.wait_below.result
     (λ _. subst (StaysAbove c.args.depth old) (sym c.in_ok-add_clock.ensures.row) (StaysAbove-push old here))

@@ -2,7 +2,7 @@ use Rattle.std.proofs.Common.{◌∙◌, ◌++◌, length, sym}
 use Rattle.byteorder.specs.Endian.{big_bytes}
 use Rattle.ptpm_codec.specs.Message.{action_code}
 use Rattle.ptpm_saved.proofs.ReadingLemmas.{request_parts, same_tails}
-use Rattle.ptpm_saved.proofs.reading.read_request.Goals as goal
+use Rattle.ptpm_saved.proofs.entry_reading.read_request.Goals as goal
 
 pub returns-in_err-size-clause-found : goal.returns-in_err-size-clause-found
 returns-in_err-size-clause-found c = λ q rest asks fits is.

@@ -5,7 +5,7 @@ use Rattle.ptpm_manager.specs.Image.{request_image}
 use Rattle.ptpm_table.specs.Lending.{IsKeepable}
 use Rattle.ptpm_saved.specs.Image.{reply_image}
 use Rattle.ptpm_saved.proofs.ReadingLemmas.{entry_parts, request_fits}
-use Rattle.ptpm_saved.proofs.reading.read_entry.Goals as goal
+use Rattle.ptpm_saved.proofs.entry_reading.read_entry.Goals as goal
 
 pub returns-in_err-octets-clause-found : goal.returns-in_err-octets-clause-found
 returns-in_err-octets-clause-found c = λ e rest s is.

@@ -1,6 +1,6 @@
 use Rattle.std.proofs.Common.{arith}
 use Rattle.ptpm_saved.proofs.ReadingLemmas.{all_read, answer_read, no_answer, none_are_read}
-use Rattle.ptpm_saved.proofs.reading.read_answers.Goals as goal
+use Rattle.ptpm_saved.proofs.entry_reading.read_answers.Goals as goal
 
 pub loop-place-init : goal.loop-place-init
 loop-place-init c = none_are_read c.args.of_port c.args.count c.args.octets.now c.clear.new.self.items c.clear.ensures

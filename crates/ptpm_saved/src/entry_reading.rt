@@ -12,7 +12,7 @@ ghost use Rattle.ptpm_manager.specs.Image.{request_image};
 ghost use Rattle.ptpm_table.specs.Entries.{Entry};
 ghost use Rattle.ptpm_table.specs.Lending.{AnswerFits, IsKeepable};
 ghost use Rattle.ptpm_saved.specs.Image.{EntryIsSound, reply_image, answer_image, answers_image, entry_image, outcome_image, port_octets};
-ghost use Rattle.ptpm_saved.specs.Reading.{IsOfPort, RequestFits, IsSmall, entry_read};
+ghost use Rattle.ptpm_saved.specs.EntryReading.{IsOfPort, RequestFits, IsSmall, entry_read};
 
 use crate::keepable::{fit_answers, fits_count, is_of_port};
 use arrayvec::ArrayVec;

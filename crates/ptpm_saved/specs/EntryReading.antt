@@ -1,7 +1,7 @@
 -- What is read of an entry's image, part by part.
 use Rattle.std.specs.Prelude.{◌≡◌, ◌<◌, ◌≤◌, ◌^◌, Bool, is_some, length}
 use Rattle.ptpm_data.specs.Reply.{Answer}
-use Rattle.ptpm_saved.specs.declared.reading.SavedRequest.{SavedRequest}
+use Rattle.ptpm_saved.specs.declared.entry_reading.SavedRequest.{SavedRequest}
 use Rattle.ptpm_data.specs.Reply.{ReplyValue}
 use Rattle.ptpm_data.specs.Request.{RequestValue}
 use Rattle.ptpm_saved.specs.Image.{outcome_image}

@@ -2,16 +2,16 @@
 use Rattle.std.proofs.Common.{◌≡◌, ◌∙◌, ◌+◌, ◌-◌, ◌≤◌, ℕ, zero, suc, List, [], ◌∷◌, ap, arith, drop, refl, subst, sym, take}
 use Rattle.std.proofs.lemmas.List.{drop-drop}
 use Rattle.std.specs.List.{AllZip}
-use Rattle.ptpm_host.specs.declared.places.Places.{Places}
+use Rattle.ptpm_host.specs.declared.outbox.Outbox.{Outbox}
 use Rattle.ptpm_host.specs.declared.sent.Sent.{Sent}
 use Rattle.ptpm_host.specs.Clock.{KeepsBehind}
-use Rattle.ptpm_host.specs.Places.{HasGrown}
+use Rattle.ptpm_host.specs.Outbox.{HasGrown}
 
 pub kept_by_none : (room : List Sent) → AllZip KeepsBehind room room
 kept_by_none [] = tt
 kept_by_none (s ∷ ss) = (refl, kept_by_none ss)
 
-pub grown_by_none : (a : Places) → HasGrown a a
+pub grown_by_none : (a : Outbox) → HasGrown a a
 grown_by_none a = record { same_reference = refl; more = omega arith; messages = refl; places = refl; behind = kept_by_none a.room.now }
 
 pub first_same : (r b : Sent) (rs bs : List Sent) → r ∷ rs ≡ b ∷ bs → r ≡ b
@@ -53,7 +53,7 @@ drop_more n m xs ys less same =
     let parts : m ≡ n + (m - n) = omega (arith, less) in
     ap (λ k. drop k xs) parts ∙ sym (drop-drop (m - n) n xs) ∙ ap (drop (m - n)) same ∙ drop-drop (m - n) n ys ∙ sym (ap (λ k. drop k ys) parts)
 
-pub grown_twice : (a b c : Places) → HasGrown a b → HasGrown b c → HasGrown a c
+pub grown_twice : (a b c : Outbox) → HasGrown a b → HasGrown b c → HasGrown a c
 grown_twice a b c first second = record {
   same_reference = second.same_reference ∙ first.same_reference;
   more = omega (arith, first.more, second.more);

@@ -6,7 +6,7 @@ use Rattle.ptpm_data.specs.Reply.{answer_of}
 use Rattle.ptpm_data.specs.Request.{RequestValue}
 use Rattle.ptpm_table.specs.Entries.{FitsAnswer}
 use Rattle.ptpm_saved.proofs.ReadingLemmas.{keepable_reply, not_fitting}
-use Rattle.ptpm_saved.proofs.reading.read_reply.Goals as goal
+use Rattle.ptpm_saved.proofs.entry_reading.read_reply.Goals as goal
 
 pub returns-then-not-fit_answers-clause-found : goal.returns-then-not-fit_answers-clause-found
 returns-then-not-fit_answers-clause-found c = λ n r rest keep fits is.

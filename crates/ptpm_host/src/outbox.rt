@@ -9,7 +9,7 @@ use ptpm_table::{Outgoing, Renewal};
 
 /// A host's places, fifteen at least. The first of them have messages.
 #[derive(Drop)]
-pub(crate) struct Places<'a> {
+pub(crate) struct Outbox<'a> {
     room: &'a mut [Sent],
     /// How many have a message.
     count: usize,
@@ -18,24 +18,24 @@ pub(crate) struct Places<'a> {
     ghost whole: { All IsWhole (take count room.now) },
 }
 
-impl<'a> Places<'a> {
+impl<'a> Outbox<'a> {
     /// These places, without messages.
     #[inline(always)]
-    pub(crate) fn new(room: &'a mut [Sent]) -> Places<'a>
+    pub(crate) fn new(room: &'a mut [Sent]) -> Outbox<'a>
         requires { 15 ≤ length room.old }
         ensures same_reference { result.room.ghost_name ≡ room.entry.ghost_name }
         ensures room { result.room.now ≡ room.old }
         ensures count { result.count ≡ 0 }
     {
-        Places { room, count: 0 }
+        Outbox { room, count: 0 }
     }
 }
 
-impl Outgoing for Places<'_> {
+impl Outgoing for Outbox<'_> {
     ghost use Rattle.std.specs.Prelude.{take};
     ghost use Rattle.ptpm_host.specs.Clock.{messages_in};
-    ghost use Rattle.ptpm_host.specs.Places.{HasGrown};
-    ghost use Rattle.ptpm_host.specs.PlacesLaws.{grown_by_none, grown_twice};
+    ghost use Rattle.ptpm_host.specs.Outbox.{HasGrown};
+    ghost use Rattle.ptpm_host.specs.OutboxLaws.{grown_by_none, grown_twice};
 
     ghost sent = { λ p. messages_in (take p.count p.room.now) };
 

@@ -1,6 +1,6 @@
 use Rattle.std.proofs.Common.{◌∙◌}
 use Rattle.ptpm_saved.proofs.ReadingLemmas.{clock_found, identity_joined, identity_split}
-use Rattle.ptpm_saved.proofs.reading.read_identity.Goals as goal
+use Rattle.ptpm_saved.proofs.entry_reading.read_identity.Goals as goal
 
 pub returns-in_err-port-clause-found : goal.returns-in_err-port-clause-found
 returns-in_err-port-clause-found c = λ who rest fits is.

@@ -4,7 +4,7 @@ ghost use Rattle.std.specs.Prelude.{◌≡◌, ◌≤◌, None, Some, IfOk, Matc
 ghost use Rattle.ptpm_codec.specs.declared.message.Action.TheVariants.{Get};
 ghost use Rattle.ptpm_data.specs.DataField.{data_field_of_id, permits};
 ghost use Rattle.ptpm_data.specs.ManagementId.{is_of_port};
-ghost use Rattle.ptpm_host.specs.Reading.{read_refusal};
+ghost use Rattle.ptpm_host.specs.DataSetReading.{read_refusal};
 
 use crate::clock::HostedClock;
 use crate::refusal::ReadRefusal;
