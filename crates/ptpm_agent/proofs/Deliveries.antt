@@ -1,4 +1,4 @@
--- At-most-once execution over all that happens at a clock. Deliveries alone are the case without observations.
+-- At-most-once execution over all that happens at a clock. Deliveries by themselves are the case without observations.
 use Rattle.std.proofs.Common.{arith, ◌≡◌, ℕ, List, [], ◌∷◌, ◌++◌, Option, Some, None, false, length, refl, ◌∙◌, ap}
 use Rattle.std.specs.List.{cons_option}
 use Rattle.ptpm_codec.specs.declared.identity.PortIdentity.{PortIdentity}

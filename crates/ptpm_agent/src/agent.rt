@@ -64,7 +64,7 @@ impl<T: ReplyTable + Drop> Agent<T> {
     }
 
     /// What becomes of a datagram that comes in at a port of the clock: one turn. The outbox then holds what is to be sent
-    /// and nothing else: the copies that are passed on, then the replies. Memory is asked for by the table's `keep` alone,
+    /// and nothing else: the copies that are passed on, then the replies. Only the table's `keep` asks for memory,
     /// if the verdict is `AnsweredNew`. If it is refused, nothing has changed, nor has the outbox, and the datagram
     /// counts as not delivered.
     pub fn try_handle(

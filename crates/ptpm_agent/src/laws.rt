@@ -1,5 +1,5 @@
 //! What a clock's agent promises over whole lists of datagrams. Each law is the contract of a function that does nothing,
-//! and speaks of the definitions alone.
+//! and speaks only of the definitions.
 
 ghost use Rattle.std.specs.Prelude.{◌≡◌, ◌∷◌, [], ◌++◌, ℕ, true, false, length, List, None, Some};
 ghost use Rattle.std.specs.FinMap.{get};

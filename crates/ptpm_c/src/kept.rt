@@ -16,7 +16,7 @@ pub enum Hosted {
     Survey(Box<HostedSurvey>),
 }
 
-/// It is let go by `into_hosted` alone. So nothing is to be done when its box is let go.
+/// Only `into_hosted` lets it go. So nothing is to be done when its box is let go.
 #[derive(Drop)]
 pub struct Kept {
     hosted: ManuallyDrop<Hosted>,

@@ -223,7 +223,7 @@ pub extern "C" fn ptpm_clock_observe(
 }
 
 /// Leaves what a GET of this id is answered at the head of `octets`, `size` octets: 0, or the number of the refusal. What
-/// follows them stays. The port matters for an id of a port alone. Takes no memory.
+/// follows them stays. The port matters only for an id of a port. Takes no memory.
 #[unsafe(no_mangle)]
 pub extern "C" fn ptpm_clock_read(
     handle: &mut Handle,

@@ -50,7 +50,7 @@ pub extern "C" fn ptpm_survey_start(
     }
 }
 
-/// Does what `ptpm_survey_start` does, of the clock of this identity alone.
+/// Does what `ptpm_survey_start` does, only of the clock of this identity.
 #[unsafe(no_mangle)]
 pub extern "C" fn ptpm_survey_start_at(
     alloc: Global,

@@ -23,7 +23,7 @@ const VERSION: &str = "0.1.0";
 /// Does what the words say, and answers the exit status. The first word is the program's name. 0: it was done.
 /// 1: a fault, with the line `ptpm: FAULT` on `err`, or `check` wrote faults on `out`. 2: the words were refused,
 /// with the reason on `err`. `site` answers 1 if it found something, and 3 if no clock answered. What `err` does changes nothing.
-/// `run`, `check`, `schedule`, `draw`, `site` and the option `--lines` alone read.
+/// Only `run`, `check`, `schedule`, `draw`, `site` and the option `--lines` read.
 /// Whatever was written on `out` is flushed, at a fault too.
 pub fn command<R: Read, O: Write, E: Write>(
     alloc: Global,
@@ -405,7 +405,7 @@ fn with_either_required<'a>(
     command.group(either)
 }
 
-/// `show`, which takes `--skip` with `--lines` alone: without a datagram `--lines` is required.
+/// `show`, which takes `--skip` only with `--lines`: without a datagram `--lines` is required.
 fn show_command<'a>(alloc: Global) -> Result<Command<'a>, AllocError> {
     let show = described(alloc, "show", "Prints the fields of a management message");
     let show = with_datagrams(alloc, show)?;

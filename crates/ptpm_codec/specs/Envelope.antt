@@ -1,4 +1,4 @@
--- The messages of one reply: they differ in the source's portNumber and the body alone.
+-- The messages of one reply: they differ only in the source's portNumber and the body.
 use Rattle.std.specs.Prelude.{ℕ, ◌+◌, List, [], ◌++◌, drop, length, take}
 use Rattle.ptpm_codec.specs.declared.message.Action.{Action}
 use Rattle.ptpm_codec.specs.declared.message.Body.{Body}

@@ -143,7 +143,7 @@ fn view_any(datagram: &[u8]) -> Result<View<'_>, DecodeError>
 }
 
 /// The message value that a datagram's first messageLength octets spell, with octets of its own, or the first refusal
-/// that holds. Memory is asked for last, so that `OutOfMemory` is answered for a well-formed message alone.
+/// that holds. Memory is asked for last, so that `OutOfMemory` is answered only for a well-formed message.
 pub fn decode(alloc: Global, datagram: &[u8]) -> Result<Message, DecodeError>
     // What is decoded is what the octets spell, and is a message value.
     ensures spelled { IfOk result (λ v. Spells v (message_octets datagram.now)) }

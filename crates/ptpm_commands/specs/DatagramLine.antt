@@ -1,4 +1,4 @@
--- A datagram in a line of standard input (this project's profile). It is in hexadecimal digits, alone or after a port number
+-- A datagram in a line of standard input (this project's profile). It is in hexadecimal digits, by itself or after a port number
 -- and a space. `ptpm answer` prints a message in the second form.
 use Rattle.std.specs.Prelude.{ℕ, if◌then◌else◌, List, bytes_eq, codes, is_some, Option, Some, None, Result, Ok, Err}
 use Rattle.hex.specs.declared.error.FromHexError.{FromHexError}

@@ -12,7 +12,7 @@ at_line number faults.BadHex = faults.BadLine number bad.BadHex
 at_line number (faults.Refused error) = faults.BadLine number (bad.Refused error)
 at_line number fault = fault
 
--- the number of the line that alone is to blame, if one is: it holds no management message, or is too long
+-- the number of the line that is to blame by itself, if one is: it holds no management message, or is too long
 abbrev pub line_of : Fault → Option ℕ
 line_of (faults.LineTooLong number) = Some number
 line_of (faults.BadLine number why) = Some number

@@ -82,7 +82,7 @@ asked words = asked_by words (action_and_id words)
 abbrev pub is_equals : ℕ → Bool
 is_equals octet = octet == 0x3d
 
--- a member's name and its value, around the first `=`; the value alone, if there is none
+-- a member's name and its value, around the first `=`; only the value, if there is none
 unfoldable pub words_of_member : List ℕ → List (List ℕ)
 words_of_member text =
     if position_or_len is_equals text == length text then text ∷ []

@@ -76,7 +76,7 @@ impl Fault {
         }
     }
 
-    /// Whether a line alone is to blame, so that the lines after it may be read.
+    /// Whether only a line is to blame, so that the lines after it may be read.
     pub(crate) fn is_of_line(self) -> bool
         ensures { result ≡ is_of_line self }
     {

@@ -91,7 +91,7 @@ fn words_of_members<'a>(alloc: Global, members: &[&'a str]) -> Result<Vec<&'a st
     Ok(words)
 }
 
-/// Appends a member's name and its value, or the value alone if there is no `=`.
+/// Appends a member's name and its value, or only the value if there is no `=`.
 #[tactic(auto, unfolding(crate::specs::RequestWords::words_of_member))]
 fn push_words<'a>(member: &'a str, words: &mut Vec<&'a str>) -> Result<(), AllocError>
     ensures { OnOk result (map (λ w. w.now) words.new.items ≡ map (λ w. w.now) words.old.items ++ words_of_member member.now) }

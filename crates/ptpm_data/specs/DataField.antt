@@ -135,6 +135,6 @@ data_field_at id port d = field_of_row (row_of id) port d
 abbrev pub port_shown : ℕ → ℕ → Option ℕ
 port_shown id port = if is_of_port id then Some port else None
 
--- the dataField of an id; the port matters for an id of a port alone
+-- the dataField of an id; the port matters only for an id of a port
 abbrev pub data_field_of_id : ℕ → ℕ → DataSetsValue → List ℕ
 data_field_of_id id port d = data_field_at id (port_shown id port) d

@@ -16,7 +16,7 @@ pub data MemberValue : Type 0 where
   Octets : (octets : List ℕ) → MemberValue
   PortOf : (clock : List ℕ) → (port : ℕ) → MemberValue
 
--- The same as a whole number or a list of octets alone. A portIdentity has ten octets: those of its clock and then those
+-- The same as only a whole number or a list of octets. A portIdentity has ten octets: those of its clock and then those
 -- of its port's number (5.3.5).
 pub data PlainValue : Type 0 where
   WholeNumber : (number : ℤ) → PlainValue

@@ -104,7 +104,7 @@ abbrev pub is_disabled : PortState → Bool
 is_disabled states.Disabled = true
 is_disabled _ = false
 
--- DISABLED is entered and left by COMMANDs alone: a disabled port's state stays
+-- DISABLED is entered and left only by COMMANDs: a disabled port's state stays
 abbrev pub state_after : Bool → Option PortState → PortState → PortState
 state_after true observed state = state
 state_after false observed state = unwrap_or observed state

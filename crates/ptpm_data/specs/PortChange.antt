@@ -8,7 +8,7 @@ use Rattle.ptpm_data.specs.declared.port_change.PortChange.TheVariants as change
 use Rattle.ptpm_data.specs.PortSetting.{said_of, with_setting}
 use Rattle.ptpm_data.specs.Ranges.{is_in_range}
 
--- ENABLE_PORT moves a port in DISABLED alone (this project's profile)
+-- ENABLE_PORT moves only a port in DISABLED (this project's profile)
 abbrev pub enabled : PortState → PortState
 enabled states.Disabled = states.Listening
 enabled s = s

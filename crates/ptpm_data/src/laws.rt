@@ -61,7 +61,7 @@ pub fn member_map_law()
         → a ≡ b }
 {}
 
-/// The same of two clocks' data sets, whose members are whole numbers and lists of octets alone.
+/// The same of two clocks' data sets, whose members are only whole numbers and lists of octets.
 pub fn plain_map_law(a: &DataSets, b: &DataSets)
     ensures { ((place : Place)
         → option_map plain (value_of place a.now) ≡ option_map plain (value_of place b.now))

@@ -148,7 +148,7 @@ impl<'a> Chart<'a> {
         Ok(())
     }
 
-    /// Makes the text of a row's part alone, and answers where the next one begins.
+    /// Makes the text of only a row's part, and answers where the next one begins.
     fn spell_row(
         &self,
         alloc: Global,

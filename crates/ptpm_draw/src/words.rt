@@ -239,7 +239,7 @@ impl fmt::Display for LostText<'_> {
     }
 }
 
-/// Makes a text of this alone.
+/// Makes a text of only this.
 pub(crate) fn spell<T: fmt::Display + Drop>(text: &mut String, shown: T) -> Result<(), AllocError> {
     text.clear();
     write!(text, "{shown}")

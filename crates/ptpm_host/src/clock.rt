@@ -45,7 +45,7 @@ pub struct Handled {
 
 impl HostedClock {
     /// A clock that has heard nothing yet, with these values and these managers. It keeps the block of its managers' slots; other
-    /// memory is taken for the call alone.
+    /// memory is taken only for the call.
     pub fn start(
         alloc: Global,
         settings: &ClockSettings,
@@ -131,7 +131,7 @@ impl HostedClock {
 
     /// What becomes of a datagram that comes in at a port: one turn of the clock. What it sends is written into the first places
     /// of `room`. The places after them stay as they are, and so does what follows each message. If it is refused, nothing
-    /// changes. The data sets change with the verdict `AnsweredNew` alone. A host that acts on what changed keeps a copy of them,
+    /// changes. The data sets change only with the verdict `AnsweredNew`. A host that acts on what changed keeps a copy of them,
     /// and then asks `sets` what has changed since. Takes no memory.
     #[tactic(auto, using(crate::specs::OutboxLaws::kept_by_none))]
     pub fn handle(

@@ -13,7 +13,7 @@ use ptpm_data::{Actions, Scope, Value, row};
 
 impl HostedClock {
     /// Leaves what a GET of this id is answered at the head of `octets`, and answers how many octets that is. What follows
-    /// it stays. The port matters for an id of a port alone. If it is refused, nothing is written. Takes no memory.
+    /// it stays. The port matters only for an id of a port. If it is refused, nothing is written. Takes no memory.
     pub fn read(&self, id: u16, port: u16, octets: &mut [u8]) -> Result<usize, ReadRefusal>
         ensures field { IfOk result
             (λ n. take n octets.new ≡ data_field_of_id id port self.now.agent.sets) }

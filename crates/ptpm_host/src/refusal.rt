@@ -49,7 +49,7 @@ pub enum ReadRefusal {
     NoRoom,
 }
 
-/// Why a session does not start, in the order in which the reasons are judged. A survey of every clock has the first alone, and
+/// Why a session does not start, in the order in which the reasons are judged. A survey of every clock has only the first, and
 /// one of one clock has each except the two about ports.
 #[derive(Clone, Copy, Debug, PartialEq, Eq)]
 pub enum SessionRefusal {
@@ -67,7 +67,7 @@ pub enum SessionRefusal {
     TargetIsZero,
 }
 
-/// Why no request is handed out, in the order in which the reasons are judged. A survey's GET is refused for the first alone.
+/// Why no request is handed out, in the order in which the reasons are judged. A survey's GET is refused only for the first.
 #[derive(Clone, Copy, Debug, PartialEq, Eq)]
 pub enum SendRefusal {
     /// There is room for fewer than 1,472 octets.

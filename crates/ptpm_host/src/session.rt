@@ -142,8 +142,8 @@ impl HostedSession {
     }
 
     /// Begins a request, with all its attempts before it: 0 GET, 1 SET or 3 COMMAND of a managementId, with this dataField.
-    /// The port matters for an id of a port alone. The answer to an earlier request is let go. The first reason that holds
-    /// is why it is refused, and then nothing changes. Memory is asked for the request's own copy of the dataField alone,
+    /// The port matters only for an id of a port. The answer to an earlier request is let go. The first reason that holds
+    /// is why it is refused, and then nothing changes. Memory is asked only for the request's own copy of the dataField,
     /// and only if nothing else refuses it.
     pub fn begin(&mut self, action: u8, id: u16, port: u16, octets: &[u8]) -> Result<(), BeginError>
         ensures begun { OnOk result
@@ -244,7 +244,7 @@ impl HostedSession {
     }
 
     /// What the session makes of a datagram: if it answers the unanswered request, that answer is kept, and the next one
-    /// can be begun. Memory is asked for the dataField of a RESPONSE alone; if it is refused, nothing changes.
+    /// can be begun. Memory is asked only for the dataField of a RESPONSE; if it is refused, nothing changes.
     pub fn receive(&mut self, datagram: &[u8]) -> Result<Heard, OutOfMemory>
         ensures heard { IfOk result
             (λ h. h ≡ heard_of (received_of self.old.session datagram.now)) }

@@ -69,7 +69,7 @@ impl HostedSurvey {
         Ok(HostedSurvey::asking(alloc, settings, ClockIdentity::EVERY))
     }
 
-    /// The same for the clock of this identity alone: every port of it is asked, and what another clock says is no answer.
+    /// The same for only the clock of this identity: every port of it is asked, and what another clock says is no answer.
     /// Takes no memory.
     pub fn start_at(
         alloc: Global,
@@ -144,7 +144,7 @@ impl HostedSurvey {
     }
 
     /// What the survey makes of a datagram: an answer is kept if it is the first of its port and there is room. Memory is
-    /// asked for that alone; if it is refused, nothing changes.
+    /// asked only for that; if it is refused, nothing changes.
     pub fn receive(&mut self, datagram: &[u8]) -> Result<Surveyed, OutOfMemory>
         ensures surveyed { IfOk result
             (λ surveyed.

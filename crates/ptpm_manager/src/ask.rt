@@ -19,7 +19,7 @@ pub struct Ask {
     pub action: Action,
     /// managementId (15.5.2.3).
     pub id: u16,
-    /// The clock's port that is asked. It is used for an id of a port alone. For an id of the clock, or one that is not in
+    /// The clock's port that is asked. It is used only for an id of a port. For an id of the clock, or one that is not in
     /// the table, every port is asked (this project's profile).
     pub port: Option<u16>,
     /// dataField.

@@ -16,7 +16,7 @@ use crate::setup::Setup;
 use ptpm_codec::ClockIdentity;
 use ptpm_data::Request;
 
-/// A request is sent with the same octets each time; after `retune` they differ in domainNumber, octet 4, alone.
+/// A request is sent with the same octets each time; after `retune` they differ only in domainNumber, octet 4.
 pub fn sent_again()
     ensures sent { (s : SessionValue) → due_message (sent s) ≡ due_message s }
     ensures resumed { (s : SessionValue) (attempts : ℕ)

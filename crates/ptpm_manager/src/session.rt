@@ -143,7 +143,7 @@ impl Session {
         self.begin_with(ask.action, ask.id, ask.port, ask.octets.as_slice())
     }
 
-    /// Does what `begin` does, of an ask by its parts, with the dataField lent. Memory is asked for a copy of it alone, and
+    /// Does what `begin` does, of an ask by its parts, with the dataField lent. Memory is asked only for a copy of it, and
     /// only if nothing else refuses the request.
     #[tactic(auto, unfolding(crate::specs::Session::begin_refusal))]
     pub fn begin_with(
@@ -322,7 +322,7 @@ impl Session {
     }
 
     /// From now on requests are sent, and replies expected, in this domain, also of a request that was begun before. Its
-    /// octets then differ from those sent before in domainNumber alone. Takes no memory.
+    /// octets then differ from those sent before only in domainNumber. Takes no memory.
     pub fn retune(&mut self, domain: u8)
         ensures { self.new ≡ retuned self.old domain }
     {
@@ -330,7 +330,7 @@ impl Session {
     }
 
     /// Judges a datagram. If it answers the unanswered request, the session is idle afterwards. Otherwise this is the first
-    /// reason to ignore it, and the session stays as it was. Memory is asked for the dataField of a RESPONSE alone; if it is
+    /// reason to ignore it, and the session stays as it was. Memory is asked only for the dataField of a RESPONSE; if it is
     /// refused, the session stays as it was.
     pub fn receive(&mut self, datagram: &[u8]) -> Result<Received, OutOfMemory>
         ensures exact { IfOk result (λ received. received ≡ received_of self.old datagram.now) }
@@ -375,7 +375,7 @@ impl Session {
         }
     }
 
-    /// The session that was saved. Memory is asked for the dataField of its request alone.
+    /// The session that was saved. Memory is asked only for the dataField of its request.
     pub(crate) fn of_saved(alloc: Global, saved: &Saved<'_>) -> Result<Session, OutOfMemory>
         requires { IsConsistent saved.now }
         ensures { IfOk result (λ s. s ≡ saved.now) }

@@ -99,8 +99,8 @@ impl Survey {
         &self.answers
     }
 
-    /// Judges a datagram, and keeps its answer if it is the first of its port and there is room. Memory is asked for
-    /// that alone; if it is refused, the survey stays as it was.
+    /// Judges a datagram, and keeps its answer if it is the first of its port and there is room. Memory is asked only
+    /// for that; if it is refused, the survey stays as it was.
     pub fn receive(&mut self, datagram: &[u8]) -> Result<Surveyed, OutOfMemory>
         ensures exact { IfOk result
             (λ surveyed.

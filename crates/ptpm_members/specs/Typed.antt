@@ -17,7 +17,7 @@ use Rattle.ptpm_members.specs.ValueText.{flag_name, mechanism_name}
 
 -- ---- numbers
 
--- decimal digits alone, at least one
+-- only decimal digits, at least one
 abbrev pub is_decimal : List ℕ → Bool
 is_decimal text = all_ascii_digits text && nat_le 1 (length text)
 

@@ -53,7 +53,7 @@ enabled-forwards : (s : PortState) → is_forwarding (enabled s) ≡ is_forwardi
 enabled-forwards states.Disabled = refl
 enabled-forwards _ = refl
 
--- of these two layouts alone
+-- only of these two layouts
 abbrev pub closes : Layout → Bool
 closes layouts.Domain = true
 closes layouts.DisablePort = true

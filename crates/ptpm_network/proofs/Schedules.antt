@@ -132,7 +132,7 @@ retune-sent : map (λ f. f.octets)
 unfolding refusal happens begin_refusal send_refusal ask_refusal target_port row_of port_identity_octets tlv_octets
 retune-sent = refl
 
--- A SET of DOMAIN is answered in the former domain, and its repeat too. Then the clock is heard in the new one alone, and a
+-- A SET of DOMAIN is answered in the former domain, and its repeat too. Then the clock is heard only in the new one, and a
 -- reply in the former one comes too late.
 abbrev other_domain : NetworkState
 other_domain = run one_clock (initial_state one_clock) (

@@ -82,7 +82,7 @@ session-changes N w s v g at r = record {
   frames = frames-stay N w (with_session w s v) (begun-stays w s v g) (λ t k e place h. h) w.frames r.frames;
 }
 
--- its domain and attempts alone
+-- only its domain and attempts
 pub session-set : (N : Network) (w : NetworkState) (s domain attempts : ℕ)
     → s < N.sessions → IsReached N w
     → IsReached N

@@ -19,7 +19,7 @@ use Rattle.ptpm_network.specs.Machine.{answer_origin, delivery, forwarded_frames
 use Rattle.ptpm_network.specs.Network.{End, AtPort, AtSession, Network, peers}
 use Rattle.ptpm_network.specs.State.{Frame, Origin, RequestOf, initial_session_state, session_value}
 
--- a frame as it is kept; the machine alone knows its first hops and its forwardings
+-- a frame as it is kept; only the machine knows its first hops and its forwardings
 pub record Held : Type 0 where
   pub end : End
   pub octets : List ℕ
@@ -58,7 +58,7 @@ after_turn N r c ingress f = record r {
   frames = r.frames ++ map held (turn_frames N (r.clock c) c ingress f);
 }
 
--- a frame as whoever it reaches sees it: its first hops and its forwardings are the machine's alone
+-- a frame as whoever it reaches sees it: only the machine has its first hops and its forwardings
 abbrev pub seen : Held → Frame
 seen h = record { end = h.end; octets = h.octets; origin = h.origin; first_hops = 0; forwardings = 0 }
 

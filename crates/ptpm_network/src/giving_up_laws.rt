@@ -1,5 +1,5 @@
-//! What a manager may rely on that lets requests go. Each law is the contract of a function that does nothing, and speaks of the
-//! definitions alone.
+//! What a manager may rely on that lets requests go. Each law is the contract of a function that does nothing, and speaks only of
+//! the definitions.
 
 ghost use Rattle.std.specs.Prelude.{◌≡◌, ◌≤◌, ℕ, Some};
 ghost use Rattle.ptpm_agent.specs.Once.{kept_reply};

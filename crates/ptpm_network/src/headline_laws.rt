@@ -1,5 +1,5 @@
 //! The promise of a network, and the states of a running network in which it holds. Each law is the contract of a function that
-//! does nothing, and speaks of the definitions alone.
+//! does nothing, and speaks only of the definitions.
 
 ghost use Rattle.std.specs.Prelude.{◌≡◌, ◌++◌, ◌∷◌, ◌<◌, [], ℕ, false, List, None, Ok, Some};
 ghost use Rattle.std.specs.Result.{result_err};

@@ -1,5 +1,5 @@
 //! What the network promises over every list of events. Each law is the contract of a function that does nothing, and
-//! speaks of the definitions alone.
+//! speaks only of the definitions.
 
 ghost use Rattle.std.specs.Prelude.{◌≡◌, ◌↔◌, ◌+◌, ◌-◌, ◌++◌, ◌∷◌, ◌<◌, ◌≤◌, ℕ, false, length, List, None, Ok, Some};
 ghost use Rattle.std.specs.Result.{result_err};

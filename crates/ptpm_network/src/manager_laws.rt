@@ -1,5 +1,5 @@
 //! What a manager is served while its own messages come in time, whatever comes late of others. Each law is the contract of a
-//! function that does nothing, and speaks of the definitions alone.
+//! function that does nothing, and speaks only of the definitions.
 
 ghost use Rattle.std.specs.Prelude.{◌≡◌, ◌<◌, ℕ, [], List, Ok, false};
 ghost use Rattle.std.specs.List.{AllByRecursion};

@@ -1,5 +1,5 @@
 //! What may happen while a request is on its way and is answered. Each law is the contract of a function that does nothing, and
-//! speaks of the definitions alone.
+//! speaks only of the definitions.
 
 ghost use Rattle.std.specs.Prelude.{◌≡◌, ◌+◌, ◌<◌, ◌≤◌, ◌⊎◌, ℕ, false, length, List};
 ghost use Rattle.std.specs.List.{AllByRecursion};

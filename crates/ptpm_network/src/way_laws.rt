@@ -1,5 +1,5 @@
 //! What the network has to do for a request to be answered. Each law is the contract of a function that does nothing, and speaks
-//! of the definitions alone.
+//! only of the definitions.
 
 ghost use Rattle.std.specs.Prelude.{◌≡◌, ◌++◌, ◌∷◌, ◌+◌, ◌<◌, ◌≤◌, [], ℕ, false, length, List, None, Some};
 ghost use Rattle.std.specs.List.{AllByRecursion};

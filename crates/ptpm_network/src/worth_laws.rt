@@ -1,4 +1,4 @@
-//! What a report is worth. Each law is the contract of a function that does nothing, and speaks of the definitions alone.
+//! What a report is worth. Each law is the contract of a function that does nothing, and speaks only of the definitions.
 
 ghost use Rattle.std.specs.Prelude.{◌≡◌, ◌+◌, ◌<◌, ◌≤◌, ℕ, length, List, slice_get, Some};
 ghost use Rattle.std.specs.List.{AllByRecursion};

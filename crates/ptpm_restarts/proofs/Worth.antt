@@ -48,7 +48,7 @@ module _ (N : Network) (w u : NetworkState) (s : ℕ) (x : Report) where
     outcome = h.outcome;
   }
 
-  -- sessions alone act
+  -- only sessions act
   worth-apart : ((i : ℕ) (q : RequestValue) → slice_get (w.session s).begun i ≡ Some q → slice_get (u.session s).begun i ≡ Some q)
       → u.arrivals ≡ w.arrivals → IsWorth N w s x
       → IsWorth N u s x

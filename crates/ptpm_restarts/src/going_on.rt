@@ -1,4 +1,4 @@
-//! How a network goes on that was restarted. Each law is the contract of a function that does nothing, and speaks of the definitions alone.
+//! How a network goes on that was restarted. Each law is the contract of a function that does nothing, and speaks only of the definitions.
 
 ghost use Rattle.std.specs.Prelude.{◌≡◌, ◌+◌, ◌<◌, ◌≤◌, [], ◌∷◌, ℕ, length, List, Ok, Some, true};
 ghost use Rattle.std.specs.Result.{result_err};

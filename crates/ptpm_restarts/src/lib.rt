@@ -1,5 +1,5 @@
 //! Networks whose clocks and sessions lose power at any moment, and are restarted. It says what that changes if each clock saves
-//! before it answers, and each session before it asks (this project's profile). It has definitions and laws alone, over the
+//! before it answers, and each session before it asks (this project's profile). It has only definitions and laws, over the
 //! machine of `ptpm_network`.
 #![tactic(auto)]
 

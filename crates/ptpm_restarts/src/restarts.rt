@@ -1,4 +1,4 @@
-//! What restarts change. Each law is the contract of a function that does nothing, and speaks of the definitions alone.
+//! What restarts change. Each law is the contract of a function that does nothing, and speaks only of the definitions.
 
 ghost use Rattle.std.specs.Prelude.{◌≡◌, ◌<◌, ℕ, List};
 ghost use Rattle.std.specs.List.{Contains};

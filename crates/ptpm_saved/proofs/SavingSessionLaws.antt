@@ -34,7 +34,7 @@ unchanged s IsToSend same = refl
 unchanged s GivesUp same = given_up_same (give_up_refusal s) s same
 unchanged s (Hears datagram) same = left_same (received_of s datagram) s same
 
--- the last note alone counts
+-- only the last note counts
 last_note : (notes : List SessionNote) (s : SessionValue) (n : SessionNote)
     → session_process.noted (noted_each session_process notes s) n ≡ session_process.noted s n
 last_note [] s n = refl

@@ -60,7 +60,7 @@ abbrev pub end_at : Option (List ℕ × List ℕ) → List ℕ → Option (List 
 end_at None text = if_named text None
 end_at (Some parts) text = option_and_then (λ port. if_named parts.0 (Some port)) (decimal_up_to 65535 parts.1)
 
--- a session's name alone, or a clock's name, a dot and a decimal port
+-- only a session's name, or a clock's name, a dot and a decimal port
 unfoldable pub end_of : List ℕ → Option (List ℕ × Option ℕ)
 end_of text = end_at (cut_at 46 text) text
 

@@ -5,7 +5,7 @@ use Rattle.std.specs.Str.{all_ascii_digits}
 use Rattle.std.specs.Str.Parse.{digits_value}
 use Rattle.hex.specs.Hex.{decode_sized}
 
--- decimal digits alone, at least one and at most ten
+-- only decimal digits, at least one and at most ten
 abbrev pub is_decimal : List ℕ → Bool
 is_decimal text = nat_le 1 (length text) && nat_le (length text) 10 && all_ascii_digits text
 

@@ -1,5 +1,5 @@
 //! What holds of the network of every text that is one. Each law is the contract of a function that does nothing; the first
-//! speaks of the definitions alone.
+//! speaks only of the definitions.
 
 ghost use Rattle.std.specs.Prelude.{◌≡◌, ℕ, List, Ok};
 ghost use Rattle.ptpm_script.specs.NetworkText.{IsOfText, network_of};

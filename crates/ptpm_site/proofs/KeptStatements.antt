@@ -58,7 +58,7 @@ not_if_alike false t v h = refl
 -- ---- two ways to be alike
 
 module _ {A : Type 0} (r v : A → A → Bool) (re : IsEquivalence r) (ve : IsEquivalence v) where
-  -- of two that are alike in one way alone, what is alike to each in some way is alike to them in that way
+  -- of two that are alike in only one way, what is alike to each in some way is alike to them in that way
   in_line : (f o y : A) → r f o ≡ true → v f o ≡ false → (r f y ≡ true) ⊎ (v f y ≡ true) → (r o y ≡ true) ⊎ (v o y ≡ true) → r f y ≡ true
   in_line f o y one other (inl h) k = h
   in_line f o y one other (inr h) (inl k) = re.congr f o y one ∙ k

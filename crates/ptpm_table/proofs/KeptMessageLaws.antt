@@ -132,7 +132,7 @@ canonical_alone : (v : Message) → IsValid v → Fits v → message_octets (can
 canonical_alone v valid fits =
     subst (λ (m : List ℕ). message_octets m ≡ canonical v) (append-nil (canonical v)) (canonical_octets v [] valid fits)
 
--- a kept message is read from its places alone
+-- a kept message is read only from its places
 pub kept_reads : (e : Envelope) (of_port : Bool) (m : List ℕ)
     → IsKeptMessage e of_port m
     → message_of m ≡ Some (message_at m)

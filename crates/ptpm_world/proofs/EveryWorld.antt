@@ -17,7 +17,7 @@ nothing_kept : (o : Option Slot) → is_some o ≡ false → entry_in o ≡ None
 nothing_kept None e = refl
 nothing_kept (Some s) e = absurd (cc)
 
--- a table has entries of the managers of its slots alone
+-- a table has entries only of the managers of its slots
 table-of_managers : (t : SlotTable 16) (m : PortIdentity)
     → is_known m (identities (configured t.slots.items)) ≡ false
     → get (table_entries t) m ≡ None

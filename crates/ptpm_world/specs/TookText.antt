@@ -13,7 +13,7 @@ took_text (AtClock verdict) = verdict_text verdict
 took_text Answered = codes "Answered"
 took_text (Ignored reason) = codes "Ignored " ++ reason_text reason
 
--- a session's own refusal is alone
+-- a session's own refusal has no name before it
 abbrev pub step_error_text : StepError → List ℕ
 step_error_text errors.NoSuchName = codes "NoSuchName"
 step_error_text errors.NoSuchFrame = codes "NoSuchFrame"

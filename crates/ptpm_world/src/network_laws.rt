@@ -1,5 +1,5 @@
 //! What joins network files and events to the laws of networks: the contracts of functions that do nothing. The first speaks
-//! of the definitions alone.
+//! only of the definitions.
 
 ghost use Rattle.std.specs.Prelude.{◌≡◌, ◌<◌, ◌≤◌, ◌^◌, ℕ, All, List, Ok, length};
 ghost use Rattle.ptpm_codec.specs.Layout.{octet};
@@ -56,7 +56,7 @@ fn octets_fit(octets: &[u8])
 }
 
 /// What holds of every world of a network, whatever was delivered, and however late:
-/// - each clock keeps something of its configured managers alone, and has as many ports as at first;
+/// - each clock keeps something only of its configured managers, and has as many ports as at first;
 /// - each frame reaches an end that is there, and has 1,472 octets at most; and there are 400,000 at most.
 pub fn every_world(world: &World)
     ensures entries { (N : machine.Network) → IsOf N world.now → (c : ℕ) → c < N.clocks

@@ -38,7 +38,7 @@ use ptpm_table::{Outbox, ReplyTable};
 
 impl World {
     /// Lets an event happen. An event is refused for the first reason that holds, and then the network stays as it was.
-    /// `OutOfMemory` alone may come in place of any other answer.
+    /// Only `OutOfMemory` may come in place of any other answer.
     ///
     /// If no frame was delivered late before, and none is now, it is where the event leads the network machine. It refuses what
     /// that refuses, for the same reason. Late or not, each clock has what it had before, after the request of its turn at the

@@ -54,7 +54,7 @@ pub enum StepError {
     OutOfMemory,
 }
 
-/// The name; a session's own refusal by its name alone.
+/// The name; a session's own refusal only by its name.
 impl fmt::Display for StepError {
     ghost use Rattle.std.specs.Prelude.{Some};
     ghost use Rattle.ptpm_world.specs.TookText.{step_error_text};
