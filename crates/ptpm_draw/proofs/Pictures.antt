@@ -131,7 +131,7 @@ drawn-first d rest rows messages changes = λ i. record {
 pub drawn-started : (n : NetworkValue) (w : World) (lines items : List EventLine) (d : Drawn)
     → items ≡ lines
     → IsOf (described n) w
-    → ((first : PortIdentity → ℕ) → Stands (described n) first (running w) (initial_state (described n)))
+    → ((first : ℕ → PortIdentity → ℕ) → Stands (described n) first (running w) (initial_state (described n)))
     → d.rows ≡ []
     → d.messages ≡ []
     → d.changes ≡ []

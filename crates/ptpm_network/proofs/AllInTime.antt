@@ -6,7 +6,7 @@ use Rattle.ptpm_network.proofs.Promise.{firsts}
 use Rattle.ptpm_network.proofs.Reaching.{frame_at-is, step-reached}
 use Rattle.ptpm_network.proofs.Running.{Follows, follows}
 
-module _ (N : Network) (n : IsNetwork N) (first : PortIdentity → ℕ) (r : RunningNetwork) (w : NetworkState) (known : IsReached N w) (at : Stands N first r w) (s : ℕ) where
+module _ (N : Network) (n : IsNetwork N) (first : ℕ → PortIdentity → ℕ) (r : RunningNetwork) (w : NetworkState) (known : IsReached N w) (at : Stands N first r w) (s : ℕ) where
   not_behind : (octets : List ℕ) (o : Origin) → IsOfOrigin N w octets o → is_late w o ≡ false → is_behind r o ≡ false
   not_behind octets (RequestOf t k) (there, i) late = ap (λ (v : SessionValue). is_late_at k v.issued) (at.sessions t there) ∙ late
   not_behind octets (ReplyTo t k) (there, i) late = ap (λ (v : SessionValue). is_late_at k v.issued) (at.sessions t there) ∙ late
@@ -28,7 +28,7 @@ module _ (N : Network) (n : IsNetwork N) (first : PortIdentity → ℕ) (r : Run
   while-in_time e es (Ok h) (Some reason) f is time behind = let never : None ≡ Some reason = f.reason in absurd (cc)
   while-in_time e es (Ok h) None f none time behind = grind (arith, frame_at-map, frame-for)
 
-pub all-in_time : (N : Network) (first : PortIdentity → ℕ) (r : RunningNetwork) (w : NetworkState) (s : ℕ) (es : List Event)
+pub all-in_time : (N : Network) (first : ℕ → PortIdentity → ℕ) (r : RunningNetwork) (w : NetworkState) (s : ℕ) (es : List Event)
     → AreFirsts N first → IsNetwork N → IsReached N w → Stands N first r w
     → AllByRecursion IsInRange es → AreInTime N w (taken N w es)
     → StaysInTime N s r es

@@ -155,16 +155,18 @@ joins-own : (N : Network) (w : NetworkState) (c port : ℕ) (f : Frame)
 joins-own N w c port f r place j = grind (arith, slice_get, answered, once)
 
 module _ (N : Network) (w : NetworkState) (c port : ℕ) (f : Frame) (n : IsNetwork N) (r : IsReached N w) (place : c < N.clocks) (i : IsHeard N w f.octets f.origin) (t : ℕ) (exists : t < N.sessions) where
-  gains-here : StaysOrGains (manager N t) (w.session t).begun
+  gains-here : (N.session t).target ≡ c
+      → StaysOrGains (manager N t) (w.session t).begun
       (history N (arrives w c (delivery port f)) c).accepted (history N w c).accepted
-  gains-here = ⊎_elim
+  gains-here at = ⊎_elim
       (λ (e : history N (arrives w c (delivery port f)) c ≡ history N w c). inl (ap (λ (h : History). h.accepted) e))
       (λ (j : JoinsAt N w c port f). inr (record {
         entry = accepted_from (N.clock c) (history N w c) j.copy;
         is = ap (λ (h : History). h.accepted) j.is;
         above = grind (arith, same_identity-true);
         own = λ y.
-            let ts : t ≡ j.of.session = grind (arith, same_identity-true) in
+            let me : manager N t ≡ manager N j.of.session = same_identity-true _ _ y ∙ j.of.source in
+            let ts : t ≡ j.of.session = n.sessions_apart t j.of.session exists j.of.says.place me (at ∙ sym j.of.target) in
             subst (λ s. JoinsOwn (manager N s) (w.session s).begun (accepted_from (N.clock c) (history N w c) j.copy)) (sym ts) (joins-own N w c port f r place j);
       }))
       (here_after N w c port f n r place i)

@@ -28,19 +28,19 @@ answered-value start s report busy one le = grind (arith, length-append, cond-tr
 -- ---- the network
 
 -- a session that reports nothing has another value
-pub session-stands : (N : Network) (first : PortIdentity → ℕ) (r : RunningNetwork)
+pub session-stands : (N : Network) (first : ℕ → PortIdentity → ℕ) (r : RunningNetwork)
     (w : NetworkState) (s : ℕ) (v : SessionValue) (state : SessionState)
     → Stands N first r w → s < N.sessions → v ≡ session_value (N.session s) state
     → state.reports ≡ (w.session s).reports
     → Stands N first (with_session_value r s v) (with_session w s state)
 session-stands N first r w s v state at place value reports = grind (arith, at_places, at_place)
 
-module _ (N : Network) (first : PortIdentity → ℕ) (r : RunningNetwork) (w : NetworkState) (s : ℕ) (at : Stands N first r w) where
+module _ (N : Network) (first : ℕ → PortIdentity → ℕ) (r : RunningNetwork) (w : NetworkState) (s : ℕ) (at : Stands N first r w) where
   pub sends-stand : s < N.sessions → Stands N first (sends_in N r s) (sends N w s)
   sends-stand place = grind (arith, session-stands, held-sent_frames, map-append)
   -- ---- a frame comes in at a session
 
-answered-stands : (N : Network) (first : PortIdentity → ℕ) (r : RunningNetwork) (w : NetworkState)
+answered-stands : (N : Network) (first : ℕ → PortIdentity → ℕ) (r : RunningNetwork) (w : NetworkState)
     (s : ℕ) (report : Report)
     → Stands N first r w → s < N.sessions → InStep N w s (w.session s)
     → (length (w.session s).reports ≡ length (w.session s).begun → ⊥)
@@ -51,7 +51,7 @@ answered-stands N first r w s report at place step busy =
     let value = ap answered (at.sessions s place) ∙ answered-value (N.session s) (w.session s) report busy step.one_at_a_time le in grind (arith, at_places)
 
 -- what the session hears of the frame is what the machine reports of it
-pub hears-stands : (N : Network) (first : PortIdentity → ℕ) (r : RunningNetwork) (w : NetworkState)
+pub hears-stands : (N : Network) (first : ℕ → PortIdentity → ℕ) (r : RunningNetwork) (w : NetworkState)
     (s : ℕ) (f : Frame) (x : Received) (o : Option Report)
     → IsNetwork N → IsReached N w → Stands N first r w → s < N.sessions
     → IsOfOrigin N w f.octets f.origin → is_late w f.origin ≡ false

@@ -256,7 +256,7 @@ pub nothing_kept : {X : Type 0} (first : PortIdentity → ℕ) (d : DataSetsValu
     → X
 nothing_kept first d m e h = absurd (omega (arith, h.some))
 
-pub first-honest : (N : Network) (first : PortIdentity → ℕ) (r : RunningNetwork)
+pub first-honest : (N : Network) (first : ℕ → PortIdentity → ℕ) (r : RunningNetwork)
     → IsNetwork N → Stands N first r (initial_state N)
     → IsHonest N r
 first-honest N first r n at = grind (arith, kept, nothing_kept)

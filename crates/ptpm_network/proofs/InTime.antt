@@ -11,9 +11,9 @@ copy-window : (N : Network) (w : NetworkState) (c port : ℕ) (f : Frame) (copy 
     → InWindow (greatest copy.heard.source (history N w c).accepted) copy.index
 copy-window N w c port f copy r late of = grind (arith, InStep, in_step-window, ltb-false)
 
-module _ (first : PortIdentity → ℕ) (N : Network) (w : NetworkState) (c port : ℕ) (f : Frame) (copy : RequestCopy) (firsts : AreFirsts N first) where
+module _ (first : ℕ → PortIdentity → ℕ) (N : Network) (w : NetworkState) (c port : ℕ) (f : Frame) (copy : RequestCopy) (firsts : AreFirsts N first) where
   -- late or not, index and sequenceId go together
-  copy-numbered : IsCopyOf N w c port f copy → IsNumbered first copy
+  copy-numbered : IsCopyOf N w c port f copy → IsNumbered (first c) copy
   copy-numbered of = record {
     positive = subst (λ k. 0 < k) (sym of.index) of.says.positive;
     number = grind arith;
@@ -22,7 +22,7 @@ module _ (first : PortIdentity → ℕ) (N : Network) (w : NetworkState) (c port
   pub in_window : IsNetwork N
       → IsReached N w → c < N.clocks → IsHeard N w f.octets f.origin → is_late w f.origin ≡ false
       → copy_of (N.clock c) (ports N c) (delivery port f) ≡ Some copy
-      → IsInTime first (history N w c) copy
+      → IsInTime (first c) (history N w c) copy
   in_window n r place i late e = grind (arith, is_copy_of, copy-numbered, copy-window)
 
 -- ---- all copies that came in at a clock
@@ -34,14 +34,14 @@ window-append c h [] k keeps new = (new, tt)
 window-append c h (j ∷ js) k keeps new = (keeps.0, window-append c (after_copy c h j) js k keeps.1 new)
 
 -- they are numbered, and lie in the window if nothing came late, which A says
-record Keeping (N : Network) (first : PortIdentity → ℕ) (A : Type 0) (c : ℕ) (ks : List RequestCopy) : Type 0 where
-  pub numbered : AreFirsts N first → AreNumbered first ks
+record Keeping (N : Network) (first : ℕ → PortIdentity → ℕ) (A : Type 0) (c : ℕ) (ks : List RequestCopy) : Type 0 where
+  pub numbered : AreFirsts N first → AreNumbered (first c) ks
   pub window : A → KeepsWindow (N.clock c) (initial_history (N.start c)) ks
 
-abbrev Keeps : Network → (PortIdentity → ℕ) → Type 0 → NetworkState → Type 0
+abbrev Keeps : Network → (ℕ → PortIdentity → ℕ) → Type 0 → NetworkState → Type 0
 Keeps N first A w = (c : ℕ) → c < N.clocks → Keeping N first A c (copies_at N w c)
 
-module _ (N : Network) (first : PortIdentity → ℕ) (A : Type 0) (w : NetworkState) (n : IsNetwork N) (r : IsReached N w) where
+module _ (N : Network) (first : ℕ → PortIdentity → ℕ) (A : Type 0) (w : NetworkState) (n : IsNetwork N) (r : IsReached N w) where
   keeping-by : (c port : ℕ) (f : Frame) (o : Option RequestCopy)
       → c < N.clocks → IsHeard N w f.octets f.origin → (A → is_late w f.origin ≡ false)
       → copy_of (N.clock c) (ports N c) (delivery port f) ≡ o
@@ -73,7 +73,7 @@ module _ (N : Network) (first : PortIdentity → ℕ) (A : Type 0) (w : NetworkS
       keeps-arriving d port (strange_frame d port datagram) (strange-comes N w d port datagram i e).1 (λ a. refl) keeps
   keeps-happens _ i e late keeps = keeps
 
-keeps-run : (N : Network) (first : PortIdentity → ℕ) (A : Type 0) (w : NetworkState)
+keeps-run : (N : Network) (first : ℕ → PortIdentity → ℕ) (A : Type 0) (w : NetworkState)
     (es : List Event)
     → IsNetwork N → IsReached N w → AllByRecursion IsInRange es → (A → AreInTime N w es)
     → Keeps N first A w
@@ -83,13 +83,13 @@ keeps-run N first A w (e ∷ es) n r i late keeps =
     keeps-run N first A (step N w e) es n (step-reached N w e n i.0 r) i.1 (λ a. (late a).1)
     (after-step (Keeps N first A) N w e keeps (λ none. grind (arith, keeps-happens)))
 
-keeps-first : (N : Network) (first : PortIdentity → ℕ) (A : Type 0)
+keeps-first : (N : Network) (first : ℕ → PortIdentity → ℕ) (A : Type 0)
     → Keeps N first A (initial_state N)
 keeps-first N first A c place = record { numbered = λ firsts. tt; window = λ a. tt }
 
-pub copies-numbered : (N : Network) (es : List Event) (first : PortIdentity → ℕ) (c : ℕ)
+pub copies-numbered : (N : Network) (es : List Event) (first : ℕ → PortIdentity → ℕ) (c : ℕ)
     → IsNetwork N → AllByRecursion IsInRange es → AreFirsts N first → c < N.clocks
-    → AreNumbered first (copies_at N (run N (initial_state N) es) c)
+    → AreNumbered (first c) (copies_at N (run N (initial_state N) es) c)
 copies-numbered N es first c n i firsts place = (keeps-run N first ⊥ (initial_state N) es n (first-reached N n) i (λ a. absurd a) (keeps-first N first ⊥) c place).numbered firsts
 
 pub copies-in_window : (N : Network) (es : List Event) (c : ℕ)
@@ -97,5 +97,5 @@ pub copies-in_window : (N : Network) (es : List Event) (c : ℕ)
     → KeepsWindow (N.clock c) (initial_history (N.start c))
     (copies_at N (run N (initial_state N) es) c)
 copies-in_window N es c n i late place =
-    (keeps-run N (λ m. 0) (AreInTime N (initial_state N) es) (initial_state N) es n (first-reached N n) i (λ a. a)
-    (keeps-first N (λ m. 0) (AreInTime N (initial_state N) es)) c place).window late
+    (keeps-run N (λ c m. 0) (AreInTime N (initial_state N) es) (initial_state N) es n (first-reached N n) i (λ a. a)
+    (keeps-first N (λ c m. 0) (AreInTime N (initial_state N) es)) c place).window late

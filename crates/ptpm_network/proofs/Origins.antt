@@ -1,6 +1,6 @@
 -- What a message of each origin is. One with a session's identity is its own request, and one that comes to a session is a reply
 -- to it. That holds of what comes in in the machine, and of every frame of a running network, in time or late.
-use Rattle.ptpm_network.proofs.Common.{arith, ◌≡◌, ℕ, ◌<◌, List, Some, true, false, sym, ◌∙◌, not-true, true≢false, same_Some, Message, Fits, action_of, is_reply, message_of, copy_parts, is_copy, IsForeign, IsMessage, IsReached, IsNetwork, Network, manager, NetworkState, Origin, RequestOf, ReplyTo, Neither}
+use Rattle.ptpm_network.proofs.Common.{arith, ◌≡◌, ℕ, ◌<◌, List, Some, true, false, refl, sym, ◌∙◌, same_clock-true, not-true, true≢false, same_Some, Message, Fits, action_of, is_reply, message_of, copy_parts, is_copy, IsForeign, IsMessage, IsReached, IsNetwork, Network, manager, NetworkState, Origin, RequestOf, ReplyTo, Neither}
 use Rattle.ptpm_network.proofs.Frames.{IsHeard, says_reply, says_request}
 use Rattle.ptpm_network.proofs.Messages.{answer_body-is_reply, reply_at, request_at}
 
@@ -14,6 +14,7 @@ pub record IsRequestBy (N : Network) (t : ℕ) (v : Message) : Type 0 where
 
 pub record IsReplyFor (N : Network) (t : ℕ) (v : Message) : Type 0 where
   pub place : t < N.sessions
+  pub source : v.source.clock ≡ (N.session t).setup.target
   pub target : v.target ≡ manager N t
   pub reply : is_reply (action_of v.body) ≡ true
 
@@ -54,6 +55,16 @@ pub record IsCopyBy (N : Network) (c : ℕ) (o : Origin) (v : Message) : Type 0 
 pub is_copy_by : (N : Network) (c p : ℕ) (o : Origin) (v : Message)
     → IsNetwork N → c < N.clocks → IsTrueTo N v o → is_copy (N.clock c) p v ≡ true
     → IsCopyBy N c o v
-is_copy_by N c p (RequestOf t k) v n place i y = grind (arith, copy_parts)
+is_copy_by N c p (RequestOf t k) v n place i y =
+    let own = n.are_sessions t i.place in
+    let here : v.target.clock ≡ (N.clock c).identity = same_clock-true _ _ (copy_parts (N.clock c) p v y).target in
+    record {
+      session = t;
+      k = k;
+      place = i.place;
+      origin = refl;
+      target = n.clocks_apart (N.session t).target c own.exists place (sym own.target ∙ sym i.target ∙ here);
+      source = i.source;
+    }
 is_copy_by N c p (ReplyTo t k) v n place i y = absurd (true≢false (sym i.reply ∙ not-true _ (copy_parts (N.clock c) p v y).request))
 is_copy_by N c p Neither v n place i y = grind (arith, copy_parts)

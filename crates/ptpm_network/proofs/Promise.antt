@@ -1,5 +1,5 @@
 -- The promise of a network, and the states of a running network in which it holds.
-use Rattle.ptpm_network.proofs.Common.{by_test, suc, zero, arith, ◌≡◌, ℕ, ◌<◌, ◌≤◌, List, [], ◌∷◌, ◌++◌, Some, None, false, sym, ◌∙◌, ap, subst, ⊎_elim, cases_eq, cond-true, cond-false, true≢false, if◌then◌else◌, AllByRecursion, PortIdentity, same_identity, same_identity-refl, same_identity-true, Event, IsInRange, Refusal, refusal, RunningNetwork, initial_network, Happened, Ok, Result, network_event, network_run, result_err, Headline, IsPromised, StandsAfter, AreInTime, happens, is_late_delivery, run, taken, IsNetwork, Network, manager, ports, AreFirsts, Stands, NetworkState, accepted_at_target, initial_state, all_append}
+use Rattle.ptpm_network.proofs.Common.{◌==◌, ◌&&◌, and_from, and_parts, eq-eqb, eqb-true, refl, by_test, suc, zero, arith, ◌≡◌, ℕ, ◌<◌, ◌≤◌, List, [], ◌∷◌, ◌++◌, Some, None, true, false, sym, ◌∙◌, ap, subst, ⊎_elim, cases_eq, cond-true, cond-false, true≢false, if◌then◌else◌, AllByRecursion, PortIdentity, same_identity, same_identity-refl, same_identity-true, Event, IsInRange, Refusal, refusal, RunningNetwork, initial_network, Happened, Ok, Result, network_event, network_run, result_err, Headline, IsPromised, StandsAfter, AreInTime, happens, is_late_delivery, run, taken, IsNetwork, Network, manager, ports, AreFirsts, Stands, NetworkState, accepted_at_target, initial_state, all_append}
 use Rattle.ptpm_network.proofs.Accepting.{IsInOrder, in_order}
 use Rattle.ptpm_network.proofs.DueReplies.{copy-delivered, latest-kept, older-none}
 use Rattle.ptpm_network.proofs.Running.{follows, network_run-running}
@@ -10,20 +10,24 @@ use Rattle.ptpm_network.proofs.Unchanged.{refused-leaves, strangers-leave}
 
 -- ---- first sequenceIds
 
--- of the first n sessions, and 0 of everyone else
-pub first_of_sessions : Network → ℕ → PortIdentity → ℕ
-first_of_sessions N zero m = 0
-first_of_sessions N (suc n) m = if same_identity m (manager N n) then (N.session n).setup.first else first_of_sessions N n m
+-- of the first n sessions, each at its target, and 0 of everyone else
+pub first_of_sessions : Network → ℕ → ℕ → PortIdentity → ℕ
+first_of_sessions N zero c m = 0
+first_of_sessions N (suc n) c m =
+    if same_identity m (manager N n) && c == (N.session n).target then (N.session n).setup.first else first_of_sessions N n c m
 
 first_of-session : (N : Network) (n s : ℕ)
     → IsNetwork N → n ≤ N.sessions → s < n
-    → first_of_sessions N n (manager N s) ≡ (N.session s).setup.first
+    → first_of_sessions N n (N.session s).target (manager N s) ≡ (N.session s).setup.first
 unfolding first_of_sessions
 first_of-session N zero s is le below = absurd (omega arith)
-first_of-session N (suc n) s is le below = by_test (same_identity (manager N s) (manager N n))
-    (λ y. grind (arith, same_identity-true, cond-true))
+first_of-session N (suc n) s is le below = by_test (same_identity (manager N s) (manager N n) && (N.session s).target == (N.session n).target)
+    (λ y. let both = and_parts _ _ y in
+    let own : s ≡ n = is.sessions_apart s n (omega arith) (omega arith) (same_identity-true (manager N s) (manager N n) both.0) (eqb-true _ _ both.1) in
+    cond-true _ _ _ y ∙ ap (λ (i : ℕ). (N.session i).setup.first) (sym own))
     (λ o. ⊎_elim
-    (λ (q : s ≡ n). grind (arith, true≢false, same_identity-refl))
+    (λ (q : s ≡ n). absurd (true≢false (sym (and_from _ _ (subst (λ (i : ℕ). same_identity (manager N s) (manager N i) ≡ true) q (same_identity-refl (manager N s)))
+    (eq-eqb _ _ (ap (λ (i : ℕ). (N.session i).target) q))) ∙ o)))
     (λ (ne : s ≡ n → ⊥). cond-false _ _ _ o ∙ first_of-session N n s is (omega arith) (omega arith))
     (cases_eq s n))
 
@@ -78,7 +82,7 @@ pub stands-judged : (N : Network) (past : List Event) (r : RunningNetwork) (e : 
     → result_err (network_event N r e) ≡ refusal N (run N (initial_state N) past) e
 stands-judged N past r e at =
     let p = at.promised in
-    let first : PortIdentity → ℕ = first_of_sessions N N.sessions in
+    let first : ℕ → PortIdentity → ℕ = first_of_sessions N N.sessions in
     (follows N first r _ p.network (reached N past p.network p.in_range) (at.stands first (firsts N p.network)) e).reason
 
 pub stands-event : (N : Network) (past : List Event) (r : RunningNetwork) (e : Event)

@@ -114,8 +114,13 @@ pub takes-own : (N : Network) (s : ℕ) (value : SessionValue) (octets : List �
     → (k : ℕ) × (o ≡ ReplyTo s k)
 takes-own N s value octets (RequestOf t k) r n place setup takes i = absurd (true≢false (sym takes.accepted.reply ∙ i.request))
 takes-own N s value octets (ReplyTo t k) r n place setup takes i =
-    let target : manager N t ≡ manager N s = grind (arith, same_identity-true) in
-    (k, ap (λ j. ReplyTo j k) (n.sessions_apart t s i.place place target))
+    let me : manager N t ≡ manager N s = grind (arith, same_identity-true) in
+    let clock : (N.session t).setup.target ≡ (N.session s).setup.target = grind (arith, same_clock-true, and_parts) in
+    let of = n.are_sessions t i.place in
+    let own = n.are_sessions s place in
+    let target : (N.session t).target ≡ (N.session s).target =
+    n.clocks_apart (N.session t).target (N.session s).target of.exists own.exists (sym of.target ∙ clock ∙ own.target) in
+    (k, ap (λ j. ReplyTo j k) (n.sessions_apart t s i.place place me target))
 takes-own N s value octets Neither r n place setup takes i = grind (arith, same_clock-true, and_parts, same_identity-true)
 
 -- and that to its last request, if it is not late

@@ -27,14 +27,14 @@ module _ (N : Network) (past : List Event) (r : RunningNetwork) (s i : ℕ) (rep
 
 -- ---- running to the report
 
-pub reports-run : (N : Network) (first : PortIdentity → ℕ) (r : RunningNetwork) (w : NetworkState)
+pub reports-run : (N : Network) (first : ℕ → PortIdentity → ℕ) (r : RunningNetwork) (w : NetworkState)
     (s : ℕ) (es : List Event)
     → s < N.sessions → Stands N first r w → HasReported w (run N w es) s
     → Stands N first (network_run N r es) (run N w es)
     → ReportsAfter N r s es
 reports-run N first r w s es place at h next = grind (arith, is_some, cond-true)
 
-pub running-answered : (N : Network) (es : List Event) (first : PortIdentity → ℕ)
+pub running-answered : (N : Network) (es : List Event) (first : ℕ → PortIdentity → ℕ)
     (r : RunningNetwork) (s : ℕ) (hops : List Hop) (port ends : ℕ)
     → IsNetwork N → AllByRecursion IsInRange es → AreFirsts N first
     → Stands N first r (run N (initial_state N) es) → s < N.sessions
@@ -59,6 +59,6 @@ pub answered-after : (N : Network) (past : List Event) (r : RunningNetwork) (s :
     → length (run N (initial_state N) past).frames + made_each_way ends hops ≤ frames_limit
     → RunsToReport N r s hops port
 answered-after N past r s hops port ends at place busy attempts way all room =
-    let first : PortIdentity → ℕ = first_of_sessions N N.sessions in
+    let first : ℕ → PortIdentity → ℕ = first_of_sessions N N.sessions in
     let given : AreFirsts N first = firsts N at.promised.network in
     running-answered N past first r s hops port ends at.promised.network at.promised.in_range given (at.stands first given) place busy attempts way all room

@@ -37,7 +37,7 @@ by_reason _ _ o x e behind = absurd (cc)
 
 -- ---- a frame comes in
 
-reaches-stands : (N : Network) (first : PortIdentity → ℕ) (r : RunningNetwork) (w : NetworkState)
+reaches-stands : (N : Network) (first : ℕ → PortIdentity → ℕ) (r : RunningNetwork) (w : NetworkState)
     (f : Frame) (e : End)
     → AreFirsts N first → IsNetwork N → IsReached N w → Stands N first r w → IsFrame N w f
     → HasEnd N e → is_late w f.origin ≡ false
@@ -51,7 +51,7 @@ reaches-stands N first r w f (AtSession s) firsts n reached at i end late =
 
 -- ---- any event
 
-module _ (N : Network) (first : PortIdentity → ℕ) (r : RunningNetwork) (w : NetworkState) (n : IsNetwork N) (known : IsReached N w) (at : Stands N first r w) where
+module _ (N : Network) (first : ℕ → PortIdentity → ℕ) (r : RunningNetwork) (w : NetworkState) (n : IsNetwork N) (known : IsReached N w) (at : Stands N first r w) where
   room : no_room r.frames ≡ no_room w.frames
   room = ap (λ k. first_of ((nat_lt frames_limit k, FramesAtMaximum) ∷ [])) (ap length at.frames ∙ length-map w.frames held)
 
@@ -136,7 +136,7 @@ module _ (N : Network) (first : PortIdentity → ℕ) (r : RunningNetwork) (w : 
 
 -- ---- a list of events
 
-goes_on-stands : (N : Network) (first : PortIdentity → ℕ) (r : RunningNetwork) (w : NetworkState)
+goes_on-stands : (N : Network) (first : ℕ → PortIdentity → ℕ) (r : RunningNetwork) (w : NetworkState)
     (e : Event) (es : List Event) (x : Result Happened Refusal) (o : Option Refusal)
     → Stands N first r w
     → Follows x o (λ y. is_late_delivery w e ≡ false → Stands N first y (happens N w e))
@@ -154,7 +154,7 @@ goes_on-stands N first r w e es (Err why) (Some reason) at f some time behind = 
 goes_on-stands N first r w e es (Ok h) (Some reason) at f some time behind = let never : None ≡ Some reason = f.reason in absurd (cc)
 goes_on-stands N first r w e es (Err why) None at f none time behind = let never : Some why ≡ None = f.reason in absurd (cc)
 
-pub network_run-stands : (N : Network) (first : PortIdentity → ℕ) (r : RunningNetwork)
+pub network_run-stands : (N : Network) (first : ℕ → PortIdentity → ℕ) (r : RunningNetwork)
     (w : NetworkState) (es : List Event)
     → AreFirsts N first → IsNetwork N → IsReached N w → Stands N first r w
     → AllByRecursion IsInRange es → AreInTime N w (taken N w es)
@@ -167,7 +167,7 @@ network_run-stands N first r w (e ∷ es) firsts n reached at i time =
 
 -- ---- from where a list of events leads
 
-pub network_run-running : (N : Network) (past es : List Event) (first : PortIdentity → ℕ)
+pub network_run-running : (N : Network) (past es : List Event) (first : ℕ → PortIdentity → ℕ)
     (r : RunningNetwork)
     → IsNetwork N → AllByRecursion IsInRange past → AreFirsts N first
     → Stands N first r (run N (initial_state N) past) → AllByRecursion IsInRange es

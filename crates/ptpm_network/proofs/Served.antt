@@ -199,7 +199,7 @@ nothing-last first d m own (Some e) h = nothing_kept first d m e h
 pub stays-first : (N : Network) (s : ℕ) (r : RunningNetwork) → s < N.sessions → StandsAfter N [] r → Stays N s r (account_of N s [])
 stays-first N s r place at =
     let n = at.promised.network in
-    let first : PortIdentity → ℕ = first_of_sessions N N.sessions in
+    let first : ℕ → PortIdentity → ℕ = first_of_sessions N N.sessions in
     let there = at.stands first (firsts N n) in
     let a : Account = account_of N s [] in
     let target = (N.session s).target in

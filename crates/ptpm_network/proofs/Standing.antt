@@ -17,14 +17,14 @@ turn_frames-made N first s h c port f at many time =
     ∙ ap (λ p. forwarded_frames N c f (forwarded (N.clock c).identity port h.sets f.octets)
     ++ reply_frames N c (answer_origin f.origin (copy_of (N.clock c) p (delivery port f))) (answer_messages (N.clock c) h port f.octets (copy_of (N.clock c) p (delivery port f)))) many
 
-module _ (N : Network) (first : PortIdentity → ℕ) (r : RunningNetwork) (w : NetworkState) (c port : ℕ) (f : Frame) (at : Stands N first r w) (place : c < N.clocks) (time : ((k : RequestCopy) → copy_of (N.clock c) (ports N c) (delivery port f) ≡ Some k → IsInTime first (history N w c) k)) where
+module _ (N : Network) (first : ℕ → PortIdentity → ℕ) (r : RunningNetwork) (w : NetworkState) (c port : ℕ) (f : Frame) (at : Stands N first r w) (place : c < N.clocks) (time : ((k : RequestCopy) → copy_of (N.clock c) (ports N c) (delivery port f) ≡ Some k → IsInTime (first c) (history N w c) k)) where
   clock-stands : (d : ℕ)
       → d < N.clocks
-      → StandsAt first (with_place r.clock c (turn (N.clock c) (r.clock c) port f.octets).next d)
+      → StandsAt (first d) (with_place r.clock c (turn (N.clock c) (r.clock c) port f.octets).next d)
       (history N (arrives w c (delivery port f)) d)
   clock-stands d there = by_test (d == c)
       (λ y. rw (eqb-true d c y, history-here N w c (delivery port f), eq-eqb c c refl)
-      (stands-arrival first (N.clock c) (ports N c) (r.clock c) (history N w c) (delivery port f) (copy_of (N.clock c) (ports N c) (delivery port f)) (history-ports N w c) refl (at.clocks c place) time))
+      (stands-arrival (first c) (N.clock c) (ports N c) (r.clock c) (history N w c) (delivery port f) (copy_of (N.clock c) (ports N c) (delivery port f)) (history-ports N w c) refl (at.clocks c place) time))
       (λ n. rw n (at.clocks d there))
 
   pub stands-turned : Stands N first (after_turn N r c port f) (delivered_at_clock N w c port f)
@@ -33,15 +33,15 @@ module _ (N : Network) (first : PortIdentity → ℕ) (r : RunningNetwork) (w : 
     sessions = at.sessions;
     reports = at.reports;
     frames = ap (λ fs. fs ++ map held (turn_frames N (r.clock c) c port f)) at.frames
-        ∙ ap (λ fs. map held w.frames ++ map held fs) (turn_frames-made N first (r.clock c) (history N w c) c port f (at.clocks c place) (history-ports N w c) time)
+        ∙ ap (λ fs. map held w.frames ++ map held fs) (turn_frames-made N (first c) (r.clock c) (history N w c) c port f (at.clocks c place) (history-ports N w c) time)
         ∙ sym (map-append held w.frames (made_frames N c (history N w c) port f));
   }
 
 -- and it is at the machine's state when it starts
-pub stands-initial_state : (N : Network) (first : PortIdentity → ℕ)
+pub stands-initial_state : (N : Network) (first : ℕ → PortIdentity → ℕ)
     → Stands N first (initial_network N) (initial_state N)
 stands-initial_state N first = record {
-  clocks = λ c place. stands-initial_history first (N.start c);
+  clocks = λ c place. stands-initial_history (first c) (N.start c);
   sessions = λ s place. refl;
   reports = λ s place. refl;
   frames = refl;

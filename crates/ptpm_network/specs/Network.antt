@@ -82,10 +82,11 @@ pub record IsLink (N : Network) (link : List End) : Type 0 where
 pub record IsNetwork (N : Network) : Type 0 where
   pub are_clocks : (c : ℕ) → c < N.clocks → IsClock N c
   pub are_sessions : (s : ℕ) → s < N.sessions → IsSession N s
-  -- no two have one identity, and no session has a clock's
+  -- no two clocks have one identity, no two sessions one identity and one target, and no session has a clock's identity
   pub clocks_apart : (c d : ℕ) → c < N.clocks → d < N.clocks
       → (N.clock c).identity ≡ (N.clock d).identity → c ≡ d
   pub sessions_apart : (s t : ℕ) → s < N.sessions → t < N.sessions → manager N s ≡ manager N t
+      → (N.session s).target ≡ (N.session t).target
       → s ≡ t
   pub no_clock : (s c : ℕ) → s < N.sessions → c < N.clocks
       → (manager N s).clock ≢ (N.clock c).identity

@@ -10,14 +10,14 @@ use Rattle.ptpm_network.specs.Network.{Network, manager}
 use Rattle.ptpm_network.specs.RunningNetwork.{RunningNetwork, held}
 use Rattle.ptpm_network.specs.State.{NetworkState, history, session_value}
 
--- each session's first sequenceId, by its identity
-abbrev pub AreFirsts : Network → (PortIdentity → ℕ) → Type 0
-AreFirsts N first = (s : ℕ) → s < N.sessions → first (manager N s) ≡ (N.session s).setup.first
+-- each session's first sequenceId, by its target and its identity
+abbrev pub AreFirsts : Network → (ℕ → PortIdentity → ℕ) → Type 0
+AreFirsts N first = (s : ℕ) → s < N.sessions → first (N.session s).target (manager N s) ≡ (N.session s).setup.first
 
-pub record Stands (N : Network) (first : PortIdentity → ℕ) (r : RunningNetwork)
+pub record Stands (N : Network) (first : ℕ → PortIdentity → ℕ) (r : RunningNetwork)
     (w : NetworkState) : Type 0 where
   -- each clock has the data sets of its history, and of each manager the latest accepted request, with its sequenceId
-  pub clocks : (c : ℕ) → c < N.clocks → StandsAt first (r.clock c) (history N w c)
+  pub clocks : (c : ℕ) → c < N.clocks → StandsAt (first c) (r.clock c) (history N w c)
   -- each session has its domain, its attempts, the count of its requests and the one that is not answered
   pub sessions : (s : ℕ) → s < N.sessions → r.session s ≡ session_value (N.session s) (w.session s)
   pub reports : (s : ℕ) → s < N.sessions → r.reports s ≡ (w.session s).reports
@@ -27,5 +27,5 @@ pub record Stands (N : Network) (first : PortIdentity → ℕ) (r : RunningNetwo
 -- any first sequenceIds of those who manage nothing.
 pub record StandsAfter (N : Network) (events : List Event) (r : RunningNetwork) : Type 0 where
   pub promised : IsPromised N events
-  pub stands : (first : PortIdentity → ℕ) → AreFirsts N first
+  pub stands : (first : ℕ → PortIdentity → ℕ) → AreFirsts N first
       → Stands N first r (state_after N events)

@@ -88,23 +88,23 @@ pub fn at_most_225_frames()
 /// - a clock that takes its turn at each of them then has the data sets after its managers' accepted requests. Each of these is
 ///   applied once, in order of first acceptance.
 pub fn in_the_window()
-    ensures copy { (N : Network) (es : List Event) (first : PortIdentity → ℕ) (n c port : ℕ)
+    ensures copy { (N : Network) (es : List Event) (first : ℕ → PortIdentity → ℕ) (n c port : ℕ)
         (f : Frame) (copy : RequestCopy) →
         IsNetwork N → AllByRecursion IsInRange es →
         AreFirsts N first →
         frame_at (state_after N es).frames n ≡ Some f → f.end ≡ AtPort c port
         → is_late (state_after N es) f.origin ≡ false →
         copy_of (N.clock c) (ports N c) (delivery port f) ≡ Some copy →
-        IsInTime first (history N (state_after N es) c) copy }
-    ensures numbered { (N : Network) (es : List Event) (first : PortIdentity → ℕ) (c : ℕ) →
+        IsInTime (first c) (history N (state_after N es) c) copy }
+    ensures numbered { (N : Network) (es : List Event) (first : ℕ → PortIdentity → ℕ) (c : ℕ) →
         IsNetwork N → AllByRecursion IsInRange es →
         AreFirsts N first → c < N.clocks →
-        AreNumbered first (copies_at N (state_after N es) c) }
+        AreNumbered (first c) (copies_at N (state_after N es) c) }
     ensures copies { (N : Network) (es : List Event) (c : ℕ) →
         IsNetwork N → AllByRecursion IsInRange es →
         AreInTime N (initial_state N) es → c < N.clocks →
         KeepsWindow (N.clock c) (initial_history (N.start c)) (copies_at N (state_after N es) c) }
-    ensures sets { (N : Network) (es : List Event) (first : PortIdentity → ℕ) (c : ℕ) →
+    ensures sets { (N : Network) (es : List Event) (first : ℕ → PortIdentity → ℕ) (c : ℕ) →
         IsNetwork N → AllByRecursion IsInRange es →
         AreFirsts N first →
         AreInTime N (initial_state N) es → c < N.clocks →
@@ -129,9 +129,9 @@ pub fn outbox_of_turns()
 /// The clocks of a running network distinguish requests by sequenceIds. The network is at the machine's state when both start.
 /// If it is there before a clock's turn at a frame that is not late, it is there after the turn.
 pub fn clocks_stand()
-    ensures first { (N : Network) (first : PortIdentity → ℕ)
+    ensures first { (N : Network) (first : ℕ → PortIdentity → ℕ)
         → Stands N first (initial_network N) (initial_state N) }
-    ensures turned { (N : Network) (es : List Event) (first : PortIdentity → ℕ) (r : RunningNetwork)
+    ensures turned { (N : Network) (es : List Event) (first : ℕ → PortIdentity → ℕ) (r : RunningNetwork)
         (n c ingress : ℕ) (f : Frame) →
         IsNetwork N → AllByRecursion IsInRange es →
         AreFirsts N first → Stands N first r (state_after N es) →
@@ -186,19 +186,19 @@ pub fn events_appended()
 /// - so from any such state it goes through the events up to the first that is refused. It is then at the state to which they
 ///   lead the machine, if none of them delivers a frame late.
 pub fn running_networks_stand()
-    ensures refused { (N : Network) (es : List Event) (first : PortIdentity → ℕ)
+    ensures refused { (N : Network) (es : List Event) (first : ℕ → PortIdentity → ℕ)
         (r : RunningNetwork) (e : Event) →
         IsNetwork N → AllByRecursion IsInRange es →
         Stands N first r (state_after N es) →
         result_err (network_event N r e) ≡ refusal N (state_after N es) e }
-    ensures happened { (N : Network) (es : List Event) (first : PortIdentity → ℕ)
+    ensures happened { (N : Network) (es : List Event) (first : ℕ → PortIdentity → ℕ)
         (r : RunningNetwork) (e : Event) (h : Happened) →
         IsNetwork N → AllByRecursion IsInRange es →
         AreFirsts N first → Stands N first r (state_after N es) →
         IsInRange e → network_event N r e ≡ Ok h
         → is_late_delivery (state_after N es) e ≡ false →
         Stands N first h.network (happens N (state_after N es) e) }
-    ensures every { (N : Network) (past es : List Event) (first : PortIdentity → ℕ)
+    ensures every { (N : Network) (past es : List Event) (first : ℕ → PortIdentity → ℕ)
         (r : RunningNetwork) →
         IsNetwork N → AllByRecursion IsInRange past →
         AreFirsts N first → Stands N first r (state_after N past) →

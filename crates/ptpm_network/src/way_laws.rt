@@ -68,7 +68,7 @@ pub fn answerable_along_a_way()
 /// at a state that the machine reaches, such as after any events without a late delivery. If a request can be answered along
 /// a way there, it is.
 pub fn running_networks_answer()
-    ensures answered { (N : Network) (es : List Event) (first : PortIdentity → ℕ)
+    ensures answered { (N : Network) (es : List Event) (first : ℕ → PortIdentity → ℕ)
         (r : RunningNetwork) (s : ℕ) (hops : List Hop) (port ends : ℕ) →
         IsNetwork N → AllByRecursion IsInRange es →
         AreFirsts N first → Stands N first r (state_after N es) → s < N.sessions →

@@ -54,7 +54,7 @@ record GoesOn (N : Network) (w : NetworkState) (k : RestartingNetwork) : Type 0 
   pub frames : List Frame
   pub fewer : AllByRecursion (Contains w.frames) frames
   pub reached : IsReached N (record w { frames = frames })
-  pub stands : (first : PortIdentity → ℕ) → AreFirsts N first → Stands N first (running k) (record w { frames = frames })
+  pub stands : (first : ℕ → PortIdentity → ℕ) → AreFirsts N first → Stands N first (running k) (record w { frames = frames })
 
 -- it is at the state of a network that never crashes if it is as that one, and its frames are some of those
 goes-on : (N : Network) (events : List Event) (r : RunningNetwork) (k : RestartingNetwork)

@@ -19,7 +19,7 @@ use Rattle.ptpm_restarts.specs.Restarting.{RestartingNetwork}
 pub record StandsWithFewer (N : Network) (w : NetworkState) (r : RunningNetwork) : Type 0 where
   pub frames : List Frame
   pub fewer : AllByRecursion (Contains w.frames) frames
-  pub stands : (first : PortIdentity → ℕ) → AreFirsts N first → Stands N first r (record w { frames = frames })
+  pub stands : (first : ℕ → PortIdentity → ℕ) → AreFirsts N first → Stands N first r (record w { frames = frames })
 
 -- ---- a request that was under way
 

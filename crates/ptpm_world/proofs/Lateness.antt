@@ -8,7 +8,7 @@ use Rattle.ptpm_network.proofs.Promise.{first_of_sessions, firsts, stands-headli
 use Rattle.ptpm_network.proofs.Reaching.{frame_at-is}
 use Rattle.ptpm_network.proofs.Schedule.{reached}
 
-late-origin : (N : Network) (first : PortIdentity → ℕ) (r : RunningNetwork) (w : NetworkState)
+late-origin : (N : Network) (first : ℕ → PortIdentity → ℕ) (r : RunningNetwork) (w : NetworkState)
     (octets : List ℕ) (o : Origin)
     → Stands N first r w
     → IsOfOrigin N w octets o
@@ -17,7 +17,7 @@ late-origin N first r w octets (RequestOf s k) at i = ap (λ (v : SessionValue).
 late-origin N first r w octets (ReplyTo s k) at i = ap (λ (v : SessionValue). is_late_at k v.issued) (at.sessions s i.0)
 late-origin N first r w octets Neither at i = refl
 
-late-frame : (N : Network) (first : PortIdentity → ℕ) (r : RunningNetwork) (w : NetworkState)
+late-frame : (N : Network) (first : ℕ → PortIdentity → ℕ) (r : RunningNetwork) (w : NetworkState)
     (n : ℕ) (o : Option Frame)
     → IsReached N w
     → Stands N first r w
@@ -33,7 +33,7 @@ pub late-after : (N : Network) (past : List Event) (r : RunningNetwork) (n : ℕ
 late-after N past r n at =
     let p = at.promised in
     let w : NetworkState = run N (initial_state N) past in
-    let first : PortIdentity → ℕ = first_of_sessions N N.sessions in
+    let first : ℕ → PortIdentity → ℕ = first_of_sessions N N.sessions in
     let there = at.stands first (firsts N p.network) in
     ap (λ (hs : List Held). is_late_held r (frame_at hs n)) there.frames
     ∙ ap (is_late_held r) (frame_at-map w.frames n)

@@ -27,11 +27,11 @@ fresh_clock first s d h =
 
 pub started-is : (n : NetworkValue) (w : World)
     → IsOf (described n) w
-    → ((first : PortIdentity → ℕ)
+    → ((first : ℕ → PortIdentity → ℕ)
     → Stands (described n) first (running w) (initial_state (described n)))
     → running w ≡ started n
 started-is n w is stands =
-    let at : Stands (described n) (λ m. 0) (running w) (initial_state (described n)) = stands (λ m. 0) in
+    let at : Stands (described n) (λ c m. 0) (running w) (initial_state (described n)) = stands (λ c m. 0) in
     λ i. record {
       clock = λ c. ⊎_elim
           (λ (within : c < length n.clocks). fresh_clock (λ m. 0) ((running w).clock c) (first_sets (clock_at n c)) (at.clocks c within))

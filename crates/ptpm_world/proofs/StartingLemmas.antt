@@ -269,7 +269,7 @@ running_of clocks sessions frames = record {
 }
 
 pub stands : (n : NetworkValue) (cs : List RunningClock) (ss : List RunningSession)
-    (frames_sent : Frames) (first : PortIdentity → ℕ)
+    (frames_sent : Frames) (first : ℕ → PortIdentity → ℕ)
     → AreStartedClocks n cs
     → AreStartedSessions n ss
     → held_in frames_sent ≡ []
@@ -279,7 +279,7 @@ stands n cs ss frames_sent first clocks sessions frames =
     record {
       clocks = λ c h. (
           let x = some_at cs c (omega (arith, h, clocks.count)) in
-          subst (λ t. StandsAt first t (history (described n) (initial_state (described n)) c))
+          subst (λ t. StandsAt (first c) t (history (described n) (initial_state (described n)) c))
           (sym (ap state_of x.1 ∙ (clocks.each c x.0 x.1).state)) (start.clocks c h));
       sessions = λ s h. (
           let x = some_at ss s (omega (arith, h, sessions.count)) in

@@ -31,7 +31,7 @@ impl World {
         ensures network { IfOk result (λ w. IsOf (described (network_value network.now)) w) }
         ensures stands { IfOk result
             (λ w.
-            (first : PortIdentity → ℕ)
+            (first : ℕ → PortIdentity → ℕ)
             → Stands (described (network_value network.now)) first (running w)
             (initial_state (described (network_value network.now)))) }
         ensures after { IfOk result

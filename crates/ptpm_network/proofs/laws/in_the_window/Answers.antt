@@ -21,4 +21,4 @@ returns-clause-copies c = copies-in_window
 
 pub returns-clause-sets : goal.returns-clause-sets
 returns-clause-sets c = λ N es first c n i firsts late place.
-    sets_once (N.clock c) first (N.start c) ((run N (initial_state N) es).arrivals c) (copies-numbered N es first c n i firsts place) (copies-in_window N es c n i late place)
+    sets_once (N.clock c) (first c) (N.start c) ((run N (initial_state N) es).arrivals c) (copies-numbered N es first c n i firsts place) (copies-in_window N es c n i late place)

@@ -18,7 +18,7 @@ returns-clause-alone c = answerable-alone
 pub returns-clause-runs : goal.returns-clause-runs
 returns-clause-runs c = λ N past es r s at place range whole time h.
     let w : NetworkState = run N (initial_state N) past in
-    let first : PortIdentity → ℕ = first_of_sessions N N.sessions in
+    let first : ℕ → PortIdentity → ℕ = first_of_sessions N N.sessions in
     let given : AreFirsts N first = firsts N at.promised.network in
     let n = at.promised.network in
     let now = at.stands first given in
