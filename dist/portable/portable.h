@@ -129,6 +129,19 @@ SMALL void memory_set(address to, u8 octet, u64 size) {
     if (size != 0) memset(AT(to), octet, (size_t)size);
 }
 
+/* A number with a fraction and its bits, which memory has in the order of an integer's octets. */
+SMALL double double_of(u64 bits) {
+    double x;
+    memcpy(&x, &bits, sizeof x);
+    return x;
+}
+
+SMALL u64 bits_of(double x) {
+    u64 bits;
+    memcpy(&bits, &x, sizeof bits);
+    return bits;
+}
+
 /* An integer of 128 bits. */
 struct wide { u64 high, low; };
 

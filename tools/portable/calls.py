@@ -1,8 +1,9 @@
 """Calls as C: of the module's own functions, of the heap, and of what LLVM has by itself (`llvm.umin.i32`)."""
 import re
 
+from . import floats, vectors, wide
 from .instructions import calculation, cut, signed
-from .llvm import NAME, bracketed, box, members_of, not_known, parts_of, take_type, width, without_attributes
+from .llvm import NAME, bracketed, box, members_of, not_known, parts_of, take_type, vector_of, width, without_attributes
 
 NOTHING = ('assume', 'lifetime', 'experimental', 'donothing')
 SIDES = {'umin': '<', 'umax': '>', 'smin': '<', 'smax': '>'}
@@ -19,6 +20,20 @@ class Call:
 
     def result(self, expression):
         return [f'{self.function.variable(self.name, self.kind)} = {expression};']
+
+
+class ElementOfCall:
+    """A call that takes and answers vectors, at one place of them: as one about integers."""
+
+    def __init__(self, it, place):
+        self.function, self.name, self.taken, self.place, self.of = it.function, it.name, it.taken, place, it.kind
+        self.kind = vector_of(it.kind)[1]
+        self.kinds = [vector_of(kind)[1] if vector_of(kind) else kind for kind in it.kinds]
+        self.values = [vectors.elements_of(it.function, kind, text)[place] if vector_of(kind) else it.function.value(kind, text)
+                       for kind, text in it.taken]
+
+    def result(self, expression):
+        return [f'{self.function.variable(self.name, self.of)}.e[{self.place}] = {expression};']
 
 
 def call(function, name, words):
@@ -40,9 +55,18 @@ def call(function, name, words):
         _, operation, *more = called.split('.')
         if operation not in INTRINSICS:
             not_known('a call', words)
-        return INTRINSICS[operation](here, operation, more)
+        return of_its_own(here, operation, more)
     expression = f'{function.functions.of(called, kind, here.kinds)}({", ".join(here.values)})'
     return [f'{expression};'] if kind == 'void' or name is None else here.result(expression)
+
+
+def of_its_own(it, operation, more):
+    """What LLVM has by itself; of vectors, element by element."""
+    if it.kind == wide.KIND:
+        return wide.call(it, operation, more)
+    if vector_of(it.kind) is None or operation == 'x86':
+        return INTRINSICS[operation](it, operation, more)
+    return [line for place in range(vector_of(it.kind)[0]) for line in INTRINSICS[operation](ElementOfCall(it, place), operation, more)]
 
 
 def trap(it, operation, more):
@@ -125,9 +149,27 @@ def expected(it, operation, more):
     return it.result(it.values[0])
 
 
+def fence(it, operation, more):
+    """What keeps calculations with fractions apart: each is one statement here."""
+    return it.result(it.values[0]) if more == ['fence', 'f64'] else not_known('a call', operation)
+
+
+def without_sign_of_fraction(it, operation, more):
+    if it.kind != floats.KIND:
+        not_known('a call', operation)
+    return it.result(f'double_of(bits_of({it.values[0]}) & (UINT64_MAX >> 1))')
+
+
+def of_one_machine(it, operation, more):
+    if more != ['ssse3', 'pshuf', 'b', '128']:
+        not_known('a call', '.'.join([operation, *more]))
+    target = it.function.variable(it.name, it.kind)
+    return [f'{target}.e[{place}] = {octet};' for place, octet in enumerate(vectors.octets_by_places(it.kind, *it.values))]
+
+
 INTRINSICS = {
     'trap': trap, **dict.fromkeys(['memcpy', 'memmove', 'memset'], memory), **dict.fromkeys(SIDES, least_or_most),
     **dict.fromkeys(OVERFLOWS, overflowing), 'bswap': swap_octets, **dict.fromkeys(['fshl', 'fshr'], funnel_shift),
     **dict.fromkeys(['ctpop', 'ctlz', 'cttz'], count_bits), 'abs': without_sign, **dict.fromkeys(['ucmp', 'scmp'], three_way),
-    'expect': expected,
+    'expect': expected, 'arithmetic': fence, 'fabs': without_sign_of_fraction, 'x86': of_one_machine,
 }

@@ -1,6 +1,7 @@
 """The constants of a module as C: octets, and addresses of other constants among them."""
 import re
 
+from . import floats
 from .llvm import NAME, bracketed, not_known, number_of, octets_of_text, parts_of, size_of, take_type, width
 from .values import ZEROS, reference
 
@@ -12,6 +13,8 @@ def initial(kind, text):
     text = text.strip()
     if text in ZEROS:
         return [0] * size_of(kind)
+    if kind == floats.KIND:
+        return list(floats.bits_of(text).to_bytes(8, 'little'))
     if width(kind) is not None:
         return list(number_of(kind, text).to_bytes(size_of(kind), 'little'))
     if text.startswith('c"'):
@@ -43,7 +46,7 @@ class Constant:
             not_known('a variable', line)
         kind, rest = take_type(rest[len('constant '):])
         text, *words = parts_of(rest)
-        if any(not re.fullmatch(r'align [1248]', word) for word in words):
+        if any(not re.fullmatch(r'align (?:1|2|4|8|16)', word) for word in words):
             not_known('what is said of a constant', ', '.join(words))
         self.name = name
         self.octets = initial(kind, text)

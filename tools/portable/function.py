@@ -147,8 +147,8 @@ class Function:
             if operation == 'call':
                 return calls.call(self, name, rest)
             here = instructions.Instruction(self, block, name, operation, rest)
-            if vectors.is_of_vectors(operation, rest):
-                return vectors.translate(here)
+            if vectors.is_of_vectors(operation, rest, instructions.ELEMENTWISE):
+                return vectors.translate(here, instructions.ELEMENTWISE)
             if operation not in instructions.KNOWN:
                 not_known('an instruction', words)
             return wide.translate(here) if wide.is_wide(operation, rest) else instructions.KNOWN[operation](here)

@@ -4,13 +4,14 @@ An integer of another width than C has is in the next wider type, with zeros abo
 is that of unsigned numbers of 32 or 64 bits, which is what it is without flags; a flag says what a program never does."""
 import re
 
+from . import floats
 from .llvm import NAME, box, members_of, not_known, parts_of, size_of, take_type, width, without_flags
 
 ARITHMETIC = {'add': '+', 'sub': '-', 'mul': '*', 'and': '&', 'or': '|', 'xor': '^', 'udiv': '/', 'urem': '%'}
 SHIFTS = ('shl', 'lshr', 'ashr')
 SIGNED = {'sdiv': '/', 'srem': '%'}
 COMPARISONS = {'eq': '==', 'ne': '!=', 'gt': '>', 'ge': '>=', 'lt': '<', 'le': '<='}
-CASTS = ('zext', 'sext', 'trunc', 'ptrtoint', 'ptrtoaddr', 'inttoptr')
+CASTS = ('zext', 'sext', 'trunc', 'ptrtoint', 'ptrtoaddr', 'inttoptr', 'uitofp', 'sitofp')
 WIDTHS_IN_MEMORY = (8, 16, 32, 64)
 
 
@@ -92,9 +93,20 @@ def cast(it):
         not_known('a cast', it.words)
     if it.operation == 'sext':
         return it.result(to, cut(to, f'(i{box(to)}){signed(kind, value)}'))
+    if to == floats.KIND:
+        return it.result(to, f'({to}){signed(kind, value) if it.operation == "sitofp" else value}')
     if it.operation == 'trunc':
         return it.result(to, cut(to, value))
     return it.result(to, f'({it.function.type_name(to)}){value}')
+
+
+def same_bits(it):
+    """A number with a fraction as the integer of its bits, or the other way."""
+    kind, rest = take_type(it.words)
+    text, to = rest.rsplit(' to ', 1)
+    if {kind, to} != {'i64', floats.KIND}:
+        not_known('a cast', it.words)
+    return it.result(to, f'{"bits_of" if to == "i64" else "double_of"}({it.value(kind, text)})')
 
 
 def freeze(it):
@@ -107,6 +119,8 @@ def load(it):
     at = it.value(*take_type(place))
     if kind == 'ptr':
         return it.result(kind, f'load_address({at})')
+    if kind == floats.KIND:
+        return it.result(kind, f'double_of(load64({at}))')
     if kind == 'volatile i8':
         return it.result('i8', f'*(const volatile u8 *)AT({at})')
     if width(kind) is None:
@@ -124,6 +138,8 @@ def store(it):
     at, value = it.value(*take_type(place)), it.value(kind, text)
     if kind == 'ptr':
         return [f'store_address({at}, {value});']
+    if kind == floats.KIND:
+        return [f'store64({at}, bits_of({value}));']
     if width(kind) is None:
         not_known('a store', it.words)
     bits = 8 * size_of(kind)
@@ -206,8 +222,10 @@ def switch(it):
 
 
 KNOWN = {
-    **dict.fromkeys([*ARITHMETIC, *SIGNED, *SHIFTS], arithmetic), **dict.fromkeys(CASTS, cast),
+    **dict.fromkeys([*ARITHMETIC, *SIGNED, *SHIFTS], arithmetic), **dict.fromkeys(CASTS, cast), **floats.KNOWN, 'bitcast': same_bits,
     'icmp': compare, 'select': select, 'freeze': freeze, 'load': load, 'store': store, 'alloca': own_memory,
     'getelementptr': address_of_part, 'extractvalue': take_member, 'insertvalue': put_member, 'phi': phi, 'ret': end,
     'unreachable': unreachable, 'br': branch, 'switch': switch,
 }
+# What is done with each element of vectors.
+ELEMENTWISE = {name: KNOWN[name] for name in [*ARITHMETIC, *SIGNED, *SHIFTS, 'zext', 'sext', 'trunc', 'icmp', 'select']}

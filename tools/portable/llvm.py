@@ -1,6 +1,6 @@
 """The text of LLVM's intermediate representation: its lists, its types, and what a type takes in memory.
 
-Types stay texts, such as `i32`, `ptr`, `[4 x i8]` and `{ i64, i1 }`. Memory has the layout of a 64-bit little-endian machine."""
+Types stay texts, such as `i32`, `ptr`, `double`, `[4 x i8]` and `{ i64, i1 }`. Memory has the layout of a 64-bit little-endian machine."""
 import re
 
 # A name of a value, of a block or of a function, without the sign before it.
@@ -57,7 +57,7 @@ def take_type(text):
     if text[:1] in ('{', '[', '<'):
         _, rest = bracketed(text)
         return text[:len(text) - len(rest)].rstrip(), rest
-    found = re.match(r'(?:i\d+|ptr|void)\b', text)
+    found = re.match(r'(?:i\d+|ptr|void|double)\b', text)
     if not found:
         not_known('a type', text)
     return found[0], text[found.end():].lstrip()
@@ -103,7 +103,7 @@ def members_of(kind):
 
 def size_of(kind):
     """How many octets a value has in memory."""
-    if kind == 'ptr':
+    if kind in ('ptr', 'double'):
         return 8
     if width(kind) is not None:
         return -(-width(kind) // 8)
@@ -111,6 +111,9 @@ def size_of(kind):
         return int(found[1]) * size_of(found[2])
     if kind.startswith('<{'):
         return sum(map(size_of, parts_of(kind[2:-2])))
+    if vector_of(kind) is not None:
+        count, element = vector_of(kind)
+        return count * size_of(element) if width(element) % 8 == 0 else not_known('the size of', kind)
     return not_known('the size of', kind)
 
 

@@ -9,15 +9,15 @@ from .values import Types, Values
 # What begins a line outside functions that says nothing of what the module does.
 PASSED_OVER = re.compile(r'; |source_filename |target |declare |attributes |!|$')
 LITTLE_ENDIAN_64 = re.compile(r'target datalayout = "e-m:e-p:64:64-')
-# What a module may ask of others: they are given by heap.c.
+# What a library asks of others: heap.c gives it.
 HEAP = ('rattle_alloc', 'rattle_realloc', 'rattle_dealloc')
 
 
 class Functions:
-    """What C calls each function. What others may call has a prefix; what no module defines must be of the heap."""
+    """What C calls each function. What others may call has a prefix, and so has what the module may ask of others."""
 
-    def __init__(self, types, prefix):
-        self.types, self.prefix = types, prefix
+    def __init__(self, types, prefix, asked):
+        self.types, self.prefix, self.asked = types, prefix, asked
         self.names, self.outside = {}, {}
 
     def add(self, name, is_internal):
@@ -29,7 +29,7 @@ class Functions:
     def of(self, name, kind, taken):
         """The name of a function that is called."""
         if name not in self.names:
-            if name not in HEAP:
+            if name not in self.asked:
                 not_known('a function that is defined nowhere', name)
             arguments = ', '.join(self.types.name(argument) for argument in taken)
             self.outside[name] = f'{self.types.name(kind)} {self.prefix}{name}({arguments});'
@@ -50,10 +50,10 @@ def body(lines):
 class Module:
     """The functions and the constants of a text, and the whole as C."""
 
-    def __init__(self, text, prefix):
+    def __init__(self, text, prefix, asked=HEAP):
         self.types = Types()
         self.values = Values(self.types)
-        self.functions = Functions(self.types, prefix)
+        self.functions = Functions(self.types, prefix, asked)
         self.prefix = prefix
         self.constants, heads = [], []
         if not LITTLE_ENDIAN_64.search(text):

@@ -1,7 +1,7 @@
 """Types and constants of a module as C: what a type is called, and how a constant is written."""
 import re
 
-from . import vectors, wide
+from . import floats, vectors, wide
 from .llvm import NAME, bracketed, box, members_of, not_known, number_of, parts_of, size_of, take_type, vector_of, width
 
 ZEROS = ('undef', 'poison', 'zeroinitializer', 'null')
@@ -20,6 +20,8 @@ class Types:
             return 'void'
         if kind in ('ptr', wide.KIND):
             return 'address' if kind == 'ptr' else 'struct wide'
+        if kind == floats.KIND:
+            return floats.KIND
         if width(kind) is not None:
             return f'u{box(kind)}'
         if vector_of(kind) is not None:
@@ -59,6 +61,8 @@ class Values:
     def constant(self, kind, text):
         if kind == wide.KIND:
             return wide.constant(text)
+        if kind == floats.KIND:
+            return floats.constant(text)
         if vector_of(kind) is not None:
             return vectors.constant(self, kind, text)
         if text in ZEROS:

@@ -47,6 +47,16 @@ def translate(it):
     return cast(it, words)
 
 
+def call(it, operation, more):
+    """What LLVM has by itself, of 128 bits."""
+    x, y = it.values
+    if operation in ('umin', 'umax'):
+        return it.result(f'wide_is_less({x}, {y}) ? {x if operation == "umin" else y} : {y if operation == "umin" else x}')
+    if operation == 'usub' and more[0] == 'sat':
+        return it.result(f'wide_is_less({y}, {x}) ? wide_subtract({x}, {y}) : wide_of(0, 0)')
+    return not_known('a call of 128 bits', operation)
+
+
 def cast(it, words):
     """Between 128 bits and at most 64."""
     found = re.fullmatch(r'(i\d+) (.*) to (i\d+)', words)

@@ -1,10 +1,11 @@
 """Each instruction that the translator knows, as a function of three integers of 64 bits: what its tests call with drawn operands.
 
 Operands that leave a result undefined are kept away by instructions before: no shift by the width or more, no division by zero."""
+import platform
 import sys
 from pathlib import Path
 
-from portable import vectors, wide
+from portable import floats, wide
 from portable.calls import OVERFLOWS, SIDES
 from portable.instructions import ARITHMETIC, COMPARISONS, SHIFTS, SIGNED
 from portable.module import Module
@@ -12,6 +13,7 @@ from portable.module import Module
 WIDTHS = (1, 5, 8, 12, 16, 24, 32, 33, 40, 48, 56, 64)
 WHOLE = (8, 16, 32, 64)
 IN_MEMORY = (8, 16, 24, 32, 40, 48, 56, 64)
+VECTOR_CONDITIONS = ('eq', 'ne', 'ugt', 'uge', 'ult', 'ule', 'slt', 'sgt')
 FLAGGED = {'add': 'nuw nsw', 'sub': 'nsw', 'mul': 'nuw', 'or': 'disjoint', 'lshr': 'exact'}
 LAYOUT = 'target datalayout = "e-m:e-p:64:64-i64:64-i128:128-n32:64-S128"\n'
 
@@ -129,7 +131,7 @@ def vectors_of():
             + ', '.join(f'i8 {number % 256}' for number in range(250, 264)) + '>, i8 %b1, i64 1', '%place = and i64 %c0, 15',
             '%v = insertelement <16 x i8> %v0, i8 %a1, i64 %place', '%one = insertelement <16 x i8> poison, i8 %a1, i64 0',
             '%all = shufflevector <16 x i8> %one, <16 x i8> poison, <16 x i32> zeroinitializer']
-    for condition in vectors.CONDITIONS:
+    for condition in VECTOR_CONDITIONS:
         yield function(f'vector_{condition}_each', [*made, '%w = insertelement <16 x i8> %v0, i8 %b1, i64 9',
                                                     f'%t = icmp {condition} <16 x i8> %v, %w', '%r = bitcast <16 x i1> %t to i16',
                                                     *answered(16)])
@@ -143,6 +145,71 @@ def vectors_of():
         '%k = add i64 %h, %f', 'ret i64 %k'])
 
 
+def same_vectors(elements, bits):
+    """Two vectors of the arguments' bits, and what makes one number of %r, another one."""
+    kind = f'<{elements} x i{bits}>'
+    half = f'<{elements // 2} x i{bits}>'
+    begun = [f'%p{name} = bitcast i64 %{name}0 to {half}' for name in 'abc']
+    both = f'<{elements} x i32> <' + ', '.join(f'i32 {place}' for place in range(elements)) + '>'
+    begun += [f'%x = shufflevector {half} %pa, {half} %pb, {both}', f'%y0 = shufflevector {half} %pc, {half} %pa, {both}']
+    ended = [f'%h = bitcast {kind} %r to <2 x i64>', '%h0 = extractelement <2 x i64> %h, i64 0', '%h1 = extractelement <2 x i64> %h, i64 1',
+             '%t = mul i64 %h1, 31', '%s = add i64 %t, %h0', 'ret i64 %s']
+    return kind, begun, ended
+
+
+def each_element():
+    """What is done with each element of vectors of 128 bits, and vectors in memory."""
+    for bits in (8, 16, 32):
+        elements = 128 // bits
+        kind, begun, ended = same_vectors(elements, bits)
+        for operation in [*ARITHMETIC, *SHIFTS]:
+            safe = f'%y = or {kind} %y0, splat (i{bits} 1)' if operation[1:] in ('div', 'rem') else f'%y = freeze {kind} %y0'
+            if operation in SHIFTS:
+                safe = f'%y = and {kind} %y0, splat (i{bits} {bits - 1})'
+            yield function(f'each_{operation}_{bits}', [*begun, safe, f'%r = {operation} {kind} %x, %y', *ended])
+        for condition in ('ult', 'sge'):
+            yield function(f'each_select_{condition}_{bits}', [*begun, f'%c = icmp {condition} {kind} %x, %y0',
+                                                               f'%r = select <{elements} x i1> %c, {kind} %y0, {kind} splat (i{bits} 9)', *ended])
+            yield function(f'each_sext_{condition}_{bits}', [*begun, f'%c = icmp {condition} {kind} %x, %y0',
+                                                             f'%r = sext <{elements} x i1> %c to {kind}', *ended])
+        yield function(f'each_umin_{bits}', [*begun, f'%r = call {kind} @llvm.umin.v{elements}i{bits}({kind} %x, {kind} %y0)', *ended])
+        yield function(f'each_in_memory_{bits}', [
+            *begun, '%m = alloca [24 x i8], align 8', '%at = getelementptr i8, ptr %m, i64 5', 'store i64 %b0, ptr %m, align 8',
+            f'store {kind} %x, ptr %at, align 1', f'%z = load {kind}, ptr %at, align 1', '%w = load i64, ptr %m, align 8',
+            f'%d = insertelement {kind} %z, i{bits} 7, i64 1', f'%r0 = xor {kind} %d, %y0', f'%q = bitcast i64 %w to <{elements // 2} x i{bits}>',
+            f'%q2 = shufflevector <{elements // 2} x i{bits}> %q, <{elements // 2} x i{bits}> %q, <{elements} x i32> zeroinitializer',
+            f'%r = xor {kind} %r0, %q2', *ended])
+    kind, begun, ended = same_vectors(16, 8)
+    yield function('each_narrower', [*begun, f'%n = bitcast {kind} %x to <8 x i16>', '%t0 = trunc <8 x i16> %n to <8 x i8>',
+                                     '%w = zext <8 x i8> %t0 to <8 x i16>', '%v = add <8 x i16> %w, %n', f'%r = bitcast <8 x i16> %v to {kind}', *ended])
+    if platform.machine() == 'x86_64':
+        lines = [*begun, f'%r = call {kind} @llvm.x86.ssse3.pshuf.b.128({kind} %x, {kind} %y0)', *ended]
+        yield function('octets_by_places', lines).replace(') {', ') "target-features"="+ssse3" {', 1)
+
+
+def fractions():
+    """Numbers with a fraction: of the arguments' bits, and of integers. Whichever number is none, its bits are the same."""
+    of_bits = ['%x = bitcast i64 %a0 to double', '%y = bitcast i64 %b0 to double']
+    of_numbers = ['%x = uitofp i64 %a0 to double', '%y = sitofp i64 %b0 to double']
+    ended = ['%is = fcmp ord double %q, %q', '%bits = bitcast double %q to i64', '%r = select i1 %is, i64 %bits, i64 7', 'ret i64 %r']
+    for name, begun in {'bits': of_bits, 'numbers': of_numbers}.items():
+        for operation in floats.ARITHMETIC:
+            yield function(f'{operation}_{name}', [*begun, f'%q = {operation} double %x, %y', *ended])
+        for condition in [*floats.ORDERED, *floats.OTHERWISE]:
+            yield function(f'fcmp_{condition}_{name}', [*begun, f'%t = fcmp {condition} double %x, %y', *answered(1, 't')])
+    yield function('fneg', [*of_bits, '%q = fneg double %x', *ended])
+    yield function('fabs_of_bits', [*of_bits, '%z = call double @llvm.fabs.f64(double %x)', '%q = call double @llvm.arithmetic.fence.f64(double %z)',
+                            *ended])
+    for bits in (1, 8, 33):
+        yield function(f'uitofp_{bits}', [*argument('a', bits), f'%q = uitofp i{bits} %a to double', *ended])
+        yield function(f'sitofp_{bits}', [*argument('a', bits), f'%q = sitofp i{bits} %a to double', *ended])
+    yield function('fractions_in_memory', [
+        *of_bits, '%m = alloca [16 x i8], align 8', '%at = getelementptr i8, ptr %m, i64 3', 'store double %x, ptr %at, align 1',
+        '%z = load double, ptr %at, align 1', '%i = and i64 %c0, 1', '%at2 = getelementptr [2 x double], ptr @halves, i64 0, i64 %i',
+        '%w = load double, ptr %at2, align 8', '%t = fcmp olt double %z, 0x3FE6666666666666', '%k = select i1 %t, double %w, double 3.000000e+00',
+        '%q = fmul double %z, %k', *ended])
+
+
 def wide_integers():
     """128 bits: two arguments side by side, and the third one above a copy of the first."""
     begun = ['%a1 = zext i64 %a0 to i128', '%b1 = zext i64 %b0 to i128', '%c1 = zext i64 %c0 to i128', '%b2 = shl i128 %b1, 64',
@@ -154,6 +221,8 @@ def wide_integers():
         yield function(f'{operation}_128', [*begun, f'%r = {operation} i128 %x, %y', *ended])
     for operation in ('shl', 'lshr'):
         yield function(f'{operation}_128', [*begun, '%count = and i128 %c1, 127', f'%r = {operation} i128 %x, %count', *ended])
+    for operation, called in {'umin': 'umin', 'umax': 'umax', 'usub_sat': 'usub.sat'}.items():
+        yield function(f'{operation}_128', [*begun, f'%r = call i128 @llvm.{called}.i128(i128 %x, i128 %y)', *ended])
     for condition in wide.COMPARISONS:
         yield function(f'icmp_{condition}_128', [*begun, f'%t = icmp {condition} i128 %x, %y', *answered(1, 't')])
     yield function('trunc_128_12', [*begun, '%z = sub i128 %x, 18446744073709551617', '%t = trunc i128 %z to i12', *answered(12, 't')])
@@ -161,12 +230,14 @@ def wide_integers():
 
 def text():
     """All of it, without a target."""
-    made = [sample for samples in (calculations, comparisons, casts, intrinsics, memory, vectors_of, wide_integers) for sample in samples()]
+    made = [sample for samples in (calculations, comparisons, casts, intrinsics, memory, vectors_of, each_element, fractions,
+                                            wide_integers) for sample in samples()]
     return '\n'.join(made) + WHOLE_FUNCTIONS
 
 
 # Blocks, phis that change places, calls, structs, constants with addresses in them, and copies that overlap.
 WHOLE_FUNCTIONS = r'''
+@halves = internal constant [2 x double] [double 5.000000e-01, double 0xBFF8000000000000], align 8
 @words = internal constant [4 x i16] [i16 1, i16 -2, i16 772, i16 32767], align 2
 @first = internal constant [6 x i8] c"ab\22\\\00z", align 1
 @places = internal constant <{ ptr, i64, ptr }> <{ ptr @words, i64 -5, ptr getelementptr inbounds (i8, ptr @first, i64 2) }>, align 8
