@@ -42,7 +42,7 @@ def program_of(module, files, portable):
         objects = []
         for source in (folder / 'program.c', folder / 'heap.c', files / 'system.c'):
             objects.append(folder / f'{source.stem}.o')
-            run(clang, *TARGET, *WARNINGS, '-std=c99', '-O2', '-nostdinc', '-isystem', files / 'include', f'-I{portable}', '-c', source,
+            run(clang, *TARGET, *WARNINGS, '-std=c99', '-Os', '-nostdinc', '-isystem', files / 'include', f'-I{portable}', '-c', source,
                 '-o', objects[-1])
         linker = folder / 'wasm-ld'
         linker.symlink_to(clang)
