@@ -6,3 +6,4 @@ pub mod Naming
 pub mod ShownLines
 pub mod TakenLemmas
 pub mod Telling
+pub mod WordLemmas
