@@ -19,14 +19,14 @@
 enum { WORD = 1, UDP = 256, TEXT, VERSION, GIVE_UP, JSON, ANY_SOURCE };
 
 /* The same, only for `collect` and `status`. */
-enum site_option { LISTEN = 512, DRAW, MAX_OFFSET, MAX_DELAY, ONCE, WATCH };
+enum site_option { LISTEN = 512, DRAW, MAX_OFFSET, MAX_DELAY, TAI_UTC, ONCE, WATCH };
 
 enum { MOST_WORDS = 2 + MOST_FIELD_WORDS, MOST_FIELD = 1418, NOT_NAMED = -1 };
 
 /* What holds if no option says otherwise. A request to only one clock is repeated for two seconds. */
 enum { HOPS = 1, ATTEMPTS = 30, SITE_HOPS = 7, SITE_ATTEMPTS = 10, LISTENED = 4000 };
 
-enum { SECOND = 1000, MOST_SECONDS = 86400 };
+enum { SECOND = 1000, MOST_SECONDS = 86400, MOST_TAI_UTC = 32767 };
 
 static const long most_limit = 1000000000000000;        /* of an offset or a delay, in nanoseconds */
 
@@ -40,8 +40,8 @@ static const struct option options[] = {
     { "timeout", required_argument, NULL, 't' }, { "times", required_argument, NULL, 'n' },
     { "give-up", no_argument, NULL, GIVE_UP }, { "listen", required_argument, NULL, LISTEN }, { "json", no_argument, NULL, JSON },
     { "draw", no_argument, NULL, DRAW }, { "max-offset", required_argument, NULL, MAX_OFFSET },
-    { "max-delay", required_argument, NULL, MAX_DELAY }, { "once", no_argument, NULL, ONCE },
-    { "watch", required_argument, NULL, WATCH },
+    { "max-delay", required_argument, NULL, MAX_DELAY }, { "tai-utc", required_argument, NULL, TAI_UTC },
+    { "once", no_argument, NULL, ONCE }, { "watch", required_argument, NULL, WATCH },
     { "hexadecimal", no_argument, NULL, 'x' }, { "text", no_argument, NULL, TEXT }, { "quiet", no_argument, NULL, 'q' },
     { "help", no_argument, NULL, 'h' }, { "version", no_argument, NULL, VERSION },
     { NULL, 0, NULL, 0 },
@@ -67,22 +67,30 @@ static long seconds(const char *option, const char *text, long least) {
     return found * SECOND;
 }
 
-/* A limit in nanoseconds, which goes to `ptpm site` as it is written. */
-static const char *limit(const char *option, const char *text) {
-    if (decimal(text, most_limit) < 0) refuse("%s %s: it takes a number of nanoseconds from 0 to %ld", option, text, most_limit);
+/* A limit in nanoseconds, which goes to `ptpm site` as it is written. Of an offset it may be `none`: without it there is one. */
+static const char *limit(const char *option, const char *text, bool may_be_none) {
+    if (may_be_none && strcmp(text, "none") == 0) return text;
+    if (decimal(text, most_limit) >= 0) return text;
+    refuse("%s %s: it takes a number of nanoseconds from 0 to %ld%s", option, text, most_limit, may_be_none ? ", or none" : "");
+}
+
+/* How many seconds TAI is before UTC, which goes there too. */
+static const char *tai_utc(const char *option, const char *text) {
+    if (decimal(text, MOST_TAI_UTC) < 0) refuse("%s %s: it takes a number of seconds from 0 to %d", option, text, MOST_TAI_UTC);
     return text;
 }
 
 /* Takes an option of `collect` and `status`; whether it is one of these. */
 static bool take_site_option(struct site_options *site, int option, const char *value) {
-    static const char *const names[] = { "--listen", "--draw", "--max-offset", "--max-delay", "--once", "--watch" };
+    static const char *const names[] = { "--listen", "--draw", "--max-offset", "--max-delay", "--tai-utc", "--once", "--watch" };
     if (option < LISTEN || option > WATCH) return false;
     const char *name = names[option - LISTEN];
     switch ((enum site_option)option) {
     case LISTEN: site->listen = seconds(name, value, 0); break;
     case WATCH: site->watch = seconds(name, value, 1); break;
-    case MAX_OFFSET: site->max_offset = limit(name, value); break;
-    case MAX_DELAY: site->max_delay = limit(name, value); break;
+    case MAX_OFFSET: site->max_offset = limit(name, value, true); break;
+    case MAX_DELAY: site->max_delay = limit(name, value, false); break;
+    case TAI_UTC: site->tai_utc = tai_utc(name, value); break;
     case DRAW: site->is_drawn = true; break;
     case ONCE: site->is_once = true; break;
     }
