@@ -56,7 +56,9 @@ static const char text[] =
     "      --draw              status as an SVG file\n"
     "      --once              status does not look a second time at findings that may pass\n"
     "      --watch SECONDS     status looks again and again, and prints what came and what went\n"
-    "\n"
+    "\n";
+
+static const char asking[] =
     "Who asks, and how often:\n"
     "  -m, --manager ID-PORT   the manager's own identity and port, below 61440. Otherwise that of the\n"
     "                          interface, or clock 0 at a Unix socket, at port 1. A survey, and what no\n"
@@ -96,6 +98,7 @@ static void print_ids(void) {
 
 _Noreturn void help(void) {
     fputs(text, stdout);
+    fputs(asking, stdout);
     printf("ID, in either case, or four hexadecimal digits:");
     print_ids();
     printf("\n\n%s", end);
