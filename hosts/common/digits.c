@@ -1,7 +1,7 @@
 #include "digits.h"
 
-long decimal(const char *text, long most) {
-    long number = 0;
+int64_t large_decimal(const char *text, int64_t most) {
+    int64_t number = 0;
     if (*text == '\0') return -1;
     for (; *text != '\0'; text++) {
         if (*text < '0' || *text > '9') return -1;
@@ -10,6 +10,8 @@ long decimal(const char *text, long most) {
     }
     return number;
 }
+
+long decimal(const char *text, long most) { return (long)large_decimal(text, most); }
 
 static int digit(char c) {
     if (c >= '0' && c <= '9') return c - '0';

@@ -119,7 +119,7 @@ static bool read_networks(void) {
 
 /* What can't be read now, for example since no descriptor is left, is read again in a second. */
 static void renew_networks(void) {
-    static long next;
+    static int64_t next;
     if (!is_stale || milliseconds() < next) return;
     is_stale = !read_networks();
     next = is_stale ? milliseconds() + SECOND : 0;

@@ -90,8 +90,8 @@ static bool take_event(uint32_t what) {
 
 /* Once a second: what came in at a socket that was at the path for a moment. Then the source, if it moved, and who has UDP port
    320. */
-static void look_around(long now) {
-    static long next;
+static void look_around(int64_t now) {
+    static int64_t next;
     if (now < next) return;
     next = now + SECOND;
     for (size_t i = 0; unix_socket >= 0 && i < WAYS_BACK; i++) take_round(NULL, way_back_socket(i));
@@ -101,7 +101,7 @@ static void look_around(long now) {
 }
 
 /* Runs until a signal asks for the end, or until that time comes, if it is not 0. */
-static void run(long end) {
+static void run(int64_t end) {
     struct epoll_event events[WAITS];
     bool is_going_on = true;
     if (source >= 0) observe_all();
@@ -110,13 +110,13 @@ static void run(long end) {
     say_deaf_ports();
     report_ready();
     while (is_going_on) {
-        long now = milliseconds();
+        int64_t now = milliseconds();
         if (end != 0 && now >= end) return;
         report_alive(now);
         renew_ports(now);
         wait_at_ports();
         look_around(now);
-        long most = end != 0 && end - now < SECOND ? end - now : SECOND, waiting = take_waiting();
+        int64_t most = end != 0 && end - now < SECOND ? end - now : SECOND, waiting = take_waiting();
         if (waiting >= 0 && waiting < most) most = waiting;
         wake_at(now + until_alive(now, most));
         int found = epoll_wait(polled, events, WAITS, -1);

@@ -7,7 +7,7 @@
 
 enum { ANSWERS = 128 };
 
-static unsigned long answers[ANSWERS], dropped, observed, not_observed;
+static unsigned long long answers[ANSWERS], dropped, observed, not_observed;
 
 void count_answer(uint32_t answer) {
     if (answer < ANSWERS) answers[answer]++;
@@ -20,8 +20,8 @@ void count_observation(bool is_observed) {
     else not_observed++;
 }
 
-static void print_count(const char *what, unsigned long count) {
-    if (count > 0) print_line("%s: %lu", what, count);
+static void print_count(const char *what, unsigned long long count) {
+    if (count > 0) print_line("%s: %llu", what, count);
 }
 
 static void print_saves(const struct saves *saves) {
@@ -36,7 +36,7 @@ static void print_saves(const struct saves *saves) {
 void print_counts(void) {
     const struct kept_back *kept_back = told_kept_back();
     for (int i = 0; i < ANSWERS; i++) {
-        if (answers[i] > 0) print_line("answer %d: %lu", i, answers[i]);
+        if (answers[i] > 0) print_line("answer %d: %llu", i, answers[i]);
     }
     print_count("dropped", dropped);
     print_count("not on the link", kept_back->strangers);

@@ -21,7 +21,7 @@ struct limits {
 };
 
 /* What was kept back since the start. */
-struct kept_back { unsigned long strangers, again, over_rate, unanswered, managers; };
+struct kept_back { unsigned long long strangers, again, over_rate, unanswered, managers; };
 
 void start_limits(const struct limits *given);
 

@@ -8,6 +8,7 @@
 #include "privileges.h"
 #include "ptpm.h"
 #include <stdbool.h>
+#include <stdint.h>
 
 enum { MANAGERS = 16 };
 
@@ -25,7 +26,7 @@ struct options {
     bool has_domain;                    /* -d is given */
     const char *source;                 /* what the clock observes: a file, a pipe, or NULL */
     bool is_told;                       /* a line for each datagram */
-    long end;                           /* when it ends by itself, in milliseconds; 0 if it doesn't */
+    int64_t end;                        /* when it ends by itself, in milliseconds; 0 if it doesn't */
 };
 
 /* How many ports the clock has. One that is heard only on its Unix socket has a port too. */

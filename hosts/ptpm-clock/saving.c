@@ -147,7 +147,7 @@ bool restore_clock(struct ptpm_clock *clock, const struct options *given) {
     return is_there;
 }
 
-static unsigned long microseconds(void) { return (unsigned long)nanoseconds() / 1000; }
+static unsigned long microseconds(void) { return (unsigned long)(nanoseconds() / 1000); }
 
 static void count_save(size_t size, unsigned long time) {
     saves.made++;

@@ -32,7 +32,7 @@ bool save_changes(struct ptpm_clock *clock);
 bool may_save(void);
 
 /* Saves that were made and that failed, and how many microseconds those that were made took. */
-struct saves { unsigned long made, failed, least, most, all; };
+struct saves { unsigned long long made, failed, least, most, all; };
 
 const struct saves *told_saves(void);
 

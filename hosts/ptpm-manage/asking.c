@@ -132,7 +132,7 @@ int ask_clock(struct session *session, const struct task *task) {
 /* How many answers the survey hears in time that are the first of their port; more ports than it has room for are counted. */
 static int taken_in_time(long wait, long *lost) {
     int taken = 0;
-    long end = milliseconds() + wait;
+    int64_t end = milliseconds() + wait;
     size_t size;
     for (const uint8_t *datagram; (datagram = receive_message(&size, end)) != NULL;) {
         enum ptpm_survey_received became = ptpm_survey_receive(&survey, datagram, size);

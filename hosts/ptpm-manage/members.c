@@ -51,7 +51,7 @@ static void print_value_as_json(FILE *to, const struct member *member) {
     const char *value = member->value, *rest = identity_at(value, identity);
     if (is_named(member, "portState") || is_named(member, "delayMechanism")) fprintf(to, "\"%s\"", word_of(member));
     else if (rest != NULL) print_identity_as_json(to, value, rest);
-    else if (strncmp(value, "0x", 2) == 0) fprintf(to, "%lu", strtoul(value, NULL, 16));
+    else if (strncmp(value, "0x", 2) == 0) fprintf(to, "%llu", strtoull(value, NULL, 16));
     else if (strchr(value, '.') != NULL && read_interval(value, &interval)) fprintf(to, "%" PRId64, interval);
     else fputs(value, to);
 }

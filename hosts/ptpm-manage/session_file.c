@@ -58,7 +58,7 @@ _Noreturn static void refuse_turn(int lock) {
 }
 
 /* The lock file, with the lock on it, until a time. Another run that had it may have removed it in the meantime. */
-static int lock_until(long end) {
+static int lock_until(int64_t end) {
     int lock = open_kept_lock(&file);
     if (lock < 0) refuse_place();
     while (!take_kept_lock(lock)) {
@@ -76,7 +76,7 @@ static void leave_nothing(void) { leave_no_lock(&file); }
 
 /* The lock is released when the program ends. Its time is that of this turn. */
 static void take_turn(void) {
-    long end = milliseconds() + TURN;
+    int64_t end = milliseconds() + TURN;
     int lock = lock_until(end);
     while (!is_kept_lock(&file, lock)) {
         if (milliseconds() >= end) refuse_turn(lock);

@@ -28,7 +28,7 @@ enum { HOPS = 1, ATTEMPTS = 30, SITE_HOPS = 7, SITE_ATTEMPTS = 10, LISTENED = 40
 
 enum { SECOND = 1000, MOST_SECONDS = 86400 };
 
-static const long most_limit = 1000000000000000;        /* of an offset or a delay, in nanoseconds */
+static const long long most_limit = 1000000000000000;        /* of an offset or a delay, in nanoseconds */
 
 static const struct option options[] = {
     { "interface", required_argument, NULL, 'i' }, { "udp", required_argument, NULL, UDP }, { "ipv6", no_argument, NULL, '6' },
@@ -69,7 +69,7 @@ static long seconds(const char *option, const char *text, long least) {
 
 /* A limit in nanoseconds, which goes to `ptpm site` as it is written. */
 static const char *limit(const char *option, const char *text) {
-    if (decimal(text, most_limit) < 0) refuse("%s %s: it takes a number of nanoseconds from 0 to %ld", option, text, most_limit);
+    if (large_decimal(text, most_limit) < 0) refuse("%s %s: it takes a number of nanoseconds from 0 to %lld", option, text, most_limit);
     return text;
 }
 
