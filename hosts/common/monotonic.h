@@ -1,4 +1,4 @@
-/* A time that no one sets. It has 64 bits also where a long has 32. */
+/* A time that no one sets. It has 64 bits on every machine. */
 #ifndef MONOTONIC_H
 #define MONOTONIC_H
 

@@ -107,7 +107,7 @@ static const unsigned allowed[] = {
 #ifdef SYS_time
     SYS_time,
 #endif
-#ifdef SYS_mmap2                    /* 32 bits, of which places in files have 64 */
+#ifdef SYS_mmap2                    /* a machine of 32 bits; places in files have 64 */
     SYS_mmap2, SYS_fcntl64, SYS_fstat64, SYS_fstatat64, SYS_stat64, SYS_lstat64, SYS__llseek,
 #else
     SYS_mmap, SYS_newfstatat,
@@ -137,7 +137,7 @@ enum { CALLS = sizeof allowed / sizeof *allowed, CONTROLS = sizeof allowed_contr
 enum { FIRST_CALL = 4, IOCTL = FIRST_CALL + CALLS, FIRST_CONTROL = IOCTL + 2, REFUSE = FIRST_CONTROL + CONTROLS, ALLOW, SIZE };
 _Static_assert(SIZE <= UINT8_MAX, "a filter branches forward by 255 places at most");
 
-/* Where the lower half of a word of 64 bits is. */
+/* The place of the lower half of a word of 64 bits. */
 enum { LOWER = __BYTE_ORDER__ == __ORDER_BIG_ENDIAN__ ? 4 : 0 };
 
 static struct sock_filter loads(size_t place) { return (struct sock_filter)BPF_STMT(BPF_LD | BPF_W | BPF_ABS, (uint32_t)place); }
@@ -148,8 +148,8 @@ static struct sock_filter branches(int at, uint32_t number, int where_equal, int
     return (struct sock_filter)BPF_JUMP(BPF_JMP | BPF_JEQ | BPF_K, number, by, by_not);
 }
 
-/* A system call of this machine whose number is allowed, or an ioctl whose second word is, of which the lower half counts. Any other
-   fails with EPERM. */
+/* A system call of this machine whose number is allowed, or an ioctl whose second word is, by its lower half. Any other fails with
+   EPERM. */
 static void write_filter(struct sock_filter filter[SIZE]) {
     filter[0] = loads(offsetof(struct seccomp_data, arch));
     filter[1] = branches(1, MACHINE, 3, 2);
