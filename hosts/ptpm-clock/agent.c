@@ -3,7 +3,6 @@
 #include "counts.h"
 #include "field_text.h"
 #include "held.h"
-#include "identity.h"
 #include "names.h"
 #include "network_limits.h"
 #include "observation.h"
@@ -11,6 +10,7 @@
 #include "peers.h"
 #include "saving.h"
 #include "unicast.h"
+#include "words.h"
 #include <errno.h>
 #include <stdbool.h>
 #include <stddef.h>

@@ -1,10 +1,9 @@
 #define _GNU_SOURCE
 #include "options.h"
-#include "digits.h"
-#include "identity.h"
 #include "monotonic.h"
 #include "output.h"
 #include "program.h"
+#include "words.h"
 #include <getopt.h>
 #include <grp.h>
 #include <net/if.h>

@@ -1,11 +1,11 @@
 #define _GNU_SOURCE
 #include "saving.h"
-#include "identity.h"
 #include "kept_file.h"
 #include "monotonic.h"
 #include "names.h"
 #include "output.h"
 #include "seal.h"
+#include "words.h"
 #include <errno.h>
 #include <stdbool.h>
 #include <stdlib.h>

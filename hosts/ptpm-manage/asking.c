@@ -2,7 +2,6 @@
 #include "answer.h"
 #include "as_asked.h"
 #include "exchange.h"
-#include "identity.h"
 #include "monotonic.h"
 #include "names.h"
 #include "notices.h"
@@ -10,6 +9,7 @@
 #include "stopping.h"
 #include "transport.h"
 #include "unanswered.h"
+#include "words.h"
 #include <errno.h>
 #include <stdbool.h>
 #include <stdio.h>

@@ -1,12 +1,12 @@
 #include "unanswered.h"
 #include "answer.h"
 #include "asking.h"
-#include "identity.h"
 #include "notices.h"
 #include "reading.h"
 #include "session_file.h"
 #include "stopping.h"
 #include "transport.h"
+#include "words.h"
 #include <stdbool.h>
 
 /* Whether the clock answers nobody's GET, if it did not answer the manager; then what it has is said. */

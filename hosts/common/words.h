@@ -1,9 +1,16 @@
-/* Identities of clocks and ports as texts, in the spelling of ptpm, aabbccfffeddee01/1, and in that of pmc,
-   aabbcc.fffe.ddee01-1. */
-#ifndef IDENTITY_H
-#define IDENTITY_H
+/* Numbers, octets, and identities of clocks and ports, in the words of a command line or of a file. An identity is spelt as ptpm does
+   it, aabbccfffeddee01/1, or as pmc does, aabbcc.fffe.ddee01-1. */
+#ifndef WORDS_H
+#define WORDS_H
 
+#include <stddef.h>
 #include <stdint.h>
+
+/* A number of only decimal digits, at most `most`; -1 if the text is none. */
+long decimal(const char *text, long most);
+
+/* Reads octets of two hexadecimal digits each, in either case, at most `most`; how many octets they are. */
+size_t read_octets(const char **text, uint8_t *octets, size_t most);
 
 /* A clockIdentity: sixteen hexadecimal digits in either case, also with a dot after the sixth and the tenth. The rest of the
    text; NULL if it does not begin with one. */
