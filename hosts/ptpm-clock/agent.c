@@ -173,7 +173,7 @@ static unsigned long take_turn(struct heard *heard, const struct port *port) {
         count_dropped(send_saved());
         places = places_to_send();
     }
-    if (options->is_told) return take_verbose_turn(heard, port, ingress, places);
+    if (options->is_verbose) return take_verbose_turn(heard, port, ingress, places);
     enum ptpm_handled answer = ptpm_clock_handle(&clock_held, ingress, heard->octets, heard->size, places, PTPM_MOST_SENT, &count);
     return hand_on(heard, port, ingress, answer, places, count, &left);
 }
@@ -245,7 +245,7 @@ void observe(char *text) {
                                                    &left);
     count_observation(answer == PTPM_OBSERVED);
     if (answer != PTPM_OBSERVED) say_at_times("%s: nothing is observed: %s", options->source, answer_name(answer));
-    else if (options->is_told) print_line("observed");
+    else if (options->is_verbose) print_line("observed");
     tell_left(left);
 }
 

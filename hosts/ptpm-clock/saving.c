@@ -154,7 +154,7 @@ static void count_save(size_t size, unsigned long time) {
     saves.all += time;
     if (saves.made == 1 || time < saves.least) saves.least = time;
     if (time > saves.most) saves.most = time;
-    if (options->is_told) print_line("saved: %zu octets in %lu us", size, time);
+    if (options->is_verbose) print_line("saved: %zu octets in %lu us", size, time);
 }
 
 /* Saves the clock; whether it is saved for sure. If not, errno says why. */
@@ -198,4 +198,4 @@ bool save_changes(struct ptpm_clock *clock) {
     return false;
 }
 
-const struct saves *told_saves(void) { return &saves; }
+const struct saves *saves_so_far(void) { return &saves; }

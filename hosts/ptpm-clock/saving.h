@@ -34,6 +34,6 @@ bool may_save(void);
 /* Saves that were made and that failed, and how many microseconds those that were made took. */
 struct saves { unsigned long made, failed, least, most, all; };
 
-const struct saves *told_saves(void);
+const struct saves *saves_so_far(void);
 
 #endif

@@ -12,16 +12,16 @@
 #include <string.h>
 
 void take_report(struct ptpm_session *session, struct answer *answer) {
-    answer->told = ptpm_session_report(session, answer->octets, sizeof answer->octets, &answer->size, &answer->error);
+    answer->outcome = ptpm_session_report(session, answer->octets, sizeof answer->octets, &answer->size, &answer->error);
 }
 
 void print_answer(FILE *to, const struct task *task, const char *lead, const struct answer *answer) {
     const char *refusal = error_name(answer->error);
     clear_progress();
-    if (answer->told == PTPM_DONE) fprintf(to, "%sdone\n", lead);
-    else if (answer->told == PTPM_REFUSED && refusal != NULL) fprintf(to, "%srefused %s\n", lead, refusal);
-    else if (answer->told == PTPM_REFUSED) fprintf(to, "%srefused 0x%04x, an error without a name\n", lead, answer->error);
-    else if (answer->told != PTPM_VALUE) complain("nothing is reported: %s", answer_name(answer->told));
+    if (answer->outcome == PTPM_DONE) fprintf(to, "%sdone\n", lead);
+    else if (answer->outcome == PTPM_REFUSED && refusal != NULL) fprintf(to, "%srefused %s\n", lead, refusal);
+    else if (answer->outcome == PTPM_REFUSED) fprintf(to, "%srefused 0x%04x, an error without a name\n", lead, answer->error);
+    else if (answer->outcome != PTPM_VALUE) complain("nothing is reported: %s", answer_name(answer->outcome));
     else if (task->is_in_octets) print_octets(to, lead, answer->octets, answer->size);
     else print_members(to, lead, task->id, answer->octets, answer->size);
 }
@@ -53,13 +53,13 @@ static void print_field_as_json(FILE *to, const struct task *task, const struct 
 
 void print_answer_as_json(FILE *to, const struct task *task, const struct ptpm_source *source, const struct answer *answer) {
     clear_progress();
-    if (answer->told != PTPM_DONE && answer->told != PTPM_REFUSED && answer->told != PTPM_VALUE) {
-        complain("nothing is reported: %s", answer_name(answer->told));
+    if (answer->outcome != PTPM_DONE && answer->outcome != PTPM_REFUSED && answer->outcome != PTPM_VALUE) {
+        complain("nothing is reported: %s", answer_name(answer->outcome));
         return;
     }
     print_source_as_json(to, task, source);
-    if (answer->told == PTPM_DONE) fputs(",\"status\":\"done\"", to);
-    else if (answer->told == PTPM_REFUSED) print_error_as_json(to, answer->error);
+    if (answer->outcome == PTPM_DONE) fputs(",\"status\":\"done\"", to);
+    else if (answer->outcome == PTPM_REFUSED) print_error_as_json(to, answer->error);
     else print_field_as_json(to, task, answer);
     fputs(is_other(task, answer) ? ",\"isAsAsked\":false}\n" : "}\n", to);
 }

@@ -8,7 +8,7 @@
 #include <stdio.h>
 
 /* What an answer says; its dataField is the head of `octets`. */
-struct answer { enum ptpm_reported told; uint16_t error; size_t size; uint8_t octets[PTPM_MOST_OCTETS]; };
+struct answer { enum ptpm_reported outcome; uint16_t error; size_t size; uint8_t octets[PTPM_MOST_OCTETS]; };
 
 /* What the answer to the session's latest request says. */
 void take_report(struct ptpm_session *session, struct answer *answer);

@@ -16,8 +16,8 @@ static bool say_value(const struct task *task) {
     bool is_answered = begin_reading(&session, task, task->id) && finish_reading(&session, task);
     if (is_answered) {
         take_report(&session, &answer);
-        complain("the clock answers reads%s", answer.told == PTPM_VALUE ? ", and has by now" : "");
-        if (answer.told == PTPM_VALUE) print_answer(stderr, task, "ptpm-manage: ", &answer);
+        complain("the clock answers reads%s", answer.outcome == PTPM_VALUE ? ", and has by now" : "");
+        if (answer.outcome == PTPM_VALUE) print_answer(stderr, task, "ptpm-manage: ", &answer);
     } else if (!stopped) {
         complain("it answers no read either");
     }
