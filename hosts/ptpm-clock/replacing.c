@@ -2,38 +2,52 @@
 #include "replacing.h"
 #include <errno.h>
 #include <pthread.h>
+#include <semaphore.h>
 #include <sys/eventfd.h>
 
-/* What the thread is given, and what it found, which is read once it has ended. */
-static struct { const struct kept_file *file; const uint8_t *octets; size_t size; enum replaced answer; int failure; } replaced_now;
-static pthread_t thread;
+/* What the thread is asked, and what it answers. It belongs to the thread from `asked` to `done`. */
+static struct { const struct kept_file *file; const uint8_t *octets; size_t size; enum replaced answer; int failure; } one;
+static sem_t asked, done;
 static int event = -1;
 
 bool open_replacing(void) {
     event = eventfd(0, EFD_NONBLOCK | EFD_CLOEXEC);
-    return event >= 0;
+    return event >= 0 && sem_init(&asked, 0, 0) == 0 && sem_init(&done, 0, 0) == 0;
 }
 
 int replacing_event(void) { return event; }
 
-static void *replace(void *given) {
-    replaced_now.answer = replace_kept(replaced_now.file, replaced_now.octets, replaced_now.size);
-    replaced_now.failure = errno;
-    eventfd_write(event, 1);
-    return given;
+static void wait_for(sem_t *what) {
+    while (sem_wait(what)) continue;        /* a debugger may interrupt it */
+}
+
+static void *replace_all(void *nothing) {
+    for (;;) {
+        wait_for(&asked);
+        one.answer = replace_kept(one.file, one.octets, one.size);
+        one.failure = errno;
+        eventfd_write(event, 1);
+        sem_post(&done);
+    }
+    return nothing;
 }
 
 bool begin_replacing(const struct kept_file *file, const uint8_t *octets, size_t size) {
-    replaced_now.file = file;
-    replaced_now.octets = octets;
-    replaced_now.size = size;
-    return pthread_create(&thread, NULL, replace, NULL) == 0;
+    static pthread_t thread;
+    static bool is_started;
+    if (!is_started) is_started = pthread_create(&thread, NULL, replace_all, NULL) == 0;
+    if (!is_started) return false;
+    one.file = file;
+    one.octets = octets;
+    one.size = size;
+    sem_post(&asked);
+    return true;
 }
 
 enum replaced end_replacing(void) {
     eventfd_t times;
-    pthread_join(thread, NULL);
+    wait_for(&done);
     eventfd_read(event, &times);
-    errno = replaced_now.failure;
-    return replaced_now.answer;
+    errno = one.failure;
+    return one.answer;
 }
