@@ -35,8 +35,8 @@ bool begin_save(const struct ptpm_clock *clock);
 extern bool is_saving;
 int saving_event(void);
 
-/* Ends the save, after a wait for the disk if it is not done: what it answers, and what becomes of the clock, is as with
-   `save_changes`. */
+/* Ends the save, after a wait for the disk if it is not done. It answers what `save_changes` answers, and the same becomes of the
+   clock. */
 bool end_save(struct ptpm_clock *clock);
 
 /* Whether a save may be made now for requests at a port. There may be a fifth as many saves a second as requests of managers, and
