@@ -115,7 +115,7 @@ static void print_turn(uint16_t ingress, const struct heard *heard, uint32_t ans
 static void print_all_changed(const struct ptpm_changed *changed) {
     if (changed->clock != 0) print_changed("changed:", PTPM_BAD_IDENTITY, changed->clock);
     for (size_t i = 0; i < ports_of(options); i++) {
-        char where[32];
+        char where[40];
         snprintf(where, sizeof where, "changed at port %zu:", i + 1);
         if (changed->ports[i] != 0) print_changed(where, PTPM_BAD_STATE, changed->ports[i]);
     }
