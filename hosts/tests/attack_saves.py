@@ -10,7 +10,7 @@ import time
 
 from attack_limits import set_of
 from attack_wire import STRANGER, Wire, message
-from attacking import MANAGER, ME, SLOW, Clock, Peer, check, get, path, started, wait_until, work, write
+from attacking import MANAGER, ME, SLOW, TRACED, Clock, Peer, check, get, path, started, wait_until, work, write
 
 state = os.path.join(work, "slow")
 WORDS = ("-s", state, "-u", path, "-m", MANAGER + "/1", "--manager-rate", "1000")
@@ -55,7 +55,7 @@ def answers_of_manager(wire, most=2):
 def strangers_during_a_save():
     """They are answered at once, by what was saved before. What is observed they are shown at once too."""
     wire, source = Wire("clk0", 10), write("observed", "steps_removed 1\n")
-    clock = Clock(*WORDS, "-o", source, ME, wire.name)
+    clock = Clock(*WORDS, "-o", source, ME, wire.name, env=TRACED)
     peer = Peer("peer")
     check("it observes", wait_until(lambda: asked(wire, 1, "2001")[0] == 1))
     disk = Disk(clock, SLOWLY)
@@ -82,7 +82,7 @@ def strangers_during_a_save():
 def ends_during_a_save():
     """It ends when that is done, and what it saved is answered."""
     wire = Wire("clk0", 10)
-    clock = Clock(*WORDS, ME, wire.name)
+    clock = Clock(*WORDS, ME, wire.name, env=TRACED)
     disk = Disk(clock, SLOWLY)
     wire.come_in(set_of(7, 50))
     check("a stranger is answered during a save", asked(wire, 1)[0] == 128 << 8)
@@ -98,7 +98,7 @@ def ends_during_a_save():
 def saves_that_fail_beside_strangers():
     """Nobody is shown what was not saved, and nothing leaves before what is in doubt is."""
     wire = Wire("clk0", 10)
-    clock = Clock(*WORDS, ME, wire.name)
+    clock = Clock(*WORDS, ME, wire.name, env=TRACED)
     disk = Disk(clock, FAILING)
     wire.come_in(set_of(7, 50))
     found = [asked(wire, number) for number in range(1, 12)]
@@ -123,7 +123,7 @@ def saves_that_fail_beside_strangers():
 def askers_without_end_during_a_save():
     """At the ports 64 requests wait at most, with those that are being saved; a program of this host waits itself, and loses none."""
     wire = Wire("clk0", 10)
-    clock = Clock(*WORDS, ME, wire.name)
+    clock = Clock(*WORDS, ME, wire.name, env=TRACED)
     disk, peer = Disk(clock, SLOWLY), Peer("peer")
     wire.come_in(set_of(1, 50))
     asked(wire, 1)
