@@ -34,7 +34,7 @@ static void print_saves(const struct saves *saves) {
 }
 
 void print_counts(void) {
-    const struct kept_back *kept_back = told_kept_back();
+    const struct kept_back *kept_back = kept_back_so_far();
     for (int i = 0; i < ANSWERS; i++) {
         if (answers[i] > 0) print_line("answer %d: %llu", i, answers[i]);
     }
@@ -44,7 +44,7 @@ void print_counts(void) {
     print_count("not passed on over the rate", kept_back->over_rate);
     print_count("not answered over the rate", kept_back->unanswered);
     print_count("not taken of managers over their rate", kept_back->managers);
-    print_saves(told_saves());
+    print_saves(saves_so_far());
     print_count("observed", observed);
     print_count("not observed", not_observed);
     print_count("lines not printed", lines_lost());

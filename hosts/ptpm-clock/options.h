@@ -25,7 +25,7 @@ struct options {
     const char *state;                  /* the file that the clock is saved to, or NULL */
     bool has_domain;                    /* -d is given */
     const char *source;                 /* what the clock observes: a file, a pipe, or NULL */
-    bool is_told;                       /* a line for each datagram */
+    bool is_verbose;                    /* a line for each datagram */
     int64_t end;                        /* when it ends by itself, in milliseconds; 0 if it doesn't */
 };
 

@@ -1,6 +1,6 @@
 #define _GNU_SOURCE
 #include "service.h"
-#include "digits.h"
+#include "words.h"
 #include <limits.h>
 #include <stddef.h>
 #include <stdlib.h>

@@ -4,12 +4,11 @@
    answered, and in how many microseconds the middle one and 99 of a hundred were. With a RATE of 0 it waits for each answer
    before it asks again. */
 #define _GNU_SOURCE
-#include "digits.h"
-#include "identity.h"
 #include "message_places.h"
 #include "monotonic.h"
 #include "program.h"
 #include "udp.h"
+#include "words.h"
 #include <stdbool.h>
 #include <stdio.h>
 #include <stdlib.h>

@@ -4,11 +4,11 @@
    are random octets, Announce messages of one master, GETs for clocks that are not there, or GETs for every clock. No manager sends
    these. They come from that address of the interface, or from its first. It reads nothing. */
 #define _GNU_SOURCE
-#include "digits.h"
 #include "message_places.h"
 #include "monotonic.h"
 #include "program.h"
 #include "udp.h"
+#include "words.h"
 #include <arpa/inet.h>
 #include <net/if.h>
 #include <stdbool.h>
