@@ -12,7 +12,7 @@ static const uint8_t datagram[54] = {           /* from 0011223344556677/1 to ev
 static struct ptpm_sent sent[PTPM_MOST_SENT];   /* large, so it is in no frame */
 
 int main(void) {
-    struct ptpm_clock clock = { NULL, false };
+    static struct ptpm_clock clock;             /* all zeros: it holds no clock yet */
     struct ptpm_clock_settings settings;
     struct ptpm_port_settings port;
     struct ptpm_manager_settings manager = { { 0x00, 0x11, 0x22, 0x33, 0x44, 0x55, 0x66, 0x77 }, 1, PTPM_CLOCK_SET };

@@ -4,7 +4,11 @@
    the highest. So what lies between clocks is room for clocks, and a clock that was stopped can be started again. */
 #include "ptpm_memory.h"
 #include <stdint.h>
+#if __STDC_HOSTED__
 #include <string.h>
+#else
+#define memcpy __builtin_memcpy
+#endif
 
 /* A piece lies at a multiple of UNIT, and its size is one. Its two words take UNIT octets on every machine. A clock takes CLOCK
    octets for itself and SLOT for each manager. */

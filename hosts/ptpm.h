@@ -15,11 +15,11 @@
      handle points to. There is one live copy of a handle. The host may move it, and neither reads nor writes anything inside it.
    - malloc, realloc and free come from one allocator. malloc aligns each block to the greatest power of two up to 16 that divides
      its size. No call is made from a signal handler, or in a forked child of a process with threads.
-   - A call has the stack that it needs. As the library is built for x86-64 and aarch64, most calls take 500 octets. The image of a
-     clock, and the image and the restore of a session, take 1,000 each. A restore of a clock takes 9,200. A start of a clock takes
-     5,500, ptpm_clock_handle_changed and ptpm_field_parse 2,100 each. ptpm_clock_handle, ptpm_clock_observe and ptpm_field_text take
-     1,000 each. The message of a survey takes 1,900. Beyond that a call takes the stack of the host's malloc, realloc, free, memcpy,
-     memmove and memset. No call calls itself.
+   - A call has the stack that it needs. As the library is built for x86-64 and aarch64, most calls take 500 octets. A start of a
+     clock takes 5,300, and a restore 3,700. The message of a survey takes 1,700. The calls ptpm_clock_handle_changed and
+     ptpm_field_parse take 2,200 each, ptpm_clock_handle and ptpm_clock_observe 1,000 each. The images, and the restore of a session,
+     take 1,000 each. As C it takes more (docs/embedding.md, "On any other processor"). Beyond that a call takes the stack of the
+     host's malloc, realloc, free, memcpy, memmove and memset. No call calls itself.
 
    A call that only reads takes a const handle, and leaves it as it is. If several errors apply, the first is returned. Only
    ptpm_clock_start may return PTPM_NO_MEMORY in its place. Every other call asks for memory only if no other error applies. */
@@ -50,11 +50,14 @@ enum {
     PTPM_ID_DELAY_MECHANISM = 0x6000, PTPM_ID_LOG_MIN_PDELAY_REQ_INTERVAL = 0x6001
 };
 
+/* A struct with numbers of eight octets is at a multiple of eight on every machine. Some compilers would take four. */
+#define PTPM_AT_EIGHT __attribute__((__aligned__(8)))
+
 /* A handle has 16 octets on every machine, eight of them for an address. */
 #if __SIZEOF_POINTER__ == 8
 #define PTPM_TO_EIGHT
 #else
-#define PTPM_TO_EIGHT uint32_t rest; __attribute__((__aligned__(8)))
+#define PTPM_TO_EIGHT uint32_t rest; PTPM_AT_EIGHT
 #endif
 
 /* A clock: 2,608 octets at one pointer with one manager, and 34,648 with sixteen. All zeros hold no clock: struct ptpm_clock
@@ -65,7 +68,7 @@ struct ptpm_clock { void *at; PTPM_TO_EIGHT bool live; };
    A flag is set if it is not 0. Without its has_ flag a value is the clock's own, and parent_port is its port 0. An
    offsetScaledLogVariance is 256 times the base-2 logarithm of the variance in seconds squared, plus 0x8000 (7.6.3). */
 struct ptpm_clock_settings {
-    int64_t offset_from_master;         /* in nanoseconds times 2^16 */
+    PTPM_AT_EIGHT int64_t offset_from_master; /* in nanoseconds times 2^16 */
     int64_t mean_path_delay;            /* in nanoseconds times 2^16 */
     int32_t observed_rate;              /* observedParentClockPhaseChangeRate */
     uint16_t variance;                  /* offsetScaledLogVariance */
@@ -118,7 +121,7 @@ enum { PTPM_DELAY_E2E = 1, PTPM_DELAY_P2P = 2, PTPM_DELAY_NONE = 0xFE };
 /* The start values of a port: ptpm_port_defaults writes them all. A member log_.. is the base-2 logarithm of an interval in seconds
    (7.7.2). */
 struct ptpm_port_settings {
-    int64_t peer_delay;                 /* in nanoseconds times 2^16 */
+    PTPM_AT_EIGHT int64_t peer_delay;   /* in nanoseconds times 2^16 */
     uint8_t state;                      /* portState, PTPM_STATE_INITIALIZING to PTPM_STATE_SLAVE */
     int8_t log_min_delay_req;           /* logMinDelayReqInterval */
     int8_t log_announce;                /* logAnnounceInterval, -4 to 4 */
@@ -136,7 +139,7 @@ struct ptpm_port_settings {
    set can't be observed. clock_accuracy, utc_offset, the two leaps and utc_valid are both set and observed, and the later
    value counts. */
 struct ptpm_observed_clock {
-    int64_t offset_from_master;         /* in nanoseconds times 2^16 */
+    PTPM_AT_EIGHT int64_t offset_from_master; /* in nanoseconds times 2^16 */
     int64_t mean_path_delay;            /* in nanoseconds times 2^16 */
     int32_t observed_rate;              /* observedParentClockPhaseChangeRate */
     uint16_t variance;                  /* offsetScaledLogVariance of the clock itself, as clock_class and clock_accuracy */
@@ -185,7 +188,7 @@ struct ptpm_observed_clock {
 /* What a host observes of a port. Only a manager's command enters or leaves state 3, DISABLED. An enabled port is not observed in
    it, and a disabled port stays in it. A number that is no state counts as 3. */
 struct ptpm_observed_port {
-    int64_t peer_delay;                 /* in nanoseconds times 2^16 */
+    PTPM_AT_EIGHT int64_t peer_delay;   /* in nanoseconds times 2^16 */
     uint8_t state;                      /* portState, PTPM_STATE_INITIALIZING to PTPM_STATE_SLAVE */
     uint8_t has_state;
     uint8_t has_peer_delay;
@@ -286,14 +289,14 @@ struct ptpm_source {
 /* Which messages were forwarded last, 4,096 at most, about 197,000 octets. All zeros record none. The host then draws a seed,
    so that nobody else can predict where a message is recorded. It writes nothing else inside. */
 struct ptpm_passed_on {
-    uint64_t seed;
+    PTPM_AT_EIGHT uint64_t seed;
     uint64_t places[4096][6];
 };
 
 /* A bucket of tokens: N per second, and at most those of one second at once. ptpm_rate_start makes it. The host writes nothing
    inside it. */
 struct ptpm_rate {
-    uint64_t rate;                      /* tokens per second */
+    PTPM_AT_EIGHT uint64_t rate;        /* tokens per second */
     uint64_t left;                      /* thousandths of a token */
     uint64_t time;                      /* the latest that it was asked at, in milliseconds */
 };

@@ -17,17 +17,25 @@ HOSTS = {"manager": {0: "02:00:00:00:00:10"}, "neighbour": {0: "02:00:00:00:00:2
          "receiver": {0: "02:00:00:00:00:50"}, "hall": {0: "02:00:00:00:00:51", 1: "02:00:00:00:00:52"},
          "left": {1: "02:00:00:00:00:53"}, "right": {1: "02:00:00:00:00:54"}}
 
-# A ptp4l that moves no clock of the machine, and that announces itself at once.
+# A ptp4l that announces itself at once, and whose servo is soon content. It may not move a clock of the machine: no process may
+# that WITHOUT_CLOCK starts.
 PTP4L = """[global]
-free_running 1
 time_stamping software
 logAnnounceInterval -3
+logSyncInterval -3
+pi_proportional_const 0.7
+pi_integral_const 0.3
+first_step_threshold 0.0
 uds_address {socket}
 clockIdentity {identity}
 userDescription {name}
 priority1 {priority}
 """
-SITE = [("receiver", ["eth0"], "020000.fffe.000010", "GPS receiver", 100),
+WITHOUT_CLOCK = "setpriv --bounding-set=-sys_time --inh-caps=-sys_time"
+# What a grandmaster says of itself whose time is no TAI. A ptp4l that says that its time is one has followers that are off by
+# seconds here, since all of them read one clock, which has UTC.
+SERVER = "clockClass 13\nclockAccuracy 0x21\noffsetScaledLogVariance 0x4e5d\ntimeSource 0x90\n"
+SITE = [("receiver", ["eth0"], "020000.fffe.000010", "time server", 100),
         ("hall", ["eth0", "eth1"], "020000.fffe.000021", "switch, hall 2", 120),
         ("left", ["eth0"], "020000.fffe.000031", "camera 7", 128), ("right", ["eth0"], "020000.fffe.000032", "camera 8", 128)]
 NEIGHBOUR = [("neighbour", ["eth0"], "020000.fffe.000020", "", 128)]
@@ -130,7 +138,9 @@ class Scene:
             socket = f"/run/ptp4l.{host}" if is_site else "/run/ptp4l"
             with open(f"/run/{host}.conf", "w", encoding="utf-8") as file:
                 file.write(PTP4L.format(socket=socket, identity=identity, name=name or "clock", priority=priority))
-            self.start(host, " ".join(["ptp4l", "-m", "-f", f"/run/{host}.conf", *(f"-i {interface}" for interface in interfaces)]))
+                file.write(SERVER if host == "receiver" else "")
+            ports = [f"-i {interface}" for interface in interfaces]
+            self.start(host, " ".join([WITHOUT_CLOCK, "ptp4l", "-m", "-f", f"/run/{host}.conf", *ports]))
         for text in [] if is_site else AGENTS.get(page, []):
             self.start("device", text)
         self.settle(["camera 7", "camera 8", "findings: none"] if is_site else ["020000fffe000020"])
@@ -138,7 +148,8 @@ class Scene:
     def settle(self, wanted):
         """Waits until the network is what the pages show of it."""
         end, printed = time.monotonic() + 30, ""
-        while time.monotonic() < end and ("LISTENING" in printed or not all(word in printed for word in wanted)):
+        passing = ["LISTENING", "UNCALIBRATED"]
+        while time.monotonic() < end and (any(word in printed for word in passing) or not all(word in printed for word in wanted)):
             time.sleep(0.2)
             printed = self.run("ptpm-manage -i eth0 status --once").stdout
 

@@ -1,7 +1,13 @@
 /* The heap that libptpm.c asks for memory, over malloc, realloc and free. What is promised of it is what dist/c/heap.c keeps. An
    alignment is not kept beyond what malloc gives: libptpm.c reads and writes memory at any place. */
 #include "portable.h"
+#if __STDC_HOSTED__
 #include <stdlib.h>
+#else
+void *malloc(size_t size);
+void *realloc(void *block, size_t size);
+void free(void *block);
+#endif
 
 struct pair portable_rattle_alloc(u64 size, u64 alignment);
 struct pair portable_rattle_realloc(address block, u64 kept, u64 size, u64 alignment);

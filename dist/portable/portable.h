@@ -4,8 +4,16 @@
 #ifndef PORTABLE_H
 #define PORTABLE_H
 
+#include <stddef.h>
 #include <stdint.h>
+#if __STDC_HOSTED__ || !defined(__GNUC__)
 #include <string.h>
+#else
+/* With -ffreestanding there is no header of a C library. The host has these three. */
+#define memcpy __builtin_memcpy
+#define memmove __builtin_memmove
+#define memset __builtin_memset
+#endif
 
 typedef uint8_t u8;
 typedef uint16_t u16;

@@ -1,15 +1,16 @@
-/* A time that no one sets. */
+/* A time that no one sets. It has 64 bits on every machine. */
 #ifndef MONOTONIC_H
 #define MONOTONIC_H
 
+#include <stdint.h>
 #include <time.h>
 
-static inline long nanoseconds(void) {
+static inline int64_t nanoseconds(void) {
     struct timespec now;
     clock_gettime(CLOCK_MONOTONIC, &now);
-    return now.tv_sec * 1000000000 + now.tv_nsec;
+    return (int64_t)now.tv_sec * 1000000000 + now.tv_nsec;
 }
 
-static inline long milliseconds(void) { return nanoseconds() / 1000000; }
+static inline int64_t milliseconds(void) { return nanoseconds() / 1000000; }
 
 #endif

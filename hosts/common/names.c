@@ -1,7 +1,7 @@
 #include "names.h"
-#include "digits.h"
 #include "field_text.h"
 #include "ptpm.h"
+#include "words.h"
 #include <stddef.h>
 #include <string.h>
 #include <strings.h>

@@ -14,7 +14,7 @@
 #include <string.h>
 #include <unistd.h>
 
-enum { MOST_NETWORKS = 1024, TOLD = 16384, SECOND = 1000 };
+enum { MOST_NETWORKS = 1024, OCTETS = 16384, SECOND = 1000 };
 
 /* The addresses whose first bits are those of one address of an interface. */
 struct network { unsigned index; sa_family_t family; uint8_t address[16], mask[16]; };
@@ -57,9 +57,9 @@ static void take_message(const struct nlmsghdr *message, link_taker *take) {
     take((unsigned)link->ifi_index, is_gone ? LINK_GONE : LINK_CHANGED, mtu_of(message));
 }
 
-static void take_messages(const char *told, size_t size, link_taker *take) {
+static void take_messages(const char *octets, size_t size, link_taker *take) {
     for (size_t place = 0; place + sizeof(struct nlmsghdr) <= size;) {
-        const struct nlmsghdr *message = (const void *)(told + place);
+        const struct nlmsghdr *message = (const void *)(octets + place);
         if (message->nlmsg_len < sizeof *message || message->nlmsg_len > size - place) return;
         take_message(message, take);
         place += NLMSG_ALIGN(message->nlmsg_len);
@@ -67,11 +67,11 @@ static void take_messages(const char *told, size_t size, link_taker *take) {
 }
 
 void read_netlink(link_taker *take) {
-    static _Alignas(struct nlmsghdr) char told[TOLD];
+    static _Alignas(struct nlmsghdr) char octets[OCTETS];
     for (;;) {
-        ssize_t size = recv(netlink_socket, told, sizeof told, MSG_DONTWAIT);
+        ssize_t size = recv(netlink_socket, octets, sizeof octets, MSG_DONTWAIT);
         if (size > 0) {
-            take_messages(told, (size_t)size, take);
+            take_messages(octets, (size_t)size, take);
         } else if (size < 0 && errno == ENOBUFS) {
             is_stale = true;
             take(0, LINK_CHANGED, 0);
@@ -119,7 +119,7 @@ static bool read_networks(void) {
 
 /* What can't be read now, for example since no descriptor is left, is read again in a second. */
 static void renew_networks(void) {
-    static long next;
+    static int64_t next;
     if (!is_stale || milliseconds() < next) return;
     is_stale = !read_networks();
     next = is_stale ? milliseconds() + SECOND : 0;

@@ -24,9 +24,9 @@ struct answer { _Alignas(struct nlmsghdr) char octets[1024]; };
 
 /* Strangers shall not have the kernel asked again and again. */
 static bool may_ask(void) {
-    static long begun;
+    static int64_t begun;
     static int asked;
-    long now = milliseconds();
+    int64_t now = milliseconds();
     if (asked == 0 || now >= begun + SECOND) {
         begun = now;
         asked = 0;

@@ -1,7 +1,7 @@
 #define _GNU_SOURCE
 #include "unix_socket.h"
-#include "digits.h"
 #include "program.h"
+#include "words.h"
 #include <dirent.h>
 #include <errno.h>
 #include <libgen.h>

@@ -45,6 +45,7 @@ _ptpm() {
     ,*) _ptpm_offer "${commands[@]}" --help --version ;;
     *,*,-*) _ptpm_offer_lines < <(_ptpm_options ptpm "$command") ;;
     make,make,*) _ptpm_offer get set command ;;
+    site,--max-offset,*) _ptpm_offer none ;;
     make,get,* | make,set,* | make,command,*) _ptpm_offer_lines < <(_ptpm_ids) ;;
     esac
 }
@@ -70,6 +71,7 @@ _ptpm_manage() {
     get,* | set,* | command,* | survey,*) _ptpm_offer_lines < <(_ptpm_ids) ;;
     -i,* | --interface,*) _ptpm_offer_interfaces ;;
     -p,* | --port,*) _ptpm_offer all ;;
+    --max-offset,*) _ptpm_offer none ;;
     *)
         _ptpm_takes ptpm-manage "$before" || _ptpm_offer_member || [[ -n $(_ptpm_last "${actions[*]}") ]] ||
             _ptpm_offer "${actions[@]}"

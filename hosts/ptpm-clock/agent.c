@@ -3,7 +3,6 @@
 #include "counts.h"
 #include "field_text.h"
 #include "held.h"
-#include "identity.h"
 #include "names.h"
 #include "network_limits.h"
 #include "observation.h"
@@ -11,6 +10,7 @@
 #include "peers.h"
 #include "saving.h"
 #include "unicast.h"
+#include "words.h"
 #include <errno.h>
 #include <stdbool.h>
 #include <stddef.h>
@@ -20,9 +20,14 @@
 #include <sys/socket.h>
 #include <sys/un.h>
 
-enum { NEXT_SAVE = 10 };       /* in how many milliseconds it is seen whether it is time for one */
+enum {
+    NEXT_SAVE = 10,             /* in how many milliseconds it is seen whether it is time for one */
+    PEERS_A_SAVE = 10           /* requests of programs of this host: Linux keeps ten answers for one that does not read them */
+};
 
 static struct ptpm_clock clock_held;
+static struct ptpm_clock clock_before;  /* what is being saved changed: as others see it until that is saved */
+static size_t taken;                    /* how many requests that wait are being saved */
 static const struct options *options;
 
 void start_clock(const struct options *given) {
@@ -110,7 +115,7 @@ static void print_turn(uint16_t ingress, const struct heard *heard, uint32_t ans
 static void print_all_changed(const struct ptpm_changed *changed) {
     if (changed->clock != 0) print_changed("changed:", PTPM_BAD_IDENTITY, changed->clock);
     for (size_t i = 0; i < ports_of(options); i++) {
-        char where[32];
+        char where[40];
         snprintf(where, sizeof where, "changed at port %zu:", i + 1);
         if (changed->ports[i] != 0) print_changed(where, PTPM_BAD_STATE, changed->ports[i]);
     }
@@ -163,7 +168,17 @@ static unsigned long take_verbose_turn(const struct heard *heard, const struct p
     return lost;
 }
 
-/* What becomes of a datagram; port is NULL for the Unix socket. How many messages were not taken. */
+/* Copies the clock for those who ask during the next save; whether it could. */
+static bool copy_clock(void) {
+    static uint8_t image[PTPM_CLOCK_IMAGE_OCTETS];
+    size_t size, gone;
+    return ptpm_clock_image(&clock_held, image, sizeof image, &size) == PTPM_SAVED
+           && ptpm_clock_restore(&clock_before, options->settings.identity, ports_of(options), options->managers,
+                                 options->manager_count, image, size, &gone) == PTPM_RESTORED;
+}
+
+/* What becomes of a datagram; port is NULL for the Unix socket. How many messages were not taken. During a save it is for the clock
+   before the save, which only managers could change, and their requests wait. */
 static unsigned long take_turn(struct heard *heard, const struct port *port) {
     size_t count, left;
     uint16_t ingress = port == NULL ? 1 : (uint16_t)(port - ports + 1);
@@ -173,8 +188,10 @@ static unsigned long take_turn(struct heard *heard, const struct port *port) {
         count_dropped(send_saved());
         places = places_to_send();
     }
-    if (options->is_told) return take_verbose_turn(heard, port, ingress, places);
-    enum ptpm_handled answer = ptpm_clock_handle(&clock_held, ingress, heard->octets, heard->size, places, PTPM_MOST_SENT, &count);
+    if (options->is_verbose) return take_verbose_turn(heard, port, ingress, places);
+    struct ptpm_clock *clock = is_saving ? &clock_before : &clock_held;
+    enum ptpm_handled answer = ptpm_clock_handle(clock, ingress, heard->octets, heard->size, places, PTPM_MOST_SENT, &count);
+    if (is_saving && answer == PTPM_ANSWERED_NEW) return count;         /* nobody is shown what is not saved */
     return hand_on(heard, port, ingress, answer, places, count, &left);
 }
 
@@ -194,6 +211,7 @@ static void take_all(size_t count) {
     struct heard *admitted[ROUND], *first[ROUND], *last[ROUND];
     unsigned long lost = 0;
     size_t left = 0;
+    if (count == 0) return;
     for (size_t i = 0; i < count; i++) {
         const struct port *port = heard_now[i].port;
         if (port == NULL || admit_datagram(&heard_now[i], port)) admitted[left++] = &heard_now[i];
@@ -203,28 +221,47 @@ static void take_all(size_t count) {
     lost += send_saved();
     for (size_t i = 0; i < left - firsts; i++) {
         const struct port *port = last[i]->port;
-        if (port == NULL) lost += take_turn(last[i], port);
-        else if (admit_manager(last[i], port) && !hold(last[i], port)) count_manager_dropped();
+        if ((port == NULL || admit_manager(last[i], port)) && !hold(last[i], port)) count_manager_dropped();
     }
-    count_dropped(lost + send_saved());
+    count_dropped(lost);
 }
 
-void take_round(const struct port *port, int socket) { take_all(hear_round(port, socket, heard_now)); }
+void take_round(const struct port *port, int socket) {
+    if (port != NULL || has_room_for_peers()) take_all(hear_round(port, socket, heard_now));
+}
 
 void take_unicast_round(void) { take_all(hear_unicast(heard_now)); }
 
-/* Takes as many as one save does for. */
-static void take_held(void) {
-    unsigned long lost = 0;
-    size_t taken = 0;
-    for (; taken < held_count() && places_to_send() != NULL; taken++) lost += take_turn(&held_at(taken)->heard, held_at(taken)->port);
-    count_dropped(lost + send_saved());
+static void send_taken(unsigned long lost) {
+    count_dropped(lost);
     let_go_of_held(taken);
 }
 
+/* Takes as many as one save does for. What they send waits for it, and a thread waits for the disk. */
+static void take_held(void) {
+    bool is_copied = options->state != NULL && !options->is_verbose && !is_unsaved && copy_clock();
+    unsigned long lost = 0, of_peers = 0;
+    for (taken = 0; taken < held_count() && of_peers < PEERS_A_SAVE && places_to_send() != NULL; taken++) {
+        of_peers += held_at(taken)->port == NULL;
+        lost += take_turn(&held_at(taken)->heard, held_at(taken)->port);
+    }
+    if (!is_unsaved || !is_copied || !begin_save(&clock_held)) {
+        send_taken(lost + send_saved());
+        return;
+    }
+    count_dropped(lost);
+    swap_rounds();
+}
+
+void take_saved(void) {
+    bool is_done = end_save(&clock_held);
+    swap_rounds();
+    send_taken(is_done ? send_all() : drop_round());
+}
+
 long take_waiting(void) {
-    while (held_count() > 0 && may_save()) take_held();
-    return held_count() > 0 ? NEXT_SAVE : -1;
+    while (!is_saving && held_count() > 0 && (has_held_peer() || may_save())) take_held();
+    return !is_saving && held_count() > 0 ? NEXT_SAVE : -1;
 }
 
 static void tell_left(uint8_t left) {
@@ -244,9 +281,16 @@ void observe(char *text) {
     enum ptpm_observed answer = ptpm_clock_observe(&clock_held, &observation.clock, observation.ports, observation.port_count,
                                                    &left);
     count_observation(answer == PTPM_OBSERVED);
+    if (is_saving && answer == PTPM_OBSERVED) {
+        ptpm_clock_observe(&clock_before, &observation.clock, observation.ports, observation.port_count, &(uint8_t){ 0 });
+    }
     if (answer != PTPM_OBSERVED) say_at_times("%s: nothing is observed: %s", options->source, answer_name(answer));
-    else if (options->is_told) print_line("observed");
+    else if (options->is_verbose) print_line("observed");
     tell_left(left);
 }
 
-void stop_clock(void) { ptpm_clock_stop(&clock_held); }
+void stop_clock(void) {
+    if (is_saving) take_saved();
+    ptpm_clock_stop(&clock_before);
+    ptpm_clock_stop(&clock_held);
+}

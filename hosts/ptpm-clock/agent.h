@@ -19,15 +19,19 @@ void report_twin(void);
 void say_started(void);
 
 /* Takes the datagrams that have come in at a port, or on the Unix socket if there is none. Sends their answers, and what is
-   forwarded. Those that change nothing are answered first. Requests of managers at a port wait for the next save. */
+   forwarded, also during a save. Requests of managers wait for the next one. If they leave no room, none is taken from the Unix
+   socket. */
 void take_round(const struct port *port, int socket);
 
 /* The same for datagrams that were sent over UDP to this host by unicast. */
 void take_unicast_round(void);
 
 /* Takes the requests that wait, if it is time for a save. In how many milliseconds it may be time for those that are left; -1 if none
-   is. */
+   is, or a save is under way. */
 long take_waiting(void);
+
+/* The save that is under way is done: sends what waited for it. */
+void take_saved(void);
 
 /* The clock observes what a text says, all of it or nothing. */
 void observe(char *text);

@@ -3,11 +3,12 @@
    pmc asks a ptp4l. How it is used is in docs/ptpm-clock.md. It has no servo: what one would observe comes from a file or a pipe.
    The library decides what becomes of a request that it is handed. What is here and in the files beside it is not proved. It
    moves octets and prints. It also decides which datagrams reach the library, with how many hops, and which messages go out
-   ("What the hosts decide" in docs/architecture.md). It waits for nobody except the disk: what a peer doesn't take at once is
-   dropped. */
+   ("What the hosts decide" in docs/architecture.md). It waits for nobody: what a peer doesn't take at once is dropped, and a thread
+   waits for the disk. */
 #define _GNU_SOURCE
 #include "agent.h"
 #include "counts.h"
+#include "held.h"
 #include "monotonic.h"
 #include "netlink.h"
 #include "network_limits.h"
@@ -17,6 +18,7 @@
 #include "ports.h"
 #include "privileges.h"
 #include "program.h"
+#include "saving.h"
 #include "service.h"
 #include "source.h"
 #include "unicast.h"
@@ -38,7 +40,7 @@ static void observe_all(void) {
 }
 
 /* What is polled. The ports come first. */
-enum { UNIX_SOCKET = PORTS, UNICAST, SOURCE, SIGNALS, LINKS, TIMER, WAITS };
+enum { UNIX_SOCKET = PORTS, UNICAST, SOURCE, SIGNALS, LINKS, TIMER, SAVED, WAITS };
 
 static int polled = -1;
 static unsigned long polled_openings[PORTS];    /* which socket of each port is polled */
@@ -57,6 +59,16 @@ static void wait_at_all(void) {
     wait_at(signals, SIGNALS);
     wait_at(links, LINKS);
     wait_at(timer, TIMER);
+    wait_at(saving_event(), SAVED);
+}
+
+/* Programs of this host wait while there is no room for what they ask, and lose nothing. */
+static void wait_at_peers(bool is_heard) {
+    static bool was_heard = true;
+    struct epoll_event event = { .events = is_heard ? EPOLLIN : 0, .data.u32 = UNIX_SOCKET };
+    if (unix_socket < 0 || is_heard == was_heard) return;
+    if (epoll_ctl(polled, EPOLL_CTL_MOD, unix_socket, &event)) give_up("epoll_ctl");
+    was_heard = is_heard;
 }
 
 /* A socket that is closed is not polled any more. */
@@ -81,6 +93,7 @@ static bool take_event(uint32_t what) {
     case SIGNALS: asked = read_signal(signals); break;
     case LINKS: hear_of_links(); break;
     case TIMER: read_timer(); break;
+    case SAVED: take_saved(); break;
     default:
         if (ports[what].socket >= 0) take_round(&ports[what], ports[what].socket);
     }
@@ -90,8 +103,8 @@ static bool take_event(uint32_t what) {
 
 /* Once a second: what came in at a socket that was at the path for a moment. Then the source, if it moved, and who has UDP port
    320. */
-static void look_around(long now) {
-    static long next;
+static void look_around(int64_t now) {
+    static int64_t next;
     if (now < next) return;
     next = now + SECOND;
     for (size_t i = 0; unix_socket >= 0 && i < WAYS_BACK; i++) take_round(NULL, way_back_socket(i));
@@ -101,7 +114,7 @@ static void look_around(long now) {
 }
 
 /* Runs until a signal asks for the end, or until that time comes, if it is not 0. */
-static void run(long end) {
+static void run(int64_t end) {
     struct epoll_event events[WAITS];
     bool is_going_on = true;
     if (source >= 0) observe_all();
@@ -110,14 +123,15 @@ static void run(long end) {
     say_deaf_ports();
     report_ready();
     while (is_going_on) {
-        long now = milliseconds();
+        int64_t now = milliseconds();
         if (end != 0 && now >= end) return;
         report_alive(now);
         renew_ports(now);
         wait_at_ports();
         look_around(now);
-        long most = end != 0 && end - now < SECOND ? end - now : SECOND, waiting = take_waiting();
+        int64_t most = end != 0 && end - now < SECOND ? end - now : SECOND, waiting = take_waiting();
         if (waiting >= 0 && waiting < most) most = waiting;
+        wait_at_peers(has_room_for_peers());
         wake_at(now + until_alive(now, most));
         int found = epoll_wait(polled, events, WAITS, -1);
         for (int i = 0; i < found && is_going_on; i++) is_going_on = take_event(events[i].data.u32);

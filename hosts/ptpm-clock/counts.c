@@ -7,7 +7,7 @@
 
 enum { ANSWERS = 128 };
 
-static unsigned long answers[ANSWERS], dropped, observed, not_observed;
+static unsigned long long answers[ANSWERS], dropped, observed, not_observed;
 
 void count_answer(uint32_t answer) {
     if (answer < ANSWERS) answers[answer]++;
@@ -20,8 +20,8 @@ void count_observation(bool is_observed) {
     else not_observed++;
 }
 
-static void print_count(const char *what, unsigned long count) {
-    if (count > 0) print_line("%s: %lu", what, count);
+static void print_count(const char *what, unsigned long long count) {
+    if (count > 0) print_line("%s: %llu", what, count);
 }
 
 static void print_saves(const struct saves *saves) {
@@ -34,9 +34,9 @@ static void print_saves(const struct saves *saves) {
 }
 
 void print_counts(void) {
-    const struct kept_back *kept_back = told_kept_back();
+    const struct kept_back *kept_back = kept_back_so_far();
     for (int i = 0; i < ANSWERS; i++) {
-        if (answers[i] > 0) print_line("answer %d: %lu", i, answers[i]);
+        if (answers[i] > 0) print_line("answer %d: %llu", i, answers[i]);
     }
     print_count("dropped", dropped);
     print_count("not on the link", kept_back->strangers);
@@ -44,7 +44,7 @@ void print_counts(void) {
     print_count("not passed on over the rate", kept_back->over_rate);
     print_count("not answered over the rate", kept_back->unanswered);
     print_count("not taken of managers over their rate", kept_back->managers);
-    print_saves(told_saves());
+    print_saves(saves_so_far());
     print_count("observed", observed);
     print_count("not observed", not_observed);
     print_count("lines not printed", lines_lost());

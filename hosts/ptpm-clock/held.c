@@ -3,7 +3,7 @@
 #include "ethernet.h"
 #include <string.h>
 
-enum { MOST_HELD = ROUND };
+enum { MOST_OF_PORTS = ROUND, MOST_HELD = MOST_OF_PORTS + ROUND };
 
 /* What a datagram is copied to. The places are used by turns. */
 struct copy { struct held held; uint8_t octets[MOST_HEARD], station[STATION]; };
@@ -12,7 +12,7 @@ static struct copy copies[MOST_HELD];
 static size_t first, count;
 
 bool hold(const struct heard *heard, const struct port *port) {
-    if (count == MOST_HELD) return false;
+    if (count >= (port == NULL ? MOST_HELD : MOST_OF_PORTS)) return false;
     struct copy *copy = &copies[(first + count++) % MOST_HELD];
     copy->held = (struct held){ *heard, port };
     memcpy(copy->octets, heard->octets, heard->size);
@@ -21,6 +21,15 @@ bool hold(const struct heard *heard, const struct port *port) {
     memcpy(copy->station, heard->station, STATION);
     copy->held.heard.station = copy->station;
     return true;
+}
+
+bool has_room_for_peers(void) { return count <= MOST_HELD - ROUND; }
+
+bool has_held_peer(void) {
+    for (size_t i = 0; i < count; i++) {
+        if (held_at(i)->port == NULL) return true;
+    }
+    return false;
 }
 
 size_t held_count(void) { return count; }

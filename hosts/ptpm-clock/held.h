@@ -1,5 +1,5 @@
-/* Requests of managers that have come in at a port, and wait for the next save. They are taken together, so that one save does for all
-   of them, and what others ask meanwhile does not wait for it. */
+/* Requests of managers that wait for the next save. They are taken together, so that one save does for all of them, and what others
+   ask meanwhile does not wait for it. */
 #ifndef HELD_H
 #define HELD_H
 
@@ -9,8 +9,14 @@
 
 struct held { struct heard heard; const struct port *port; };
 
-/* Copies a datagram after those that wait; whether there is room. */
+/* Copies a datagram after those that wait; whether there is room. `port` is NULL for the Unix socket. */
 bool hold(const struct heard *heard, const struct port *port);
+
+/* Whether there is room for a round of the Unix socket, to whose programs some room is kept. */
+bool has_room_for_peers(void);
+
+/* Whether one of those that wait came in there. */
+bool has_held_peer(void);
 
 /* How many wait, and which, in the order in which they came. */
 size_t held_count(void);

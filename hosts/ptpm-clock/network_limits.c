@@ -104,4 +104,4 @@ size_t keep_back(const struct heard *heard, const struct port *port, uint16_t in
     return left;
 }
 
-const struct kept_back *told_kept_back(void) { return &kept_back; }
+const struct kept_back *kept_back_so_far(void) { return &kept_back; }

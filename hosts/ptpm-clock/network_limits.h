@@ -21,7 +21,7 @@ struct limits {
 };
 
 /* What was kept back since the start. */
-struct kept_back { unsigned long strangers, again, over_rate, unanswered, managers; };
+struct kept_back { unsigned long long strangers, again, over_rate, unanswered, managers; };
 
 void start_limits(const struct limits *given);
 
@@ -51,6 +51,6 @@ void lower_hops(struct heard *heard);
 size_t keep_back(const struct heard *heard, const struct port *port, uint16_t ingress, uint32_t answer,
                  const struct ptpm_sent *sent, size_t count, const struct ptpm_sent *kept[PTPM_MOST_SENT]);
 
-const struct kept_back *told_kept_back(void);
+const struct kept_back *kept_back_so_far(void);
 
 #endif

@@ -1,9 +1,9 @@
 #define _GNU_SOURCE
 #include "observation.h"
 #include "field_text.h"
-#include "identity.h"
 #include "names.h"
 #include "output.h"
+#include "words.h"
 #include <errno.h>
 #include <stdarg.h>
 #include <stdbool.h>

@@ -1,10 +1,9 @@
 #define _GNU_SOURCE
 #include "options.h"
-#include "digits.h"
-#include "identity.h"
 #include "monotonic.h"
 #include "output.h"
 #include "program.h"
+#include "words.h"
 #include <getopt.h>
 #include <grp.h>
 #include <net/if.h>
@@ -169,7 +168,7 @@ static void take_option(struct options *options, int option) {
     case '2': options->transport = ETHERNET; break;
     case '6': options->transport = UDP_IPV6; break;
     case 'f': options->limits.is_passed_on_from_host = true; break;
-    case 'v': options->is_told = true; break;
+    case 'v': options->is_verbose = true; break;
     case 'u': options->meeting.path = socket_path(); break;
     case 's': options->state = optarg; break;
     case 'o': options->source = optarg; break;

@@ -8,6 +8,7 @@
 #include "privileges.h"
 #include "ptpm.h"
 #include <stdbool.h>
+#include <stdint.h>
 
 enum { MANAGERS = 16 };
 
@@ -24,8 +25,8 @@ struct options {
     const char *state;                  /* the file that the clock is saved to, or NULL */
     bool has_domain;                    /* -d is given */
     const char *source;                 /* what the clock observes: a file, a pipe, or NULL */
-    bool is_told;                       /* a line for each datagram */
-    long end;                           /* when it ends by itself, in milliseconds; 0 if it doesn't */
+    bool is_verbose;                    /* a line for each datagram */
+    int64_t end;                        /* when it ends by itself, in milliseconds; 0 if it doesn't */
 };
 
 /* How many ports the clock has. One that is heard only on its Unix socket has a port too. */

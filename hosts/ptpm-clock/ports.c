@@ -107,8 +107,8 @@ static void renew(struct port *port) {
     else if (port->is_due) join_port(port);
 }
 
-void renew_ports(long now) {
-    static long next;
+void renew_ports(int64_t now) {
+    static int64_t next;
     if (!is_hurried && now < next) return;
     is_hurried = false;
     next = now + SECOND;

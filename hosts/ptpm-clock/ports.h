@@ -35,7 +35,7 @@ const struct port *port_at(unsigned index);
 
 /* Once a second, and when the kernel reports a change, sees which interface has the name of each port. If it is another one, it
    opens the port again. What can't be opened is said once, and tried again each second. */
-void renew_ports(long now);
+void renew_ports(int64_t now);
 
 /* Takes what the kernel has reported of interfaces. */
 void hear_of_links(void);

@@ -21,8 +21,8 @@ enum needs { NEEDS_NOTHING, NEEDS_LOW_PORT, NEEDS_FRAMES };
    can't be done. Comes before any thread. */
 void let_go_of_rights(const struct privileges *privileges, enum needs needs);
 
-/* From now on all system calls fail except those that the program makes. Does nothing if the kernel has no filters.
-   Comes before any thread. */
+/* From now on all system calls fail except those that the program makes. Does nothing if the kernel has no filters, or if those
+   calls are not known for the machine. Comes before any thread. */
 void filter_calls(const struct privileges *privileges);
 
 #endif

@@ -17,9 +17,14 @@ struct control { _Alignas(struct cmsghdr) char octets[CMSG_SPACE(sizeof(struct i
 /* A message that is to go out. */
 struct outgoing { const struct ptpm_sent *message; const struct heard *answered; };
 
-static struct ptpm_sent sent[PLACES];
-static struct outgoing waiting[PLACES], waiting_for_peers[PLACES];
-static size_t used, waiting_count, peer_count;
+/* Messages in their places, and those of them that are to go out at the ports and to peers. */
+struct outbox {
+    struct ptpm_sent sent[PLACES];
+    struct outgoing waiting[PLACES], waiting_for_peers[PLACES];
+    size_t used, waiting_count, peer_count;
+};
+
+static struct outbox boxes[2], *box = boxes;
 
 static void take_control(struct heard *heard, struct msghdr *head) {
     for (struct cmsghdr *one = CMSG_FIRSTHDR(head); one != NULL; one = CMSG_NXTHDR(head, one)) {
@@ -134,17 +139,19 @@ size_t hear_host(int socket, bool is_copied, struct heard heard[ROUND]) {
     return count;
 }
 
-struct ptpm_sent *places_to_send(void) { return PLACES - used >= PTPM_MOST_SENT ? sent + used : NULL; }
+struct ptpm_sent *places_to_send(void) { return PLACES - box->used >= PTPM_MOST_SENT ? box->sent + box->used : NULL; }
 
 void send_later(const struct ptpm_sent *message, const struct heard *answered) {
-    waiting[waiting_count++] = (struct outgoing){ message, answered };
+    box->waiting[box->waiting_count++] = (struct outgoing){ message, answered };
 }
 
 void answer_later(const struct ptpm_sent *message, const struct heard *answered) {
-    waiting_for_peers[peer_count++] = (struct outgoing){ message, answered };
+    box->waiting_for_peers[box->peer_count++] = (struct outgoing){ message, answered };
 }
 
-void use_places(size_t count) { used += count; }
+void use_places(size_t count) { box->used += count; }
+
+void swap_rounds(void) { box = box == boxes ? boxes + 1 : boxes; }
 
 static void put_control(struct cmsghdr *at, int level, int type, const void *value, size_t size) {
     at->cmsg_len = CMSG_LEN(size);
@@ -279,8 +286,8 @@ static unsigned long send_at(size_t place) {
     static struct batch batch;
     const struct outgoing *outs[PLACES];
     size_t count = 0;
-    for (size_t i = 0; i < waiting_count; i++) {
-        if (waiting[i].message->port == place + 1) outs[count++] = &waiting[i];
+    for (size_t i = 0; i < box->waiting_count; i++) {
+        if (box->waiting[i].message->port == place + 1) outs[count++] = &box->waiting[i];
     }
     if (ports[place].socket < 0) return count;
     fill_batch(&batch, &ports[place], outs, count);
@@ -289,24 +296,24 @@ static unsigned long send_at(size_t place) {
 
 static unsigned long send_to_peers(void) {
     unsigned long lost = 0;
-    for (size_t i = 0; i < peer_count; i++) {
-        lost += !answer_peer(waiting_for_peers[i].message, waiting_for_peers[i].answered);
+    for (size_t i = 0; i < box->peer_count; i++) {
+        lost += !answer_peer(box->waiting_for_peers[i].message, box->waiting_for_peers[i].answered);
     }
-    peer_count = 0;
+    box->peer_count = 0;
     return lost;
 }
 
 unsigned long send_round(void) {
     unsigned long lost = 0;
-    for (size_t place = 0; place < port_count && waiting_count > 0; place++) lost += send_at(place);
-    used = waiting_count = 0;
+    for (size_t place = 0; place < port_count && box->waiting_count > 0; place++) lost += send_at(place);
+    box->used = box->waiting_count = 0;
     return lost;
 }
 
 unsigned long send_all(void) { return send_to_peers() + send_round(); }
 
 unsigned long drop_round(void) {
-    unsigned long lost = waiting_count + peer_count;
-    used = waiting_count = peer_count = 0;
+    unsigned long lost = box->waiting_count + box->peer_count;
+    box->used = box->waiting_count = box->peer_count = 0;
     return lost;
 }

@@ -65,4 +65,7 @@ unsigned long send_all(void);
 /* Drops what is to go out; how many messages that are. */
 unsigned long drop_round(void);
 
+/* Sets aside what is to go out, and takes up what was set aside. One of the two is empty. */
+void swap_rounds(void);
+
 #endif

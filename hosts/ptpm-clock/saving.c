@@ -1,11 +1,12 @@
 #define _GNU_SOURCE
 #include "saving.h"
-#include "identity.h"
 #include "kept_file.h"
 #include "monotonic.h"
 #include "names.h"
 #include "output.h"
+#include "replacing.h"
 #include "seal.h"
+#include "words.h"
 #include <errno.h>
 #include <stdbool.h>
 #include <stdlib.h>
@@ -23,7 +24,9 @@ static struct kept_file file = { .folder = -1, .mode = 0600 };
 static const struct options *options;
 static uint8_t octets[MOST_STATE_OCTETS];
 static uint64_t saves_of_file;      /* by its seal */
-bool is_unsaved;
+static size_t size_of_file;         /* of what is saved */
+static unsigned long begun;         /* when that was begun, in microseconds */
+bool is_unsaved, is_saving;
 static struct saves saves;
 
 _Noreturn static void end_with(int status) {
@@ -136,7 +139,7 @@ bool restore_clock(struct ptpm_clock *clock, const struct options *given) {
     if (!open_kept_folder(&file, options->state)) refuse_file(errno == EINVAL ? "no name of a file" : NULL);
     take_file();
     if (file.is_folder_made) hand_over(file.folder);
-    if (atexit(leave_nothing)) refuse_file(NULL);
+    if (atexit(leave_nothing) || !open_replacing()) refuse_file(NULL);
     bool is_there = read_state(&size);
     if (is_there) {
         tell_gone(restore(clock, size));
@@ -147,26 +150,36 @@ bool restore_clock(struct ptpm_clock *clock, const struct options *given) {
     return is_there;
 }
 
-static unsigned long microseconds(void) { return (unsigned long)nanoseconds() / 1000; }
+static unsigned long microseconds(void) { return (unsigned long)(nanoseconds() / 1000); }
 
 static void count_save(size_t size, unsigned long time) {
     saves.made++;
     saves.all += time;
     if (saves.made == 1 || time < saves.least) saves.least = time;
     if (time > saves.most) saves.most = time;
-    if (options->is_told) print_line("saved: %zu octets in %lu us", size, time);
+    if (options->is_verbose) print_line("saved: %zu octets in %lu us", size, time);
+}
+
+/* Makes what the file is to have of the clock; whether it could. */
+static bool fill_octets(const struct ptpm_clock *clock) {
+    size_t size;
+    begun = microseconds();
+    if (ptpm_clock_image(clock, octets, PTPM_CLOCK_IMAGE_OCTETS, &size) != PTPM_SAVED) return false;
+    size_of_file = write_seal(octets, size, saves_of_file + 1);
+    return true;
+}
+
+static void count_outcome(enum replaced answer) {
+    if (answer != NOT_REPLACED) saves_of_file++;
+    if (answer == REPLACED) count_save(size_of_file, microseconds() - begun);
+    else saves.failed++;
 }
 
 /* Saves the clock; whether it is saved for sure. If not, errno says why. */
 static enum replaced save(const struct ptpm_clock *clock) {
-    size_t size;
-    unsigned long begun = microseconds();
-    if (ptpm_clock_image(clock, octets, PTPM_CLOCK_IMAGE_OCTETS, &size) != PTPM_SAVED) return NOT_REPLACED;
-    size = write_seal(octets, size, saves_of_file + 1);
-    enum replaced answer = replace_kept(&file, octets, size);
-    if (answer != NOT_REPLACED) saves_of_file++;
-    if (answer == REPLACED) count_save(size, microseconds() - begun);
-    else saves.failed++;
+    if (!fill_octets(clock)) return NOT_REPLACED;
+    enum replaced answer = replace_kept(&file, octets, size_of_file);
+    count_outcome(answer);
     return answer;
 }
 
@@ -184,12 +197,10 @@ bool may_save(void) {
 
 void note_change(void) { is_unsaved = options->state != NULL; }
 
-/* After an uncertain save the store holds what was to be saved, but may lose it with the power. So no message leaves before it is
-   saved. */
-bool save_changes(struct ptpm_clock *clock) {
+/* What becomes of the clock after a save; whether nothing is unsaved. After an uncertain save the store holds what was to be saved,
+   but may lose it with the power. So no message leaves before it is saved. */
+static bool go_on_after(struct ptpm_clock *clock, enum replaced answer) {
     size_t size;
-    if (!is_unsaved) return true;
-    enum replaced answer = save(clock);
     is_unsaved = answer == IN_DOUBT;
     if (answer == REPLACED) return true;
     say_at_times("%s%s: nothing is answered: %s", options->state, kept_fault(), strerror(errno));
@@ -198,4 +209,21 @@ bool save_changes(struct ptpm_clock *clock) {
     return false;
 }
 
-const struct saves *told_saves(void) { return &saves; }
+bool save_changes(struct ptpm_clock *clock) { return !is_unsaved || go_on_after(clock, save(clock)); }
+
+bool begin_save(const struct ptpm_clock *clock) {
+    is_saving = fill_octets(clock) && begin_replacing(&file, octets, size_of_file);
+    if (is_saving) is_unsaved = false;
+    return is_saving;
+}
+
+int saving_event(void) { return replacing_event(); }
+
+bool end_save(struct ptpm_clock *clock) {
+    enum replaced answer = end_replacing();
+    is_saving = false;
+    count_outcome(answer);
+    return go_on_after(clock, answer);
+}
+
+const struct saves *saves_so_far(void) { return &saves; }

@@ -27,13 +27,25 @@ void note_change(void);
    has, and standard error says why. Then nothing that waits is to be sent. Ends the program if the file can't be read then. */
 bool save_changes(struct ptpm_clock *clock);
 
+/* Begins to save the clock, which a thread does, so that nothing is unsaved except by what comes; whether it is begun. What shows the
+   changes is sent after `end_save`. */
+bool begin_save(const struct ptpm_clock *clock);
+
+/* Whether a save was begun and not ended, and what can be read once it is done. */
+extern bool is_saving;
+int saving_event(void);
+
+/* Ends the save, after a wait for the disk if it is not done. It answers what `save_changes` answers, and the same becomes of the
+   clock. */
+bool end_save(struct ptpm_clock *clock);
+
 /* Whether a save may be made now for requests at a port. There may be a fifth as many saves a second as requests of managers, and
    as many at once. So only a part of the time is spent waiting for the disk. Without a file it always may. */
 bool may_save(void);
 
 /* Saves that were made and that failed, and how many microseconds those that were made took. */
-struct saves { unsigned long made, failed, least, most, all; };
+struct saves { unsigned long long made, failed, least, most, all; };
 
-const struct saves *told_saves(void);
+const struct saves *saves_so_far(void);
 
 #endif

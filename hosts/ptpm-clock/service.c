@@ -1,6 +1,6 @@
 #define _GNU_SOURCE
 #include "service.h"
-#include "digits.h"
+#include "words.h"
 #include <limits.h>
 #include <stddef.h>
 #include <stdlib.h>
@@ -12,7 +12,7 @@
 static struct sockaddr_un service_manager = { .sun_family = AF_UNIX };
 static socklen_t size;
 static int service_socket = -1;
-static long every, next;        /* milliseconds; 0: nobody watches */
+static int64_t every, next;        /* milliseconds; 0: nobody watches */
 
 /* A path, or a name after @ that is in no folder. */
 void open_service(void) {
@@ -22,7 +22,7 @@ void open_service(void) {
     size = (socklen_t)(offsetof(struct sockaddr_un, sun_path) + strlen(name) + (*name == '/'));
     if (*name == '@') service_manager.sun_path[0] = '\0';
     service_socket = socket(AF_UNIX, SOCK_DGRAM | SOCK_CLOEXEC, 0);
-    long time = watched == NULL ? -1 : decimal(watched, LONG_MAX / 10 - 1);
+    int64_t time = watched == NULL ? -1 : large_decimal(watched, INT64_MAX / 10 - 1);
     if (time > 0 && (process == NULL || decimal(process, INT_MAX) == getpid())) every = time / 2000 > 0 ? time / 2000 : 1;
 }
 
@@ -35,14 +35,14 @@ void report_ready(void) { say_state("READY=1"); }
 
 void report_stopping(void) { say_state("STOPPING=1"); }
 
-void report_alive(long now) {
+void report_alive(int64_t now) {
     if (every == 0 || now < next) return;
     next = now + every;
     say_state("WATCHDOG=1");
 }
 
-long until_alive(long now, long most) {
-    long left = next - now;
+int64_t until_alive(int64_t now, int64_t most) {
+    int64_t left = next - now;
     if (every == 0 || left > most) return most;
     return left > 0 ? left : 0;
 }

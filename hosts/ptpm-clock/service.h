@@ -3,6 +3,8 @@
 #ifndef SERVICE_H
 #define SERVICE_H
 
+#include <stdint.h>
+
 /* Finds out to whom it is reported, and how often; to nobody if no one asks for it. Comes before rights are dropped. */
 void open_service(void);
 
@@ -10,11 +12,11 @@ void open_service(void);
 void report_ready(void);
 
 /* Reports that it is still running, when half of the time has passed in which it has to. */
-void report_alive(long now);
+void report_alive(int64_t now);
 
 void report_stopping(void);
 
 /* In how many milliseconds it has to be reported again that the program is still running, at most `most`. */
-long until_alive(long now, long most);
+int64_t until_alive(int64_t now, int64_t most);
 
 #endif

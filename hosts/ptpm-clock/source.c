@@ -117,7 +117,7 @@ static bool is_other(void) {
     struct timespec now;
     clock_gettime(CLOCK_REALTIME, &now);
     return stat(path, &found) == 0 && S_ISREG(found.st_mode) && (found.st_dev != device_read || found.st_ino != file_read)
-           && labs(now.tv_sec - found.st_mtim.tv_sec) > 1;
+           && llabs((long long)now.tv_sec - found.st_mtim.tv_sec) > 1;
 }
 
 bool follow_source(void) {

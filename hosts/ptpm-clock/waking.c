@@ -1,7 +1,6 @@
 #define _GNU_SOURCE
 #include "waking.h"
 #include "program.h"
-#include <limits.h>
 #include <signal.h>
 #include <stdint.h>
 #include <sys/signalfd.h>
@@ -31,7 +30,7 @@ enum asked read_signal(int signals) {
 }
 
 static int timer = -1;
-static long set = LONG_MAX;     /* the time that is set, in milliseconds */
+static int64_t set = INT64_MAX;     /* the time that is set, in milliseconds */
 
 int open_timer(void) {
     timer = timerfd_create(CLOCK_MONOTONIC, TFD_NONBLOCK | TFD_CLOEXEC);
@@ -39,8 +38,8 @@ int open_timer(void) {
     return timer;
 }
 
-void wake_at(long time) {
-    struct itimerspec at = { .it_value = { .tv_sec = time / 1000, .tv_nsec = time % 1000 * 1000000 } };
+void wake_at(int64_t time) {
+    struct itimerspec at = { .it_value = { .tv_sec = time / 1000, .tv_nsec = (long)(time % 1000) * 1000000 } };
     if (set <= time) return;
     if (timerfd_settime(timer, TFD_TIMER_ABSTIME, &at, NULL)) give_up("timerfd_settime");
     set = time;
@@ -48,5 +47,5 @@ void wake_at(long time) {
 
 void read_timer(void) {
     uint64_t times;
-    if (read(timer, &times, sizeof times) == (ssize_t)sizeof times) set = LONG_MAX;
+    if (read(timer, &times, sizeof times) == (ssize_t)sizeof times) set = INT64_MAX;
 }

@@ -3,6 +3,8 @@
 #ifndef WAKING_H
 #define WAKING_H
 
+#include <stdint.h>
+
 enum asked { NOTHING_ASKED, COUNTS_ASKED, END_ASKED };
 
 /* From now on they end nothing by themselves; what is to be polled. One that was ignored when the program began stays so, except
@@ -16,7 +18,7 @@ enum asked read_signal(int signals);
 int open_timer(void);
 
 /* The program wakes at a time of `milliseconds`, or earlier, if it was to wake earlier anyway. */
-void wake_at(long time);
+void wake_at(int64_t time);
 
 /* It has woken: no time is set any more. */
 void read_timer(void);

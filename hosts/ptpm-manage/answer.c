@@ -1,21 +1,27 @@
+#define _GNU_SOURCE
 #include "answer.h"
 #include "as_asked.h"
-#include "identity.h"
-#include "members.h"
+#include "field_text.h"
 #include "names.h"
 #include "notices.h"
+#include "text.h"
+#include "words.h"
+#include <inttypes.h>
+#include <stdbool.h>
+#include <stdlib.h>
+#include <string.h>
 
 void take_report(struct ptpm_session *session, struct answer *answer) {
-    answer->told = ptpm_session_report(session, answer->octets, sizeof answer->octets, &answer->size, &answer->error);
+    answer->outcome = ptpm_session_report(session, answer->octets, sizeof answer->octets, &answer->size, &answer->error);
 }
 
 void print_answer(FILE *to, const struct task *task, const char *lead, const struct answer *answer) {
     const char *refusal = error_name(answer->error);
     clear_progress();
-    if (answer->told == PTPM_DONE) fprintf(to, "%sdone\n", lead);
-    else if (answer->told == PTPM_REFUSED && refusal != NULL) fprintf(to, "%srefused %s\n", lead, refusal);
-    else if (answer->told == PTPM_REFUSED) fprintf(to, "%srefused 0x%04x, an error without a name\n", lead, answer->error);
-    else if (answer->told != PTPM_VALUE) complain("nothing is reported: %s", answer_name(answer->told));
+    if (answer->outcome == PTPM_DONE) fprintf(to, "%sdone\n", lead);
+    else if (answer->outcome == PTPM_REFUSED && refusal != NULL) fprintf(to, "%srefused %s\n", lead, refusal);
+    else if (answer->outcome == PTPM_REFUSED) fprintf(to, "%srefused 0x%04x, an error without a name\n", lead, answer->error);
+    else if (answer->outcome != PTPM_VALUE) complain("nothing is reported: %s", answer_name(answer->outcome));
     else if (task->is_in_octets) print_octets(to, lead, answer->octets, answer->size);
     else print_members(to, lead, task->id, answer->octets, answer->size);
 }
@@ -47,13 +53,102 @@ static void print_field_as_json(FILE *to, const struct task *task, const struct 
 
 void print_answer_as_json(FILE *to, const struct task *task, const struct ptpm_source *source, const struct answer *answer) {
     clear_progress();
-    if (answer->told != PTPM_DONE && answer->told != PTPM_REFUSED && answer->told != PTPM_VALUE) {
-        complain("nothing is reported: %s", answer_name(answer->told));
+    if (answer->outcome != PTPM_DONE && answer->outcome != PTPM_REFUSED && answer->outcome != PTPM_VALUE) {
+        complain("nothing is reported: %s", answer_name(answer->outcome));
         return;
     }
     print_source_as_json(to, task, source);
-    if (answer->told == PTPM_DONE) fputs(",\"status\":\"done\"", to);
-    else if (answer->told == PTPM_REFUSED) print_error_as_json(to, answer->error);
+    if (answer->outcome == PTPM_DONE) fputs(",\"status\":\"done\"", to);
+    else if (answer->outcome == PTPM_REFUSED) print_error_as_json(to, answer->error);
     else print_field_as_json(to, task, answer);
     fputs(is_other(task, answer) ? ",\"isAsAsked\":false}\n" : "}\n", to);
+}
+
+void print_octets(FILE *to, const char *lead, const uint8_t *octets, size_t size) {
+    fprintf(to, size == 0 ? "%svalue -" : "%svalue ", lead);
+    for (size_t i = 0; i < size; i++) fprintf(to, "%02x", octets[i]);
+    putc('\n', to);
+}
+
+/* Whether the member is a text, a PTPText (5.3.9). Its characters are printed as the locale has them. */
+static bool is_text(const struct member *member) { return is_named(member, "userDescription"); }
+
+void print_members(FILE *to, const char *lead, uint16_t id, const uint8_t *octets, size_t size) {
+    struct field_lines lines;
+    struct member member;
+    start_lines(&lines, id, octets, size);
+    while (next_member(&lines, &member)) {
+        fprintf(to, "%s%s ", lead, member.name);
+        if (is_text(&member)) print_text(to, octets + 1, octets[0]);
+        else fputs(member.value, to);
+        putc('\n', to);
+    }
+}
+
+/* The standard's name of a state or a delayMechanism: the value, if it is a word. Else that of a mechanism that no clock of this
+   project has, or `reserved`. */
+static const char *word_of(const struct member *member) {
+    bool is_number = *member->value >= '0' && *member->value <= '9', is_mechanism = is_named(member, "delayMechanism");
+    if (!is_number) return member->value;
+    if (is_mechanism && strcmp(member->value, "3") == 0) return "COMMON_P2P";
+    return is_mechanism && strcmp(member->value, "4") == 0 ? "SPECIAL" : "reserved";
+}
+
+/* A clockIdentity, or a portIdentity, whose portNumber is in `rest` after a slash. */
+static void print_identity_as_json(FILE *to, const char *value, const char *rest) {
+    if (*rest == '\0') fprintf(to, "\"%s\"", value);
+    else fprintf(to, "{\"clockIdentity\":\"%.*s\",\"portNumber\":%s}", (int)(rest - value), value, rest + 1);
+}
+
+/* A value as `ptpm site --json` has it: a TimeInterval in nanoseconds times 2^16, and each number in decimal. */
+static void print_value_as_json(FILE *to, const struct member *member) {
+    uint8_t identity[8];
+    int64_t interval;
+    const char *value = member->value, *rest = identity_at(value, identity);
+    if (is_named(member, "portState") || is_named(member, "delayMechanism")) fprintf(to, "\"%s\"", word_of(member));
+    else if (rest != NULL) print_identity_as_json(to, value, rest);
+    else if (strncmp(value, "0x", 2) == 0) fprintf(to, "%llu", strtoull(value, NULL, 16));
+    else if (strchr(value, '.') != NULL && read_interval(value, &interval)) fprintf(to, "%" PRId64, interval);
+    else fputs(value, to);
+}
+
+void print_octets_as_json(FILE *to, const uint8_t *octets, size_t size) {
+    fputs("\"dataField\":\"", to);
+    for (size_t i = 0; i < size; i++) fprintf(to, "%02x", octets[i]);
+    putc('"', to);
+}
+
+/* How long the part of a member's name is before its dot: the member is one of a structure then. 0 if it has none. */
+static size_t structure_size(const char *name) {
+    const char *dot = strchr(name, '.');
+    return dot == NULL ? 0 : (size_t)(dot - name);
+}
+
+/* The name of a member, and what comes before it. The members of a structure come one after the other. The answer is how long the
+   name of this member's structure is, 0 if it is in none. `before` is that of the member before it. */
+static size_t print_name_as_json(FILE *to, const char *name, bool is_first, size_t before) {
+    size_t structure = structure_size(name);
+    if (before > 0 && structure == 0) putc('}', to);
+    if (!is_first) putc(',', to);
+    if (before == 0 && structure > 0) fprintf(to, "\"%.*s\":{", (int)structure, name);
+    fprintf(to, "\"%s\":", structure > 0 ? name + structure + 1 : name);
+    return structure;
+}
+
+void print_members_as_json(FILE *to, uint16_t id, const uint8_t *octets, size_t size) {
+    struct field_lines lines;
+    struct member member;
+    size_t structure = 0;
+    start_lines(&lines, id, octets, size);
+    for (bool is_first = true; next_member(&lines, &member); is_first = false) {
+        if (is_named(&member, "value")) {
+            print_octets_as_json(to, octets, size);
+            return;
+        }
+        if (is_first) fputs("\"members\":{", to);
+        structure = print_name_as_json(to, member.name, is_first, structure);
+        if (is_text(&member)) print_json_text(to, octets + 1, octets[0]);
+        else print_value_as_json(to, &member);
+    }
+    fputs(structure > 0 ? "}}" : "}", to);
 }

@@ -1,12 +1,14 @@
-/* What an answer of a clock says, printed. */
+/* What an answer of a clock says, printed; and the members of its dataField (IEEE 1588-2019, 15.5.3), as an operator reads them. */
 #ifndef ANSWER_H
 #define ANSWER_H
 
 #include "task.h"
+#include <stddef.h>
+#include <stdint.h>
 #include <stdio.h>
 
 /* What an answer says; its dataField is the head of `octets`. */
-struct answer { enum ptpm_reported told; uint16_t error; size_t size; uint8_t octets[PTPM_MOST_OCTETS]; };
+struct answer { enum ptpm_reported outcome; uint16_t error; size_t size; uint8_t octets[PTPM_MOST_OCTETS]; };
 
 /* What the answer to the session's latest request says. */
 void take_report(struct ptpm_session *session, struct answer *answer);
@@ -17,5 +19,19 @@ void print_answer(FILE *to, const struct task *task, const char *lead, const str
 /* Prints it as one line, an object of JSON: whose answer it is, to which id, and what it says. The port of the source is 0 if
    nobody knows which one answered. */
 void print_answer_as_json(FILE *to, const struct task *task, const struct ptpm_source *source, const struct answer *answer);
+
+/* Prints what the dataField of an id says: after `lead` a line for each member, its name and its value. If the library finds no
+   member in it, it is the line of `print_octets`. */
+void print_members(FILE *to, const char *lead, uint16_t id, const uint8_t *octets, size_t size);
+
+/* Prints a line of a dataField as it is: `value` and its octets in hexadecimal, or `-` if it has none. */
+void print_octets(FILE *to, const char *lead, const uint8_t *octets, size_t size);
+
+/* Prints the same as an object of JSON: `"members":` and an object of the members by their names. One that is not known is
+   `"dataField":` and its octets in hexadecimal. */
+void print_members_as_json(FILE *to, uint16_t id, const uint8_t *octets, size_t size);
+
+/* Prints a dataField so as it is. */
+void print_octets_as_json(FILE *to, const uint8_t *octets, size_t size);
 
 #endif

@@ -20,7 +20,7 @@ static void start_both(struct field_lines *asked, struct field_lines *answered, 
 bool is_other(const struct task *task, const struct answer *answer) {
     static struct field_lines asked, answered;
     struct member member;
-    if (task->action != PTPM_SET || answer->told != PTPM_VALUE) return false;
+    if (task->action != PTPM_SET || answer->outcome != PTPM_VALUE) return false;
     if (task->size == answer->size && memcmp(task->octets, answer->octets, task->size) == 0) return false;
     start_both(&asked, &answered, task, answer);
     return next_other(&asked, &answered, &member);

@@ -2,7 +2,6 @@
 #include "answer.h"
 #include "as_asked.h"
 #include "exchange.h"
-#include "identity.h"
 #include "monotonic.h"
 #include "names.h"
 #include "notices.h"
@@ -10,6 +9,7 @@
 #include "stopping.h"
 #include "transport.h"
 #include "unanswered.h"
+#include "words.h"
 #include <errno.h>
 #include <stdbool.h>
 #include <stdio.h>
@@ -82,8 +82,8 @@ static int print_report(struct session *session, const struct task *task) {
         say_other(task, &answer);
         return NOT_AS_ASKED;
     }
-    if (answer.told == PTPM_REFUSED && answer.error == NOT_SUPPORTED && task->action != PTPM_GET) say_not_supported(session);
-    return answer.told == PTPM_REFUSED ? REFUSED : ANSWERED;
+    if (answer.outcome == PTPM_REFUSED && answer.error == NOT_SUPPORTED && task->action != PTPM_GET) say_not_supported(session);
+    return answer.outcome == PTPM_REFUSED ? REFUSED : ANSWERED;
 }
 
 /* Keeps the session without the latest request: its answer was reported, or nothing of it was sent. */
@@ -132,7 +132,7 @@ int ask_clock(struct session *session, const struct task *task) {
 /* How many answers the survey hears in time that are the first of their port; more ports than it has room for are counted. */
 static int taken_in_time(long wait, long *lost) {
     int taken = 0;
-    long end = milliseconds() + wait;
+    int64_t end = milliseconds() + wait;
     size_t size;
     for (const uint8_t *datagram; (datagram = receive_message(&size, end)) != NULL;) {
         enum ptpm_survey_received became = ptpm_survey_receive(&survey, datagram, size);
@@ -147,7 +147,7 @@ static void print_answers(const struct task *task) {
     struct ptpm_source source;
     char clock[IDENTITY_TEXT], lead[IDENTITY_TEXT + 8];
     for (size_t place = 0; place < ptpm_survey_count(&survey); place++) {
-        answer.told = ptpm_survey_answer(&survey, place, &source, answer.octets, sizeof answer.octets, &answer.size, &answer.error);
+        answer.outcome = ptpm_survey_answer(&survey, place, &source, answer.octets, sizeof answer.octets, &answer.size, &answer.error);
         write_identity(clock, source.clock);
         snprintf(lead, sizeof lead, "%s/%u ", clock, source.port);
         if (task->is_json) print_answer_as_json(stdout, task, &source, &answer);

@@ -44,7 +44,8 @@ struct request {
 static struct request requests[DOMAINS_AT_ONCE * COLLECTED];
 static size_t request_count;
 static FILE *output;
-static long sent, latest;               /* messages that went out; when an answer came that is no copy */
+static long sent;                       /* messages that went out */
+static int64_t latest;                  /* when an answer came that is no copy */
 static size_t let_go;                   /* clocks that are asked no more */
 static bool has_no_transport;
 
@@ -120,7 +121,7 @@ static struct request *asked_under(const uint8_t *datagram, size_t size) {
     return NULL;
 }
 
-static void hear_until(long end) {
+static void hear_until(int64_t end) {
     size_t size;
     for (const uint8_t *datagram; (datagram = receive_message(&size, end)) != NULL;) {
         struct request *request = asked_under(datagram, size);
@@ -137,7 +138,7 @@ static void hear_until(long end) {
 
 /* Hears answers until none came for one time-out. */
 static void hear_until_quiet(const struct task *task) {
-    long now = milliseconds(), end = now + MOST_TIMEOUTS * task->timeout;
+    int64_t now = milliseconds(), end = now + MOST_TIMEOUTS * task->timeout;
     for (latest = now; now < end && now < latest + task->timeout && !stopped; now = milliseconds()) {
         hear_until(latest + task->timeout < end ? latest + task->timeout : end);
     }
@@ -158,7 +159,7 @@ static bool send_when_room(const uint8_t *message, size_t size) {
 /* Asks every clock, one id after the other. */
 static void ask_every(void) {
     for (int id = 0; id < COLLECTED && !stopped && !has_no_transport; id++) {
-        long end = milliseconds() + STEP;
+        int64_t end = milliseconds() + STEP;
         for (size_t i = 0; i < request_count; i++) {
             if (requests[i].id == (enum collected)id) send_when_room(requests[i].message, requests[i].size);
         }
@@ -197,7 +198,7 @@ static bool ask_alone(const struct request *request, const struct seen_clock *cl
 /* Asks each clock of these domains for what it lacks, until there is no room for more. */
 static void ask_lacking(void) {
     size_t asked = 0;
-    long end = milliseconds() + STEP;
+    int64_t end = milliseconds() + STEP;
     for (size_t place = 0; place < seen_count(); place++) {
         for (int id = 0; id < COLLECTED; id++) {
             const struct request *request = lacking(seen_clock(place), id);

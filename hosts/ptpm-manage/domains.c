@@ -26,8 +26,8 @@ static int count_of(const struct domains *domains) {
     return count;
 }
 
-void listen_for_domains(struct domains *domains, const struct task *task, long wanted) {
-    long end = milliseconds() + wanted;
+void listen_for_domains(struct domains *domains, const struct task *task, int64_t wanted) {
+    int64_t end = milliseconds() + wanted;
     bool is_every = task->site.is_every_domain && task->path == NULL;
     if (is_every) receive_every_type(true);
     size_t size;

@@ -4,6 +4,7 @@
 
 #include "task.h"
 #include <stdbool.h>
+#include <stdint.h>
 
 struct domains { bool is_in[DOMAINS]; };
 
@@ -12,7 +13,7 @@ struct domains { bool is_in[DOMAINS]; };
 void find_domains(struct domains *domains, const struct task *task);
 
 /* Hears what comes in for this many milliseconds, and with `all` adds the domains of Announce messages. */
-void listen_for_domains(struct domains *domains, const struct task *task, long milliseconds);
+void listen_for_domains(struct domains *domains, const struct task *task, int64_t milliseconds);
 
 /* The domains as a text: `domain 5`, or `3 domains`. It is there until the next call. */
 const char *domains_text(const struct domains *domains);

@@ -57,7 +57,7 @@ static bool is_answered(struct ptpm_session *session, const uint8_t *datagram, s
     return ptpm_session_receive(session, copy, size) == PTPM_ANSWERED;
 }
 
-int first_answered(struct ptpm_session *first, struct ptpm_session *second, long end) {
+int first_answered(struct ptpm_session *first, struct ptpm_session *second, int64_t end) {
     size_t size;
     for (const uint8_t *datagram; (datagram = receive_message(&size, end)) != NULL;) {
         if (is_answered(first, datagram, size)) return 0;

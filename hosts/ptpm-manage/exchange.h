@@ -5,6 +5,7 @@
 #include "task.h"
 #include "transport.h"
 #include <stdbool.h>
+#include <stdint.h>
 
 /* The last port that a session of the library names, as a clock of this project has eight at most. And the portNumber of every port
    (IEEE 1588-2019, 15.4.1). */
@@ -23,6 +24,6 @@ enum sending send_again(struct ptpm_session *session);
 
 /* Which of two sessions a datagram answers first, before a time: 0 or 1. -1 if none does, or a signal asks the program to end.
    The second may be NULL. */
-int first_answered(struct ptpm_session *first, struct ptpm_session *second, long end);
+int first_answered(struct ptpm_session *first, struct ptpm_session *second, int64_t end);
 
 #endif

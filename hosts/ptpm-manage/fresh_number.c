@@ -62,7 +62,7 @@ int ask_whether_new(struct session *session, const struct task *task) {
 
 /* Whether the question is answered in time; answers to a read that runs with it are counted. */
 static bool hear_answer(const struct task *task, int *readings) {
-    long end = milliseconds() + task->timeout;
+    int64_t end = milliseconds() + task->timeout;
     for (int place; (place = first_answered(&asking.handle, &reading, end)) >= 0;) {
         if (place == 0) return true;
         ++*readings;
@@ -96,7 +96,7 @@ static enum tried ask_under_number(const struct task *task, uint16_t number, int
 static void wait_for_copies(long wait) {
     size_t size;
     if (wait >= 1000) show_progress("a new session waits %ld s, until no copy of an earlier one is on its way", wait / 1000);
-    for (long end = milliseconds() + wait; receive_message(&size, end) != NULL;) {}
+    for (int64_t end = milliseconds() + wait; receive_message(&size, end) != NULL;) {}
 }
 
 /* Finds a number of four that is new: *number is the last that was tried. The first is drawn. Otherwise it might be that of an

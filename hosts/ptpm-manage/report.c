@@ -10,12 +10,14 @@
 /* Findings that a change may make for a moment. The answers of a clock are not of one time, and a change goes from clock to
    clock. */
 static const char *const passing[] = {
-    "steps", "grandmaster_differs", "parent_not_master", "parent_not_seen", "grandmaster_not_seen", "no_master", "two_grandmasters",
+    "two_grandmasters", "no_master", "grandmaster_not_seen", "parent_not_seen", "parent_not_master", "steps", "grandmaster_differs",
+    "loop", "off_by_utc", "offset", "delay", "utc", "gm_holdover", "gm_degraded", "gm_free_running", "not_traceable", "utc_invalid",
+    "utc_offset", "better_clock", "identity_twice",
 };
 
 /* A finding that reports a change, and so goes by itself; and those whose values are other ones each time. */
 static const char changed[] = "changed";
-static const char *const moving[] = { "offset", "delay" };
+static const char *const moving[] = { "not_locked", "off_by_utc", "offset", "delay" };
 
 static const char red[] = "\033[31m", green[] = "\033[32m", plain[] = "\033[0m";
 

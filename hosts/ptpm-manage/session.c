@@ -1,12 +1,10 @@
 #include "session.h"
 #include "exchange.h"
-#include "identity.h"
 #include "names.h"
 #include "notices.h"
-#include "number_line.h"
 #include "session_file.h"
 #include "session_image.h"
-#include "state_folder.h"
+#include "words.h"
 #include <stdbool.h>
 #include <stdio.h>
 #include <string.h>

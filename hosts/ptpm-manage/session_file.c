@@ -5,8 +5,11 @@
 #include "monotonic.h"
 #include "notices.h"
 #include "stopping.h"
+#include "words.h"
 #include <errno.h>
+#include <limits.h>
 #include <stdbool.h>
+#include <stdio.h>
 #include <stdlib.h>
 #include <string.h>
 #include <sys/stat.h>
@@ -58,7 +61,7 @@ _Noreturn static void refuse_turn(int lock) {
 }
 
 /* The lock file, with the lock on it, until a time. Another run that had it may have removed it in the meantime. */
-static int lock_until(long end) {
+static int lock_until(int64_t end) {
     int lock = open_kept_lock(&file);
     if (lock < 0) refuse_place();
     while (!take_kept_lock(lock)) {
@@ -76,7 +79,7 @@ static void leave_nothing(void) { leave_no_lock(&file); }
 
 /* The lock is released when the program ends. Its time is that of this turn. */
 static void take_turn(void) {
-    long end = milliseconds() + TURN;
+    int64_t end = milliseconds() + TURN;
     int lock = lock_until(end);
     while (!is_kept_lock(&file, lock)) {
         if (milliseconds() >= end) refuse_turn(lock);
@@ -114,4 +117,48 @@ bool write_session_file(uint8_t octets[MOST_SESSION_OCTETS], size_t size) {
     enum replaced answer = replace_kept(&file, octets, write_seal(octets, size, saves + 1));
     if (answer != NOT_REPLACED) saves++;
     return answer == REPLACED;
+}
+
+/* The path of the file that is taken if the command line names none. */
+static char usual_path[PATH_MAX];
+
+/* A variable of the environment that names a folder; NULL if it is not set, or is no absolute path. */
+static const char *folder_in(const char *variable) {
+    const char *folder = getenv(variable);
+    return folder != NULL && folder[0] == '/' ? folder : NULL;
+}
+
+/* Writes the path of the folder to `usual_path`; how many octets it has, or would have. */
+static size_t write_folder(void) {
+    const char *state = folder_in("XDG_STATE_HOME"), *home = folder_in("HOME");
+    if (state != NULL) return (size_t)snprintf(usual_path, sizeof usual_path, "%s/ptpm", state);
+    if (geteuid() == 0) return (size_t)snprintf(usual_path, sizeof usual_path, "/var/lib/ptpm");
+    if (home != NULL) return (size_t)snprintf(usual_path, sizeof usual_path, "%s/.local/state/ptpm", home);
+    refuse("the request was not sent: neither XDG_STATE_HOME nor HOME names a folder for the session; --numbers FILE names a file");
+}
+
+/* Makes the folders above the last one; that one is made with the file. */
+static void make_parents(void) {
+    for (char *slash = strchr(usual_path + 1, '/'); slash != NULL; slash = strchr(slash + 1, '/')) {
+        *slash = '\0';
+        int failure = mkdir(usual_path, 0700) ? errno : 0;
+        struct stat found;
+        if (failure != 0 && (stat(usual_path, &found) || !S_ISDIR(found.st_mode))) {
+            refuse("the request was not sent: %s: %s; --numbers FILE keeps the session elsewhere", usual_path, strerror(failure));
+        }
+        *slash = '/';
+    }
+}
+
+const char *usual_file(const struct ptpm_session_settings *settings) {
+    char manager[IDENTITY_TEXT], clock[IDENTITY_TEXT];
+    size_t size = write_folder();
+    write_identity(manager, settings->clock);
+    write_identity(clock, settings->target);
+    if (size < sizeof usual_path) {
+        make_parents();
+        size += (size_t)snprintf(usual_path + size, sizeof usual_path - size, "/%s-%u.%s", manager, settings->port, clock);
+    }
+    if (size >= sizeof usual_path) refuse("the request was not sent: the path of the folder for the session is too long");
+    return usual_path;
 }

@@ -15,7 +15,7 @@
 #include <sys/wait.h>
 #include <unistd.h>
 
-enum { MOST_ARGUMENTS = 8, PART = 65536, TURN = 1000, FAULT = 1 };
+enum { MOST_ARGUMENTS = 10, PART = 65536, TURN = 1000, FAULT = 1 };
 
 static char site_program[2 * PATH_MAX];
 
@@ -107,15 +107,22 @@ static int status_of(pid_t process) {
     return FAULT;
 }
 
+/* Adds an option with its value, if it was given; how many arguments there are then. */
+static size_t add_option(char **arguments, size_t count, const char *name, const char *value) {
+    if (value == NULL) return count;
+    arguments[count] = (char *)name;
+    arguments[count + 1] = (char *)value;
+    return count + 2;
+}
+
 static void name_arguments(char **arguments, const struct site_options *options, enum shown_as as) {
     size_t count = 0;
     arguments[count++] = site_program;
     arguments[count++] = (char *)"site";
     if (as != AS_TEXT) arguments[count++] = (char *)(as == AS_JSON ? "--json" : "--draw");
-    if (options->max_offset != NULL) arguments[count++] = (char *)"--max-offset";
-    if (options->max_offset != NULL) arguments[count++] = (char *)options->max_offset;
-    if (options->max_delay != NULL) arguments[count++] = (char *)"--max-delay";
-    if (options->max_delay != NULL) arguments[count++] = (char *)options->max_delay;
+    count = add_option(arguments, count, "--max-offset", options->max_offset);
+    count = add_option(arguments, count, "--max-delay", options->max_delay);
+    count = add_option(arguments, count, "--tai-utc", options->tai_utc);
     arguments[count] = NULL;
 }
 

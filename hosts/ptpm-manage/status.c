@@ -2,8 +2,6 @@
 #include "status.h"
 #include "asking.h"
 #include "collect.h"
-#include "digits.h"
-#include "identity.h"
 #include "message_places.h"
 #include "notices.h"
 #include "report.h"
@@ -11,6 +9,7 @@
 #include "site_program.h"
 #include "stopping.h"
 #include "transport.h"
+#include "words.h"
 #include <errno.h>
 #include <poll.h>
 #include <stdbool.h>

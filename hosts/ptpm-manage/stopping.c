@@ -28,8 +28,8 @@ static void let_signals_in(void) {
     sigprocmask(SIG_SETMASK, &held, NULL);
 }
 
-int wait_for(struct pollfd *waits, nfds_t count, long most) {
-    struct timespec time = { .tv_sec = most / 1000, .tv_nsec = most % 1000 * 1000000 };
+int wait_for(struct pollfd *waits, nfds_t count, int64_t most) {
+    struct timespec time = { .tv_sec = most / 1000, .tv_nsec = (long)(most % 1000) * 1000000 };
     int found = ppoll(waits, count, &time, &while_waiting);
     if (found > 0) let_signals_in();
     return found;

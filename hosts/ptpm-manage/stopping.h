@@ -4,6 +4,7 @@
 
 #include <poll.h>
 #include <signal.h>
+#include <stdint.h>
 
 /* The signal that asks the program to end, SIGHUP, SIGINT or SIGTERM; 0 before it. */
 extern volatile sig_atomic_t stopped;
@@ -13,6 +14,6 @@ extern volatile sig_atomic_t stopped;
 void catch_signals(void);
 
 /* poll, for this many milliseconds at most, and until a signal comes in. */
-int wait_for(struct pollfd *waits, nfds_t count, long milliseconds);
+int wait_for(struct pollfd *waits, nfds_t count, int64_t milliseconds);
 
 #endif

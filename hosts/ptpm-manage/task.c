@@ -1,13 +1,12 @@
 #define _GNU_SOURCE
 #include "task.h"
-#include "digits.h"
 #include "exchange.h"
 #include "field_words.h"
-#include "help.h"
-#include "identity.h"
 #include "names.h"
 #include "notices.h"
+#include "ptpm.h"
 #include "reading.h"
+#include "words.h"
 #include <getopt.h>
 #include <stdbool.h>
 #include <stdio.h>
@@ -15,20 +14,127 @@
 #include <string.h>
 #include <strings.h>
 
+enum { WIDTH = 98 };        /* columns */
+
+static const char help_text[] =
+    "ptpm-manage [OPTION].. --target IDENTITY[-PORT] get ID\n"
+    "ptpm-manage [OPTION].. --target IDENTITY[-PORT] set ID VALUE\n"
+    "ptpm-manage [OPTION].. --target IDENTITY[-PORT] set ID NAME VALUE ..\n"
+    "\n"
+    "ptpm-manage [OPTION].. --target IDENTITY[-PORT] command ID\n"
+    "ptpm-manage [OPTION].. survey ID\n"
+    "\n"
+    "ptpm-manage [OPTION].. collect\n"
+    "ptpm-manage [OPTION].. status\n"
+    "\n"
+    "Asks a PTP clock for a data set, sets a value, or has a command carried out, and prints what the\n"
+    "clock answers. The request is sent again until it is answered. survey asks every clock and port.\n"
+    "NAME is that of a member, as the answer prints it: set PRIORITY1 100, or set UTC_PROPERTIES\n"
+    "currentUtcOffset 37 leap61 false leap59 false currentUtcOffsetValid true.\n"
+    "\n"
+    "collect asks every clock for a whole site, and prints the answers in hexadecimal.\n"
+    "With status, ptpm site shows them: who is grandmaster, who follows whom, and what is wrong.\n"
+    "\n"
+    "The way to the clock:\n"
+    "  -i, --interface NAME    over UDP at this interface, to every clock there, with IPv4; collect and\n"
+    "                          status ask at each that is given\n"
+    "  -6, --ipv6              with IPv6\n"
+    "  -2, --ethernet          there in frames of IEEE 802.3, and not over UDP\n"
+    "      --udp ADDRESS       over UDP to this address, also without --interface\n"
+    "      --any-source        hears addresses too that are not on the link, over UDP\n"
+    "  -u, --unix PATH         at a Unix socket, such as /var/run/ptp4l\n"
+    "\n"
+    "What is asked of whom:\n"
+    "  -T, --target IDENTITY   the clock, such as aabbccfffeddee01 or aabbcc.fffe.ddee01. A port of it may\n"
+    "                          follow: aabbccfffeddee01/1. An id of a port needs one\n"
+    "  -p, --port PORT         the port, in place of one after IDENTITY; all, with get, asks each of them\n"
+    "  -d, --domain N          domainNumber, 0 to 255 (0). collect and status also take several: 0-7, or\n"
+    "                          all, which is those of Announce messages, 0 and 127\n"
+    "  -b, --hops N            how many boundary clocks pass the request on, 0 to 255 (1; collect and\n"
+    "                          status 7)\n"
+    "  -x, --hexadecimal       VALUE and answers are octets of the dataField in hexadecimal\n"
+    "      --text              VALUE is a text, for USER_DESCRIPTION\n"
+    "      --json              each answer as a line, an object of JSON; status as one object\n"
+    "\n"
+    "A whole site:\n"
+    "      --listen SECONDS    how long --domain all listens for Announce messages (4)\n"
+    "      --max-offset NS     offsets above this limit are findings, in nanoseconds (1000000); none is no\n"
+    "                          limit\n"
+    "      --max-delay NS      delays above this limit too\n"
+    "      --tai-utc S         how many seconds TAI is before UTC (37)\n"
+    "      --draw              status as an SVG file\n"
+    "      --once              status does not look a second time at findings that may pass\n"
+    "      --watch SECONDS     status looks again and again, and prints what came and what went\n"
+    "\n";
+
+static const char asking_text[] =
+    "Who asks, and how often:\n"
+    "  -m, --manager ID-PORT   the manager's own identity and port, below 61440. Otherwise that of the\n"
+    "                          interface, or clock 0 at a Unix socket, at port 1. A survey, and what no\n"
+    "                          file keeps, have a port of this process\n"
+    "  -k, --numbers FILE      keeps the session of this manager with this clock from run to run.\n"
+    "                          Without it, a file in $XDG_STATE_HOME/ptpm, /var/lib/ptpm or\n"
+    "                          ~/.local/state/ptpm does so for a set or a command over UDP or\n"
+    "                          Ethernet. With -m it does so for everything except a survey\n"
+    "      --give-up           lets the request of an earlier run go that had no answer; without\n"
+    "                          this it is sent again first\n"
+    "  -w, --wait MILLIS       how long it waits if there is no such file, in milliseconds (3000)\n"
+    "  -a, --attempts N        how often a request is sent at most, 1 to 255 (30). For collect and status,\n"
+    "                          how often a clock is asked for what is missing from it (10)\n"
+    "  -t, --timeout MILLIS    how long each answer is waited for, in milliseconds (200)\n"
+    "  -n, --times N           makes the request N times, for trials (1)\n"
+    "  -q, --quiet             shows no progress. Without it, progress is shown on a terminal\n"
+    "  -h, --help              this text\n"
+    "      --version           the version\n"
+    "\n";
+
+static const char help_end[] =
+    "Exit status: 0 answered, and of status nothing was found. 1 the clock refuses, or there are findings.\n"
+    "2 nothing was asked or sent; 3 no answer came; 4 the answer could not be printed. 5 a set is\n"
+    "answered by another value than was asked. 128 and its number: a signal ended it.\n";
+
+/* The names of all ids, in their order. */
+static void print_ids(void) {
+    int column = WIDTH;
+    for (size_t place = 0; ptpm_id_at(place) != PTPM_NO_ID; place++) {
+        const char *name = id_name((uint16_t)ptpm_id_at(place));
+        int size = (int)strlen(name) + 1;
+        if (column + size > WIDTH) column = printf("\n ") - 1;
+        column += size;
+        printf(" %s", name);
+    }
+}
+
+/* Prints the text of --help, and ends the program. */
+static _Noreturn void help(void) {
+    fputs(help_text, stdout);
+    fputs(asking_text, stdout);
+    printf("ID, in either case, or four hexadecimal digits:");
+    print_ids();
+    printf("\n\n%s", help_end);
+    exit(fflush(stdout) == 0 ? 0 : 4);
+}
+
+/* Prints the version, and ends the program. */
+static _Noreturn void version(void) {
+    puts("ptpm-manage " PTPM_VERSION);
+    exit(fflush(stdout) == 0 ? 0 : 4);
+}
+
 /* Options without a letter of their own, and a word that is none: getopt's for a string that begins with a hyphen. */
 enum { WORD = 1, UDP = 256, TEXT, VERSION, GIVE_UP, JSON, ANY_SOURCE };
 
 /* The same, only for `collect` and `status`. */
-enum site_option { LISTEN = 512, DRAW, MAX_OFFSET, MAX_DELAY, ONCE, WATCH };
+enum site_option { LISTEN = 512, DRAW, MAX_OFFSET, MAX_DELAY, TAI_UTC, ONCE, WATCH };
 
 enum { MOST_WORDS = 2 + MOST_FIELD_WORDS, MOST_FIELD = 1418, NOT_NAMED = -1 };
 
 /* What holds if no option says otherwise. A request to only one clock is repeated for two seconds. */
 enum { HOPS = 1, ATTEMPTS = 30, SITE_HOPS = 7, SITE_ATTEMPTS = 10, LISTENED = 4000 };
 
-enum { SECOND = 1000, MOST_SECONDS = 86400 };
+enum { SECOND = 1000, MOST_SECONDS = 86400, MOST_TAI_UTC = 32767 };
 
-static const long most_limit = 1000000000000000;        /* of an offset or a delay, in nanoseconds */
+static const long long most_limit = 1000000000000000;        /* of an offset or a delay, in nanoseconds */
 
 static const struct option options[] = {
     { "interface", required_argument, NULL, 'i' }, { "udp", required_argument, NULL, UDP }, { "ipv6", no_argument, NULL, '6' },
@@ -40,8 +146,8 @@ static const struct option options[] = {
     { "timeout", required_argument, NULL, 't' }, { "times", required_argument, NULL, 'n' },
     { "give-up", no_argument, NULL, GIVE_UP }, { "listen", required_argument, NULL, LISTEN }, { "json", no_argument, NULL, JSON },
     { "draw", no_argument, NULL, DRAW }, { "max-offset", required_argument, NULL, MAX_OFFSET },
-    { "max-delay", required_argument, NULL, MAX_DELAY }, { "once", no_argument, NULL, ONCE },
-    { "watch", required_argument, NULL, WATCH },
+    { "max-delay", required_argument, NULL, MAX_DELAY }, { "tai-utc", required_argument, NULL, TAI_UTC },
+    { "once", no_argument, NULL, ONCE }, { "watch", required_argument, NULL, WATCH },
     { "hexadecimal", no_argument, NULL, 'x' }, { "text", no_argument, NULL, TEXT }, { "quiet", no_argument, NULL, 'q' },
     { "help", no_argument, NULL, 'h' }, { "version", no_argument, NULL, VERSION },
     { NULL, 0, NULL, 0 },
@@ -67,22 +173,30 @@ static long seconds(const char *option, const char *text, long least) {
     return found * SECOND;
 }
 
-/* A limit in nanoseconds, which goes to `ptpm site` as it is written. */
-static const char *limit(const char *option, const char *text) {
-    if (decimal(text, most_limit) < 0) refuse("%s %s: it takes a number of nanoseconds from 0 to %ld", option, text, most_limit);
+/* A limit in nanoseconds, which goes to `ptpm site` as it is written. Of an offset it may be `none`: without it there is one. */
+static const char *limit(const char *option, const char *text, bool may_be_none) {
+    if (may_be_none && strcmp(text, "none") == 0) return text;
+    if (large_decimal(text, most_limit) >= 0) return text;
+    refuse("%s %s: it takes a number of nanoseconds from 0 to %lld%s", option, text, most_limit, may_be_none ? ", or none" : "");
+}
+
+/* How many seconds TAI is before UTC, which goes there too. */
+static const char *tai_utc(const char *option, const char *text) {
+    if (decimal(text, MOST_TAI_UTC) < 0) refuse("%s %s: it takes a number of seconds from 0 to %d", option, text, MOST_TAI_UTC);
     return text;
 }
 
 /* Takes an option of `collect` and `status`; whether it is one of these. */
 static bool take_site_option(struct site_options *site, int option, const char *value) {
-    static const char *const names[] = { "--listen", "--draw", "--max-offset", "--max-delay", "--once", "--watch" };
+    static const char *const names[] = { "--listen", "--draw", "--max-offset", "--max-delay", "--tai-utc", "--once", "--watch" };
     if (option < LISTEN || option > WATCH) return false;
     const char *name = names[option - LISTEN];
     switch ((enum site_option)option) {
     case LISTEN: site->listen = seconds(name, value, 0); break;
     case WATCH: site->watch = seconds(name, value, 1); break;
-    case MAX_OFFSET: site->max_offset = limit(name, value); break;
-    case MAX_DELAY: site->max_delay = limit(name, value); break;
+    case MAX_OFFSET: site->max_offset = limit(name, value, true); break;
+    case MAX_DELAY: site->max_delay = limit(name, value, false); break;
+    case TAI_UTC: site->tai_utc = tai_utc(name, value); break;
     case DRAW: site->is_drawn = true; break;
     case ONCE: site->is_once = true; break;
     }

@@ -15,7 +15,7 @@ struct site_options {
     bool is_every_domain;                       /* those in which Announce messages are heard, and 0 and 127 */
     long listen, watch;                         /* in milliseconds: for such messages, or -1 by default; between two looks, or 0 */
     bool is_drawn, is_once;
-    const char *max_offset, *max_delay;         /* as they are written, or NULL */
+    const char *max_offset, *max_delay, *tai_utc;   /* as they are written, or NULL */
     const char *given;                          /* an option only of `status` that was given, or NULL */
 };
 

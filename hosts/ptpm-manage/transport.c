@@ -271,7 +271,7 @@ enum sending send_message(const uint8_t *octets, size_t size) {
 struct arrival { int socket; const struct end *end; };
 
 /* The one after the one before it in turn; none if nothing has in time. */
-static bool next_arrival(struct arrival *arrival, long wait) {
+static bool next_arrival(struct arrival *arrival, int64_t wait) {
     static size_t latest;
     struct pollfd waits[MOST_WAITS];
     size_t count = SOCKETS_OF_END * end_count + 1;
@@ -367,9 +367,9 @@ static const uint8_t *message_of(const struct arrival *arrival, const uint8_t *o
     return is_ethernet && place == 0 ? NULL : octets + place;
 }
 
-const uint8_t *receive_message(size_t *size, long end) {
+const uint8_t *receive_message(size_t *size, int64_t end) {
     static uint8_t datagram[MOST_DATAGRAM];
-    for (long left; (left = end - milliseconds()) > 0 && !stopped;) {
+    for (int64_t left; (left = end - milliseconds()) > 0 && !stopped;) {
         struct arrival arrival;
         struct place from;
         ssize_t found = next_arrival(&arrival, left) ? receive_from(arrival.socket, datagram, sizeof datagram, &from) : -1;

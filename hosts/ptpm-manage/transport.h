@@ -43,6 +43,6 @@ enum sending send_message(const uint8_t *octets, size_t size);
 
 /* The next message that comes in before a time. It stays until the next call, and octets may follow it. NULL if none does, or a
    signal asks the program to end. */
-const uint8_t *receive_message(size_t *size, long end);
+const uint8_t *receive_message(size_t *size, int64_t end);
 
 #endif

@@ -1,12 +1,12 @@
 #include "unanswered.h"
 #include "answer.h"
 #include "asking.h"
-#include "identity.h"
 #include "notices.h"
 #include "reading.h"
 #include "session_file.h"
 #include "stopping.h"
 #include "transport.h"
+#include "words.h"
 #include <stdbool.h>
 
 /* Whether the clock answers nobody's GET, if it did not answer the manager; then what it has is said. */
@@ -16,8 +16,8 @@ static bool say_value(const struct task *task) {
     bool is_answered = begin_reading(&session, task, task->id) && finish_reading(&session, task);
     if (is_answered) {
         take_report(&session, &answer);
-        complain("the clock answers reads%s", answer.told == PTPM_VALUE ? ", and has by now" : "");
-        if (answer.told == PTPM_VALUE) print_answer(stderr, task, "ptpm-manage: ", &answer);
+        complain("the clock answers reads%s", answer.outcome == PTPM_VALUE ? ", and has by now" : "");
+        if (answer.outcome == PTPM_VALUE) print_answer(stderr, task, "ptpm-manage: ", &answer);
     } else if (!stopped) {
         complain("it answers no read either");
     }

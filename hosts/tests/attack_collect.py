@@ -228,7 +228,7 @@ def refusals_of_memory():
     os.mkdir(folder)
     write("shown/ptpm.c", """#include <unistd.h>
 int main(void) {
-    static const char none[] = "no clock answered\\n", three[] = "findings: 3\\n0 a offset 1\\n0 b offset 2\\n0 c offset 3\\n";
+    static const char none[] = "no clock answered\\n", three[] = "findings: 3\\n0 a intervals 1\\n0 b intervals 2\\n0 c intervals 3\\n";
     char one;
     if (read(0, &one, 1) != 1) return write(1, none, sizeof none - 1) > 0 ? 3 : 1;
     while (read(0, &one, 1) == 1) continue;

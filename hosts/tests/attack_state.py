@@ -9,7 +9,7 @@ import subprocess
 import time
 
 from attack_numbers import next_number
-from attacking import (HOME, MANAGER, ME, OTHER, Clock, Peer, check, clear, fill_disk, flips, get, image_in, manage, path, read, run, saves_in,
+from attacking import (HOME, MANAGER, ME, OTHER, TRACED, Clock, Peer, check, clear, fill_disk, flips, get, image_in, manage, path, read, run, saves_in,
                        sealed, started, work)
 
 PROGRAM = os.path.join(HOME, "clock")
@@ -258,7 +258,8 @@ def calls_that_fail():
         clear()
         with open(os.path.join(work, "output"), "w") as output:
             clock = subprocess.Popen(["strace", "-D", "-qq", "-o", "/dev/null", "-e", f"trace={name}", "-e",
-                                      f"inject={name}:error=EIO:when={at}", PROGRAM, "--user", "root", "-v", *WORDS], stdout=output, stderr=subprocess.STDOUT)
+                                      f"inject={name}:error=EIO:when={at}", PROGRAM, "--user", "root", "-v", *WORDS], stdout=output, stderr=subprocess.STDOUT,
+                                     env=TRACED)
         started.append(clock)
         for _ in range(200):
             if "in domain" in read("output"):

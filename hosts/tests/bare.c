@@ -5,10 +5,10 @@
    `rounds` makes the calls of ptpm-clock, epoll_wait, recvmmsg and sendmmsg. `ring` sends, and waits for the next datagram, in one
    call of io_uring. */
 #define _GNU_SOURCE
-#include "identity.h"
 #include "message_places.h"
 #include "program.h"
 #include "udp.h"
+#include "words.h"
 #include <errno.h>
 #include <linux/io_uring.h>
 #include <stdbool.h>

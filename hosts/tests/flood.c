@@ -4,12 +4,11 @@
    answered, and in how many microseconds the middle one and 99 of a hundred were. With a RATE of 0 it waits for each answer
    before it asks again. */
 #define _GNU_SOURCE
-#include "digits.h"
-#include "identity.h"
 #include "message_places.h"
 #include "monotonic.h"
 #include "program.h"
 #include "udp.h"
+#include "words.h"
 #include <stdbool.h>
 #include <stdio.h>
 #include <stdlib.h>
@@ -24,7 +23,7 @@ static uint8_t request[LEAST_MESSAGE] = {
     MANAGEMENT_TYPE, 2, 0, LEAST_MESSAGE, [SOURCE_AT] = 0x0a, 0x0b, 0x0c, 0x0d, 0x0e, 0x0f, 0x10, 0x11, 0, 1, [32] = 4, 0x7f,
     [TARGET_AT + IDENTITY] = 0xff, 0xff, 1, 1, 0, 0, 0, 1, 0, 2, 0x20, 0x05,
 };
-static long sent_at[NUMBERS];                   /* nanoseconds; 0: answered, or not asked */
+static int64_t sent_at[NUMBERS];                /* nanoseconds; 0: answered, or not asked */
 static unsigned long answered, times[MOST_TIME + 1];         /* how many answers took this many microseconds */
 
 _Noreturn void usage(void) {
@@ -35,7 +34,7 @@ _Noreturn void usage(void) {
 static int port_socket;
 static struct sockaddr_storage to;
 static socklen_t to_size;
-static long sent;
+static int64_t sent;
 
 /* Asks with the next number. */
 static uint16_t ask(void) {
@@ -57,9 +56,9 @@ static bool take_answer(int flags) {
     uint8_t octets[2048];
     ssize_t size = recv(port_socket, octets, sizeof octets, flags);
     if (!is_answer(octets, size)) return size >= 0;
-    long *asked = &sent_at[octets[SEQUENCE_AT] << 8 | octets[SEQUENCE_AT + 1]];
+    int64_t *asked = &sent_at[octets[SEQUENCE_AT] << 8 | octets[SEQUENCE_AT + 1]];
     if (*asked == 0) return true;
-    long took = (nanoseconds() - *asked) / 1000;
+    int64_t took = (nanoseconds() - *asked) / 1000;
     times[took < MOST_TIME ? took : MOST_TIME]++;
     answered++;
     *asked = 0;
@@ -67,18 +66,18 @@ static bool take_answer(int flags) {
 }
 
 /* At even times, and 0.2 seconds for the last answers. */
-static void ask_at_rate(long rate, long seconds) {
-    long begin = nanoseconds(), end = begin + seconds * 1000000000;
-    for (long now; (now = nanoseconds()) < end + 200000000;) {
+static void ask_at_rate(int64_t rate, int64_t seconds) {
+    int64_t begin = nanoseconds(), end = begin + seconds * 1000000000;
+    for (int64_t now; (now = nanoseconds()) < end + 200000000;) {
         if (now < end && now >= begin + sent * 1000000000 / rate) ask();
         take_answer(MSG_DONTWAIT);
     }
 }
 
 /* One after the other; 0.2 seconds for each answer. */
-static void ask_in_turn(long seconds) {
+static void ask_in_turn(int64_t seconds) {
     const struct timeval most = { .tv_usec = 200000 };
-    long end = nanoseconds() + seconds * 1000000000;
+    int64_t end = nanoseconds() + seconds * 1000000000;
     setsockopt(port_socket, SOL_SOCKET, SO_RCVTIMEO, &most, sizeof most);
     while (nanoseconds() < end) {
         uint16_t number = ask();
@@ -106,6 +105,6 @@ int main(int argc, char **argv) {
     to_size = group(&to, false);
     if (rate > 0) ask_at_rate(rate, seconds);
     else ask_in_turn(seconds);
-    printf("sent %ld answered %lu median %ld p99 %ld\n", sent, answered, part(50), part(99));
+    printf("sent %lld answered %lu median %ld p99 %ld\n", (long long)sent, answered, part(50), part(99));
     return 0;
 }

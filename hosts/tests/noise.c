@@ -4,11 +4,11 @@
    are random octets, Announce messages of one master, GETs for clocks that are not there, or GETs for every clock. No manager sends
    these. They come from that address of the interface, or from its first. It reads nothing. */
 #define _GNU_SOURCE
-#include "digits.h"
 #include "message_places.h"
 #include "monotonic.h"
 #include "program.h"
 #include "udp.h"
+#include "words.h"
 #include <arpa/inet.h>
 #include <net/if.h>
 #include <stdbool.h>
@@ -42,7 +42,7 @@ _Noreturn void usage(void) {
 }
 
 /* The n-th message of a kind: another number, and of a GET for one clock another clock each time. */
-static size_t write_message(enum kind kind, long n, uint8_t octets[MOST_SIZE]) {
+static size_t write_message(enum kind kind, int64_t n, uint8_t octets[MOST_SIZE]) {
     memcpy(octets, messages[kind].octets, MOST_SIZE);
     octets[SEQUENCE_AT] = (uint8_t)(n >> 8);
     octets[SEQUENCE_AT + 1] = (uint8_t)n;
@@ -52,7 +52,7 @@ static size_t write_message(enum kind kind, long n, uint8_t octets[MOST_SIZE]) {
 }
 
 /* Sends the next messages, which are due; how many went out. */
-static long send_due(int socket, enum kind kind, long sent, unsigned count) {
+static int send_due(int socket, enum kind kind, int64_t sent, unsigned count) {
     static uint8_t octets[MOST_AT_ONCE][MOST_SIZE];
     struct mmsghdr out[MOST_AT_ONCE];
     struct iovec parts[MOST_AT_ONCE];
@@ -85,16 +85,16 @@ int main(int argc, char **argv) {
     const char *what;
     if (argc != 5 && argc != 6) usage();
     enum kind kind = kind_named(argv[2]);
-    long rate = decimal(argv[3], 1000000), seconds = decimal(argv[4], 1000), sent = 0;
+    int64_t rate = decimal(argv[3], 1000000), seconds = decimal(argv[4], 1000), sent = 0;
     if (rate < 1 || seconds < 1) usage();
     int port_socket = open_udp(argv[1], false, &what);
     if (port_socket < 0) give_up(what);
     if (argc == 6) send_from(port_socket, argv[1], argv[5]);
-    long begin = nanoseconds(), end = begin + seconds * 1000000000;
-    for (long now; (now = nanoseconds()) < end;) {
-        long due = (now - begin) / 1000 * rate / 1000000 - sent;
+    int64_t begin = nanoseconds(), end = begin + seconds * 1000000000;
+    for (int64_t now; (now = nanoseconds()) < end;) {
+        int64_t due = (now - begin) / 1000 * rate / 1000000 - sent;
         if (due > 0) sent += send_due(port_socket, kind, sent, due < MOST_AT_ONCE ? (unsigned)due : MOST_AT_ONCE);
     }
-    printf("sent %ld\n", sent);
+    printf("sent %lld\n", (long long)sent);
     return 0;
 }

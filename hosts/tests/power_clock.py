@@ -1,6 +1,7 @@
 """A clock that saves (clock.c -s) and loses its power, under the runs of three managers whose sessions are kept. It is killed as it
 makes a call of the system, most often one of a save, or at any moment, also after a call of a save that failed. What it had not
-synchronized may be lost with it. Then it is started again from its file. Each run sets USER_DESCRIPTION to a greater number, or
+synchronized may be lost with it. Then it is started again from its file. With -v it waits for the disk itself, and otherwise a
+thread does. Each run sets USER_DESCRIPTION to a greater number, or
 reads it; between them copies of earlier requests come in again. What the clock has is compared with what was reported, and every
 reply with those before it."""
 import ctypes
@@ -80,7 +81,7 @@ class Wire:
 def traced(name, what, number):
     """The words of strace in front of a program: it tells the calls of saves, and does something to one of its calls."""
     open(log, "w").close()
-    return ["strace", "-D", "-q", "-xx", "-s", "30000", "-o", log, "-e", f"trace=openat,write,fsync,renameat,{name}", "-e",
+    return ["strace", "-D", "-f", "-q", "-xx", "-s", "30000", "-o", log, "-e", f"trace=openat,write,fsync,renameat,{name}", "-e",
             f"inject={name}:{what}:when={number}"]
 
 
@@ -96,7 +97,8 @@ class Clock:
 
     def start(self, *before):
         managers = [word for manager in MANAGERS for word in ("-m", manager)]
-        return subprocess.Popen([*RUN, FAR, *before, CLOCK, "--user", "root", "-v", "-s", state, *managers, "-u", socket_path, ME, "far0"],
+        is_told = self.chance.choice((["-v"], []))
+        return subprocess.Popen([*RUN, FAR, *before, CLOCK, "--user", "root", *is_told, "-s", state, *managers, "-u", socket_path, ME, "far0"],
                                 stdout=self.told, stderr=subprocess.STDOUT)
 
     def live(self):

@@ -85,11 +85,24 @@ def octets_in(text):
     return bytes.fromhex(text.replace("\\x", ""))
 
 
+def lines_of(log):
+    """The calls that strace told, each once it has returned, without the numbers of threads."""
+    begun = {}
+    for line in open(log):
+        thread, text = re.match(r"(?:(\d+) +)?(.*)", line).groups()
+        if text.endswith(" <unfinished ...>"):
+            begun[thread] = text.removesuffix(" <unfinished ...>")
+            continue
+        if match := re.match(r"<\.\.\. \w+ resumed>(.*)", text):
+            text = begun.pop(thread, "") + match[1]
+        yield text
+
+
 def on_disk(log, before):
     """What is on the disk of a file after a program's end, as strace told its calls. A file whose octets were not synchronized
     before it was renamed is empty there; a renamed file is there once the folder is synchronized."""
     new, renamed, durable, is_synchronized, at = b"", before, before, False, None
-    for line in open(log):
+    for line in lines_of(log):
         if match := re.match(r'openat\(\d+, "[^"]*", O_WRONLY.* = (\d+)$', line):
             at, new, is_synchronized = match[1], b"", False
         elif match := re.match(r'write\((\d+), "([^"]*)", \d+\) += \d+$', line):
@@ -100,7 +113,7 @@ def on_disk(log, before):
                 is_synchronized = True
             else:
                 durable = renamed
-        elif line.startswith("renameat(") and line.rstrip().endswith("= 0"):
+        elif line.startswith("renameat(") and line.endswith("= 0"):
             renamed, at = (new if is_synchronized else b""), None
     return durable
 

@@ -14,9 +14,9 @@ from .asking import NoAnswer
 from .identity import Identity, PortIdentity
 from .ids import Action, ManagementId, id_of
 from .members import data_field, has_one_member, lines, parse, takes_no_value
-from .nobody import ask_as_nobody, nobody, refuse_nobody
+from .nobody import ask_as_nobody, ask_in_no_session, nobody, refuse_nobody
 from .report import Report
-from .requests import Requests, SessionSettings, begin_request
+from .requests import SESSION_PORTS, Requests, SessionSettings, begin_request, is_beyond_session
 from .session import Session
 from .session_file import SessionFile, SessionFileError
 from .site_command import main as show_site
@@ -127,6 +127,10 @@ class Task:
             raise ValueError("survey asks every clock: it takes no --target")
         if self.action is not None and self.target is None:
             raise ValueError("--target is missing: the clock that is asked; survey asks every clock")
+        if words.numbers is not None and is_beyond_session(self.port):
+            raise ValueError(f"--numbers: no session is kept of a port above {SESSION_PORTS}, which no clock of ptpm has")
+        if words.give_up and not self.is_numbered:
+            raise ValueError("--give-up: no session is kept of what is asked")
 
     def way(self) -> Transport:
         """The socket that it uses."""
@@ -135,10 +139,12 @@ class Task:
 
     @property
     def is_numbered(self) -> bool:
-        """Whether who asks is the same in each run, so that a clock may have kept an answer of his."""
+        """Whether who asks is the same in each run, so that a clock may have kept an answer of his. Nothing is kept of a port above 8,
+        which no clock of ptpm has."""
         words = self.words
         by_one_manager = words.manager is not None or words.numbers is not None
-        return self.action is not None and (by_one_manager or (words.unix is None and self.action != Action.GET))
+        may_be_kept = self.action is not None and not is_beyond_session(self.port)
+        return may_be_kept and (by_one_manager or (words.unix is None and self.action != Action.GET))
 
     def _manager(self) -> PortIdentity:
         """The identity of who asks, without a socket."""
@@ -166,9 +172,10 @@ class Task:
             # An answer to this host alone comes in at the latest socket, so who waits for its turn has none yet.
             with SessionFile(settings.manager, self.target, words.numbers) as file, self.way() as way:
                 return self._ask_by(file, settings, way)
+        is_managers = words.manager is not None and self.action != Action.GET
+        ask = ask_in_no_session if is_managers else ask_as_nobody
         with self.way() as way:
-            report = ask_as_nobody(way, settings, self.action, self.id, self.data, self.port, timeout=seconds)
-            return _print([report], words.hexadecimal)
+            return _print([ask(way, settings, self.action, self.id, self.data, self.port, timeout=seconds)], words.hexadecimal)
 
     def _ask_by(self, file: SessionFile, settings: SessionSettings, way: Transport) -> int:
         words = self.words

@@ -35,14 +35,22 @@ def nobody(manager: PortIdentity, action: int = Action.GET) -> PortIdentity:
     return PortIdentity(manager.clock, port if action == Action.GET else port + 1)
 
 
+def ask_in_no_session(
+    way: Transport, settings: SessionSettings, action: int, named: IdLike, data: bytes = b"", port: int = 0, *, timeout: float = 0.2
+) -> Report:
+    """Asks by the manager of the settings, with a number that is drawn, until it is answered. Nothing is kept of it."""
+    asking = Requests(replace(settings, first=draw()))
+    begin_request(asking, action, named, data, port)
+    return carry_out(asking, way, timeout)
+
+
 def ask_as_nobody(
     way: Transport, settings: SessionSettings, action: int, named: IdLike, data: bytes = b"", port: int = 0, *, timeout: float = 0.2
 ) -> Report:
     """Asks at another port of a session's manager until it is answered. A clock of ptpm carries out a SET only from managers; a
     ptp4l takes some from anybody on its Unix socket, once for each copy."""
-    asking = Requests(replace(settings, manager=nobody(PortIdentity.of(settings.manager), action), first=draw()))
-    begin_request(asking, action, named, data, port)
-    return carry_out(asking, way, timeout)
+    who = replace(settings, manager=nobody(PortIdentity.of(settings.manager), action))
+    return ask_in_no_session(way, who, action, named, data, port, timeout=timeout)
 
 
 def get(

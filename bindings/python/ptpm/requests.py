@@ -4,7 +4,7 @@ from __future__ import annotations
 
 import ctypes
 from dataclasses import dataclass
-from typing import Optional
+from typing import Callable, Optional
 
 from . import _header as header
 from ._library import Handle, library
@@ -22,6 +22,12 @@ _MANAGEMENT_ERROR_STATUS = 2
 
 # A portNumber (15.4.1).
 EVERY_PORT = 65535
+
+# The last port that a session of the library names: no clock of ptpm has more.
+SESSION_PORTS = 8
+
+# The places of portNumbers in a message (13.3, 15.4).
+_SOURCE_PORT, _TARGET_PORT = 28, 42
 
 
 @dataclass(frozen=True)
@@ -50,6 +56,25 @@ class SessionSettings:
         return struct
 
 
+def is_beyond_session(port: int) -> bool:
+    """Whether a port is above those of a session, such as one of a switch. Nothing that is asked of it is kept."""
+    return SESSION_PORTS < port < EVERY_PORT
+
+
+def not_kept(port: int) -> ValueError:
+    """Why a request is refused that would be kept."""
+    return ValueError(f"port {port}: no session is kept of a port above {SESSION_PORTS}, which no clock of ptpm has")
+
+
+def _swapped(octets: bytes, place: int, beyond: int) -> bytes:
+    """A message whose portNumber at a place is swapped, if it is a session's last one or the one that takes its place."""
+    port = int.from_bytes(octets[place : place + 2], "big")
+    if beyond == 0 or len(octets) < place + 2 or port not in (beyond, SESSION_PORTS):
+        return octets
+    other = SESSION_PORTS if port == beyond else beyond
+    return octets[:place] + other.to_bytes(2, "big") + octets[place + 2 :]
+
+
 def _is_error_of(datagram: bytes, clock: bytes) -> bool:
     """Whether it is a MANAGEMENT_ERROR_STATUS of a clock (15.5.4)."""
     return len(datagram) >= 54 and datagram[48:50] == bytes([0, _MANAGEMENT_ERROR_STATUS]) and datagram[20:28] == clock
@@ -57,13 +82,16 @@ def _is_error_of(datagram: bytes, clock: bytes) -> bool:
 
 class Requests(Handle):
     """One request at a time to one clock. A caller that uses these calls directly is responsible for the numbers. A request
-    with one that was used before is answered with what the clock kept."""
+    with one that was used before is answered with what the clock kept.
+
+    A port above 8 takes the place of port 8 in what goes out, and gives it back in what comes in."""
 
     def __init__(self, settings: SessionSettings) -> None:
         super().__init__(header.ptpm_session, library.ptpm_session_stop)
         self._asked = 0  # the managementId of the latest answer
         self._set: Optional[bytes] = None  # the dataField of the latest request, if it is a SET
-        self._target = bytes(10)  # of the latest message: a clockIdentity and a portNumber
+        self._target = bytes(10)  # of the latest message as the library has it: a clockIdentity and a portNumber
+        self._beyond = 0  # the port that takes the place of the session's last one, or 0
         self._start(settings)
 
     def _start(self, settings: SessionSettings) -> None:
@@ -74,16 +102,17 @@ class Requests(Handle):
 
     def begin(self, action: int, named: IdLike, data: bytes = b"", port: int = 0) -> None:
         """Begins a request, and discards the answer to the one before. The port matters only for an id of a port."""
-        octets = bytes(data)
-        done(self._call(library.ptpm_session_begin, Action(action), id_of(named), port_number(port), octets, len(octets)))
-        self._set = octets if action == Action.SET else None
+        self._begin_by(library.ptpm_session_begin, action, named, port, bytes(data))
 
     def begin_at(self, action: int, named: IdLike, port: int, data: bytes = b"") -> None:
         """Does what `begin` does, but names the port for any id. Some clocks answer only if one of their
         ports is named, for an id of the clock too. Any port of the clock may answer for such an id."""
-        octets = bytes(data)
-        words = (Action(action), id_of(named), port_number(port), octets, len(octets))
-        done(self._call(library.ptpm_session_begin_at, *words))
+        self._begin_by(library.ptpm_session_begin_at, action, named, port, bytes(data))
+
+    def _begin_by(self, call: Callable[..., int], action: int, named: IdLike, port: int, octets: bytes) -> None:
+        is_beyond = is_beyond_session(port_number(port))
+        done(self._call(call, Action(action), id_of(named), SESSION_PORTS if is_beyond else port, octets, len(octets)))
+        self._beyond = port if is_beyond else 0
         self._set = octets if action == Action.SET else None
 
     def give_up(self) -> None:
@@ -98,7 +127,7 @@ class Requests(Handle):
         room = (ctypes.c_uint8 * header.PTPM_MOST_OCTETS)()
         done(self._call(library.ptpm_session_send, room, len(room), ctypes.byref(size)))
         self._target = bytes(room[34:44])
-        return bytes(room[: size.value])
+        return _swapped(bytes(room[: size.value]), _TARGET_PORT, self._beyond)
 
     def _judge_datagram(self, datagram: bytes) -> SessionAnswer:
         return SessionAnswer(judged(self._call(library.ptpm_session_receive, datagram, len(datagram))))
@@ -106,7 +135,7 @@ class Requests(Handle):
     def receive(self, octets: bytes) -> SessionAnswer:
         """Judges a datagram that came in. After ANSWERED the next request can be begun. A clock that is not one of ptpm may refuse
         at the port where the request came in, not at the one that was named. So its error is judged as one of the named port."""
-        datagram = bytes(octets)
+        datagram = _swapped(bytes(octets), _SOURCE_PORT, self._beyond)
         answer = self._judge_datagram(datagram)
         if answer != SessionAnswer.ANSWERED and _is_error_of(datagram, self._target[:8]):
             answer = self._judge_datagram(datagram[:20] + self._target + datagram[30:])
@@ -137,7 +166,14 @@ class Requests(Handle):
 
     def image(self) -> bytes:
         """The session's image: what a host saves before it sends a request, and after it has reported an answer. How many attempts
-        are left, and the answer to the latest request, are not in it."""
+        are left, and the answer to the latest request, are not in it. There is none (ValueError) while a request to a port above 8
+        is unanswered: another session would ask port 8."""
+        octets = self._image()
+        if self._beyond and is_under_way(octets):
+            raise not_kept(self._beyond)
+        return octets
+
+    def _image(self) -> bytes:
         size = ctypes.c_size_t()
         room = (ctypes.c_uint8 * header.PTPM_SESSION_IMAGE_OCTETS)()
         done(self._call(library.ptpm_session_image, room, len(room), ctypes.byref(size)))
@@ -149,6 +185,7 @@ class Requests(Handle):
         refused is no reason to start a fresh session: the clock would treat its requests as old, or as others."""
         octets, struct = bytes(image), self.settings.as_in_c()
         done(self._call(library.ptpm_session_restore, ctypes.byref(struct), octets, len(octets)))
+        self._beyond = 0
         self._set = unanswered_set(octets)
 
     @property
@@ -163,7 +200,7 @@ class Requests(Handle):
 
     def is_busy(self) -> bool:
         """Whether a request is unanswered."""
-        return is_under_way(self.image())
+        return is_under_way(self._image())
 
 
 def begin_request(session: Requests, action: int, named: IdLike, data: bytes, port: int) -> None:

@@ -16,7 +16,7 @@ from .ids import IdLike, id_of
 from .members import DataField, data_field
 from .nobody import draw, refuse_nobody
 from .report import Report
-from .requests import Requests, SessionSettings, begin_request
+from .requests import Requests, SessionSettings, begin_request, is_beyond_session, not_kept
 from .session_file import DamagedFileError, SessionFile
 from .session_image import domain_of_unanswered, first_number, has_question, number_of_line
 from .transport import Transport
@@ -127,7 +127,9 @@ class Session(Requests):
             self.retune(self.settings.domain)
 
     def _judge(self, action: int, number: int, data: bytes, port: int) -> None:
-        """Refuses what the library refuses to begin, before anything is sent."""
+        """Refuses what the library refuses to begin, before anything is sent. And what a file would keep for another port."""
+        if self._file is not None and is_beyond_session(port):
+            raise not_kept(port)
         if not self.is_under_way and self.is_busy():
             raise Error(header.PTPM_BUSY)
         probe = Requests(self.settings)
@@ -183,7 +185,8 @@ class Session(Requests):
     ) -> Report:
         """Asks until it is answered; `timeout` is how long each answer is waited for, in seconds. `value` is a dataField, the
         value of an id's one member, or the value of each member by its name. A port that is not 0 is named to the clock, whatever
-        the id. If no answer came, NoAnswer says whether the request itself was sent; if it was, `go_on` asks the same again."""
+        the id. One above 8 is asked only without a file, else it is a ValueError. If no answer came, NoAnswer says whether the
+        request itself was sent; if it was, `go_on` asks the same again."""
         number = id_of(named)
         data = data_field(number, value)
         with self._asking:

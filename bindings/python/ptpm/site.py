@@ -17,9 +17,11 @@ _FOUND, _NO_CLOCK = 1, 3
 _BEFORE_SECOND_LOOK = 2.0
 
 # Findings that may pass while a change goes from clock to clock. They count if two looks have them.
-PASSING = frozenset(
-    ("steps", "grandmaster_differs", "parent_not_master", "parent_not_seen", "grandmaster_not_seen", "no_master", "two_grandmasters")
-)
+PASSING = frozenset((
+    "two_grandmasters", "no_master", "grandmaster_not_seen", "parent_not_seen", "parent_not_master", "steps", "grandmaster_differs",
+    "loop", "off_by_utc", "offset", "delay", "utc", "gm_holdover", "gm_degraded", "gm_free_running", "not_traceable", "utc_invalid",
+    "utc_offset", "better_clock", "identity_twice",
+))
 
 
 class SiteError(Exception):
@@ -111,8 +113,9 @@ def site(
     timeout: Optional[float] = None,
     listen: Optional[int] = None,
     limit: Optional[float] = None,
-    max_offset: Optional[int] = None,
+    max_offset: Union[int, str, None] = None,
     max_delay: Optional[int] = None,
+    tai_utc: Optional[int] = None,
     once: bool = False,
 ) -> Site:
     """Looks at a whole site: asks every clock with `ptpm-manage collect`, and passes the answers to `ptpm site`.
@@ -120,11 +123,11 @@ def site(
     The way is one or up to eight `interfaces` (UDP over IPv4, or `ipv6`, or `ethernet`), an address (`udp`), or a socket (`unix`). Or
     `lines` are answers that were collected before, a datagram in hexadecimal each. `domains` is one, a range such as "0-7", or "all".
     In seconds, `timeout` is how long a clock has for an answer, and `listen` how long Announce messages are listened for. `limit`
-    is how long a collection may take. An offset or a delay above `max_offset` or `max_delay`, in nanoseconds, is a finding. What is
-    None is the programs'. Like `ptpm-manage status` it looks again after two seconds if a finding may pass, unless `once` is set.
+    is how long a collection may take. An offset or a delay above `max_offset` or `max_delay`, in nanoseconds, is a finding; a
+    `max_offset` of "none" is no limit. `tai_utc` is how many seconds TAI is before UTC. What is None is the programs'. Like `ptpm-manage status` it looks again after two seconds if a finding may pass, unless `once` is set.
 
     A SiteError has the program's words; its status is 3 if no clock answered."""
-    limits = _words((("--max-offset", max_offset), ("--max-delay", max_delay)))
+    limits = _words((("--max-offset", max_offset), ("--max-delay", max_delay), ("--tai-utc", tai_utc)))
     named = [interfaces] if isinstance(interfaces, str) else list(interfaces or ())
     ways = [way for way in (*named, unix, udp) if way is not None]
     if lines is not None:

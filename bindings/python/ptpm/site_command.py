@@ -31,8 +31,9 @@ def _parser() -> argparse.ArgumentParser:
     add("-a", "--attempts", type=int, help="how often a clock is asked for what it lacks")
     add("-t", "--timeout", type=int, help="milliseconds for each answer")
     add("--listen", type=int, help="seconds for Announce messages, with -d all")
-    add("--max-offset", type=int, metavar="NS", help="an offset above this many nanoseconds is a finding")
+    add("--max-offset", metavar="NS", help="an offset above this many nanoseconds is a finding; none is no limit")
     add("--max-delay", type=int, metavar="NS", help="a delay above this many nanoseconds is a finding")
+    add("--tai-utc", type=int, metavar="S", help="how many seconds TAI is before UTC")
     add("--once", action="store_true", help="no second look")
     return parser
 
@@ -41,7 +42,8 @@ def _looked(words: argparse.Namespace, lines: Optional[TextIO]) -> Site:
     return site(
         words.interface, unix=words.unix, udp=words.udp, ipv6=words.ipv6, ethernet=words.ethernet, lines=lines, domains=words.domain,
         hops=words.hops, attempts=words.attempts, timeout=None if words.timeout is None else words.timeout / 1000,
-        listen=words.listen, max_offset=words.max_offset, max_delay=words.max_delay, once=words.once,
+        listen=words.listen, max_offset=words.max_offset, max_delay=words.max_delay, tai_utc=words.tai_utc,
+        once=words.once,
     )
 
 

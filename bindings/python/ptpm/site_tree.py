@@ -12,7 +12,7 @@ from .data_sets import (
 from .identity import Identity, PortIdentity
 from .settings import PortState
 
-_HEAD = ("domainNumber", "clockIdentity", "finding")
+_HEAD = ("domainNumber", "clockIdentity", "finding", "severity")
 
 # The values of a finding that are of the member which its `member` names.
 _OF_MEMBER = ("value", "expected", "before", "after")
@@ -20,12 +20,14 @@ _OF_MEMBER = ("value", "expected", "before", "after")
 
 @dataclass(frozen=True)
 class Finding:
-    """What is wrong with a clock: the name of the finding, and its values by their names (docs/ptpm-site.md)."""
+    """What is wrong with a clock: the name of the finding, its values by their names, and whether it is "critical" or a "warning"
+    (docs/ptpm-site.md)."""
 
     domain: int
     clock: Identity
     name: str
     values: Mapping[str, Any]
+    severity: str
 
     def _value_text(self, name: str) -> str:
         """A value as a line has it. A description is in quotes, as it is in a clock's line."""
@@ -134,16 +136,19 @@ def _text(value: object) -> str:
 
 
 def _value(told: Mapping[str, Any], name: str) -> Any:
-    if name == "clocks":
-        return tuple(map(identity_of, told[name]))
+    if name == "better":
+        return identity_of(told[name])
     if isinstance(told[name], list):
+        if name == "clocks":
+            return tuple(map(identity_of, told[name]))
         return tuple(tuple(part) if isinstance(part, list) else part for part in told[name])
-    return member_of(told["member"] if name in _OF_MEMBER else name, told[name])
+    return member_of(told.get("member", name) if name in _OF_MEMBER else name, told[name])
 
 
 def _finding(told: Mapping[str, Any]) -> Finding:
     values = {name: _value(told, name) for name in told if name not in _HEAD}
-    return Finding(number_of(told["domainNumber"]), identity_of(told["clockIdentity"]), text_of(told["finding"]), values)
+    head = number_of(told["domainNumber"]), identity_of(told["clockIdentity"]), text_of(told["finding"])
+    return Finding(*head, values, text_of(told["severity"]))
 
 
 def _clock(domain: int, told: Mapping[str, Any]) -> SiteClock:

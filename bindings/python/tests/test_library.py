@@ -184,7 +184,7 @@ class Managers(unittest.TestCase):
     def test_a_request_at_a_port_is_given_up(self) -> None:
         with clock() as asked, ptpm.Session(ptpm.SessionSettings(MANAGER, CLOCK, 7)) as session:
             self.assertRaisesRegex(ptpm.Error, "IDLE", session.give_up)
-            self.assertRaisesRegex(ptpm.Error, "NEEDS_PORT", session.begin_at, ptpm.Action.SET, "PRIORITY1", 9, b"\x64\0")
+            self.assertRaisesRegex(ptpm.Error, "NEEDS_PORT", session.begin_at, ptpm.Action.SET, "PRIORITY1", 0, b"\x64\0")
             session.begin_at(ptpm.Action.SET, "PRIORITY1", 2, b"\x64\0")
             message = session.send()
             self.assertEqual(message, request(7, "aabbccfffeddee010002", 1, 1, "20056400"))

@@ -111,7 +111,7 @@ class Network(Folder):
 
     def test_a_site_of_two_ptp4l(self) -> None:
         often = "logAnnounceInterval -2\nuserDescription {}\n"
-        self.start_ptp4l(more=f"priority1 100\n{often.format('grandmaster')}")
+        self.start_ptp4l(more=f"priority1 100\nclockClass 6\n{often.format('grandmaster')}")
         path = self.start_ptp4l(self.near, "near0", f"slaveOnly 1\n{often.format('camera')}")
         for _ in range(60):     # until the slave has chosen its master
             site = ptpm.site(unix=path, timeout=0.1, limit=30)

@@ -80,6 +80,23 @@ class Recorded(unittest.TestCase):
         self.assertEqual(str(loop), "0 020091fffe000d01 loop clocks=020091fffe000d01,020091fffe000e01")
         absent = found["parent_not_master", "020091fffe000801"].values
         self.assertEqual(absent, {"parentPortIdentity": ptpm.PortIdentity.of("020091fffe000101/7"), "portState": None})
+        free = found["gm_free_running", "020091fffe000101"]
+        self.assertEqual((free.values, free.severity), ({"clockQuality": ptpm.ClockQuality(248, 254, 65535)}, "warning"))
+        self.assertEqual(found["steps", "020091fffe000d01"].severity, "warning")
+        self.assertEqual(loop.severity, "critical")
+
+    def test_values_that_one_name_has_in_two_forms(self) -> None:
+        head = '"clockIdentity":"0200a1fffe000101","domainNumber":0,"severity":"critical"'
+        findings = ",".join((
+            f'{{"clocks":2,{head},"finding":"off_by_utc","reason":"followers"}}',
+            f'{{"currentUtcOffset":36,"expected":37,{head},"finding":"utc_offset"}}',
+            f'{{"better":"0200a1fffe000201","priority1":128,{head},"finding":"better_clock"}}',
+        ))
+        told = f'{{"domains":[],"findings":[{findings}],"leftOut":{{"clocks":0,"ports":0}}}}'
+        followers, offset, better = sys.modules["ptpm.site_tree"].read_site(told).findings
+        self.assertEqual(followers.values["clocks"], 2)
+        self.assertEqual((offset.values["currentUtcOffset"], offset.values["expected"]), (36, 37))
+        self.assertEqual(better.values["better"], ptpm.Identity.of("0200a1fffe000201"))
 
     def test_a_description_controls_no_terminal(self) -> None:
         def answer(number: int, text: str) -> str:
@@ -148,13 +165,20 @@ class Programs(Folder):
         self.collects("a_changing", "a_chain", "a_chain", "a_changing", "a_changing", "b_lonely")
         self.assertEqual(ptpm.site("eth0").findings, ())
         self.assertEqual(ptpm.site("eth0").findings, ())
-        self.assertEqual(len(ptpm.site("eth0", once=True).findings), 11)
+        self.assertEqual(len(ptpm.site("eth0", once=True).findings), 12)
         # what comes with the second look has not held twice
         self.assertEqual(ptpm.site("eth0").findings, ())
 
     def test_what_does_not_pass_needs_no_second_look(self) -> None:
-        self.collects("d_falls")
-        self.assertEqual([found.name for found in ptpm.site(unix="/run/ptp4l").findings], ["port_state", "changed"])
+        self.collects("h_short")
+        self.assertEqual([found.name for found in ptpm.site(unix="/run/ptp4l").findings], ["incomplete"])
+
+    def test_limits(self) -> None:
+        self.collects("a_chain")
+        self.write("ptpm", f'echo "$*" >> {self.folder}/told; exec {TOP}/ptpm "$@"')
+        ptpm.site("eth0", max_offset="none", max_delay=1000000, tai_utc=37)
+        told = Path(self.folder, "told").read_text(encoding="ascii")
+        self.assertEqual(told, "site --json --max-offset none --max-delay 1000000 --tai-utc 37\n")
 
     def test_refusals(self) -> None:
         self.refused("BadLine 1 BadHex", 1, lines=["zz"])

@@ -99,7 +99,7 @@ pub extern "C" fn ptpm_clock_start(
 /// What becomes of a datagram that comes in at a port: the number of the verdict, or of the refusal. The first `count` places
 /// of `sent` get what the clock sends. The places after them stay as they are, and so does what follows each message. Takes no
 /// memory.
-#[tactic(auto, using(crate::proofs::Turns::turned_to, ptpm_host::specs::PlacesLaws::kept_by_none))]
+#[tactic(auto, using(crate::proofs::Turns::turned_to, ptpm_host::specs::OutboxLaws::kept_by_none))]
 #[unsafe(no_mangle)]
 pub extern "C" fn ptpm_clock_handle(
     alloc: Global,
@@ -137,7 +137,7 @@ pub extern "C" fn ptpm_clock_handle(
 
 /// What `ptpm_clock_handle` does, and leaves in `members` those that have another value after it than before: none unless
 /// the number is that of AnsweredNew. Takes no memory.
-#[tactic(auto, using(crate::proofs::Turns::turned_still, crate::proofs::Turns::changed_to, crate::proofs::Turns::none_to, ptpm_host::specs::PlacesLaws::kept_by_none))]
+#[tactic(auto, using(crate::proofs::Turns::turned_still, crate::proofs::Turns::changed_to, crate::proofs::Turns::none_to, ptpm_host::specs::OutboxLaws::kept_by_none))]
 #[unsafe(no_mangle)]
 pub extern "C" fn ptpm_clock_handle_changed(
     alloc: Global,

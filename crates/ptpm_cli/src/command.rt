@@ -16,9 +16,16 @@ use ptpm_world::{ScriptError, run_script};
 use std::alloc::{AllocError, Global};
 use std::fmt;
 use std::io::{Read, Write};
+use std::str::FromStr;
 
 /// What `--version` prints after the program's name; CHANGELOG.md says what came with each.
 const VERSION: &str = "0.1.0";
+
+/// A millisecond, in nanoseconds.
+const MILLISECOND: u64 = 1_000_000;
+
+/// How many seconds TAI is before UTC, since 2017.
+const TAI_UTC: i16 = 37;
 
 /// Does what the words say, and answers the exit status. The first word is the program's name. 0: it was done.
 /// 1: a fault, with the line `ptpm: FAULT` on `err`, or `check` wrote faults on `out`. 2: the words were refused,
@@ -173,21 +180,54 @@ enum Datagrams<'a> {
 fn parse<'a>(alloc: Global, words: &'a [&'a str]) -> Result<Task<'a>, clap::Error> {
     let mut ptpm = command_line(alloc)?;
     match task_among(alloc, &mut ptpm, words)? {
-        Some(task) => Ok(task),
-        None => Err(ptpm.error(ErrorKind::MissingSubcommand, "a command is required")?),
+        Ok(task) => Ok(task),
+        Err(WithoutTask::NoCommand) => {
+            Err(ptpm.error(ErrorKind::MissingSubcommand, "a command is required")?)
+        }
+        Err(WithoutTask::BadLimit) => Err(ptpm.error(
+            ErrorKind::InvalidValue,
+            "invalid value for '--max-offset <NS>': neither a number nor 'none'",
+        )?),
     }
 }
 
-/// The task of the words; `None` if they have no subcommand.
+/// Why words that clap takes are no task.
+#[derive(Drop)]
+enum WithoutTask {
+    NoCommand,
+    /// `--max-offset` has neither a number nor `none`.
+    BadLimit,
+}
+
+/// The task of the words, or why there is none.
 fn task_among<'a>(
     alloc: Global,
     ptpm: &mut Command<'a>,
     words: &'a [&'a str],
-) -> Result<Option<Task<'a>>, clap::Error> {
+) -> Result<Result<Task<'a>, WithoutTask>, clap::Error> {
     let matches = ptpm.try_get_matches_from_mut(words)?;
-    match matches.subcommand() {
-        Some((name, values)) => Ok(task_of(alloc, name, values)?),
-        None => Ok(None),
+    let Some((name, values)) = matches.subcommand() else {
+        return Ok(Err(WithoutTask::NoCommand));
+    };
+    if has_bad_limit(values) {
+        return Ok(Err(WithoutTask::BadLimit));
+    }
+    Ok(task_of(alloc, name, values)?.ok_or(WithoutTask::NoCommand))
+}
+
+/// Whether `--max-offset` is there, and has neither a number nor `none`.
+fn has_bad_limit(values: &ArgMatches<'_>) -> bool {
+    match values.get_str("max-offset") {
+        Some(limit) => limit != "none" && u64::from_str(limit).is_err(),
+        None => false,
+    }
+}
+
+/// What the amount of an offset may be in nanoseconds: 1 ms without `--max-offset`, and whatever with `none`.
+fn most_offset(values: &ArgMatches<'_>) -> Option<u64> {
+    match values.get_str("max-offset") {
+        Some(limit) => u64::from_str(limit).ok(),
+        None => Some(MILLISECOND),
     }
 }
 
@@ -291,8 +331,9 @@ fn site_options(values: &ArgMatches<'_>) -> Options {
             Form::Text
         },
         limits: Limits {
-            offset: values.get_one("max-offset"),
+            offset: most_offset(values),
             delay: values.get_one("max-delay"),
+            tai_utc: values.get_one("tai-utc").unwrap_or(TAI_UTC),
         },
     }
 }
@@ -525,10 +566,11 @@ fn site_command<'a>(alloc: Global) -> Result<Command<'a>, AllocError> {
     let site = with(site, json)?;
     let draw = flag(alloc, "draw", "Draws the tree, as a picture in SVG");
     let site = with_either(site, draw, "json")?;
-    let offset = nanoseconds(
+    let offset = option(
         alloc,
         "max-offset",
-        "An offset from the master of more than NS nanoseconds is a finding",
+        "NS",
+        "An offset from the master of more than NS nanoseconds is a finding, of more than 1000000 if it is not given; 'none' is no limit",
     );
     let site = with(site, offset)?;
     let delay = nanoseconds(
@@ -536,7 +578,15 @@ fn site_command<'a>(alloc: Global) -> Result<Command<'a>, AllocError> {
         "max-delay",
         "A mean delay of more than NS nanoseconds is a finding",
     );
-    with(site, delay)
+    let site = with(site, delay)?;
+    let tai_utc = option(
+        alloc,
+        "tai-utc",
+        "S",
+        "TAI is S seconds before UTC, 37 if it is not given",
+    )
+    .value_parser(value_parser!(i16));
+    with(site, tai_utc)
 }
 
 /// An option `--NAME N` that is an event line's number.

@@ -1,5 +1,9 @@
 pub mod CellLemmas
 pub mod FreshClock
 pub mod IdentityTextLemmas
+pub mod LineLemmas
 pub mod Naming
+pub mod ShownLines
+pub mod TakenLemmas
 pub mod Telling
+pub mod WordLemmas

@@ -1,5 +1,5 @@
 -- What is printed, one piece after another.
-use Rattle.std.proofs.Common.{◌≡◌, ◌==◌, ◌≤◌, ℕ, false, length, map, take, List, [], ◌∷◌, ◌++◌, Option, refl, sym, ap, ◌∙◌, subst, append_assoc, append-nil, codes, flat_map}
+use Rattle.std.proofs.Common.{◌≡◌, ◌==◌, ◌≤◌, ℕ, false, length, map, take, List, [], ◌∷◌, ◌++◌, ◌+◌, None, Some, Ok, Option, refl, sym, ap, ◌∙◌, subst, append_assoc, append-nil, codes, flat_map}
 use Rattle.std.proofs.KnownBytes.{Appends-kept, Appends-nil, Appends-trans}
 use Rattle.std.proofs.lemmas.Grind.{flat_map-append}
 use Rattle.std.proofs.lemmas.List.{take_all}
@@ -17,6 +17,8 @@ use Rattle.ptpm_commands.specs.Ids.{id_line, letter, row_line, scope_text, table
 use Rattle.ptpm_commands.specs.declared.show.Values.{Values}
 use Rattle.ptpm_commands.specs.Show.{AreShown, message_lines, named_line, row_lines}
 use Rattle.ptpm_script.specs.OctetText.{text_of_octets}
+use Rattle.ptpm_commands.specs.Taken.{IsNext, line_datagram}
+use Rattle.ptpm_commands.proofs.TakenLemmas.{Reaches, reaches-first, reaches-next}
 
 -- ---- at a clock
 
@@ -32,46 +34,69 @@ each-more c s (x ∷ xs) d =
     ap (λ l. answered c s x ++ l) (each-more c (turn c s 1 x).next xs d)
     ∙ sym (append_assoc (answered c s x) (answered_each c (turn c s 1 x).next xs) (answered c (state_behind c (turn c s 1 x).next xs) d))
 
--- what it sends for these datagrams is printed, and this is its state after them
-pub record Answers (c : Clock) (first : State) (before after : Option (List ℕ)) (now : State) : Type 0 where
+-- what it sends for the datagrams of the lines so far is printed, and this is its state after them
+pub record Answers (c : Clock) (first : State) (number : ℕ) (known left before after : Option (List ℕ)) (now : State) : Type 0 where
   pub datagrams : List (List ℕ)
+  pub reaches : Reaches line_datagram datagrams number known left
   pub printed : Appends before after (answered_each c first datagrams)
   pub stands : state_behind c first datagrams ≡ now
 
-pub answers-none : (c : Clock) (first : State) (before : Option (List ℕ)) → Answers c first before before first
-answers-none c first before = record { datagrams = []; printed = Appends-nil before; stands = refl }
+pub answers-none : (c : Clock) (first : State) (known before : Option (List ℕ)) → Answers c first 1 known known before before first
+answers-none c first known before = record {
+  datagrams = [];
+  reaches = reaches-first line_datagram known;
+  printed = Appends-nil before;
+  stands = refl;
+}
 
-pub answers-more : (c : Clock) (first now next : State) (before mid after : Option (List ℕ)) (d : List ℕ)
-    → Answers c first before mid now
+answers-more : (c : Clock) (first now next : State) (n : ℕ) (known left others before mid after : Option (List ℕ)) (d : List ℕ)
+    → Answers c first n known left before mid now
+    → IsNext line_datagram n left others (Ok (Some d))
     → Appends mid after (answered c now d)
     → next ≡ (turn c now 1 d).next
-    → Answers c first before after next
-answers-more c first now next before mid after d h wrote is = record {
+    → Answers c first (n + 1) known others before after next
+answers-more c first now next n known left others before mid after d h at wrote is = record {
   datagrams = h.datagrams ++ d ∷ [];
+  reaches = reaches-next line_datagram h.datagrams n known left others (Some d) h.reaches at;
   printed = subst (Appends before after)
       (ap (λ s. answered_each c first h.datagrams ++ answered c s d) (sym h.stands) ∙ sym (each-more c first h.datagrams d))
       (Appends-trans before mid after _ _ h.printed wrote);
   stands = state-more c first h.datagrams d ∙ ap (λ s. (turn c s 1 d).next) h.stands ∙ sym is;
 }
 
-pub answers-kept : (c : Clock) (first now : State) (before mid after : Option (List ℕ))
-    → Answers c first before mid now
-    → Keeps mid after
-    → Answers c first before after now
-answers-kept c first now before mid after h kept = record {
+-- a line without a datagram
+pub answers-pass : (c : Clock) (first now : State) (n : ℕ) (known left others before after : Option (List ℕ))
+    → Answers c first n known left before after now
+    → IsNext line_datagram n left others (Ok None)
+    → Answers c first (n + 1) known others before after now
+answers-pass c first now n known left others before after h at = record {
   datagrams = h.datagrams;
+  reaches = subst (λ ds. Reaches line_datagram ds (n + 1) known others) (append-nil h.datagrams)
+      (reaches-next line_datagram h.datagrams n known left others None h.reaches at);
+  printed = h.printed;
+  stands = h.stands;
+}
+
+pub answers-kept : (c : Clock) (first now : State) (n : ℕ) (known left before mid after : Option (List ℕ))
+    → Answers c first n known left before mid now
+    → Keeps mid after
+    → Answers c first n known left before after now
+answers-kept c first now n known left before mid after h kept = record {
+  datagrams = h.datagrams;
+  reaches = h.reaches;
   printed = Appends-kept before mid after _ h.printed kept;
   stands = h.stands;
 }
 
-pub answers-turn : (c now_c : Clock) (first now next : State) (before mid after : Option (List ℕ)) (d : List ℕ)
+pub answers-turn : (c now_c : Clock) (first now next : State) (n : ℕ) (known left others before mid after : Option (List ℕ)) (d : List ℕ)
     → now_c ≡ c
-    → Answers c first before mid now
+    → Answers c first n known left before mid now
+    → IsNext line_datagram n left others (Ok (Some d))
     → Appends mid after (answered now_c now d)
     → next ≡ (turn now_c now 1 d).next
-    → Answers c first before after next
-answers-turn c now_c first now next before mid after d same h wrote is =
-    answers-more c first now next before mid after d h
+    → Answers c first (n + 1) known others before after next
+answers-turn c now_c first now next n known left others before mid after d same h at wrote is =
+    answers-more c first now next n known left others before mid after d h at
     (subst (λ (k : Clock). Appends mid after (answered k now d)) same wrote)
     (is ∙ ap (λ (k : Clock). (turn k now 1 d).next) same)
 

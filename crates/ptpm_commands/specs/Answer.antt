@@ -1,6 +1,5 @@
 -- `ptpm answer`: its clock as the definitions of a turn see it, and what is printed of a turn (this project's profile). The
 -- clock's table of sixteen slots is seen by what it shows of itself.
-use denote.Param.{number}
 use Rattle.std.specs.Prelude.{◌≡◌, ℕ, List, [], ◌∷◌, ◌++◌, Option, Ok, codes, decimal, flat_map}
 use Rattle.std.specs.Io.KnownBytes.{Appends}
 use Rattle.hex.specs.Hex.{decode_of}
@@ -8,19 +7,18 @@ use Rattle.ptpm_agent.specs.Agent.{clock_of, state_of}
 use Rattle.ptpm_agent.specs.declared.agent.Agent.{Agent}
 use Rattle.ptpm_agent.specs.Laws.{initial_clock_state}
 use Rattle.ptpm_agent.specs.Turn.{Clock, State, outbox_of, turn}
-use Rattle.ptpm_table.specs.contracts.slot_table.SlotTableReplyTable.TheImpl.{ghosts}
-use Rattle.ptpm_table.specs.declared.slot_table.SlotTable.{SlotTable}
+use Rattle.ptpm_table.specs.Tables.{OfSixteen, entries_of_sixteen, owner_of_sixteen}
 use Rattle.ptpm_table.specs.Managers.{clock_with}
 use Rattle.ptpm_script.specs.OctetText.{text_of_octets}
 use Rattle.ptpm_commands.specs.FreshClock.{fresh_sets, managers, shown}
 
 -- its identity, and its managers with their rights: `ReplyTable`'s owner
-abbrev pub clock_shown : Agent (SlotTable 16) → Clock
-clock_shown a = clock_of (ghosts (number 16)).owner a
+abbrev pub clock_shown : Agent OfSixteen → Clock
+clock_shown a = clock_of owner_of_sixteen a
 
 -- its data sets, and what it keeps of its managers: `ReplyTable`'s entries
-abbrev pub state_shown : Agent (SlotTable 16) → State
-state_shown a = state_of (ghosts (number 16)).entries a
+abbrev pub state_shown : Agent OfSixteen → State
+state_shown a = state_of entries_of_sixteen a
 
 -- ---- what is printed
 

@@ -5,5 +5,7 @@ pub mod Faults
 pub mod FreshClock
 pub mod Ids
 pub mod IdentityText
+pub mod Lines
 pub mod RequestWords
 pub mod Show
+pub mod Taken

@@ -1,14 +1,18 @@
 //! `ptpm answer`: what a fresh clock sends for datagrams that come in at its port 1.
 
-ghost use Rattle.std.specs.Prelude.{◌≡◌, [], IfErr, IsErr, OnOk, false};
+ghost use Rattle.std.specs.Prelude.{◌≡◌, [], IfErr, IfSome, IsErr, OnOk, false};
 ghost use Rattle.std.specs.Io.KnownBytes.{Appends};
 ghost use Rattle.hex.specs.Hex.{decode_of};
 ghost use Rattle.ptpm_agent.specs.Turn.{turn};
-ghost use Rattle.ptpm_commands.specs.Answer.{IsAnswered, IsAnsweredEach, answered, answered_first, clock_shown, sent_line, sent_lines, state_shown};
+ghost use Rattle.ptpm_agent.specs.Laws.{initial_clock_state};
+ghost use Rattle.ptpm_commands.specs.Answer.{IsAnswered, IsAnsweredEach, answered, answered_each, answered_first, clock_shown, sent_line, sent_lines, state_shown};
 ghost use Rattle.ptpm_commands.specs.Faults.{IsAtSomeLine, is_outside};
-ghost use Rattle.ptpm_commands.specs.FreshClock.{fresh_sets, shown};
+ghost use Rattle.ptpm_commands.specs.FreshClock.{fresh_sets, managers, shown};
+ghost use Rattle.ptpm_commands.specs.Lines.{left_in};
+ghost use Rattle.ptpm_commands.specs.Taken.{HasNumbers, HasTaken, line_datagram, taken};
 ghost use Rattle.ptpm_data.specs.Members.{HasPort};
-ghost use Rattle.ptpm_table.specs.Managers.{IsFresh};
+ghost use Rattle.ptpm_table.specs.Managers.{IsFresh, clock_with};
+ghost use Rattle.ptpm_world.specs.Lines.{whole_lines};
 
 use crate::clock::{admit_manager, fresh_clock};
 use crate::faults::Fault;
@@ -70,6 +74,11 @@ pub fn answer_lines<R: Read + Drop, O: Write>(
     reader: R,
     out: &mut O,
 ) -> Result<(), Fault>
+    ensures lines { IfSome (R.remaining reader)
+        (λ octets.
+        HasNumbers octets
+        → HasTaken (answered_each (clock_with shown managers) (initial_clock_state fresh_sets))
+        (taken line_datagram 1 (whole_lines octets)) (O.contents out.old) (O.contents out.new) result) }
     ensures answered { OnOk result (IsAnsweredEach (O.contents out.old) (O.contents out.new)) }
     ensures fault { IfErr result (λ e. IsAtSomeLine e) }
 {
@@ -84,6 +93,11 @@ fn answer_rest<R: Read + Drop, O: Write>(
     lines: &mut Lines<R>,
     out: &mut O,
 ) -> Result<(), Fault>
+    ensures lines { IfSome (left_in R.remaining lines.old)
+        (λ octets.
+        HasNumbers octets
+        → HasTaken (answered_each (clock_with shown managers) (initial_clock_state fresh_sets))
+        (taken line_datagram 1 (whole_lines octets)) (O.contents out.old) (O.contents out.new) result) }
     ensures answered { OnOk result (IsAnsweredEach (O.contents out.old) (O.contents out.new)) }
     ensures fault { IfErr result (λ e. IsAtSomeLine e) }
 {
@@ -103,6 +117,11 @@ fn answer_each<R: Read + Drop, O: Write>(
         (⟦<BoundTable as ReplyTable>⟧.owner clock.table)
         (⟦<BoundTable as ReplyTable>⟧.entries clock.table) }
     requires port { HasPort 1 clock.sets }
+    ensures lines { IfSome (left_in R.remaining lines.old)
+        (λ octets.
+        HasNumbers octets
+        → HasTaken (answered_each (clock_with shown managers) (initial_clock_state fresh_sets))
+        (taken line_datagram 1 (whole_lines octets)) (O.contents out.old) (O.contents out.new) result) }
     ensures answered { OnOk result (IsAnsweredEach (O.contents out.old) (O.contents out.new)) }
     ensures fault { IfErr result (λ e. IsAtSomeLine e) }
 {

@@ -1,12 +1,15 @@
 //! `ptpm show`: the fields of a message, a line each or as an object of JSON.
 
-ghost use Rattle.std.specs.Prelude.{◌≡◌, ◌≢◌, ◌≤◌, [], Err, IfErr, OnOk, codes, false, map, true};
+ghost use Rattle.std.specs.Prelude.{◌≡◌, ◌≢◌, ◌≤◌, ◌⊎◌, [], Err, IfErr, IfOk, IfSome, Ok, OnOk, codes, false, flat_map, map, true};
 ghost use Rattle.std.specs.Io.KnownBytes.{Appends};
 ghost use Rattle.ptpm_codec.specs.Message.{error_of, id_of, octets_of, text_of};
 ghost use Rattle.ptpm_codec.specs.Reading.{reading};
 ghost use Rattle.ptpm_data.specs.ManagementId.{row_of};
 ghost use Rattle.ptpm_commands.specs.Faults.{IsAtLine, IsAtSomeLine, is_of_line, is_outside};
-ghost use Rattle.ptpm_commands.specs.Show.{AreShown, IsShown, action_lines, body_lines, column_lines, data_lines, error_named, field_lines, header_lines, identity_lines, message_lines, message_of, named_line, object_line, read_as, row_name, sdo_line, value_lines};
+ghost use Rattle.ptpm_world.specs.Lines.{whole_lines};
+ghost use Rattle.ptpm_commands.specs.Lines.{left_in, row_value};
+ghost use Rattle.ptpm_commands.specs.Taken.{HasNumbers, HasTaken, IsNext, ShowsNext, ShowsRow, good, line_message, message_of_row, taken};
+ghost use Rattle.ptpm_commands.specs.Show.{AreShown, IsShown, action_lines, body_lines, column_lines, data_lines, error_named, field_lines, header_lines, identity_lines, message_lines, message_of, named_line, object_line, read_as, row_lines, row_name, sdo_line, value_lines};
 
 use crate::columns::Row;
 use crate::faults::{Fault, tell};
@@ -61,6 +64,11 @@ pub fn show_lines<R: Read + Drop, O: Write>(
     reader: R,
     out: &mut O,
 ) -> Result<(), Fault>
+    ensures lines { IfSome (R.remaining reader)
+        (λ octets.
+        HasNumbers octets
+        → HasTaken (flat_map (row_lines Values.Octets)) (taken line_message 1 (whole_lines octets))
+        (O.contents out.old) (O.contents out.new) result) }
     ensures shown { OnOk result
         (AreShown Values.Octets (O.contents out.old) (O.contents out.new)) }
     ensures fault { IfErr result (λ e. IsAtSomeLine e) }
@@ -76,6 +84,11 @@ pub fn show_lines_as<R: Read + Drop, O: Write>(
     reader: R,
     out: &mut O,
 ) -> Result<(), Fault>
+    ensures lines { IfSome (R.remaining reader)
+        (λ octets.
+        HasNumbers octets
+        → HasTaken (flat_map (row_lines form)) (taken line_message 1 (whole_lines octets))
+        (O.contents out.old) (O.contents out.new) result) }
     ensures shown { OnOk result (AreShown form (O.contents out.old) (O.contents out.new)) }
     ensures fault { IfErr result (λ e. IsAtSomeLine e) }
 {
@@ -96,6 +109,12 @@ pub fn show_good_lines<R: Read + Drop, O: Write, E: Write>(
     out: &mut O,
     err: &mut E,
 ) -> Result<(), Fault>
+    ensures lines { OnOk result
+        (IfSome (R.remaining reader)
+        (λ octets.
+        HasNumbers octets
+        → Appends (O.contents out.old) (O.contents out.new)
+        (flat_map (row_lines Values.Octets) (good line_message 1 (whole_lines octets))))) }
     ensures shown { OnOk result
         (AreShown Values.Octets (O.contents out.old) (O.contents out.new)) }
     ensures fault { IfErr result (λ e. is_outside e ≡ true) }
@@ -111,6 +130,12 @@ pub fn show_good_lines_as<R: Read + Drop, O: Write, E: Write>(
     out: &mut O,
     err: &mut E,
 ) -> Result<(), Fault>
+    ensures lines { OnOk result
+        (IfSome (R.remaining reader)
+        (λ octets.
+        HasNumbers octets
+        → Appends (O.contents out.old) (O.contents out.new)
+        (flat_map (row_lines form) (good line_message 1 (whole_lines octets))))) }
     ensures shown { OnOk result (AreShown form (O.contents out.old) (O.contents out.new)) }
     ensures fault { IfErr result (λ e. is_outside e ≡ true) }
 {
@@ -138,8 +163,15 @@ fn show_next<R: Read + Drop, O: Write>(
     number: u64,
     out: &mut O,
 ) -> Result<bool, Fault>
-    ensures shown { OnOk result (AreShown form (O.contents out.old) (O.contents out.new)) }
-    ensures fault { IfErr result (λ e. IsAtLine number e) }
+    ensures next { IfOk result
+        (λ more.
+        ShowsNext form number more (left_in R.remaining lines.old) (left_in R.remaining lines.new)
+        (O.contents out.old) (O.contents out.new)) }
+    ensures fault { IfErr result
+        (λ e.
+        (is_outside e ≡ true)
+        ⊎ IsNext line_message number (left_in R.remaining lines.old) (left_in R.remaining lines.new) (Err e)) }
+    ensures line { IfErr result (λ e. IsAtLine number e) }
     ensures unprinted { IfErr result
         (λ e. is_of_line e ≡ true → O.contents out.new ≡ O.contents out.old) }
 {
@@ -160,8 +192,11 @@ fn show_row<O: Write>(
     row: &Row<'_>,
     out: &mut O,
 ) -> Result<(), Fault>
-    ensures shown { OnOk result (AreShown form (O.contents out.old) (O.contents out.new)) }
-    ensures fault { IfErr result (λ e. IsAtLine number e) }
+    ensures shown { OnOk result
+        (ShowsRow form number (row_value row.now) (O.contents out.old) (O.contents out.new)) }
+    ensures fault { IfErr result
+        (λ e. (is_outside e ≡ true) ⊎ (message_of_row number (Ok (row_value row.now)) ≡ Err e)) }
+    ensures line { IfErr result (λ e. IsAtLine number e) }
     ensures unprinted { IfErr result
         (λ e. is_of_line e ≡ true → O.contents out.new ≡ O.contents out.old) }
 {

@@ -5,7 +5,7 @@ use Rattle.std.proofs.lemmas.Bool.Decides.{nat_tests}
 use Rattle.std.proofs.lemmas.Slice.Eq.{bytes_eq-Decides}
 use Rattle.std.proofs.lemmas.Str.Ascii.{lowercase-uppercase}
 use Rattle.std.specs.Char.{to_ascii_uppercase, to_ascii_lowercase}
-use Rattle.ptpm_data.specs.declared.management_id.Row.{Row}
+use Rattle.ptpm_data.specs.declared.management_id.ManagementIdRow.{ManagementIdRow}
 use Rattle.ptpm_data.specs.ManagementId.{RowValue, id_table, row_of, row_named, row_value, if_named}
 use Rattle.ptpm_host.specs.Names.{capitals, id_name}
 
@@ -143,7 +143,7 @@ named_of_name id name named = id_of_row id name (row_of id) refl named
 
 -- ---- the same of a row of the program
 
-pub is_only_id : (name : List ℕ) (found : Option Row) (row : Row) (id : ℕ)
+pub is_only_id : (name : List ℕ) (found : Option ManagementIdRow) (row : ManagementIdRow) (id : ℕ)
     → found ≡ Some row
     → option_map row_value found ≡ row_named name
     → id_name id ≡ Some name
@@ -152,7 +152,7 @@ is_only_id name found row id is valued named =
     let here : row_named name ≡ Some (row_value row) = sym valued ∙ ap (option_map row_value) is in
     rw here at (named_of_name id name named)
 
-pub has_no_id : (name : List ℕ) (found : Option Row) (id : ℕ)
+pub has_no_id : (name : List ℕ) (found : Option ManagementIdRow) (id : ℕ)
     → found ≡ None
     → option_map row_value found ≡ row_named name
     → id_name id ≡ Some name

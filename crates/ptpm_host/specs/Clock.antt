@@ -6,7 +6,7 @@ use Rattle.ptpm_data.specs.Members.{DataSetsValue}
 use Rattle.ptpm_data.specs.Start.{start_of}
 use Rattle.ptpm_table.specs.declared.error.TableError.{TableError}
 use Rattle.ptpm_table.specs.Managers.{IsFresh, identities, table_refusal}
-use Rattle.ptpm_table.specs.contracts.heap_table.HeapTableReplyTable.TheImpl.{ghosts}
+use Rattle.ptpm_table.specs.Tables.{entries_of_block, owner_of_block}
 use Rattle.ptpm_agent.specs.Agent.{clock_of, state_of}
 use Rattle.ptpm_agent.specs.Turn.{Clock, State}
 use Rattle.ptpm_host.specs.declared.clock.HostedClock.{HostedClock}
@@ -24,11 +24,11 @@ use Rattle.ptpm_host.specs.Settings as settings
 
 -- its identity, its managers, and what each of them may change: `ReplyTable`'s owner, of its table
 abbrev pub clock_in : HostedClock → Clock
-clock_in c = clock_of ghosts.owner c.agent
+clock_in c = clock_of owner_of_block c.agent
 
 -- its data sets, and what is kept of each manager: `ReplyTable`'s entries, of its table
 abbrev pub state_in : HostedClock → State
-state_in c = state_of ghosts.entries c.agent
+state_in c = state_of entries_of_block c.agent
 
 -- of these settings' identity and these managers, and it has heard nothing yet
 abbrev pub IsFreshClock : ClockSettings → List ManagerSettings → HostedClock → Type 0

@@ -28,7 +28,7 @@ use Rattle.ptpm_agent.specs.Turn.{State}
 use Rattle.ptpm_manager.specs.Image.{image_head, request_image}
 use Rattle.ptpm_manager.specs.ImageReading.{request_action}
 use Rattle.ptpm_saved.specs.Image.{EntryIsSound, IsSaved, SavedClock, answer_image, answers_image, body_image, clock_image, entries_image, entry_image, outcome_image, port_octets, saved_image, saved_of}
-use Rattle.ptpm_saved.specs.Reading.{IsOfPort, RequestFits}
+use Rattle.ptpm_saved.specs.EntryReading.{IsOfPort, RequestFits}
 use Rattle.ptpm_saved.proofs.EntryOrder.{Pair}
 use Rattle.ptpm_saved.proofs.ImageLemmas.{head_length}
 use Rattle.ptpm_saved.proofs.ReadingLemmas.{answers-cons, entry_parts, of_port_by, request_fits, request_parts, same_heads, same_tails}

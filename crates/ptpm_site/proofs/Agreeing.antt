@@ -6,11 +6,11 @@ use Rattle.std.specs.Option.{option_eq, option_map, option_or}
 use Rattle.ptpm_site.specs.declared.changes.Contradiction.{Contradiction}
 use Rattle.ptpm_site.specs.declared.clock.Received.{Received}
 use Rattle.ptpm_site.specs.declared.member.Member.{Member}
-use Rattle.ptpm_site.specs.Changes.{Statement, are_held, contradiction, contradicts, first_contradicting, is_settled, pairs_behind, pairs_of, statements}
+use Rattle.ptpm_site.specs.Changes.{Statement, are_held, contradiction, contradicts, first_contradicting, is_alike, is_settled, pairs_behind, pairs_of, statements}
 use Rattle.ptpm_site.specs.Members.{MemberValue, same_value}
 use Rattle.ptpm_site.proofs.KeptStatements.{left_of, not_if_alike, right_of}
 use Rattle.ptpm_site.proofs.Pairs.{change_with, first_contradicting-next}
-use Rattle.ptpm_site.proofs.Values.{same_value-equiv}
+use Rattle.ptpm_site.proofs.Values.{is_alike-same, same_value-equiv}
 
 -- ---- tests
 
@@ -33,7 +33,8 @@ none_earlier : (how : Contradiction) (v : MemberValue) (later : Statement) (earl
 none_earlier how v later [] k h = refl
 none_earlier how v later (e ∷ es) k h =
     let one : same_value e.value later.value ≡ true = sym (same_value-equiv.congr v e.value later.value (left_of (say v e) (list_all (say v) es) h)) ∙ k in
-    ap (λ b. cond b (Some e) (find (λ x. contradicts how x later) es)) (not_if_alike (is_settled e.value) (are_held how e.request later.request) (same_value e.value later.value) one)
+    ap (λ b. cond b (Some e) (find (λ x. contradicts how x later) es))
+    (not_if_alike (is_settled e.value) (are_held how e.request later.request) (is_alike e.value later.value) (is_alike-same e.value later.value one))
     ∙ none_earlier how v later es k (right_of (say v e) (list_all (say v) es) h)
 
 none_contradicting : (how : Contradiction) (m : Member) (v : MemberValue) (earlier xs : List Statement)

@@ -10,10 +10,10 @@ use Rattle.ptpm_site.specs.declared.changes.Contradiction.TheVariants as sort
 use Rattle.ptpm_site.specs.declared.changes.KeptStatements.{KeptStatements}
 use Rattle.ptpm_site.specs.declared.changes.KeptStatements.TheVariants as kept
 use Rattle.ptpm_site.specs.declared.changes.Stated.{Stated}
-use Rattle.ptpm_site.specs.Changes.{Statement, contradicts, is_settled, same_request}
+use Rattle.ptpm_site.specs.Changes.{Statement, contradicts, is_alike, is_settled, same_request}
 use Rattle.ptpm_site.specs.KeptStatements.{StandsFor, kept_statements, same_statement, statement}
-use Rattle.ptpm_site.specs.Members.{same_value, value_of}
-use Rattle.ptpm_site.proofs.Values.{same_request-equiv, same_value-equiv}
+use Rattle.ptpm_site.specs.Members.{value_of}
+use Rattle.ptpm_site.proofs.Values.{is_alike-equiv, same_request-equiv}
 
 -- ---- tests
 
@@ -71,13 +71,13 @@ abbrev requests : Statement → Statement → Bool
 requests a b = same_request a.request b.request
 
 abbrev values : Statement → Statement → Bool
-values a b = same_value a.value b.value
+values a b = is_alike a.value b.value
 
 requests-equiv : IsEquivalence requests
 requests-equiv = on_equiv (λ s. s.request) same_request-equiv
 
 values-equiv : IsEquivalence values
-values-equiv = on_equiv (λ s. s.value) same_value-equiv
+values-equiv = on_equiv (λ s. s.value) is_alike-equiv
 
 alike_one_way : (a b : Statement) → is_settled a.value ≡ true → contradicts sort.Changed a b ≡ false → (requests a b ≡ true) ⊎ (values a b ≡ true)
 alike_one_way a b s h = not_both (is_settled a.value) (requests a b) (values a b) s h

@@ -11,11 +11,11 @@ use Rattle.ptpm_site.specs.declared.answer.Request.{Request}
 use Rattle.ptpm_site.specs.declared.changes.Contradiction.TheVariants as sort
 use Rattle.ptpm_site.specs.declared.changes.Settled.{Settled}
 use Rattle.ptpm_site.specs.declared.member.Value.{Value}
-use Rattle.ptpm_site.specs.Changes.{Statement, contradicts, is_settled, same_request}
+use Rattle.ptpm_site.specs.Changes.{Statement, contradicts, is_alike, is_settled, same_request}
 use Rattle.ptpm_site.specs.KeptStatements.{KeepsFirstValues, if_other, request_cmp, settled_of, settled_otherwise}
-use Rattle.ptpm_site.specs.Members.{MemberValue, same_value, value_of}
+use Rattle.ptpm_site.specs.Members.{MemberValue, value_of}
 use Rattle.ptpm_site.proofs.KeptStatements.{not_if_alike, nothing_more, or_none}
-use Rattle.ptpm_site.proofs.Values.{same_request-Decides, same_value-equiv}
+use Rattle.ptpm_site.proofs.Values.{is_alike-equiv, same_request-Decides}
 
 -- ---- the order of requests distinguishes what the test of equality distinguishes
 
@@ -52,15 +52,15 @@ stays s seen y h more = record {
 }
 
 pub keeps-unsettled : (s : Settled) (seen : List Statement) (y : Statement) → is_settled y.value ≡ false → KeepsFirstValues s seen → KeepsFirstValues s (seen ++ y ∷ [])
-keeps-unsettled s seen y h keeps = stays s seen y keeps (λ z k. ap (λ b. b && same_request y.request z.request && not (same_value y.value z.value)) h)
+keeps-unsettled s seen y h keeps = stays s seen y keeps (λ z k. ap (λ b. b && same_request y.request z.request && not (is_alike y.value z.value)) h)
 
 -- of another request
 apart : (s t v : Bool) → t ≡ false → s && t && v ≡ false
 apart true t v h = ap (λ b. b && v) h
 apart false t v h = refl
 
-none_other : (now before : MemberValue) → if_other now before ≡ None → same_value before now ≡ true
-none_other now before h = by_test (same_value before now) h where
+none_other : (now before : MemberValue) → if_other now before ≡ None → is_alike before now ≡ true
+none_other now before h = by_test (is_alike before now) h where
   by_test : (b : Bool) → cond b None (Some before) ≡ None → b ≡ true
   by_test true e = refl
   by_test false e = cc
@@ -84,16 +84,16 @@ pub keeps-known : (s : Settled) (seen : List Statement) (y : Statement) (before 
     → KeepsFirstValues s seen → KeepsFirstValues s (seen ++ y ∷ [])
 keeps-known s seen y before kept none keeps = stays s seen y keeps (λ z k.
     cases (same_request y.request z.request)
-    (λ same. not_if_alike (is_settled y.value) (same_request y.request z.request) (same_value y.value z.value) (by_value z k same))
-    (λ other. apart (is_settled y.value) (same_request y.request z.request) (not (same_value y.value z.value)) other)) where
-      alike : same_value before y.value ≡ true
+    (λ same. not_if_alike (is_settled y.value) (same_request y.request z.request) (is_alike y.value z.value) (by_value z k same))
+    (λ other. apart (is_settled y.value) (same_request y.request z.request) (not (is_alike y.value z.value)) other)) where
+      alike : is_alike before y.value ≡ true
       alike = none_other y.value before (ap (option_and_then (if_other y.value)) (sym kept) ∙ sym (keeps.alike y) ∙ ap (option_map (λ e. e.value)) none)
 
-      by_value : (z : Statement) → settled_otherwise s z ≡ None → same_request y.request z.request ≡ true → same_value y.value z.value ≡ true
+      by_value : (z : Statement) → settled_otherwise s z ≡ None → same_request y.request z.request ≡ true → is_alike y.value z.value ≡ true
       by_value z k same =
           let one : y.request ≡ z.request = (same_request-Decides y.request z.request).0 same in
           let here : settled_of s z.request ≡ Some before = ap (settled_of s) (sym one) ∙ kept in
-          sym (same_value-equiv.congr before y.value z.value alike)
+          sym (is_alike-equiv.congr before y.value z.value alike)
           ∙ none_other z.value before (ap (option_and_then (if_other z.value)) (sym here) ∙ k)
 
 -- a request that has none gets its first value
@@ -118,10 +118,10 @@ keeps-new s next seen y absent settled updates keeps = record {
       let one : y.request ≡ z.request = (same_request-Decides y.request z.request).0 same in
       let here : settled_of s z.request ≡ None = ap (settled_of s) (sym one) ∙ absent in
       ap (λ o. option_or (option_and_then (if_other z.value) o) (cond (twice y z) (Some y.value) None)) here
-      ∙ first_here (is_settled y.value) (same_request y.request z.request) (same_value y.value z.value) y.value settled same
+      ∙ first_here (is_settled y.value) (same_request y.request z.request) (is_alike y.value z.value) y.value settled same
       ∙ sym (ap (λ b. option_and_then (if_other z.value) (cond b (Some y.value) (settled_of s z.request))) same))
       (λ other.
-      ap (λ b. option_or (settled_otherwise s z) (cond b (Some y.value) None)) (apart (is_settled y.value) (same_request y.request z.request) (not (same_value y.value z.value)) other)
+      ap (λ b. option_or (settled_otherwise s z) (cond b (Some y.value) None)) (apart (is_settled y.value) (same_request y.request z.request) (not (is_alike y.value z.value)) other)
       ∙ or_none (settled_otherwise s z)
       ∙ sym (ap (λ b. option_and_then (if_other z.value) (cond b (Some y.value) (settled_of s z.request))) other))
 

@@ -1,8 +1,9 @@
 -- Two values are the same where they are one.
-use Rattle.std.proofs.Common.{◌≡◌, Bool, true, false, ◌&&◌, Option, Some, None, refl, ap}
+use Rattle.std.proofs.Common.{◌≡◌, Bool, true, false, ◌&&◌, Option, Some, None, refl, ap, ◌∙◌}
 use Rattle.std.specs.Bool.{Decides}
 use Rattle.std.specs.Cmp.{IsEquivalence, booleans_Decides, decided, unsigned_Decides}
 use Rattle.std.specs.Option.{option_eq}
+use Rattle.std.proofs.lemmas.Cmp.{on_equiv}
 use Rattle.std.proofs.lemmas.Bool.Decides.{Decides-int_eq}
 use Rattle.std.proofs.lemmas.Slice.Eq.{bytes_eq-Decides}
 use Rattle.ptpm_codec.specs.Identity.{same_clock, same_identity}
@@ -14,7 +15,7 @@ use Rattle.ptpm_site.specs.declared.answer.Request.{Request}
 use Rattle.ptpm_site.specs.declared.data_sets.ClockQuality.{ClockQuality}
 use Rattle.ptpm_site.specs.declared.data_sets.DelayMechanism.{DelayMechanism}
 use Rattle.ptpm_site.specs.declared.data_sets.DelayMechanism.TheVariants as mechanisms
-use Rattle.ptpm_site.specs.Changes.{same_request}
+use Rattle.ptpm_site.specs.Changes.{as_settled, is_alike, same_request}
 use Rattle.ptpm_site.specs.Members.{MemberValue, Clock, Flag, Mechanism, Number, Port, Quality, State, Text, same_mechanism, same_quality, same_state, same_value}
 
 -- ---- tests
@@ -96,3 +97,11 @@ same_request-Decides a b =
 
 pub same_request-equiv : IsEquivalence same_request
 same_request-equiv = decided same_request same_request-Decides
+
+-- ---- values that are compared as one
+
+pub is_alike-equiv : IsEquivalence is_alike
+is_alike-equiv = on_equiv as_settled same_value-equiv
+
+pub is_alike-same : (a b : MemberValue) → same_value a b ≡ true → is_alike a b ≡ true
+is_alike-same a b h = ap (λ v. is_alike v b) ((same_value-Decides a b).0 h) ∙ is_alike-equiv.refl b

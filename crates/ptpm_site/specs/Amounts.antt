@@ -1,10 +1,13 @@
 -- Offsets and delays beyond what is allowed: `offset` and `delay`. A TimeInterval is nanoseconds times 2^16 (IEEE 1588-2019, 5.3.2).
-use Rattle.std.specs.Prelude.{ℕ, ℤ, ◌*◌, ◌&&◌, Bool, nat_lt, unsigned_abs, Option, Some, None, if◌then◌else◌, option_and_then}
+use Rattle.std.specs.Prelude.{ℕ, ℤ, ◌*◌, ◌&&◌, Bool, not, nat_lt, unsigned_abs, Option, Some, None, if◌then◌else◌, option_and_then}
 use Rattle.ptpm_site.specs.declared.data_sets.PortDataSet.{PortDataSet}
+use Rattle.ptpm_site.specs.declared.limits.Limits.{Limits}
+use Rattle.ptpm_site.specs.declared.port_groups.PortGroup.TheVariants as groups
 use Rattle.ptpm_site.specs.declared.source.Source.{Source}
 use Rattle.ptpm_site.specs.Following.{followed}
 use Rattle.ptpm_site.specs.PortStates.{is_following, measures_link}
-use Rattle.ptpm_site.specs.SiteAnswers.{SiteAnswers}
+use Rattle.ptpm_site.specs.SiteAnswers.{SiteAnswers, has_port_of}
+use Rattle.ptpm_site.specs.TaiAndUtc.{is_off_by_utc}
 
 -- the amount of a TimeInterval is above this many nanoseconds; an amount equal to the limit is allowed
 abbrev pub is_above : ℤ → ℕ → Bool
@@ -14,10 +17,13 @@ is_above interval nanoseconds = nat_lt (nanoseconds * 65536) (unsigned_abs inter
 abbrev pub beyond : ℤ → Option ℕ → Option ℤ
 beyond interval limit = option_and_then (λ n. if is_above interval n then Some interval else None) limit
 
--- offsetFromMaster and meanDelay of a clock that is not its own grandmaster
-abbrev pub large_offset : SiteAnswers → Source → Option ℕ → Option ℤ
-large_offset site s limit = option_and_then (λ _. option_and_then (λ c. beyond c.offset_from_master limit) (site.current s)) (followed site s)
+-- offsetFromMaster of a clock that is not its own grandmaster, has a port in SLAVE, and does not take TAI and UTC for each other
+abbrev pub large_offset : SiteAnswers → Source → Limits → Option ℤ
+large_offset site s limits = option_and_then (λ _.
+    if has_port_of site s groups.Slave && not (is_off_by_utc site limits.tai_utc s)
+    then option_and_then (λ c. beyond c.offset_from_master limits.offset) (site.current s) else None) (followed site s)
 
+-- meanDelay of a clock that is not its own grandmaster
 abbrev pub large_delay : SiteAnswers → Source → Option ℕ → Option ℤ
 large_delay site s limit = option_and_then (λ _. option_and_then (λ c. beyond c.mean_delay limit) (site.current s)) (followed site s)
 

@@ -1,6 +1,6 @@
 -- What differs between the answers of a clock: those to two requests (`changed`), and those to one
 -- (`identity_twice`).
-use Rattle.std.specs.Prelude.{◌==◌, ◌&&◌, Bool, true, false, not, List, [], ◌∷◌, ◌++◌, Option, find, map}
+use Rattle.std.specs.Prelude.{◌==◌, ◌&&◌, Bool, true, false, not, List, [], ◌∷◌, ◌++◌, Option, Some, find, map}
 use Rattle.std.specs.List.{filter_map}
 use Rattle.std.specs.Option.{option_map, option_map_or}
 use Rattle.ptpm_codec.specs.Identity.{same_identity}
@@ -38,6 +38,14 @@ abbrev pub is_settled : MemberValue → Bool
 is_settled (State state) = option_map_or is_settled_state state false
 is_settled _ = true
 
+-- a port goes from SLAVE to UNCALIBRATED and back by itself: the two are compared as one
+abbrev pub as_settled : MemberValue → MemberValue
+as_settled (State (Some states.Uncalibrated)) = State (Some states.Slave)
+as_settled value = value
+
+abbrev pub is_alike : MemberValue → MemberValue → Bool
+is_alike a b = same_value (as_settled a) (as_settled b)
+
 -- which answers are compared with each other: those to two requests, or those to one
 abbrev pub are_held : Contradiction → Request → Request → Bool
 are_held sort.Changed a b = not (same_request a b)
@@ -45,7 +53,7 @@ are_held sort.IdentityTwice a b = same_request a b
 
 -- an answer differs from an earlier one, whose value was settled
 abbrev pub contradicts : Contradiction → Statement → Statement → Bool
-contradicts c earlier later = is_settled earlier.value && are_held c earlier.request later.request && not (same_value earlier.value later.value)
+contradicts c earlier later = is_settled earlier.value && are_held c earlier.request later.request && not (is_alike earlier.value later.value)
 
 -- ---- all answers
 

@@ -16,7 +16,7 @@ use Rattle.ptpm_site.specs.declared.member.Member.TheVariants as member
 use Rattle.ptpm_site.specs.declared.member.Value.{Value}
 use Rattle.ptpm_site.specs.declared.member.Value.TheVariants as value
 use Rattle.ptpm_site.specs.Members.{same_value, value_of}
-use Rattle.ptpm_site.specs.PortStates.{is_following, measures_end_to_end, measures_link}
+use Rattle.ptpm_site.specs.PortStates.{measures_end_to_end, measures_link}
 
 -- one is E2E, and the other P2P or COMMON_P2P
 abbrev pub measure_otherwise : Option DelayMechanism → Option DelayMechanism → Bool
@@ -59,13 +59,6 @@ utc_differs own grandmaster =
     ∷ flag_differs member.PtpTimescale own.ptp_timescale grandmaster.ptp_timescale
     ∷ flag_differs member.Leap59 own.leap59 grandmaster.leap59
     ∷ flag_differs member.Leap61 own.leap61 grandmaster.leap61 ∷ []
-
--- a port in SLAVE or UNCALIBRATED, and the port that its clock follows
-abbrev pub intervals_differ : PortDataSet → PortDataSet → List (Option Differs)
-intervals_differ own parent =
-    if is_following own.state
-    then number_differs member.LogAnnounceInterval own.log_announce parent.log_announce ∷ mechanism_differs own parent ∷ []
-    else None ∷ None ∷ []
 
 -- ---- what is compared
 

@@ -1,6 +1,6 @@
 -- The findings of a site, in order of the clock, the table of findings, and the port.
-use Rattle.std.specs.Prelude.{ℕ, ◌++◌, List, [], ◌∷◌, Option, Some, None, if◌then◌else◌, option_and_then, is_some, map}
-use Rattle.std.specs.List.{flat_map}
+use Rattle.std.specs.Prelude.{ℕ, ◌++◌, ◌&&◌, ◌||◌, Bool, true, false, List, [], ◌∷◌, Option, Some, None, if◌then◌else◌, option_and_then, is_some, map}
+use Rattle.std.specs.List.{flat_map, list_all}
 use Rattle.std.specs.Option.{option_map, option_map_or, option_to_list}
 use Rattle.ptpm_codec.specs.Identity.{same_clock}
 use Rattle.ptpm_codec.specs.declared.identity.ClockIdentity.{ClockIdentity}
@@ -10,7 +10,9 @@ use Rattle.ptpm_site.specs.declared.changes.Contradiction.TheVariants as sort
 use Rattle.ptpm_site.specs.declared.clock.Received.{Received}
 use Rattle.ptpm_site.specs.declared.comparing.Compared.{Compared}
 use Rattle.ptpm_site.specs.declared.comparing.Compared.TheVariants as compared
+use Rattle.ptpm_site.specs.declared.data_sets.DefaultDataSet.{DefaultDataSet}
 use Rattle.ptpm_site.specs.declared.data_sets.ParentDataSet.{ParentDataSet}
+use Rattle.ptpm_site.specs.declared.data_sets.TimePropertiesDataSet.{TimePropertiesDataSet}
 use Rattle.ptpm_site.specs.declared.differences.Differs.{Differs}
 use Rattle.ptpm_site.specs.declared.finding.Finding.{Finding}
 use Rattle.ptpm_site.specs.declared.finding.What.{What}
@@ -18,17 +20,21 @@ use Rattle.ptpm_site.specs.declared.finding.What.TheVariants as what
 use Rattle.ptpm_site.specs.declared.limits.Limits.{Limits}
 use Rattle.ptpm_site.specs.declared.member.Member.{Member}
 use Rattle.ptpm_site.specs.declared.source.Source.{Source}
+use Rattle.ptpm_site.specs.declared.tai_and_utc.OffByUtc.TheVariants as shows
 use Rattle.ptpm_site.specs.Amounts.{large_delay, large_link_delay, large_offset}
+use Rattle.ptpm_site.specs.Announcing.{seldom_announced, takes_time}
 use Rattle.ptpm_site.specs.Changes.{MemberChange, contradiction, member_change}
 use Rattle.ptpm_site.specs.Completeness.{lacking}
-use Rattle.ptpm_site.specs.Differences.{grandmaster_differs, intervals_differ, other_grandmaster, utc_differs, what_differs}
-use Rattle.ptpm_site.specs.Following.{beside, followed}
-use Rattle.ptpm_site.specs.Grandmasters.{is_one_of_two, masterless_reason, unseen_grandmaster}
+use Rattle.ptpm_site.specs.Differences.{grandmaster_differs, mechanism_differs, other_grandmaster, utc_differs, what_differs}
+use Rattle.ptpm_site.specs.Following.{beside, followed, is_own_grandmaster}
+use Rattle.ptpm_site.specs.Grandmasters.{is_one_of_two, leads, masterless_reason, unseen_grandmaster}
+use Rattle.ptpm_site.specs.Leading.{better_clock, without_source, invalid_offset, announced_leap, not_traceable, wrong_offset}
 use Rattle.ptpm_site.specs.Loops.{loop_of}
-use Rattle.ptpm_site.specs.Members.{MemberValue, current_members, current_says, default_members, default_says, description_members, description_says, is_moving, parent_members, parent_says, port_members, port_says, time_members, time_says}
+use Rattle.ptpm_site.specs.Members.{MemberValue, State, current_members, current_says, default_members, default_says, description_members, description_says, is_moving, is_of_grandmaster, parent_members, parent_says, port_members, port_says, time_members, time_says}
 use Rattle.ptpm_site.specs.Parents.{no_master_port, unseen_parent, wrong_steps}
-use Rattle.ptpm_site.specs.PortStates.{bad_state}
 use Rattle.ptpm_site.specs.SiteAnswers.{SiteAnswers}
+use Rattle.ptpm_site.specs.Staying.{staying_state, unlocked_port}
+use Rattle.ptpm_site.specs.TaiAndUtc.{followers_off, offset_by_utc}
 
 abbrev pub finding : Source → What → Finding
 finding s w = record { source = s; what = w }
@@ -66,7 +72,10 @@ utc_said site s = option_map_or (λ p.
 -- ---- of its ports, in their order
 
 unfoldable pub state_found : SiteAnswers → Source → ℕ → List Finding
-state_found site s n = found (what.PortState n) s (bad_state (site.port_answers s n))
+state_found site s n = found (what.PortState n) s (staying_state site s n)
+
+unfoldable pub lock_found : SiteAnswers → Source → ℕ → List Finding
+lock_found site s n = found (what.NotLocked n) s (unlocked_port site s n)
 
 unfoldable pub link_delay_found : SiteAnswers → Limits → Source → ℕ → List Finding
 link_delay_found site limits s n = found (what.LinkDelay n) s (option_and_then (λ set. large_link_delay set limits.delay) (site.port s n))
@@ -74,11 +83,51 @@ link_delay_found site limits s n = found (what.LinkDelay n) s (option_and_then (
 unfoldable pub link_delays_found : SiteAnswers → Limits → Source → List Finding
 link_delays_found site limits s = if is_some (followed site s) then flat_map (link_delay_found site limits s) (site.ports s) else []
 
--- the members in which a port differs from the port that its clock follows
-unfoldable pub interval_found : SiteAnswers → Source → ℕ → List Finding
-interval_found site s n = found_each (compared.Port n) s (option_map_or (λ own. option_map_or (λ set.
-    option_map_or (λ parent. intervals_differ set parent) (site.port (beside s own.parent.clock) own.parent.port) [])
+-- delayMechanism of a port that takes time, if it does not fit that of the port that its clock follows
+unfoldable pub mechanism_found : SiteAnswers → Source → ℕ → List Finding
+mechanism_found site s n = found_each (compared.Port n) s (option_map_or (λ own. option_map_or (λ set.
+    option_map_or (λ parent. if takes_time site s set.state then mechanism_differs set parent ∷ [] else [])
+    (site.port (beside s own.parent.clock) own.parent.port) [])
     (site.port s n) []) (site.parent s) [])
+
+unfoldable pub interval_found : SiteAnswers → Source → ℕ → List Finding
+interval_found site s n = mechanism_found site s n ++ found (what.Announces n) s (seldom_announced site s n)
+
+-- ---- of a clock that leads
+
+-- by its clockClass
+abbrev pub class_found : Source → Option DefaultDataSet → List Finding
+class_found s default = found what.Degraded s (option_and_then without_source default)
+
+-- by its TIME_PROPERTIES_DATA_SET
+abbrev pub validity_found : Source → TimePropertiesDataSet → List Finding
+validity_found s t = found what.UtcInvalid s (invalid_offset t)
+
+abbrev pub offset_found : Limits → Source → TimePropertiesDataSet → List Finding
+offset_found limits s t = found what.UtcOffset s (wrong_offset limits.tai_utc t)
+
+abbrev pub leap_found : Source → TimePropertiesDataSet → List Finding
+leap_found s t = found what.Leap s (announced_leap t)
+
+abbrev pub traceability_found : Source → Option DefaultDataSet → TimePropertiesDataSet → List Finding
+traceability_found s default t = found what.NotTraceable s (option_and_then (λ d. not_traceable d t) default)
+
+unfoldable pub properties_found : Limits → Source → Option DefaultDataSet → TimePropertiesDataSet → List Finding
+properties_found limits s default t =
+    traceability_found s default t ++ validity_found s t ++ offset_found limits s t ++ leap_found s t
+
+-- by the other clocks of its domain
+abbrev pub better_found : SiteAnswers → Source → Option DefaultDataSet → List Finding
+better_found site s default = found what.BetterClock s (option_and_then (better_clock site s) default)
+
+unfoldable pub quality_found : SiteAnswers → Limits → Source → List Finding
+quality_found site limits s =
+    class_found s (site.default s)
+    ++ option_map_or (properties_found limits s (site.default s)) (site.time s) []
+    ++ better_found site s (site.default s)
+
+unfoldable pub leader_found : SiteAnswers → Limits → Source → List Finding
+leader_found site limits s = if leads site s then quality_found site limits s else []
 
 -- ---- of a clock, in the order of the table
 
@@ -92,9 +141,19 @@ parent_found site s =
     ++ found what.Steps s (wrong_steps site s)
     ++ found_each compared.Grandmaster s (grandmaster_said site s)
 
+-- a clock that takes TAI and UTC for each other
+abbrev pub off_found : SiteAnswers → Limits → Source → List Finding
+off_found site limits s = found (λ offset. what.OffByUtc (shows.Offset offset)) s (offset_by_utc site limits.tai_utc s)
+
+-- and a clock that leads, all of whose followers do
+abbrev pub followers_found : SiteAnswers → Limits → Source → List Finding
+followers_found site limits s = found (λ n. what.OffByUtc (shows.Followers n)) s (followers_off site limits.tai_utc s)
+
 unfoldable pub amounts_found : SiteAnswers → Limits → Source → List Finding
 amounts_found site limits s =
-    found what.Offset s (large_offset site s limits.offset)
+    off_found site limits s
+    ++ followers_found site limits s
+    ++ found what.Offset s (large_offset site s limits)
     ++ found what.Delay s (large_delay site s limits.delay)
     ++ link_delays_found site limits s
 
@@ -104,6 +163,7 @@ found_above site s = grandmaster_found site s ++ parent_found site s
 unfoldable pub found_here : SiteAnswers → Limits → Source → List Finding
 found_here site limits s =
     flat_map (state_found site s) (site.ports s)
+    ++ flat_map (lock_found site s) (site.ports s)
     ++ amounts_found site limits s
     ++ found_each compared.Time s (utc_said site s)
     ++ flat_map (interval_found site s) (site.ports s)
@@ -115,6 +175,15 @@ pub data Says : Type 0 where
   Loop : (clocks : List ClockIdentity) → Says
   Lacks : (ids : List Asked) → (ports : List (ℕ × ℕ)) → Says
   Otherwise : (how : Contradiction) → (port : Option ℕ) → (change : MemberChange) → Says
+
+-- a change of portState
+abbrev pub is_state_value : MemberValue → Bool
+is_state_value (State state) = true
+is_state_value _ = false
+
+abbrev pub is_state_change : Says → Bool
+is_state_change (Otherwise how port change) = is_state_value change.before
+is_state_change _ = false
 
 pub record Said : Type 0 where
   pub source : Source
@@ -139,41 +208,52 @@ loop_reported site s = option_to_list (option_map (λ clocks. said s (Loop clock
 unfoldable pub incomplete_reported : SiteAnswers → Source → List Said
 incomplete_reported site s = option_to_list (option_map (λ m. said s (Lacks m.0 m.1)) (lacking site s))
 
--- a member in which two answers differ, unless its value moves though nothing was changed
-unfoldable pub member_reported : {A : Type 0} → Contradiction → Source → Option ℕ → (A → Member → Option MemberValue) → List (Received A) → Member → List Said
-member_reported how s port says_of received m =
-    if is_moving m then [] else option_to_list (option_map (λ change. said s (Otherwise how port change)) (contradiction how says_of m received))
+-- a member in which two answers differ, unless its value moves though nothing was changed; or if a clock that is its own grandmaster
+-- says of itself what it says of its grandmaster
+unfoldable pub member_reported : {A : Type 0} → Contradiction → Source → Option ℕ → Bool → (A → Member → Option MemberValue) → List (Received A) → Member → List Said
+member_reported how s port is_own says_of received m =
+    if is_moving m || is_own && is_of_grandmaster m then [] else option_to_list (option_map (λ change. said s (Otherwise how port change)) (contradiction how says_of m received))
 
 -- each member of a data set in which two answers differ
-unfoldable pub set_reported : {A : Type 0} → Contradiction → Source → Option ℕ → List Member → (A → Member → Option MemberValue) → List (Received A) → List Said
-set_reported how s port members says_of received = flat_map (member_reported how s port says_of received) members
+unfoldable pub set_reported : {A : Type 0} → Contradiction → Source → Option ℕ → Bool → List Member → (A → Member → Option MemberValue) → List (Received A) → List Said
+set_reported how s port is_own members says_of received = flat_map (member_reported how s port is_own says_of received) members
 
 unfoldable pub port_set_reported : Contradiction → SiteAnswers → Source → ℕ → List Said
-port_set_reported how site s n = set_reported how s (Some n) port_members port_says (site.port_answers s n)
+port_set_reported how site s n = set_reported how s (Some n) (is_own_grandmaster site s) port_members port_says (site.port_answers s n)
 
 -- for the data sets of the clock
 unfoldable pub clock_sets_reported : Contradiction → SiteAnswers → Source → List Said
 clock_sets_reported how site s =
-    set_reported how s None default_members default_says (site.defaults s)
-    ++ set_reported how s None current_members current_says (site.currents s)
-    ++ set_reported how s None parent_members parent_says (site.parents s)
-    ++ set_reported how s None time_members time_says (site.times s)
+    set_reported how s None (is_own_grandmaster site s) default_members default_says (site.defaults s)
+    ++ set_reported how s None (is_own_grandmaster site s) current_members current_says (site.currents s)
+    ++ set_reported how s None (is_own_grandmaster site s) parent_members parent_says (site.parents s)
+    ++ set_reported how s None (is_own_grandmaster site s) time_members time_says (site.times s)
 
 -- and for its ports, and its description
 unfoldable pub contradictions_reported : Contradiction → SiteAnswers → Source → List Said
 contradictions_reported how site s =
     clock_sets_reported how site s
     ++ flat_map (port_set_reported how site s) (site.ports s)
-    ++ set_reported how s None description_members description_says (site.descriptions s)
+    ++ set_reported how s None (is_own_grandmaster site s) description_members description_says (site.descriptions s)
+
+-- where answers to one request differ; the state of a port may do so by itself, while it changes
+abbrev pub is_of_state : Said → Bool
+is_of_state s = is_state_change s.says
+
+unfoldable pub twice_reported : SiteAnswers → Source → List Said
+twice_reported site s =
+    if list_all is_of_state (contradictions_reported sort.IdentityTwice site s) then [] else contradictions_reported sort.IdentityTwice site s
 
 -- what its answers lack, and where they differ
 unfoldable pub answers_reported : SiteAnswers → Source → List Said
-answers_reported site s = incomplete_reported site s ++ contradictions_reported sort.Changed site s ++ contradictions_reported sort.IdentityTwice site s
+answers_reported site s = incomplete_reported site s ++ contradictions_reported sort.Changed site s ++ twice_reported site s
 
 -- ---- all findings
 
 unfoldable pub found_of : SiteAnswers → Limits → Source → List Said
-found_of site limits s = reported (found_above site s) ++ loop_reported site s ++ reported (found_here site limits s) ++ answers_reported site s
+found_of site limits s =
+    reported (found_above site s) ++ loop_reported site s ++ reported (found_here site limits s) ++ reported (leader_found site limits s)
+    ++ answers_reported site s
 
 -- the findings of all clocks
 abbrev pub findings_of : SiteAnswers → Limits → List Said

@@ -13,8 +13,8 @@ use Rattle.ptpm_site.specs.declared.changes.Settled.{Settled}
 use Rattle.ptpm_site.specs.declared.changes.KeptStatements.{KeptStatements}
 use Rattle.ptpm_site.specs.declared.changes.KeptStatements.TheVariants as kept
 use Rattle.ptpm_site.specs.declared.changes.Stated.{Stated}
-use Rattle.ptpm_site.specs.Changes.{Statement, contradicts, is_settled, same_request}
-use Rattle.ptpm_site.specs.Members.{MemberValue, same_value, value_of}
+use Rattle.ptpm_site.specs.Changes.{Statement, contradicts, is_alike, is_settled, same_request}
+use Rattle.ptpm_site.specs.Members.{MemberValue, value_of}
 
 abbrev pub statement : Stated → Statement
 statement s = record { request = s.request; value = value_of s.value }
@@ -28,7 +28,7 @@ kept_statements (kept.Two first other) = statement first ∷ statement other ∷
 
 -- two came to one request, and say one value
 abbrev pub same_statement : Statement → Statement → Bool
-same_statement a b = same_request a.request b.request && same_value a.value b.value
+same_statement a b = same_request a.request b.request && is_alike a.value b.value
 
 -- those that are kept are settled; two of them are not the same, and neither is a change of the other
 abbrev pub IsInOrder : KeptStatements → Type 0
@@ -54,7 +54,7 @@ abbrev pub settled_of : Settled → Request → Option MemberValue
 settled_of s request = option_map value_of (get request_cmp s.first request)
 
 abbrev pub if_other : MemberValue → MemberValue → Option MemberValue
-if_other now before = if same_value before now then None else Some before
+if_other now before = if is_alike before now then None else Some before
 
 -- and that value, if a later statement says another
 abbrev pub settled_otherwise : Settled → Statement → Option MemberValue

@@ -1,4 +1,5 @@
 pub mod Amounts
+pub mod Announcing
 pub mod AnswerOrder
 pub mod Answers
 pub mod Changes
@@ -13,6 +14,7 @@ pub mod Growing
 pub mod Ids
 pub mod KeptAnswers
 pub mod KeptStatements
+pub mod Leading
 pub mod LeftOut
 pub mod Loops
 pub mod Members
@@ -22,5 +24,7 @@ pub mod Parents
 pub mod PortStates
 pub mod Site
 pub mod SiteAnswers
+pub mod Staying
+pub mod TaiAndUtc
 pub mod Tree
 pub mod Walks

@@ -75,15 +75,23 @@ same_value _ _ = false
 
 -- ---- the members of each data set, in the standard's order, and what it says of them
 
--- the values of offsetFromMaster, meanDelay, meanLinkDelay, and of what is observed of a parent move though nothing was changed
--- (this project's profile)
+-- the values of offsetFromMaster, meanDelay, meanLinkDelay, logMinDelayReqInterval, and of what is observed of a parent move though
+-- nothing was changed (this project's profile)
 abbrev pub is_moving : Member → Bool
 is_moving member.OffsetFromMaster = true
 is_moving member.MeanDelay = true
 is_moving member.MeanLinkDelay = true
+is_moving member.LogMinDelayReqInterval = true
 is_moving member.ObservedParentOffsetScaledLogVariance = true
 is_moving member.ObservedParentClockPhaseChangeRate = true
 is_moving _ = false
+
+-- what a clock says of its grandmaster, except who that is
+abbrev pub is_of_grandmaster : Member → Bool
+is_of_grandmaster member.GrandmasterPriority1 = true
+is_of_grandmaster member.GrandmasterClockQuality = true
+is_of_grandmaster member.GrandmasterPriority2 = true
+is_of_grandmaster _ = false
 
 abbrev pub default_members : List Member
 default_members =

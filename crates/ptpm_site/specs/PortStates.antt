@@ -1,4 +1,4 @@
--- The states of ports (IEEE 1588-2019, 9.2.5), how they measure delay (8.2.15.4.4), and `port_state`.
+-- The states of ports (IEEE 1588-2019, 9.2.5), how they measure delay (8.2.15.4.4), and those that stay on their way to another state.
 use Rattle.std.specs.Prelude.{ℕ, zero, suc, ◌==◌, ◌&&◌, ◌-◌, Bool, true, false, not, List, length, slice_get, take, reverse, Option, Some, None, if◌then◌else◌, option_and_then, find}
 use Rattle.std.specs.Option.{option_map_or}
 use Rattle.ptpm_codec.specs.Identity.{same_identity}
@@ -59,9 +59,10 @@ abbrev pub holds_to : (ℕ → Bool) → ℕ → Bool
 holds_to p zero = true
 holds_to p (suc n) = p (suc n) && holds_to p n
 
--- a port in INITIALIZING, PRE_MASTER or UNCALIBRATED is on its way to another state
+-- a port in INITIALIZING, LISTENING, PRE_MASTER or UNCALIBRATED is on its way to another state
 abbrev pub is_on_the_way : PortState → Bool
 is_on_the_way states.Initializing = true
+is_on_the_way states.Listening = true
 is_on_the_way states.PreMaster = true
 is_on_the_way states.Uncalibrated = true
 is_on_the_way _ = false

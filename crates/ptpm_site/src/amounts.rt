@@ -5,8 +5,11 @@ ghost use Rattle.ptpm_site.specs.Amounts.{beyond, is_above, large_delay, large_l
 ghost use Rattle.ptpm_site.specs.Site.{site_answers};
 
 use crate::data_sets::PortDataSet;
+use crate::limits::Limits;
+use crate::port_groups::PortGroup;
 use crate::site::Site;
 use crate::source::Source;
+use crate::tai_and_utc::is_off_by_utc;
 
 /// Whether the amount of a TimeInterval is above this many nanoseconds. An amount equal to the limit is allowed.
 fn is_above(interval: i64, nanoseconds: u64) -> bool
@@ -26,13 +29,17 @@ fn beyond(interval: i64, limit: Option<u64>) -> Option<i64>
     }
 }
 
-/// offsetFromMaster of a clock that is not its own grandmaster, if it is beyond the limit.
-pub fn large_offset(site: &Site, source: Source, limit: Option<u64>) -> Option<i64>
-    ensures { result ≡ large_offset (site_answers site.now) source limit }
+/// offsetFromMaster of a clock that is not its own grandmaster and has a port in SLAVE, if it is beyond the limit. `None` if the
+/// clock takes TAI and UTC for each other.
+pub fn large_offset(site: &Site, source: Source, limits: Limits) -> Option<i64>
+    ensures { result ≡ large_offset (site_answers site.now) source limits }
 {
     let _ = site.followed(source)?;
+    if !site.has_port_of(source, PortGroup::Slave) || is_off_by_utc(site, limits.tai_utc, source) {
+        return None;
+    }
     let current = site.current(source)?;
-    beyond(current.offset_from_master, limit)
+    beyond(current.offset_from_master, limits.offset)
 }
 
 /// meanDelay of a clock that is not its own grandmaster, if it is beyond the limit.

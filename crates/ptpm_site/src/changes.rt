@@ -3,7 +3,7 @@
 ghost use Rattle.std.specs.Prelude.{◌≡◌, ◌++◌, [], ◌∷◌, false, List, None, IfOk, OnOk, find};
 ghost use Rattle.std.specs.List.{list_all};
 ghost use Rattle.std.specs.Option.{option_eq, option_map};
-ghost use Rattle.ptpm_site.specs.Changes.{Statement, contradiction, contradicts, is_settled, member_change, statement_of};
+ghost use Rattle.ptpm_site.specs.Changes.{Statement, as_settled, contradiction, contradicts, is_alike, is_settled, member_change, statement_of};
 ghost use Rattle.ptpm_site.specs.KeptStatements.{KeepsFirstValues, StandsFor, kept_statements, same_statement, settled_otherwise, statement};
 ghost use Rattle.ptpm_site.specs.Members.{same_value, value_of};
 
@@ -29,6 +29,24 @@ pub struct Change<'a> {
     pub member: Member,
     pub before: Value<'a>,
     pub after: Value<'a>,
+}
+
+/// The value with which a member is compared. A port goes from SLAVE to UNCALIBRATED and back by itself: the two are compared as
+/// one.
+fn as_settled(value: Value<'_>) -> Value<'_>
+    ensures { value_of result ≡ as_settled (value_of value.entry) }
+{
+    match value {
+        Value::State(Some(PortState::Uncalibrated)) => Value::State(Some(PortState::Slave)),
+        value => value,
+    }
+}
+
+/// Whether two values of a member are compared as one.
+fn is_alike(a: Value<'_>, b: Value<'_>) -> bool
+    ensures { result ≡ is_alike (value_of a.entry) (value_of b.entry) }
+{
+    as_settled(a) == as_settled(b)
 }
 
 /// A member's value in an answer, and the request that the answer came to.
@@ -71,14 +89,14 @@ impl<'a> Stated<'a> {
     fn is_changed_by(&self, later: &Stated<'a>) -> bool
         ensures { result ≡ contradicts Contradiction.Changed (statement self.now) (statement later.now) }
     {
-        self.is_settled() && self.request != later.request && self.value != later.value
+        self.is_settled() && self.request != later.request && !is_alike(self.value, later.value)
     }
 
-    /// Whether another statement came to the same request and says the same value.
+    /// Whether another statement came to the same request and says a value that is alike.
     fn is_same(&self, other: &Stated<'a>) -> bool
         ensures { result ≡ same_statement (statement self.now) (statement other.now) }
     {
-        self.request == other.request && self.value == other.value
+        self.request == other.request && is_alike(self.value, other.value)
     }
 }
 
@@ -161,7 +179,7 @@ impl<'a> Settled<'a> {
         ensures { option_map value_of result ≡ settled_otherwise self.now (statement later.now) }
     {
         let before = self.first.get(&later.request).copied()?;
-        if before == later.value {
+        if is_alike(before, later.value) {
             None
         } else {
             Some(before)

@@ -1,7 +1,7 @@
 //! The members in which a clock differs from its grandmaster or from the port that it follows.
 
 ghost use Rattle.std.specs.Prelude.{◌≡◌};
-ghost use Rattle.ptpm_site.specs.Differences.{flag_differs, grandmaster_differs, intervals_differ, mechanism_differs, number_differs, other_grandmaster, utc_differs, value_differs};
+ghost use Rattle.ptpm_site.specs.Differences.{flag_differs, grandmaster_differs, mechanism_differs, number_differs, other_grandmaster, utc_differs, value_differs};
 
 use crate::data_sets::{DefaultDataSet, ParentDataSet, PortDataSet, TimePropertiesDataSet};
 use crate::member::{Member, Value};
@@ -103,27 +103,9 @@ pub fn utc_differs(
     ]
 }
 
-/// The members in which a port in SLAVE or UNCALIBRATED differs from the port that it follows. These are
-/// logAnnounceInterval, and delayMechanism if the two measure different delays.
-pub fn intervals_differ(own: &PortDataSet, parent: &PortDataSet) -> [Option<Differs>; 2]
-    ensures { result ≡ intervals_differ own.now parent.now }
-{
-    if !own.is_following() {
-        return [None, None];
-    }
-    [
-        number_differs(
-            Member::LogAnnounceInterval,
-            own.log_announce as i64,
-            parent.log_announce as i64,
-        ),
-        mechanism_differs(own, parent),
-    ]
-}
-
 /// delayMechanism, if one port measures the delay from end to end and the other that of the link. No other
 /// pair counts as different.
-fn mechanism_differs(own: &PortDataSet, parent: &PortDataSet) -> Option<Differs>
+pub fn mechanism_differs(own: &PortDataSet, parent: &PortDataSet) -> Option<Differs>
     ensures { result ≡ mechanism_differs own.now parent.now }
 {
     if own.measures_link() && parent.measures_end_to_end()

@@ -3,12 +3,16 @@
 ghost use Rattle.std.specs.Prelude.{◌≡◌, ◌++◌, [], ◌∷◌, OnOk};
 ghost use Rattle.ptpm_site.specs.Findings.{finding, reported, said, says};
 
+use crate::announcing::Seldom;
 use crate::changes::Change;
 use crate::completeness::Missing;
 use crate::differences::Differs;
 use crate::grandmasters::Masterless;
+use crate::leading::{Better, Degradation, Degraded, Leap, Untraceable, WrongOffset};
 use crate::parents::{NoMaster, Steps};
 use crate::source::Source;
+use crate::staying::Unlocked;
+use crate::tai_and_utc::OffByUtc;
 use ptpm_codec::{ClockIdentity, PortIdentity};
 use ptpm_data::PortState;
 use std::alloc::AllocError;
@@ -42,6 +46,10 @@ pub enum What<'a> {
     Loop(Vec<ClockIdentity>),
     /// A port is FAULTY, or stays on its way to another state.
     PortState(u16, PortState),
+    /// A port stays in UNCALIBRATED.
+    NotLocked(u16, Unlocked),
+    /// It takes TAI and UTC for each other, or all clocks that follow it do.
+    OffByUtc(OffByUtc),
     /// offsetFromMaster is beyond the limit.
     Offset(i64),
     /// meanDelay is beyond the limit.
@@ -52,6 +60,20 @@ pub enum What<'a> {
     Utc(Differs),
     /// A port differs from the port that it follows.
     Intervals(u16, Differs),
+    /// The port that a port follows announces too seldom for it.
+    Announces(u16, Seldom),
+    /// It leads, and is without its source of time.
+    Degraded(Degraded),
+    /// It leads, and does not say that its time and its frequency are traceable.
+    NotTraceable(Untraceable),
+    /// It leads, and does not say that its currentUtcOffset is valid.
+    UtcInvalid(i16),
+    /// It leads, and its currentUtcOffset is not the difference of TAI and UTC.
+    UtcOffset(WrongOffset),
+    /// It leads, and announces a leap second.
+    Leap(Leap),
+    /// It leads, and a clock of a better class stands by.
+    BetterClock(Better),
     /// Not all that it was asked for was answered.
     Incomplete(Missing),
     /// Answers to two requests differ.
@@ -73,14 +95,55 @@ impl What<'_> {
             What::GrandmasterDiffers(_) => "grandmaster_differs",
             What::Loop(_) => "loop",
             What::PortState(..) => "port_state",
+            What::NotLocked(..) => "not_locked",
+            What::OffByUtc(_) => "off_by_utc",
             What::Offset(_) => "offset",
             What::Delay(_) => "delay",
             What::LinkDelay(..) => "delay",
             What::Utc(_) => "utc",
-            What::Intervals(..) => "intervals",
+            What::Intervals(..) | What::Announces(..) => "intervals",
+            What::Degraded(degraded) => degraded.degradation.name(),
+            What::NotTraceable(_) => "not_traceable",
+            What::UtcInvalid(_) => "utc_invalid",
+            What::UtcOffset(_) => "utc_offset",
+            What::Leap(_) => "leap",
+            What::BetterClock(_) => "better_clock",
             What::Incomplete(_) => "incomplete",
             What::Changed(..) => "changed",
             What::IdentityTwice(..) => "identity_twice",
+        }
+    }
+}
+
+impl What<'_> {
+    /// Whether time is wrong or missing by it, or a clock can't be told from another. Any other finding is a warning.
+    pub fn is_critical(&self) -> bool {
+        match self {
+            What::TwoGrandmasters
+            | What::NoMaster(_)
+            | What::GrandmasterNotSeen(_)
+            | What::ParentNotSeen(_)
+            | What::ParentNotMaster(..)
+            | What::Loop(_)
+            | What::PortState(..)
+            | What::NotLocked(..)
+            | What::OffByUtc(_)
+            | What::Offset(_)
+            | What::UtcOffset(_)
+            | What::IdentityTwice(..) => true,
+            What::Degraded(degraded) => matches!(degraded.degradation, Degradation::Degraded),
+            _ => false,
+        }
+    }
+}
+
+impl Degradation {
+    /// The name of the finding.
+    fn name(self) -> &'static str {
+        match self {
+            Degradation::Holdover => "gm_holdover",
+            Degradation::Degraded => "gm_degraded",
+            Degradation::FreeRunning => "gm_free_running",
         }
     }
 }

@@ -3,7 +3,7 @@
 
 ghost use Rattle.std.specs.Prelude.{◌≡◌, ◌++◌, OnOk, IfOk, is_some, length};
 ghost use Rattle.std.specs.List.{flat_map};
-ghost use Rattle.ptpm_site.specs.Findings.{findings_of, found_above, found_here, found_of, reported};
+ghost use Rattle.ptpm_site.specs.Findings.{findings_of, found_above, found_here, found_of, leader_found, reported};
 ghost use Rattle.ptpm_site.specs.Grandmasters.{leading_clocks};
 ghost use Rattle.ptpm_site.specs.Loops.{AreLeast, loop_of};
 ghost use Rattle.ptpm_site.specs.Site.{site_answers};
@@ -13,8 +13,9 @@ use crate::grandmasters::leading;
 use crate::judging_amounts::{judge_amounts, judge_utc};
 use crate::judging_answers::judge_answers;
 use crate::judging_grandmasters::{judge_grandmaster, judge_parent};
+use crate::judging_leading::judge_leader;
 use crate::judging_loops::judge_loop;
-use crate::judging_ports::{judge_intervals, judge_ports};
+use crate::judging_ports::{judge_intervals, judge_locks, judge_ports};
 use crate::limits::Limits;
 use crate::marks::is_marked;
 use crate::site::Site;
@@ -36,13 +37,13 @@ pub fn findings_of<'a>(
     let leading = leading(alloc, site, sources.as_slice())?;
     let given = Given {
         alloc,
+        sources: sources.as_slice(),
         leading: leading.as_slice(),
         least,
-        count: sources.len(),
         limits,
     };
     let mut findings = Vec::new(alloc);
-    judge_all(site, sources.as_slice(), &given, &mut findings)?;
+    judge_all(site, &given, &mut findings)?;
     Ok(findings)
 }
 
@@ -50,30 +51,27 @@ pub fn findings_of<'a>(
 #[derive(Clone, Copy)]
 struct Given<'a> {
     alloc: Global,
+    sources: &'a [Source],
     /// The clocks that lead.
     leading: &'a [Source],
     /// For each clock whether it is the least of a loop.
     least: &'a [bool],
-    /// How many clocks there are.
-    count: usize,
     limits: Limits,
 }
 
 /// What is wrong with each clock, one after another.
 fn judge_all<'a>(
     site: &'a Site,
-    sources: &[Source],
     given: &Given<'_>,
     findings: &mut Vec<Finding<'a>>,
 ) -> Result<(), AllocError>
     requires leading { given.now.leading.now ≡ leading_clocks (site_answers site.now) }
-    requires sources { sources.now ≡ (site_answers site.now).clocks }
+    requires sources { given.now.sources.now ≡ (site_answers site.now).clocks }
     requires least { AreLeast (site_answers site.now) given.now.least.now }
-    requires count { given.now.count ≡ length (site_answers site.now).clocks }
     ensures { OnOk result (reported findings.new.items
-        ≡ reported findings.old.items ++ flat_map (found_of (site_answers site.now) given.now.limits) sources.now) }
+        ≡ reported findings.old.items ++ flat_map (found_of (site_answers site.now) given.now.limits) given.now.sources.now) }
 {
-    for (place, source) in sources.iter().enumerate() {
+    for (place, source) in given.sources.iter().enumerate() {
         judge(
             site,
             *source,
@@ -95,14 +93,16 @@ fn judge<'a>(
 ) -> Result<(), AllocError>
     requires leading { given.now.leading.now ≡ leading_clocks (site_answers site.now) }
     requires least { is_least ≡ is_some (loop_of (site_answers site.now) source) }
-    requires count { given.now.count ≡ length (site_answers site.now).clocks }
+    requires sources { given.now.sources.now ≡ (site_answers site.now).clocks }
     ensures { OnOk result (reported findings.new.items
         ≡ reported findings.old.items ++ found_of (site_answers site.now) given.now.limits source) }
 {
     let ports = site.ports(given.alloc, source)?;
     judge_above(site, source, given.leading, findings)?;
-    judge_loop(given.alloc, site, source, is_least, given.count, findings)?;
-    judge_here(site, source, ports.as_slice(), given.limits, findings)?;
+    let count = given.sources.len();
+    judge_loop(given.alloc, site, source, is_least, count, findings)?;
+    judge_here(site, source, ports.as_slice(), given, findings)?;
+    judge_leader(site, source, given.sources, given.limits, findings)?;
     judge_answers(given.alloc, site, source, ports.as_slice(), findings)?;
     Ok(())
 }
@@ -129,14 +129,17 @@ fn judge_here(
     site: &Site,
     source: Source,
     ports: &[u16],
-    limits: Limits,
+    given: &Given<'_>,
     findings: &mut Vec<Finding<'_>>,
 ) -> Result<(), AllocError>
-    requires { ports.now ≡ (site_answers site.now).ports source }
-    ensures { OnOk result (findings.new.items ≡ findings.old.items ++ found_here (site_answers site.now) limits source) }
+    requires ports { ports.now ≡ (site_answers site.now).ports source }
+    requires sources { given.now.sources.now ≡ (site_answers site.now).clocks }
+    ensures { OnOk result (findings.new.items ≡ findings.old.items ++ found_here (site_answers site.now) given.now.limits source) }
 {
+    let (sources, limits) = (given.sources, given.limits);
     judge_ports(site, source, ports, findings)?;
-    judge_amounts(site, source, ports, limits, findings)?;
+    judge_locks(site, source, ports, findings)?;
+    judge_amounts(site, source, ports, sources, limits, findings)?;
     judge_utc(site, source, findings)?;
     judge_intervals(site, source, ports, findings)
 }

@@ -3,7 +3,7 @@
 ghost use Rattle.std.specs.Prelude.{◌≡◌, ◌++◌, OnOk};
 ghost use Rattle.std.specs.List.{flat_map};
 ghost use Rattle.ptpm_site.specs.Amounts.{large_delay, large_offset};
-ghost use Rattle.ptpm_site.specs.Findings.{amounts_found, found, found_each, link_delays_found, utc_said};
+ghost use Rattle.ptpm_site.specs.Findings.{amounts_found, followers_found, found, found_each, link_delays_found, off_found, utc_said};
 ghost use Rattle.ptpm_site.specs.Site.{site_answers};
 
 use crate::amounts::{large_delay, large_offset};
@@ -14,23 +14,60 @@ use crate::judging_ports::judge_link_delays;
 use crate::limits::Limits;
 use crate::site::Site;
 use crate::source::Source;
+use crate::tai_and_utc::{OffByUtc, followers_off, offset_by_utc};
 use std::alloc::AllocError;
 
-/// `offset` and `delay`, for a clock with these ports.
+/// `off_by_utc`, `offset` and `delay`, for a clock with these ports. `sources` has all clocks.
 #[tactic(auto, unfolding(crate::specs::Findings::amounts_found))]
 pub fn judge_amounts(
     site: &Site,
     source: Source,
     ports: &[u16],
+    sources: &[Source],
     limits: Limits,
     findings: &mut Vec<Finding<'_>>,
 ) -> Result<(), AllocError>
-    requires { ports.now ≡ (site_answers site.now).ports source }
+    requires ports { ports.now ≡ (site_answers site.now).ports source }
+    requires sources { sources.now ≡ (site_answers site.now).clocks }
     ensures { OnOk result (findings.new.items ≡ findings.old.items ++ amounts_found (site_answers site.now) limits source) }
 {
+    judge_off_by_utc(site, source, limits, findings)?;
+    judge_followers(site, source, sources, limits, findings)?;
     judge_offset(site, source, limits, findings)?;
     judge_delay(site, source, limits, findings)?;
     judge_links(site, source, ports, limits, findings)
+}
+
+/// `off_by_utc`, by its own offsetFromMaster.
+fn judge_off_by_utc(
+    site: &Site,
+    source: Source,
+    limits: Limits,
+    findings: &mut Vec<Finding<'_>>,
+) -> Result<(), AllocError>
+    ensures { OnOk result (findings.new.items ≡ findings.old.items ++ off_found (site_answers site.now) limits source) }
+{
+    match offset_by_utc(site, limits.tai_utc, source) {
+        Some(offset) => add_finding(findings, source, What::OffByUtc(OffByUtc::Offset(offset))),
+        None => Ok(()),
+    }
+}
+
+/// `off_by_utc`, by those of all clocks that follow it.
+fn judge_followers(
+    site: &Site,
+    source: Source,
+    sources: &[Source],
+    limits: Limits,
+    findings: &mut Vec<Finding<'_>>,
+) -> Result<(), AllocError>
+    requires { sources.now ≡ (site_answers site.now).clocks }
+    ensures { OnOk result (findings.new.items ≡ findings.old.items ++ followers_found (site_answers site.now) limits source) }
+{
+    match followers_off(site, limits.tai_utc, source, sources) {
+        Some(count) => add_finding(findings, source, What::OffByUtc(OffByUtc::Followers(count))),
+        None => Ok(()),
+    }
 }
 
 /// `offset`.
@@ -40,9 +77,9 @@ fn judge_offset(
     limits: Limits,
     findings: &mut Vec<Finding<'_>>,
 ) -> Result<(), AllocError>
-    ensures { OnOk result (findings.new.items ≡ findings.old.items ++ found What.Offset source (large_offset (site_answers site.now) source limits.offset)) }
+    ensures { OnOk result (findings.new.items ≡ findings.old.items ++ found What.Offset source (large_offset (site_answers site.now) source limits)) }
 {
-    match large_offset(site, source, limits.offset) {
+    match large_offset(site, source, limits) {
         Some(offset) => add_finding(findings, source, What::Offset(offset)),
         None => Ok(()),
     }

@@ -1,17 +1,18 @@
 //! What a clock did not answer, and what differs between its answers.
 
 ghost use Rattle.std.specs.Prelude.{◌≡◌, ◌++◌, [], ◌∷◌, IfOk, OnOk};
-ghost use Rattle.std.specs.List.{flat_map};
+ghost use Rattle.std.specs.List.{flat_map, list_all};
 ghost use Rattle.std.specs.Option.{option_map};
 ghost use Rattle.ptpm_site.specs.Changes.{contradiction, member_change};
-ghost use Rattle.ptpm_site.specs.Findings.{Otherwise, answers_reported, clock_sets_reported, contradictions_reported, incomplete_reported, member_reported, port_set_reported, reported, said, set_reported};
+ghost use Rattle.ptpm_site.specs.Findings.{Otherwise, answers_reported, clock_sets_reported, contradictions_reported, incomplete_reported, is_of_state, member_reported, port_set_reported, reported, said, says, set_reported, twice_reported};
+ghost use Rattle.ptpm_site.specs.Following.{is_own_grandmaster};
 ghost use Rattle.ptpm_site.specs.Site.{site_answers};
 
 use crate::changes::{Change, Contradiction, first_change, first_contradiction, is_said_otherwise};
 use crate::clock::Received;
 use crate::completeness::missing_answers;
 use crate::finding::{Finding, What, report};
-use crate::member::{DataSet, Member};
+use crate::member::{DataSet, Member, Value};
 use crate::site::Site;
 use crate::source::Source;
 use std::alloc::{AllocError, Global};
@@ -30,14 +31,47 @@ pub fn judge_answers<'a>(
 {
     judge_missing(alloc, site, source, ports, findings)?;
     judge_contradictions(alloc, site, source, ports, Contradiction::Changed, findings)?;
-    judge_contradictions(
-        alloc,
-        site,
-        source,
-        ports,
-        Contradiction::IdentityTwice,
-        findings,
-    )
+    judge_twice(alloc, site, source, ports, findings)
+}
+
+/// `identity_twice`. States of ports may differ by themselves while they change: these alone are no finding.
+#[tactic(auto, unfolding(crate::specs::Findings::twice_reported))]
+fn judge_twice<'a>(
+    alloc: Global,
+    site: &'a Site,
+    source: Source,
+    ports: &[u16],
+    findings: &mut Vec<Finding<'a>>,
+) -> Result<(), AllocError>
+    requires { ports.now ≡ (site_answers site.now).ports source }
+    ensures { OnOk result (reported findings.new.items ≡ reported findings.old.items ++ twice_reported (site_answers site.now) source) }
+{
+    let count = findings.len();
+    let how = Contradiction::IdentityTwice;
+    judge_contradictions(alloc, site, source, ports, how, findings)?;
+    let (_, twice) = findings.as_slice().split_at(count);
+    if are_of_states(twice) {
+        findings.truncate(count);
+    }
+    Ok(())
+}
+
+/// Whether all these findings say how portState changed.
+fn are_of_states(findings: &[Finding<'_>]) -> bool
+    ensures { result ≡ list_all (λ f. is_of_state (said f.source (says f.what))) findings.now }
+{
+    findings.iter().all(|finding| is_of_state(finding))
+}
+
+fn is_of_state(finding: &Finding<'_>) -> bool
+    ensures { result ≡ is_of_state (said finding.now.source (says finding.now.what)) }
+{
+    match &finding.what {
+        What::Changed(_, change) | What::IdentityTwice(_, change) => {
+            matches!(change.before, Value::State(_))
+        }
+        _ => false,
+    }
 }
 
 /// `incomplete`.
@@ -74,14 +108,8 @@ fn judge_contradictions<'a>(
 {
     judge_clock_sets(alloc, site, source, how, findings)?;
     judge_port_sets(alloc, site, source, ports, how, findings)?;
-    judge_set(
-        alloc,
-        source,
-        None,
-        site.descriptions(source),
-        how,
-        findings,
-    )
+    let compared = Compared::of(site, source, None, how);
+    judge_set(alloc, compared, site.descriptions(source), findings)
 }
 
 /// The same for the data sets of the clock, except its description.
@@ -95,10 +123,11 @@ fn judge_clock_sets<'a>(
 ) -> Result<(), AllocError>
     ensures { OnOk result (reported findings.new.items ≡ reported findings.old.items ++ clock_sets_reported how (site_answers site.now) source) }
 {
-    judge_set(alloc, source, None, site.defaults(source), how, findings)?;
-    judge_set(alloc, source, None, site.currents(source), how, findings)?;
-    judge_set(alloc, source, None, site.parents(source), how, findings)?;
-    judge_set(alloc, source, None, site.times(source), how, findings)
+    let compared = Compared::of(site, source, None, how);
+    judge_set(alloc, compared, site.defaults(source), findings)?;
+    judge_set(alloc, compared, site.currents(source), findings)?;
+    judge_set(alloc, compared, site.parents(source), findings)?;
+    judge_set(alloc, compared, site.times(source), findings)
 }
 
 /// The same for the data sets of these ports.
@@ -129,54 +158,73 @@ fn judge_port_set<'a>(
 ) -> Result<(), AllocError>
     ensures { OnOk result (reported findings.new.items ≡ reported findings.old.items ++ port_set_reported how (site_answers site.now) source port) }
 {
-    judge_set(
-        alloc,
-        source,
-        Some(port),
-        site.port_answers(source, port),
-        how,
-        findings,
-    )
+    let compared = Compared::of(site, source, Some(port), how);
+    judge_set(alloc, compared, site.port_answers(source, port), findings)
+}
+
+/// Whose answers are compared, and how.
+#[derive(Clone, Copy)]
+struct Compared {
+    source: Source,
+    /// The port whose answers they are.
+    port: Option<u16>,
+    how: Contradiction,
+    /// Whether the clock is its own grandmaster.
+    is_own: bool,
+}
+
+impl Compared {
+    fn of(site: &Site, source: Source, port: Option<u16>, how: Contradiction) -> Compared
+        ensures source { result.source ≡ source }
+        ensures port { result.port ≡ port }
+        ensures how { result.how ≡ how }
+        ensures own { result.is_own ≡ is_own_grandmaster (site_answers site.now) source }
+    {
+        Compared {
+            source,
+            port,
+            how,
+            is_own: site.is_own_grandmaster(source),
+        }
+    }
 }
 
 /// The members of a data set in which two of these answers differ.
 #[tactic(auto, unfolding(crate::specs::Findings::set_reported))]
 fn judge_set<'a, T: DataSet>(
     alloc: Global,
-    source: Source,
-    port: Option<u16>,
+    compared: Compared,
     received: &'a [Received<T>],
-    how: Contradiction,
     findings: &mut Vec<Finding<'a>>,
 ) -> Result<(), AllocError>
-    ensures { OnOk result (reported findings.new.items ≡ reported findings.old.items ++ set_reported how source port T.listed T.says received.now) }
+    ensures { OnOk result (reported findings.new.items ≡ reported findings.old.items
+        ++ set_reported compared.how compared.source compared.port compared.is_own T.listed T.says received.now) }
 {
     let members = T::members();
     for member in members {
-        judge_member(alloc, source, port, received, *member, how, findings)?;
+        judge_member(alloc, compared, received, *member, findings)?;
     }
     Ok(())
 }
 
-/// A member in which two of these answers differ. A member whose value moves though nothing was
-/// changed is passed over.
+/// A member in which two of these answers differ. A member is passed over if its value moves though nothing was changed, or if
+/// a clock that is its own grandmaster says it of itself too.
 #[tactic(auto, unfolding(crate::specs::Findings::member_reported))]
 fn judge_member<'a, T: DataSet>(
     alloc: Global,
-    source: Source,
-    port: Option<u16>,
+    compared: Compared,
     received: &'a [Received<T>],
     member: Member,
-    how: Contradiction,
     findings: &mut Vec<Finding<'a>>,
 ) -> Result<(), AllocError>
-    ensures { OnOk result (reported findings.new.items ≡ reported findings.old.items ++ member_reported how source port T.says received.now member) }
+    ensures { OnOk result (reported findings.new.items ≡ reported findings.old.items
+        ++ member_reported compared.how compared.source compared.port compared.is_own T.says received.now member) }
 {
-    if member.is_moving() {
+    if member.is_moving() || compared.is_own && member.is_of_grandmaster() {
         return Ok(());
     }
-    match change_of(alloc, received, member, how)? {
-        Some(change) => report_change(findings, source, port, change, how),
+    match change_of(alloc, received, member, compared.how)? {
+        Some(change) => report_change(findings, compared, change),
         None => Ok(()),
     }
 }
@@ -201,15 +249,15 @@ fn change_of<'a, T: DataSet>(
 
 fn report_change<'a>(
     findings: &mut Vec<Finding<'a>>,
-    source: Source,
-    port: Option<u16>,
+    compared: Compared,
     change: Change<'a>,
-    how: Contradiction,
 ) -> Result<(), AllocError>
-    ensures { OnOk result (reported findings.new.items ≡ reported findings.old.items ++ said source (Otherwise how port (member_change change.entry)) ∷ []) }
+    ensures { OnOk result (reported findings.new.items ≡ reported findings.old.items
+        ++ said compared.source (Otherwise compared.how compared.port (member_change change.entry)) ∷ []) }
 {
-    match how {
-        Contradiction::Changed => report(findings, source, What::Changed(port, change)),
-        Contradiction::IdentityTwice => report(findings, source, What::IdentityTwice(port, change)),
-    }
+    let what = match compared.how {
+        Contradiction::Changed => What::Changed(compared.port, change),
+        Contradiction::IdentityTwice => What::IdentityTwice(compared.port, change),
+    };
+    report(findings, compared.source, what)
 }

@@ -2,17 +2,18 @@
 
 ghost use Rattle.std.specs.Prelude.{◌≡◌, ◌++◌, OnOk};
 ghost use Rattle.std.specs.List.{flat_map};
-ghost use Rattle.ptpm_site.specs.Findings.{interval_found, link_delay_found, state_found};
+ghost use Rattle.ptpm_site.specs.Findings.{interval_found, link_delay_found, lock_found, mechanism_found, state_found};
 ghost use Rattle.ptpm_site.specs.Site.{site_answers};
 
 use crate::amounts::large_link_delay;
+use crate::announcing::{seldom_announced, takes_time};
 use crate::comparing::{Compared, add_differences};
-use crate::differences::intervals_differ;
+use crate::differences::mechanism_differs;
 use crate::finding::{Finding, What, add_finding};
 use crate::limits::Limits;
-use crate::port_states::bad_state;
 use crate::site::Site;
 use crate::source::Source;
+use crate::staying::{staying_state, unlocked_port};
 use std::alloc::AllocError;
 
 /// `port_state`, for these ports.
@@ -39,8 +40,38 @@ fn judge_state(
 ) -> Result<(), AllocError>
     ensures { OnOk result (findings.new.items ≡ findings.old.items ++ state_found (site_answers site.now) source port) }
 {
-    match bad_state(site.port_answers(source, port)) {
+    match staying_state(site, source, port) {
         Some(state) => add_finding(findings, source, What::PortState(port, state)),
+        None => Ok(()),
+    }
+}
+
+/// `not_locked`, for these ports.
+pub fn judge_locks(
+    site: &Site,
+    source: Source,
+    ports: &[u16],
+    findings: &mut Vec<Finding<'_>>,
+) -> Result<(), AllocError>
+    ensures { OnOk result (findings.new.items ≡ findings.old.items ++ flat_map (lock_found (site_answers site.now) source) ports.now) }
+{
+    for port in ports {
+        judge_lock(site, source, *port, findings)?;
+    }
+    Ok(())
+}
+
+#[tactic(auto, unfolding(crate::specs::Findings::lock_found))]
+fn judge_lock(
+    site: &Site,
+    source: Source,
+    port: u16,
+    findings: &mut Vec<Finding<'_>>,
+) -> Result<(), AllocError>
+    ensures { OnOk result (findings.new.items ≡ findings.old.items ++ lock_found (site_answers site.now) source port) }
+{
+    match unlocked_port(site, source, port) {
+        Some(unlocked) => add_finding(findings, source, What::NotLocked(port, unlocked)),
         None => Ok(()),
     }
 }
@@ -104,16 +135,33 @@ fn judge_interval(
 ) -> Result<(), AllocError>
     ensures { OnOk result (findings.new.items ≡ findings.old.items ++ interval_found (site_answers site.now) source port) }
 {
+    judge_mechanism(site, source, port, findings)?;
+    match seldom_announced(site, source, port) {
+        Some(seldom) => add_finding(findings, source, What::Announces(port, seldom)),
+        None => Ok(()),
+    }
+}
+
+/// `intervals`, by delayMechanism.
+#[tactic(auto, unfolding(crate::specs::Findings::mechanism_found))]
+fn judge_mechanism(
+    site: &Site,
+    source: Source,
+    port: u16,
+    findings: &mut Vec<Finding<'_>>,
+) -> Result<(), AllocError>
+    ensures { OnOk result (findings.new.items ≡ findings.old.items ++ mechanism_found (site_answers site.now) source port) }
+{
     let (Some(own), Some(set)) = (site.parent(source), site.port(source, port)) else {
         return Ok(());
     };
     match site.port(source.beside(own.parent.clock), own.parent.port) {
-        Some(parent) => add_differences(
+        Some(parent) if takes_time(site, source, &set) => add_differences(
             findings,
             source,
             Compared::Port(port),
-            &intervals_differ(&set, &parent),
+            &[mechanism_differs(&set, &parent)],
         ),
-        None => Ok(()),
+        _ => Ok(()),
     }
 }

@@ -2,6 +2,7 @@
 #![tactic(auto)]
 
 pub mod amounts;
+pub mod announcing;
 pub mod answer;
 pub mod answer_content;
 pub mod asked;
@@ -21,9 +22,11 @@ pub mod judging;
 mod judging_amounts;
 mod judging_answers;
 mod judging_grandmasters;
+mod judging_leading;
 mod judging_loops;
 mod judging_ports;
 pub mod laws;
+pub mod leading;
 pub mod left_out;
 pub mod limits;
 pub mod loops;
@@ -37,6 +40,8 @@ pub mod port_states;
 pub mod site;
 mod site_answers;
 pub mod source;
+pub mod staying;
+pub mod tai_and_utc;
 pub mod tree;
 pub mod tree_builder;
 mod walks;

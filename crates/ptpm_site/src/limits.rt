@@ -1,8 +1,11 @@
-//! What an operator allows.
+//! What an operator allows, and what he knows.
 
-/// How many nanoseconds the amount of an offset and of a delay may have. `None` is no limit.
 #[derive(Clone, Copy)]
 pub struct Limits {
+    /// How many nanoseconds the amount of an offset may have. `None` is no limit.
     pub offset: Option<u64>,
+    /// The same of a delay.
     pub delay: Option<u64>,
+    /// How many seconds TAI is before UTC today.
+    pub tai_utc: i16,
 }

@@ -2,7 +2,7 @@
 
 ghost use Rattle.std.specs.Prelude.{◌≡◌};
 ghost use Rattle.std.specs.Option.{option_map};
-ghost use Rattle.ptpm_site.specs.Members.{is_moving, value_of};
+ghost use Rattle.ptpm_site.specs.Members.{is_moving, is_of_grandmaster, value_of};
 
 use crate::data_sets::{
     ClockQuality, CurrentDataSet, DefaultDataSet, DelayMechanism, ParentDataSet, PortDataSet,
@@ -110,8 +110,21 @@ impl Member {
             Member::OffsetFromMaster
                 | Member::MeanDelay
                 | Member::MeanLinkDelay
+                | Member::LogMinDelayReqInterval
                 | Member::ObservedParentOffsetScaledLogVariance
                 | Member::ObservedParentClockPhaseChangeRate
+        )
+    }
+
+    /// Whether a clock says it of its grandmaster, and not of who that is.
+    pub fn is_of_grandmaster(self) -> bool
+        ensures { result ≡ is_of_grandmaster self }
+    {
+        matches!(
+            self,
+            Member::GrandmasterPriority1
+                | Member::GrandmasterClockQuality
+                | Member::GrandmasterPriority2
         )
     }
 }

@@ -15,7 +15,10 @@ fn is_on_the_way(state: PortState) -> bool
 {
     matches!(
         state,
-        PortState::Initializing | PortState::PreMaster | PortState::Uncalibrated
+        PortState::Initializing
+            | PortState::Listening
+            | PortState::PreMaster
+            | PortState::Uncalibrated
     )
 }
 

@@ -1,13 +1,17 @@
 //! A finding as a JSON object.
 
-use crate::json::{identity_value, member_value, port_value, text_value};
+use crate::json::{identity_value, member_value, port_value, quality_value, text_value};
+use ptpm_data::PortState;
+use ptpm_site::announcing::Seldom;
 use ptpm_site::changes::Change;
 use ptpm_site::completeness::Missing;
 use ptpm_site::differences::Differs;
 use ptpm_site::finding::{Finding, What};
 use ptpm_site::grandmasters::Masterless;
+use ptpm_site::leading::{Better, Leap, Untraceable, WrongOffset};
 use ptpm_site::member::state_name;
 use ptpm_site::parents::{NoMaster, Steps};
+use ptpm_site::tai_and_utc::OffByUtc;
 use serde_json::{Map, Value, json, put};
 use std::alloc::{AllocError, Global};
 
@@ -28,6 +32,12 @@ pub(crate) fn finding_value(alloc: Global, finding: &Finding<'_>) -> Result<Valu
         "finding",
         text_value(alloc, finding.what.name())?,
     )?;
+    let severity = if finding.what.is_critical() {
+        "critical"
+    } else {
+        "warning"
+    };
+    put(&mut map, alloc, "severity", text_value(alloc, severity)?)?;
     put_values(alloc, &mut map, &finding.what)?;
     Ok(Value::Object(map))
 }
@@ -83,6 +93,21 @@ fn put_values(
                 text_value(alloc, state_name(Some(*state)))?,
             )
         }
+        What::NotLocked(port, unlocked) => {
+            put(map, alloc, "portNumber", Value::from(*port))?;
+            put(
+                map,
+                alloc,
+                "portState",
+                text_value(alloc, state_name(Some(PortState::Uncalibrated)))?,
+            )?;
+            let offset = match unlocked.offset {
+                Some(offset) => Value::from(offset),
+                None => Value::Null,
+            };
+            put(map, alloc, "offsetFromMaster", offset)
+        }
+        What::OffByUtc(how) => put_off_by_utc(alloc, map, how),
         What::Offset(offset) => put(map, alloc, "offsetFromMaster", Value::from(*offset)),
         What::Delay(delay) => put(map, alloc, "meanDelay", Value::from(*delay)),
         What::LinkDelay(port, delay) => {
@@ -93,6 +118,21 @@ fn put_values(
             put(map, alloc, "portNumber", Value::from(*port))?;
             put_differs(alloc, map, differs)
         }
+        What::Announces(port, seldom) => put_seldom(alloc, map, *port, seldom),
+        What::Degraded(degraded) => put(
+            map,
+            alloc,
+            "clockQuality",
+            quality_value(alloc, degraded.quality)?,
+        ),
+        What::NotTraceable(untraceable) => put_untraceable(alloc, map, untraceable),
+        What::UtcInvalid(offset) => {
+            put(map, alloc, "currentUtcOffset", Value::from(*offset))?;
+            put(map, alloc, "currentUtcOffsetValid", Value::from(false))
+        }
+        What::UtcOffset(offset) => put_wrong_offset(alloc, map, offset),
+        What::Leap(leap) => put_leap(alloc, map, leap),
+        What::BetterClock(better) => put_better(alloc, map, better),
         What::Incomplete(missing) => put_missing(alloc, map, missing),
         What::Changed(port, change) | What::IdentityTwice(port, change) => {
             put_change(alloc, map, *port, change)
@@ -178,4 +218,105 @@ fn put_change(
     )?;
     put(map, alloc, "before", member_value(alloc, change.before)?)?;
     put(map, alloc, "after", member_value(alloc, change.after)?)
+}
+
+fn put_off_by_utc(
+    alloc: Global,
+    map: &mut Map<String, Value>,
+    how: &OffByUtc,
+) -> Result<(), AllocError> {
+    let reason = match how {
+        OffByUtc::Offset(offset) => {
+            put(map, alloc, "offsetFromMaster", Value::from(*offset))?;
+            "offset"
+        }
+        OffByUtc::Followers(count) => {
+            put(map, alloc, "clocks", Value::from(*count))?;
+            "followers"
+        }
+    };
+    put(map, alloc, "reason", text_value(alloc, reason)?)
+}
+
+fn put_untraceable(
+    alloc: Global,
+    map: &mut Map<String, Value>,
+    untraceable: &Untraceable,
+) -> Result<(), AllocError> {
+    put(map, alloc, "clockClass", Value::from(untraceable.class))?;
+    put(map, alloc, "timeTraceable", Value::from(untraceable.time))?;
+    put(
+        map,
+        alloc,
+        "frequencyTraceable",
+        Value::from(untraceable.frequency),
+    )
+}
+
+/// What is said, and what is so.
+fn put_wrong_offset(
+    alloc: Global,
+    map: &mut Map<String, Value>,
+    offset: &WrongOffset,
+) -> Result<(), AllocError> {
+    put(map, alloc, "currentUtcOffset", Value::from(offset.said))?;
+    put(map, alloc, "expected", Value::from(offset.is))
+}
+
+fn put_leap(alloc: Global, map: &mut Map<String, Value>, leap: &Leap) -> Result<(), AllocError> {
+    put(map, alloc, "leap61", Value::from(leap.leap61))?;
+    put(map, alloc, "leap59", Value::from(leap.leap59))
+}
+
+/// The clock that stands by, with what it says of itself.
+fn put_better(
+    alloc: Global,
+    map: &mut Map<String, Value>,
+    better: &Better,
+) -> Result<(), AllocError> {
+    put(map, alloc, "better", identity_value(alloc, better.clock)?)?;
+    put(
+        map,
+        alloc,
+        "clockQuality",
+        quality_value(alloc, better.quality)?,
+    )?;
+    put(map, alloc, "priority1", Value::from(better.priority1))
+}
+
+/// What the port says of its intervals, and the interval of the port that it follows, in seconds.
+fn put_seldom(
+    alloc: Global,
+    map: &mut Map<String, Value>,
+    port: u16,
+    seldom: &Seldom,
+) -> Result<(), AllocError> {
+    put(map, alloc, "portNumber", Value::from(port))?;
+    put(
+        map,
+        alloc,
+        "logAnnounceInterval",
+        Value::from(seldom.log_announce),
+    )?;
+    put(
+        map,
+        alloc,
+        "announceReceiptTimeout",
+        Value::from(seldom.timeout),
+    )?;
+    let seconds = seconds_value(seldom.parent_log);
+    put(map, alloc, "parentSeconds", seconds)
+}
+
+/// Two to a logarithm.
+fn seconds_value(log: i8) -> Value {
+    if 0 <= log && log < 63 {
+        return Value::from(1u64 << log as u32);
+    }
+    let factor = if log < 0 { 0.5 } else { 2.0 };
+    let mut seconds = 1.0;
+    for _ in 0..log.unsigned_abs() {
+        seconds *= factor;
+    }
+    Value::from(seconds)
 }

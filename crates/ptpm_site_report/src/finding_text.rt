@@ -1,14 +1,19 @@
 //! A finding as a line of text.
 
-use crate::intervals::Exact;
+use crate::intervals::{Exact, Seconds, Whole};
 use ptpm_codec::PortIdentity;
+use ptpm_site::announcing::Seldom;
 use ptpm_site::changes::Change;
 use ptpm_site::completeness::Missing;
+use ptpm_site::data_sets::ClockQuality;
 use ptpm_site::differences::Differs;
 use ptpm_site::finding::{Finding, What};
 use ptpm_site::grandmasters::Masterless;
+use ptpm_site::leading::{Better, Leap, Untraceable, WrongOffset};
 use ptpm_site::member::state_name;
 use ptpm_site::parents::{NoMaster, Steps};
+use ptpm_site::staying::Unlocked;
+use ptpm_site::tai_and_utc::OffByUtc;
 use std::fmt;
 
 /// A finding in words: the domain, the clock, and what is wrong.
@@ -45,6 +50,8 @@ impl fmt::Display for Said<'_> {
                 Ok(())
             }
             What::PortState(port, state) => write!(f, " port {port} {}", state_name(Some(*state))),
+            What::NotLocked(port, unlocked) => write_unlocked(*port, unlocked, f),
+            What::OffByUtc(how) => write_off_by_utc(how, f),
             What::Offset(offset) => write!(f, " offsetFromMaster {} ns", Exact(*offset)),
             What::Delay(delay) => write!(f, " meanDelay {} ns", Exact(*delay)),
             What::LinkDelay(port, delay) => {
@@ -54,6 +61,13 @@ impl fmt::Display for Said<'_> {
                 write!(f, " port {port}")?;
                 write_differs(differs, f)
             }
+            What::Announces(port, seldom) => write_seldom(*port, seldom, f),
+            What::Degraded(degraded) => write_quality(&degraded.quality, f),
+            What::NotTraceable(untraceable) => write_untraceable(untraceable, f),
+            What::UtcInvalid(offset) => write!(f, " currentUtcOffset {offset} is not valid"),
+            What::UtcOffset(offset) => write_wrong_offset(offset, f),
+            What::Leap(leap) => write_leap(leap, f),
+            What::BetterClock(better) => write_better(better, f),
             What::Incomplete(missing) => write_missing(missing, f),
             What::Changed(port, change) => write_change(*port, change, "then", f),
             What::IdentityTwice(port, change) => write_change(*port, change, "and", f),
@@ -131,4 +145,91 @@ fn write_change<W: fmt::Write>(
         after,
     } = change;
     write!(f, " {} {before}, {word} {after}", member.name())
+}
+
+fn write_unlocked<W: fmt::Write>(
+    port: u16,
+    unlocked: &Unlocked,
+    f: &mut fmt::Formatter<W>,
+) -> fmt::Result {
+    write!(f, " port {port} UNCALIBRATED")?;
+    match unlocked.offset {
+        Some(offset) => write!(f, ", offset {} ns", Whole(offset)),
+        None => Ok(()),
+    }
+}
+
+fn write_off_by_utc<W: fmt::Write>(how: &OffByUtc, f: &mut fmt::Formatter<W>) -> fmt::Result {
+    match how {
+        OffByUtc::Offset(offset) => write!(
+            f,
+            " {} ns: TAI and UTC are taken for each other",
+            Exact(*offset)
+        ),
+        OffByUtc::Followers(count) => {
+            write!(f, " each of the {count} clocks that follow it says so")
+        }
+    }
+}
+
+fn write_quality<W: fmt::Write>(quality: &ClockQuality, f: &mut fmt::Formatter<W>) -> fmt::Result {
+    write!(
+        f,
+        " class {} accuracy 0x{:02x} variance 0x{:04x}",
+        quality.class, quality.accuracy, quality.variance
+    )
+}
+
+fn write_untraceable<W: fmt::Write>(
+    untraceable: &Untraceable,
+    f: &mut fmt::Formatter<W>,
+) -> fmt::Result {
+    let Untraceable {
+        class,
+        time,
+        frequency,
+    } = untraceable;
+    write!(
+        f,
+        " class {class}, timeTraceable {time}, frequencyTraceable {frequency}"
+    )
+}
+
+fn write_wrong_offset<W: fmt::Write>(
+    offset: &WrongOffset,
+    f: &mut fmt::Formatter<W>,
+) -> fmt::Result {
+    let WrongOffset { said, is } = offset;
+    write!(f, " currentUtcOffset {said}, and TAI is {is} s before UTC")
+}
+
+fn write_leap<W: fmt::Write>(leap: &Leap, f: &mut fmt::Formatter<W>) -> fmt::Result {
+    let name = if leap.leap61 { "leap61" } else { "leap59" };
+    write!(f, " {name} at the end of this day in UTC")
+}
+
+fn write_better<W: fmt::Write>(better: &Better, f: &mut fmt::Formatter<W>) -> fmt::Result {
+    write!(
+        f,
+        " class {} leads, and {} of class {} and priority1 {} stands by",
+        better.class, better.clock, better.quality.class, better.priority1
+    )
+}
+
+fn write_seldom<W: fmt::Write>(
+    port: u16,
+    seldom: &Seldom,
+    f: &mut fmt::Formatter<W>,
+) -> fmt::Result {
+    let Seldom {
+        log_announce,
+        timeout,
+        parent,
+        parent_log,
+    } = seldom;
+    write!(
+        f,
+        " port {port} logAnnounceInterval {log_announce} and announceReceiptTimeout {timeout}, and {parent} announces each {} s",
+        Seconds(*parent_log)
+    )
 }

@@ -10,6 +10,29 @@ pub(crate) struct Whole(pub(crate) i64);
 #[derive(Clone, Copy)]
 pub(crate) struct Exact(pub(crate) i64);
 
+/// Two to a logarithm, in seconds: whole ones, or a fraction with all its digits. Beyond 2^62 and 2^-16 the power is left as it is.
+#[derive(Clone, Copy)]
+pub(crate) struct Seconds(pub(crate) i8);
+
+impl fmt::Display for Seconds {
+    fn fmt<W: fmt::Write>(&self, f: &mut fmt::Formatter<W>) -> fmt::Result {
+        match self.0 {
+            0..=62 => write!(f, "{}", 1u64 << self.0 as u32),
+            -16..=-1 => write_fraction(self.0.unsigned_abs(), f),
+            power => write!(f, "2^{power}"),
+        }
+    }
+}
+
+/// One half to this power: as many digits behind the point.
+fn write_fraction<W: fmt::Write>(power: u8, f: &mut fmt::Formatter<W>) -> fmt::Result {
+    let mut digits = 1u64;
+    for _ in 0..power {
+        digits = digits.wrapping_mul(5);
+    }
+    write!(f, "0.{digits:0width$}", width = usize::from(power))
+}
+
 impl fmt::Display for Whole {
     fn fmt<W: fmt::Write>(&self, f: &mut fmt::Formatter<W>) -> fmt::Result {
         let amount = (self.0.unsigned_abs() + 0x8000) / 0x1_0000;

@@ -4,6 +4,7 @@ use crate::finding_json::finding_value;
 use ptpm_codec::{ClockIdentity, PortIdentity};
 use ptpm_commands::Fault;
 use ptpm_site::clock::{Clock, Received};
+use ptpm_site::data_sets::ClockQuality;
 use ptpm_site::member::{DataSet, Member, Value as MemberValue, mechanism_name, state_name};
 use ptpm_site::picture::Picture;
 use ptpm_site::source::Source;
@@ -149,11 +150,7 @@ pub(crate) fn member_value(alloc: Global, value: MemberValue<'_>) -> Result<Valu
     match value {
         MemberValue::Flag(flag) => Ok(Value::Bool(flag)),
         MemberValue::Number(number) => Ok(Value::from(number)),
-        MemberValue::Quality(quality) => json!(in alloc; {
-            "clockClass": quality.class,
-            "clockAccuracy": quality.accuracy,
-            "offsetScaledLogVariance": quality.variance
-        }),
+        MemberValue::Quality(quality) => quality_value(alloc, quality),
         MemberValue::Clock(clock) => identity_value(alloc, clock),
         MemberValue::Port(port) => port_value(alloc, port),
         MemberValue::State(state) => text_value(alloc, state_name(state)),
@@ -173,4 +170,13 @@ pub(crate) fn identity_value(alloc: Global, clock: ClockIdentity) -> Result<Valu
 pub(crate) fn port_value(alloc: Global, port: PortIdentity) -> Result<Value, AllocError> {
     let identity = identity_value(alloc, port.clock)?;
     json!(in alloc; {"clockIdentity": identity, "portNumber": port.port})
+}
+
+/// A ClockQuality, as an object (5.3.7).
+pub(crate) fn quality_value(alloc: Global, quality: ClockQuality) -> Result<Value, AllocError> {
+    json!(in alloc; {
+        "clockClass": quality.class,
+        "clockAccuracy": quality.accuracy,
+        "offsetScaledLogVariance": quality.variance
+    })
 }

@@ -7,6 +7,7 @@ mod drawing;
 mod escaped;
 mod finding_json;
 mod finding_text;
+mod grandmaster_line;
 mod intervals;
 mod json;
 mod lines;

@@ -2,6 +2,7 @@
 
 use crate::columns::{Columns, Widths, print_spaces};
 use crate::finding_text::Words;
+use crate::grandmaster_line::GrandmasterLine;
 use crate::ports_text::PortsText;
 use crate::rows::{Rows, notes_of};
 use ptpm_commands::Fault;
@@ -35,6 +36,7 @@ impl Sheet<'_> {
                 .head_of(alloc, domain, rows)
                 .map_err(|_| Fault::OutOfMemory)?;
             writeln!(out, "{head}")?;
+            print_leaders(all, rows, out)?;
             print_rows(alloc, all, rows, out)?;
             writeln!(out)?;
             rest = others;
@@ -65,9 +67,22 @@ impl Sheet<'_> {
                 continue;
             }
             unseen = print_unseen(unseen, Some(finding.source), out)?;
-            writeln!(out, "{}", Words(finding))?;
+            write!(out, "{}", Words(finding))?;
+            self.print_description(finding.source, out)?;
         }
         print_unseen(unseen, None, out)?;
+        Ok(())
+    }
+
+    /// Ends the line of a finding with the description of its clock, if the clock has one.
+    fn print_description<O: Write>(&self, source: Source, out: &mut O) -> Result<(), Fault> {
+        if let Some(received) = self.0.site.descriptions(source).last() {
+            let text = received.set.text.as_str();
+            if !text.is_empty() {
+                write!(out, " {text:?}")?;
+            }
+        }
+        writeln!(out)?;
         Ok(())
     }
 
@@ -82,6 +97,19 @@ impl Sheet<'_> {
         unseen.sort()?;
         Ok(unseen)
     }
+}
+
+/// Prints a line for each clock of these rows that leads.
+fn print_leaders<O: Write>(all: Rows<'_>, rows: &[TreeRow], out: &mut O) -> io::Result<()> {
+    for row in rows {
+        if let Some((source, clock)) = all.clock_of(row) {
+            if all.0.site.leads(source) {
+                print_spaces(MARGIN, out)?;
+                writeln!(out, "{}", GrandmasterLine { source, clock })?;
+            }
+        }
+    }
+    Ok(())
 }
 
 fn print_rows<O: Write>(

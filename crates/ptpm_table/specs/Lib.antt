@@ -6,6 +6,8 @@ pub mod Rendering
 pub mod Managers
 pub mod ErrorText
 pub mod Slots
+pub mod SlotMemory
+pub mod Tables
 pub mod KeptMessages
 pub mod Sending
 pub mod SendingLaws

@@ -19,7 +19,9 @@ mod reply_table;
 mod serial;
 mod slot;
 mod slot_list;
+mod slot_memory;
 mod slot_table;
+mod table_over;
 
 pub use error::TableError;
 pub use heap_table::HeapTable;

@@ -27,7 +27,7 @@ use std::marker::Model;
 /// A manager's rights, and its latest accepted request, if one is kept. In it and in `Kept` the large members come first, so
 /// that no octet between two members belongs to neither. An empty table is then cleared in one piece.
 #[derive(Drop)]
-pub(crate) struct Slot {
+pub struct Slot {
     pub(crate) kept: Kept,
     pub(crate) rights: Rights,
     /// Whether a request is kept.

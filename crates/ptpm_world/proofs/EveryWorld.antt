@@ -3,9 +3,9 @@ use Rattle.ptpm_world.proofs.Common.{arith, ◌≡◌, ℕ, ◌<◌, ◌≤◌, 
 use Rattle.std.proofs.lemmas.List.Elements.{All-map}
 use Rattle.std.specs.FinMap.{get}
 use Rattle.ptpm_data.proofs.OwnOctets.{some_at}
-use Rattle.ptpm_table.specs.declared.slot_table.SlotTable.{SlotTable}
 use Rattle.ptpm_table.specs.declared.slot.Slot.{Slot}
 use Rattle.ptpm_table.specs.Slots.{configured, entry_in}
+use Rattle.ptpm_table.specs.Tables.{OfSixteen}
 use Rattle.ptpm_table.proofs.Slots.{get_used, known_slot}
 use Rattle.ptpm_script.specs.declared.network.End.{End}
 use Rattle.ptpm_script.specs.declared.network.End.TheVariants as ends
@@ -18,7 +18,7 @@ nothing_kept None e = refl
 nothing_kept (Some s) e = absurd (cc)
 
 -- a table has entries only of the managers of its slots
-table-of_managers : (t : SlotTable 16) (m : PortIdentity)
+table-of_managers : (t : OfSixteen) (m : PortIdentity)
     → is_known m (identities (configured t.slots.items)) ≡ false
     → get (table_entries t) m ≡ None
 table-of_managers t m e = grind (arith, get_used, nothing_kept, known_slot)

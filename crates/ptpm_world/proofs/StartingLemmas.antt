@@ -5,8 +5,8 @@ use Rattle.std.proofs.Math.Seq.{get_or-append_seam, set-append_seam}
 use Rattle.ptpm_codec.specs.declared.identity.ClockIdentity.{ClockIdentity}
 use Rattle.ptpm_data.proofs.OwnOctets.{some_at}
 use Rattle.ptpm_data.specs.declared.rights.Rights.{Rights}
-use Rattle.ptpm_table.specs.declared.slot_table.SlotTable.{SlotTable}
 use Rattle.ptpm_table.specs.Slots as slots
+use Rattle.ptpm_table.specs.Tables.{OfSixteen}
 use Rattle.ptpm_manager.specs.Session as manager
 use Rattle.ptpm_manager.specs.Setup.{AreTwoClocks}
 use Rattle.ptpm_network.proofs.Exchanging.{clocks_apart}
@@ -168,7 +168,7 @@ none_twice (s ∷ ss) c d =
 -- ---- one clock
 
 -- the table of a fresh agent
-abbrev IsFreshTable : ClockIdentity → List (PortIdentity × Rights) → SlotTable 16 → Type 0
+abbrev IsFreshTable : ClockIdentity → List (PortIdentity × Rights) → OfSixteen → Type 0
 IsFreshTable clock managers t =
     IsFresh clock managers (clock_with t.clock (slots.configured t.slots.items)) (table_entries t)
 

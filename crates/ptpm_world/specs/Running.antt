@@ -1,10 +1,8 @@
 -- A world as the network's definitions see it: clocks and sessions by their places, and all frames.
-use denote.Param.{number}
 use Rattle.std.specs.Prelude.{◌≡◌, ℕ, List, [], Bool, false, bytes_eq, find, length, slice_get, Option, Some, None, option_map}
 use Rattle.ptpm_data.specs.Members.{DataSetsValue}
-use Rattle.ptpm_table.specs.declared.slot_table.SlotTable.{SlotTable}
 use Rattle.ptpm_table.specs.Entries.{Entries}
-use Rattle.ptpm_table.specs.contracts.slot_table.SlotTableReplyTable.TheImpl.{ghosts}
+use Rattle.ptpm_table.specs.Tables.{OfSixteen, entries_of_sixteen, owner_of_sixteen}
 use Rattle.ptpm_agent.specs.Agent as agent
 use Rattle.ptpm_agent.specs.Agent.{clock_of}
 use Rattle.ptpm_agent.specs.declared.agent.Agent.{Agent}
@@ -28,15 +26,15 @@ pub use Rattle.ptpm_world.specs.Ends.{AreLinks, IsOfSession, IsStoredFrame, IsTh
 -- ---- an agent
 
 -- what its table of sixteen slots keeps of each manager: `ReplyTable`'s entries
-abbrev pub table_entries : SlotTable 16 → Entries
-table_entries t = (ghosts (number 16)).entries t
+abbrev pub table_entries : OfSixteen → Entries
+table_entries t = entries_of_sixteen t
 
 -- its identity, its managers, and what each of them may change: `ReplyTable`'s owner
-abbrev pub agent_clock : Agent (SlotTable 16) → Clock
-agent_clock a = clock_of (ghosts (number 16)).owner a
+abbrev pub agent_clock : Agent OfSixteen → Clock
+agent_clock a = clock_of owner_of_sixteen a
 
 -- its data sets, and what is kept of each manager
-abbrev pub agent_state : Agent (SlotTable 16) → State
+abbrev pub agent_state : Agent OfSixteen → State
 agent_state a = agent.state_of table_entries a
 
 -- ---- what is at a place; past the last, something that no definition looks at

@@ -1,6 +1,9 @@
-use Rattle.ptpm_commands.specs.Show.{AreShown}
+use Rattle.ptpm_commands.specs.Lines.{left_in}
+use Rattle.ptpm_commands.proofs.ShownLines.{PassedSo}
 use Rattle.ptpm_commands.proofs.show.show_good_lines_as.Given as goal
 
--- messages so far are shown
+-- the messages of the lines so far are shown
 abbrev pub invariant-loop-number : goal.invariant-loop-number
-invariant-loop-number g l = AreShown l.form (g.O.Write.contents l.initial.out) (g.O.Write.contents l.out)
+invariant-loop-number g l =
+    PassedSo l.form l.number (left_in g.R.Read.remaining l.initial.lines) (left_in g.R.Read.remaining l.lines)
+    (g.O.Write.contents l.initial.out) (g.O.Write.contents l.out)

@@ -6,4 +6,4 @@ use Rattle.ptpm_site.specs.Site.{site_answers}
 use Rattle.ptpm_site.proofs.judging.judge_all.Given as goal
 
 abbrev pub invariant-loop-place : goal.invariant-loop-place
-invariant-loop-place l = reported l.findings.items ≡ reported l.fn.findings.items ++ flat_map (found_of (site_answers l.site) l.given.limits) (take l.place l.sources)
+invariant-loop-place l = reported l.findings.items ≡ reported l.fn.findings.items ++ flat_map (found_of (site_answers l.site) l.given.limits) (take l.place l.given.sources.now)

@@ -1,5 +1,5 @@
 -- One more clock follows a port whose clock is not seen.
-use Rattle.std.proofs.Common.{◌≡◌, get_or, subst, sym, ap, ◌∙◌}
+use Rattle.std.proofs.Common.{get_or, subst, sym, ap, ◌∙◌}
 use Rattle.std.proofs.lemmas.List.Elements.{All-push}
 use Rattle.std.specs.List.{All}
 use Rattle.std.specs.Option.{option_map}

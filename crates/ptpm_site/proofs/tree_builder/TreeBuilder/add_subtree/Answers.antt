@@ -1,5 +1,5 @@
 -- What comes next stands below what it follows, and none of the rest waits for a row that is deeper.
-use Rattle.std.proofs.Common.{◌≡◌, ℕ, ◌≤◌, [], ◌∷◌, ◌++◌, subst, sym, arith}
+use Rattle.std.proofs.Common.{ℕ, ◌≤◌, [], ◌∷◌, ◌++◌, subst, arith}
 use Rattle.ptpm_site.specs.Growing.{AreWaiting}
 use Rattle.ptpm_site.proofs.Below.{AreWaiting-rest, last_deep, last_stands, rest_shallow}
 use Rattle.ptpm_site.proofs.tree_builder.TreeBuilder.add_subtree.Goals as goal

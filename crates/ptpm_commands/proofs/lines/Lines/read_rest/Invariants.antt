@@ -1,0 +1,21 @@
+use Rattle.std.proofs.Common.{◌≡◌, ◌<◌, ◌≤◌, ◌-◌, false, length, None, IfNone, OnSome}
+use Rattle.std.specs.Io.Buffered.{reader_remaining}
+use Rattle.std.specs.Io.KnownBytes.{IsAtEnd}
+use Rattle.ptpm_world.proofs.LineLemmas.{IsRead, NoFeed}
+use Rattle.ptpm_commands.proofs.lines.Lines.read_rest.Given as goal
+
+-- the line so far and the next octet are what was read, and no line feed was among them
+abbrev pub invariant-loop-next : goal.invariant-loop-next
+invariant-loop-next g l = record {
+  read : IsRead (reader_remaining g.R.Read.remaining l.initial.self.reader) (reader_remaining g.R.Read.remaining l.self.reader)
+      l.first l.self.line.items l.next;
+  free : NoFeed l.self.line.items;
+  short : length l.self.line.items ≤ 4096;
+  some : l.next ≡ None → 0 < length l.self.line.items;
+  at_end : IfNone l.next
+      (OnSome (reader_remaining g.R.Read.remaining l.initial.self.reader) (IsAtEnd (reader_remaining g.R.Read.remaining l.self.reader)));
+  whole : l.self.is_cut ≡ false;
+}
+
+abbrev pub decreases-loop-next : goal.decreases-loop-next
+decreases-loop-next g l = 4096 - length l.self.line.items

@@ -1,0 +1,93 @@
+-- The lines of standard input, as its octets give them, if these are known, and what a line has (this project's profile).
+use Rattle.std.specs.Prelude.{◌≡◌, ◌⊎◌, ℕ, nat_lt, Bool, true, false, List, [], ◌∷◌, length, map, Option, Result, Ok, Err, if◌then◌else◌, option_map}
+use Rattle.std.specs.Io.BufRead.{drop_through}
+use Rattle.std.specs.Io.Buffered.{reader_remaining}
+use Rattle.std.specs.Str.{is_utf8}
+use Rattle.hex.specs.declared.error.FromHexError.{FromHexError}
+use Rattle.ptpm_world.specs.Lines.{BothKnown, IsNextWhole, whole_lines}
+use Rattle.ptpm_commands.specs.declared.columns.Row.{Row}
+use Rattle.ptpm_commands.specs.declared.faults.Fault.{Fault}
+use Rattle.ptpm_commands.specs.declared.faults.Fault.TheVariants as faults
+use Rattle.ptpm_commands.specs.declared.faults.LineFault.TheVariants as bad
+use Rattle.ptpm_commands.specs.declared.lines.Lines.{Lines}
+use Rattle.ptpm_commands.specs.Columns.{cells}
+use Rattle.ptpm_commands.specs.DatagramLine.{datagram_of}
+use Rattle.ptpm_commands.specs.Faults.{is_outside}
+
+-- ---- what a reader has
+
+-- the line that was read last, without its end
+abbrev pub latest_line : {R : Type 0} → Lines R → List ℕ
+latest_line l = l.line.items
+
+-- known octets, or, if these begin within a line that is too long, those behind its line feed
+abbrev pub left_of : Bool → Option (List ℕ) → Option (List ℕ)
+left_of true known = option_map (drop_through 10) known
+left_of false known = known
+
+-- what a reader has left, if its octets are known
+abbrev pub left_in : {R : Type 0} → (R → Option (List ℕ)) → Lines R → Option (List ℕ)
+left_in remaining l = left_of l.is_cut (reader_remaining remaining l.reader)
+
+-- ---- the next line, beside all that comes before its line feed, a carriage return too
+
+-- over 4,096 octets come before its line feed
+abbrev pub is_long : List ℕ → Bool
+is_long octets = nat_lt 4096 (length octets)
+
+abbrev pub begins_long : List (List ℕ × List ℕ) → Bool
+begins_long [] = false
+begins_long (line ∷ lines) = is_long line.1
+
+-- the next line came, or none, and it is not too long
+abbrev pub ReadsNext : Option (List ℕ) → Bool → List ℕ → Option (List ℕ) → Type 0
+ReadsNext before more line after = BothKnown before after (λ xs ys.
+    (begins_long (whole_lines xs) ≡ false) × IsNextWhole more line (whole_lines xs) (whole_lines ys))
+
+-- the next line is too long, and those behind it are left
+abbrev pub LeavesLong : Option (List ℕ) → Option (List ℕ) → Type 0
+LeavesLong before after = BothKnown before after (λ xs ys.
+    (line : List ℕ × List ℕ) × ((whole_lines xs ≡ line ∷ whole_lines ys) × (is_long line.1 ≡ true)))
+
+-- reading failed, or memory; or the next line, which has this number, is too long
+abbrev pub FailsNext : ℕ → Option (List ℕ) → Option (List ℕ) → Fault → Type 0
+FailsNext number before after fault = (is_outside fault ≡ true) ⊎ ((fault ≡ faults.LineTooLong number) × LeavesLong before after)
+
+-- ---- what a line has, by its number and its octets without its end
+
+-- all cells but the last, and the last
+abbrev pub last_apart : List ℕ → List (List ℕ) → List (List ℕ) × List ℕ
+last_apart cell [] = ([], cell)
+last_apart cell (next ∷ more) = (cell ∷ (last_apart next more).0, (last_apart next more).1)
+
+abbrev pub cells_apart : List (List ℕ) → List (List ℕ) × List ℕ
+cells_apart [] = ([], [])
+cells_apart (cell ∷ more) = last_apart cell more
+
+-- the fault of digits that are none is the line's
+abbrev pub numbered : {A : Type 0} → ℕ → Result A FromHexError → Result A Fault
+numbered number (Ok a) = Ok a
+numbered number (Err error) = Err (faults.BadLine number bad.BadHex)
+
+-- only text has digits
+abbrev pub of_text : {A : Type 0} → ℕ → List ℕ → Result A Fault → Result A Fault
+of_text number line r = if is_utf8 line then r else Err (faults.BadLine number bad.BadHex)
+
+-- its datagram, none if it is `nothing`
+abbrev pub datagram_in : ℕ → List ℕ → Result (Option (List ℕ)) Fault
+datagram_in number line = of_text number line (numbered number (datagram_of line))
+
+abbrev pub beside : {A B : Type 0} → A → Result B Fault → Result (A × B) Fault
+beside a (Ok b) = Ok (a, b)
+beside a (Err fault) = Err fault
+
+-- its columns, and the datagram behind them
+abbrev pub row_of_cells : ℕ → List (List ℕ) × List ℕ → Result (List (List ℕ) × Option (List ℕ)) Fault
+row_of_cells number parts = beside parts.0 (numbered number (datagram_of parts.1))
+
+abbrev pub row_in : ℕ → List ℕ → Result (List (List ℕ) × Option (List ℕ)) Fault
+row_in number line = of_text number line (row_of_cells number (cells_apart (cells line)))
+
+-- what the program has of it
+abbrev pub row_value : Row → List (List ℕ) × Option (List ℕ)
+row_value row = (map (λ c. c.now) row.columns.items, option_map (λ v. v.items) row.datagram)

@@ -1,0 +1,170 @@
+//! What is wrong with the time of a clock that leads.
+
+ghost use Rattle.std.specs.Prelude.{◌≡◌, ◌++◌, OnOk};
+ghost use Rattle.std.specs.Option.{option_copied};
+ghost use Rattle.ptpm_site.specs.Findings.{better_found, class_found, leader_found, leap_found, offset_found, properties_found, quality_found, traceability_found, validity_found};
+ghost use Rattle.ptpm_site.specs.Site.{site_answers};
+
+use crate::data_sets::{DefaultDataSet, TimePropertiesDataSet};
+use crate::finding::{Finding, What, add_finding};
+use crate::leading::{
+    announced_leap, better_clock, invalid_offset, not_traceable, without_source, wrong_offset,
+};
+use crate::limits::Limits;
+use crate::site::Site;
+use crate::source::Source;
+use std::alloc::AllocError;
+
+/// `gm_holdover`, `gm_degraded`, `gm_free_running`, `not_traceable`, `utc_invalid`, `utc_offset`, `leap`, `better_clock`: all of a
+/// clock that leads. `sources` has all clocks.
+#[tactic(auto, unfolding(crate::specs::Findings::leader_found))]
+pub fn judge_leader(
+    site: &Site,
+    source: Source,
+    sources: &[Source],
+    limits: Limits,
+    findings: &mut Vec<Finding<'_>>,
+) -> Result<(), AllocError>
+    requires { sources.now ≡ (site_answers site.now).clocks }
+    ensures { OnOk result (findings.new.items ≡ findings.old.items ++ leader_found (site_answers site.now) limits source) }
+{
+    if site.leads(source) {
+        judge_quality(site, source, sources, limits, findings)
+    } else {
+        Ok(())
+    }
+}
+
+#[tactic(auto, unfolding(crate::specs::Findings::quality_found))]
+fn judge_quality(
+    site: &Site,
+    source: Source,
+    sources: &[Source],
+    limits: Limits,
+    findings: &mut Vec<Finding<'_>>,
+) -> Result<(), AllocError>
+    requires { sources.now ≡ (site_answers site.now).clocks }
+    ensures { OnOk result (findings.new.items ≡ findings.old.items ++ quality_found (site_answers site.now) limits source) }
+{
+    let default = site.default(source);
+    judge_class(source, &default, findings)?;
+    if let Some(time) = site.time(source) {
+        judge_properties(source, &default, &time, limits, findings)?;
+    }
+    judge_better(site, source, &default, sources, findings)
+}
+
+/// `gm_holdover`, `gm_degraded` and `gm_free_running`.
+fn judge_class(
+    source: Source,
+    default: &Option<DefaultDataSet>,
+    findings: &mut Vec<Finding<'_>>,
+) -> Result<(), AllocError>
+    ensures { OnOk result (findings.new.items ≡ findings.old.items ++ class_found source default.now) }
+{
+    let Some(default) = default else {
+        return Ok(());
+    };
+    match without_source(default) {
+        Some(degraded) => add_finding(findings, source, What::Degraded(degraded)),
+        None => Ok(()),
+    }
+}
+
+/// `not_traceable`, `utc_invalid`, `utc_offset` and `leap`.
+#[tactic(auto, unfolding(crate::specs::Findings::properties_found))]
+fn judge_properties(
+    source: Source,
+    default: &Option<DefaultDataSet>,
+    time: &TimePropertiesDataSet,
+    limits: Limits,
+    findings: &mut Vec<Finding<'_>>,
+) -> Result<(), AllocError>
+    ensures { OnOk result (findings.new.items ≡ findings.old.items ++ properties_found limits source default.now time.now) }
+{
+    judge_traceability(source, default, time, findings)?;
+    judge_validity(source, time, findings)?;
+    judge_utc_offset(source, time, limits, findings)?;
+    judge_leap(source, time, findings)
+}
+
+/// `utc_invalid`.
+fn judge_validity(
+    source: Source,
+    time: &TimePropertiesDataSet,
+    findings: &mut Vec<Finding<'_>>,
+) -> Result<(), AllocError>
+    ensures { OnOk result (findings.new.items ≡ findings.old.items ++ validity_found source time.now) }
+{
+    match invalid_offset(time) {
+        Some(offset) => add_finding(findings, source, What::UtcInvalid(offset)),
+        None => Ok(()),
+    }
+}
+
+/// `utc_offset`.
+fn judge_utc_offset(
+    source: Source,
+    time: &TimePropertiesDataSet,
+    limits: Limits,
+    findings: &mut Vec<Finding<'_>>,
+) -> Result<(), AllocError>
+    ensures { OnOk result (findings.new.items ≡ findings.old.items ++ offset_found limits source time.now) }
+{
+    match wrong_offset(limits.tai_utc, time) {
+        Some(offset) => add_finding(findings, source, What::UtcOffset(offset)),
+        None => Ok(()),
+    }
+}
+
+/// `leap`.
+fn judge_leap(
+    source: Source,
+    time: &TimePropertiesDataSet,
+    findings: &mut Vec<Finding<'_>>,
+) -> Result<(), AllocError>
+    ensures { OnOk result (findings.new.items ≡ findings.old.items ++ leap_found source time.now) }
+{
+    match announced_leap(time) {
+        Some(leap) => add_finding(findings, source, What::Leap(leap)),
+        None => Ok(()),
+    }
+}
+
+/// `not_traceable`.
+fn judge_traceability(
+    source: Source,
+    default: &Option<DefaultDataSet>,
+    time: &TimePropertiesDataSet,
+    findings: &mut Vec<Finding<'_>>,
+) -> Result<(), AllocError>
+    ensures { OnOk result (findings.new.items ≡ findings.old.items ++ traceability_found source default.now time.now) }
+{
+    let Some(default) = default else {
+        return Ok(());
+    };
+    match not_traceable(default, time) {
+        Some(untraceable) => add_finding(findings, source, What::NotTraceable(untraceable)),
+        None => Ok(()),
+    }
+}
+
+/// `better_clock`.
+fn judge_better(
+    site: &Site,
+    source: Source,
+    default: &Option<DefaultDataSet>,
+    sources: &[Source],
+    findings: &mut Vec<Finding<'_>>,
+) -> Result<(), AllocError>
+    requires { sources.now ≡ (site_answers site.now).clocks }
+    ensures { OnOk result (findings.new.items ≡ findings.old.items ++ better_found (site_answers site.now) source default.now) }
+{
+    let Some(default) = default else {
+        return Ok(());
+    };
+    match better_clock(site, source, default, sources) {
+        Some(better) => add_finding(findings, source, What::BetterClock(better)),
+        None => Ok(()),
+    }
+}

@@ -1,0 +1,208 @@
+//! What a clock that leads says of its time: its clockClass (7.6.2.5) and its TIME_PROPERTIES_DATA_SET (8.2.4). And a clock that
+//! would be a better grandmaster.
+
+ghost use Rattle.std.specs.Prelude.{◌≡◌, find};
+ghost use Rattle.std.specs.Option.{option_copied};
+ghost use Rattle.ptpm_site.specs.Leading.{better_clock, degradation_of, without_source, has_source, invalid_offset, is_better_than, announced_leap, stands_by, not_traceable, wrong_offset};
+ghost use Rattle.ptpm_site.specs.Site.{site_answers};
+
+use crate::data_sets::{ClockQuality, DefaultDataSet, TimePropertiesDataSet};
+use crate::site::Site;
+use crate::source::Source;
+use ptpm_codec::ClockIdentity;
+
+/// How far a clock is from a primary source of time, by its clockClass.
+#[derive(Clone, Copy)]
+pub enum Degradation {
+    /// 7 and 14: it had a source, and still keeps to its holdover specification.
+    Holdover,
+    /// 52, 58, 187 and 193: it had a source, and no longer keeps to that specification.
+    Degraded,
+    /// 248 and 255: it has no source.
+    FreeRunning,
+}
+
+/// A clock without its source of time.
+#[derive(Clone, Copy)]
+pub struct Degraded {
+    pub degradation: Degradation,
+    pub quality: ClockQuality,
+}
+
+/// A clock that has, or had, a primary source of time, and does not say that its time can be traced to one.
+#[derive(Clone, Copy)]
+pub struct Untraceable {
+    /// clockClass.
+    pub class: u8,
+    /// timeTraceable.
+    pub time: bool,
+    /// frequencyTraceable.
+    pub frequency: bool,
+}
+
+/// A currentUtcOffset that is said to be valid, and is not the difference of TAI and UTC. Both are in seconds.
+#[derive(Clone, Copy)]
+pub struct WrongOffset {
+    pub said: i16,
+    pub is: i16,
+}
+
+/// A leap second at the end of this day in UTC.
+#[derive(Clone, Copy)]
+pub struct Leap {
+    pub leap61: bool,
+    pub leap59: bool,
+}
+
+/// A clock of a better class than the one that leads.
+#[derive(Clone, Copy)]
+pub struct Better {
+    /// clockClass of the clock that leads.
+    pub class: u8,
+    /// The better clock, and what it says of itself.
+    pub clock: ClockIdentity,
+    pub quality: ClockQuality,
+    pub priority1: u8,
+}
+
+/// How far a clock of this class is from a source of time. `None` if it has one, or if its class says nothing of it.
+fn degradation_of(class: u8) -> Option<Degradation>
+    ensures { result ≡ degradation_of class }
+{
+    match class {
+        7 | 14 => Some(Degradation::Holdover),
+        52 | 58 | 187 | 193 => Some(Degradation::Degraded),
+        248 | 255 => Some(Degradation::FreeRunning),
+        _ => None,
+    }
+}
+
+/// A clock's quality, if it is without its source of time.
+pub fn without_source(default: &DefaultDataSet) -> Option<Degraded>
+    ensures { result ≡ without_source default.now }
+{
+    Some(Degraded {
+        degradation: degradation_of(default.quality.class)?,
+        quality: default.quality,
+    })
+}
+
+/// Whether a clock of this class has, or had, a primary source of time.
+fn has_source(class: u8) -> bool
+    ensures { result ≡ has_source class }
+{
+    class == 6 || class == 7
+}
+
+/// What a clock of class 6 or 7 says, if it isn't that its time and its frequency are traceable.
+pub fn not_traceable(default: &DefaultDataSet, time: &TimePropertiesDataSet) -> Option<Untraceable>
+    ensures { result ≡ not_traceable default.now time.now }
+{
+    let class = default.quality.class;
+    if has_source(class)
+        && time.ptp_timescale
+        && !(time.time_traceable && time.frequency_traceable)
+    {
+        Some(Untraceable {
+            class,
+            time: time.time_traceable,
+            frequency: time.frequency_traceable,
+        })
+    } else {
+        None
+    }
+}
+
+/// currentUtcOffset, in seconds, if it is not said to be valid.
+pub fn invalid_offset(time: &TimePropertiesDataSet) -> Option<i16>
+    ensures { result ≡ invalid_offset time.now }
+{
+    if time.ptp_timescale && !time.utc_valid {
+        Some(time.utc_offset)
+    } else {
+        None
+    }
+}
+
+/// currentUtcOffset, if it is said to be valid and isn't this many seconds.
+pub fn wrong_offset(tai_utc: i16, time: &TimePropertiesDataSet) -> Option<WrongOffset>
+    ensures { result ≡ wrong_offset tai_utc time.now }
+{
+    if time.ptp_timescale && time.utc_valid && time.utc_offset != tai_utc {
+        Some(WrongOffset {
+            said: time.utc_offset,
+            is: tai_utc,
+        })
+    } else {
+        None
+    }
+}
+
+/// The leap second that a clock announces, if it announces one.
+pub fn announced_leap(time: &TimePropertiesDataSet) -> Option<Leap>
+    ensures { result ≡ announced_leap time.now }
+{
+    if time.leap61 || time.leap59 {
+        Some(Leap {
+            leap61: time.leap61,
+            leap59: time.leap59,
+        })
+    } else {
+        None
+    }
+}
+
+/// Whether a clock may lead, and is of a class below 128 and below this one.
+fn is_better_than(class: u8, default: &DefaultDataSet) -> bool
+    ensures { result ≡ is_better_than class default.now }
+{
+    !default.slave_only && default.quality.class < 128 && default.quality.class < class
+}
+
+/// Whether another clock of the domain stands by that is of a better class than the one that leads.
+fn stands_by(site: &Site, source: Source, class: u8, other: Source) -> bool
+    ensures { result ≡ stands_by (site_answers site.now) source class other }
+{
+    if source.domain != other.domain || site.leads(other) {
+        return false;
+    }
+    match site.default(other) {
+        Some(default) => is_better_than(class, &default),
+        None => false,
+    }
+}
+
+/// The first of these clocks that stands by, and is of a better class than the one that leads.
+fn first_that_stands_by<'a>(
+    site: &Site,
+    source: Source,
+    class: u8,
+    sources: &'a [Source],
+) -> Option<&'a Source>
+    ensures { option_copied result ≡ find (stands_by (site_answers site.now) source class) sources.now }
+{
+    sources
+        .iter()
+        .find(|other| stands_by(site, source, class, **other))
+}
+
+/// A clock of a better class than the one that leads. `sources` has all clocks of the site.
+pub fn better_clock(
+    site: &Site,
+    source: Source,
+    default: &DefaultDataSet,
+    sources: &[Source],
+) -> Option<Better>
+    requires { sources.now ≡ (site_answers site.now).clocks }
+    ensures { result ≡ better_clock (site_answers site.now) source default.now }
+{
+    let class = default.quality.class;
+    let other = first_that_stands_by(site, source, class, sources)?;
+    let better = site.default(*other)?;
+    Some(Better {
+        class,
+        clock: other.clock,
+        quality: better.quality,
+        priority1: better.priority1,
+    })
+}

@@ -1,0 +1,167 @@
+//! Clocks that take TAI and UTC for each other: they are off by as many whole seconds as TAI is before UTC.
+
+ghost use Rattle.std.specs.Prelude.{◌≡◌};
+ghost use Rattle.std.specs.List.{count_by};
+ghost use Rattle.ptpm_site.specs.Site.{site_answers};
+ghost use Rattle.ptpm_site.specs.TaiAndUtc.{all_of, all_off, followers_off, follows_well, has_follower, is_about, is_about_utc, is_about_utc_of, is_off_by_utc, offset_by_utc, takes_utc_for_tai};
+
+use crate::port_groups::PortGroup;
+use crate::site::Site;
+use crate::source::Source;
+use ptpm_codec::ClockIdentity;
+
+/// How it shows that TAI and UTC are taken for each other.
+#[derive(Clone, Copy)]
+pub enum OffByUtc {
+    /// By the clock's own offsetFromMaster, a TimeInterval.
+    Offset(i64),
+    /// By those of all clocks that follow it: so many.
+    Followers(usize),
+}
+
+/// A second as a TimeInterval.
+const SECOND: u64 = 65_536_000_000_000;
+
+/// Ten milliseconds as a TimeInterval.
+const TEN_MILLISECONDS: u64 = 655_360_000_000;
+
+/// Whether a TimeInterval of either sign is within 10 ms of this many seconds.
+fn is_about(interval: i64, seconds: u16) -> bool
+    ensures { result ≡ is_about interval seconds }
+{
+    let amount = interval.unsigned_abs();
+    let whole = u64::from(seconds) * SECOND;
+    whole <= amount + TEN_MILLISECONDS && amount <= whole + TEN_MILLISECONDS
+}
+
+/// Whether it is about the seconds that TAI is before UTC, or one more or less, but not none.
+fn is_about_utc(interval: i64, utc_offset: i16) -> bool
+    ensures { result ≡ is_about_utc interval utc_offset }
+{
+    if utc_offset <= 0 {
+        return false;
+    }
+    let seconds = utc_offset.unsigned_abs();
+    is_about(interval, seconds)
+        || is_about(interval, seconds + 1)
+        || seconds != 1 && is_about(interval, seconds - 1)
+}
+
+/// The same by the currentUtcOffset that a clock says.
+fn is_about_utc_of(site: &Site, interval: i64, source: Source) -> bool
+    ensures { result ≡ is_about_utc_of (site_answers site.now) interval source }
+{
+    match site.time(source) {
+        Some(time) => is_about_utc(interval, time.utc_offset),
+        None => false,
+    }
+}
+
+/// The same by what is known of UTC, by what the clock says, or by what its grandmaster says.
+fn takes_utc_for_tai(
+    site: &Site,
+    tai_utc: i16,
+    source: Source,
+    grandmaster: ClockIdentity,
+    interval: i64,
+) -> bool
+    ensures { result ≡ takes_utc_for_tai (site_answers site.now) tai_utc source grandmaster interval }
+{
+    is_about_utc(interval, tai_utc)
+        || is_about_utc_of(site, interval, source)
+        || is_about_utc_of(site, interval, source.beside(grandmaster))
+}
+
+/// offsetFromMaster of a clock that follows another, has a port in SLAVE, and takes TAI and UTC for each other.
+pub fn offset_by_utc(site: &Site, tai_utc: i16, source: Source) -> Option<i64>
+    ensures { result ≡ offset_by_utc (site_answers site.now) tai_utc source }
+{
+    let _ = site.followed(source)?;
+    let parent = site.parent(source)?;
+    let current = site.current(source)?;
+    let offset = current.offset_from_master;
+    if site.has_port_of(source, PortGroup::Slave)
+        && takes_utc_for_tai(site, tai_utc, source, parent.grandmaster, offset)
+    {
+        Some(offset)
+    } else {
+        None
+    }
+}
+
+/// Whether a clock takes TAI and UTC for each other.
+pub fn is_off_by_utc(site: &Site, tai_utc: i16, source: Source) -> bool
+    ensures { result ≡ is_off_by_utc (site_answers site.now) tai_utc source }
+{
+    offset_by_utc(site, tai_utc, source).is_some()
+}
+
+/// Whether another clock names this one as its grandmaster, and has a port in SLAVE.
+fn has_follower(site: &Site, source: Source, other: Source) -> bool
+    ensures { result ≡ has_follower (site_answers site.now) source other }
+{
+    if source.domain != other.domain || source.clock == other.clock {
+        return false;
+    }
+    match site.parent(other) {
+        Some(parent) => {
+            parent.grandmaster == source.clock && site.has_port_of(other, PortGroup::Slave)
+        }
+        None => false,
+    }
+}
+
+/// How many of these clocks follow a clock.
+fn count_followers(site: &Site, source: Source, sources: &[Source]) -> usize
+    ensures { result ≡ count_by (has_follower (site_answers site.now) source) sources.now }
+{
+    sources
+        .iter()
+        .filter(|other| has_follower(site, source, **other))
+        .count()
+}
+
+/// How many of these clocks follow a clock, and don't take TAI and UTC for each other.
+fn count_well(site: &Site, tai_utc: i16, source: Source, sources: &[Source]) -> usize
+    ensures { result ≡ count_by (follows_well (site_answers site.now) tai_utc source) sources.now }
+{
+    sources
+        .iter()
+        .filter(|other| {
+            has_follower(site, source, **other) && !is_off_by_utc(site, tai_utc, **other)
+        })
+        .count()
+}
+
+/// How many clocks follow, if they are two or more and none of them is right.
+fn all_of(count: usize, well: usize) -> Option<usize>
+    ensures { result ≡ all_of count well }
+{
+    if 2 <= count && well == 0 {
+        Some(count)
+    } else {
+        None
+    }
+}
+
+/// How many of these clocks follow a clock, if they are two or more and each takes TAI and UTC for each other.
+#[tactic(auto)]
+fn all_off(site: &Site, tai_utc: i16, source: Source, sources: &[Source]) -> Option<usize>
+    ensures { result ≡ all_off (site_answers site.now) tai_utc source sources.now }
+{
+    let count = count_followers(site, source, sources);
+    all_of(count, count_well(site, tai_utc, source, sources))
+}
+
+/// The same of a clock that leads. `sources` has all clocks of the site.
+#[tactic(auto, unfolding(crate::specs::TaiAndUtc::followers_off))]
+pub fn followers_off(site: &Site, tai_utc: i16, source: Source, sources: &[Source]) -> Option<usize>
+    requires { sources.now ≡ (site_answers site.now).clocks }
+    ensures { result ≡ followers_off (site_answers site.now) tai_utc source }
+{
+    if site.leads(source) {
+        all_off(site, tai_utc, source, sources)
+    } else {
+        None
+    }
+}

@@ -1,0 +1,16 @@
+use Rattle.std.proofs.Common.{arith, subst, sym}
+use Rattle.std.proofs.lemmas.Grind.{common_steps}
+use Rattle.ptpm_table.specs.Slots.{AreKeepable}
+use Rattle.ptpm_table.proofs.LendingLaws.{keepable_more}
+use Rattle.ptpm_table.proofs.Slots.{configured_more, own_more, used_more}
+use Rattle.ptpm_table.proofs.slot_memory.assign.Goals as goal
+
+pub loop-manager-preserved : goal.loop-manager-preserved
+loop-manager-preserved g c = record {
+  configured = grind (arith, configured_more, common_steps);
+  own = grind (arith, own_more);
+  keepable = subst AreKeepable (sym c.add.ensures.slots) (keepable_more _ _ c.loop-manager.invariant.keepable c.unused.ensures.empty);
+  used = grind (arith, used_more);
+  count = grind (arith, common_steps);
+  room = grind arith;
+}

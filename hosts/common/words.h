@@ -1,0 +1,31 @@
+/* Numbers, octets, and identities of clocks and ports, in the words of a command line or of a file. An identity is spelt as ptpm does
+   it, aabbccfffeddee01/1, or as pmc does, aabbcc.fffe.ddee01-1. */
+#ifndef WORDS_H
+#define WORDS_H
+
+#include <stddef.h>
+#include <stdint.h>
+
+/* A number of only decimal digits, at most `most`; -1 if the text is none. A tenth of the greatest is the most that `most` may be. */
+int64_t large_decimal(const char *text, int64_t most);
+
+/* The same for a number that every long has room for. */
+long decimal(const char *text, long most);
+
+/* Reads octets of two hexadecimal digits each, in either case, at most `most`; how many octets they are. */
+size_t read_octets(const char **text, uint8_t *octets, size_t most);
+
+/* A clockIdentity: sixteen hexadecimal digits in either case, also with a dot after the sixth and the tenth. The rest of the
+   text; NULL if it does not begin with one. */
+const char *identity_at(const char *text, uint8_t identity[8]);
+
+/* The portNumber after a clockIdentity: a slash or a hyphen, and a decimal number, at most `most`. -1 if the rest of the text
+   is none. */
+long port_behind(const char *rest, long most);
+
+enum { IDENTITY_TEXT = 17 };
+
+/* Sixteen hexadecimal digits, and the end of the text. */
+void write_identity(char text[IDENTITY_TEXT], const uint8_t identity[8]);
+
+#endif
