@@ -73,7 +73,8 @@ function interfaceAt(view, body, end, isLittle) {
 /* The packet of an enhanced, an old or a simple packet block; the last has no time. */
 function packetAt(view, kind, body, end, isLittle, interfaces) {
     if (kind === 3 && end >= body + 4) {
-        return { link: interfaces[0]?.link, time: null, octets: octetsAt(view, body + 4, Math.min(view.getUint32(body, isLittle), end - body - 4)) };
+        const size = Math.min(view.getUint32(body, isLittle), end - body - 4);
+        return { link: interfaces[0]?.link, time: null, octets: octetsAt(view, body + 4, size) };
     }
     if (kind !== 6 && kind !== 2 || end < body + 20) return null;
     const of = interfaces[kind === 6 ? view.getUint32(body, isLittle) : view.getUint16(body, isLittle)];
@@ -162,7 +163,8 @@ function readCapture(buffer) {
         if (message === null || message.octets.length === 0) continue;
         ptp += 1;
         if ((message.octets[0] & 15) !== MANAGEMENT) continue;
-        messages.push({ packet: packets, time: secondsBetween(first, packet.time), from: message.from || '', hex: hexadecimal(message.octets) });
+        const time = secondsBetween(first, packet.time), hex = hexadecimal(message.octets);
+        messages.push({ packet: packets, time, from: message.from || '', hex });
     }
     return { packets, ptp, messages };
 }

@@ -27,11 +27,12 @@ function messageElement({ columns, ...message }) {
     const [packet, time, from] = columns ?? ['', '', ''];
     const id = message.managementId, port = ({ clockIdentity, portNumber }) => `${clockIdentity}/${portNumber}`;
     const refused = message.managementErrorId;
-    const cells = [packet, time, from || port(message.sourcePortIdentity), message.actionField, made('b', { className: refused ? 'bad' : '' }, refused ? `${id} ${refused}` : id),
-        `#${message.sequenceId}`];
+    const what = made('b', { className: refused ? 'bad' : '' }, refused ? `${id} ${refused}` : id);
+    const cells = [packet, time, from || port(message.sourcePortIdentity), message.actionField, what, `#${message.sequenceId}`];
     return made('details', {}, made('summary', {}, ...cells.map((cell) => made('span', {}, cell))), tableOf([], [
         { cells: ['from', port(message.sourcePortIdentity)] }, { cells: ['to', port(message.targetPortIdentity)] },
-        { cells: ['domain', String(message.domainNumber)] }, { cells: ['hops', `${message.boundaryHops} of ${message.startingBoundaryHops}`] },
+        { cells: ['domain', String(message.domainNumber)] },
+        { cells: ['hops', `${message.boundaryHops} of ${message.startingBoundaryHops}`] },
         ...membersOf(message.members ?? {}).map((cells) => ({ cells })),
         ...(message.dataField ? [{ cells: ['dataField', message.dataField] }] : []),
         ...(message.displayData ? [{ cells: ['displayData', message.displayData] }] : []),

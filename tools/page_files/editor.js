@@ -48,7 +48,8 @@ function goToLine(number) {
 
 function showNumbers(lines, faulty) {
     const shown = lines.slice(0, MOST_NUMBERS);
-    byId('numbers').replaceChildren(...shown.map((_, at) => made('span', { className: faulty.has(at + 1) ? 'fault' : '' }, String(at + 1))));
+    const numberOf = (_, at) => made('span', { className: faulty.has(at + 1) ? 'fault' : '' }, String(at + 1));
+    byId('numbers').replaceChildren(...shown.map(numberOf));
     byId('numbers').scrollTop = byId('script').scrollTop;
 }
 

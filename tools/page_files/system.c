@@ -1,7 +1,6 @@
 /* What the program asks of its machine, in a page: memory, its words, and its three streams. The page gives the words and standard
    input, and takes what is written (worker.js). Each call of the program has a memory of its own, which ends with it. */
 #include "portable.h"
-#include <stdlib.h>
 
 #define FROM_PAGE(name) __attribute__((import_module("page"), import_name(#name)))
 
@@ -64,6 +63,10 @@ static struct head *new_block(uint32_t class) {
     return block;
 }
 
+void *malloc(size_t size);
+void *realloc(void *block, size_t size);
+void free(void *block);
+
 void *malloc(size_t size) {
     uint32_t class = class_of(size);
     struct head *block;
@@ -91,11 +94,6 @@ void *realloc(void *block, size_t size) {
     free(block);
     return other;
 }
-
-/* The engine has these as instructions. */
-void *memcpy(void *to, const void *from, size_t size) { return __builtin_memcpy(to, from, size); }
-void *memmove(void *to, const void *from, size_t size) { return __builtin_memmove(to, from, size); }
-void *memset(void *to, int octet, size_t size) { return __builtin_memset(to, octet, size); }
 
 void __multi3(struct product *answer, u64 low, u64 high, u64 other_low, u64 other_high);
 u32 program_rattle_errno(void);

@@ -42,8 +42,8 @@ def program_of(module, files, portable):
         objects = []
         for source in (folder / 'program.c', folder / 'heap.c', files / 'system.c'):
             objects.append(folder / f'{source.stem}.o')
-            run(clang, *TARGET, *WARNINGS, '-std=c99', '-Os', '-nostdinc', '-isystem', files / 'include', f'-I{portable}', '-c', source,
-                '-o', objects[-1])
+            run(clang, *TARGET, *WARNINGS, '-std=c99', '-Os', '-ffreestanding', '-nostdinc', '-isystem', files / 'include', f'-I{portable}',
+                '-c', source, '-o', objects[-1])
         linker = folder / 'wasm-ld'
         linker.symlink_to(clang)
         run(linker, '-m', 'wasm32', '--no-entry', f'--export={PREFIX}main', '-z', f'stack-size={STACK}', '--stack-first', '--gc-sections',
