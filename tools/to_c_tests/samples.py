@@ -172,7 +172,8 @@ def each_element():
                                                                f'%r = select <{elements} x i1> %c, {kind} %y0, {kind} splat (i{bits} 9)', *ended])
             yield function(f'each_sext_{condition}_{bits}', [*begun, f'%c = icmp {condition} {kind} %x, %y0',
                                                              f'%r = sext <{elements} x i1> %c to {kind}', *ended])
-        yield function(f'each_umin_{bits}', [*begun, f'%r = call {kind} @llvm.umin.v{elements}i{bits}({kind} %x, {kind} %y0)', *ended])
+        for name, called in {'umin': 'umin', 'usub_sat': 'usub.sat'}.items():
+            yield function(f'each_{name}_{bits}', [*begun, f'%r = call {kind} @llvm.{called}.v{elements}i{bits}({kind} %x, {kind} %y0)', *ended])
         yield function(f'each_in_memory_{bits}', [
             *begun, '%m = alloca [24 x i8], align 8', '%at = getelementptr i8, ptr %m, i64 5', 'store i64 %b0, ptr %m, align 8',
             f'store {kind} %x, ptr %at, align 1', f'%z = load {kind}, ptr %at, align 1', '%w = load i64, ptr %m, align 8',
