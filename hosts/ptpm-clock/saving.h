@@ -27,8 +27,8 @@ void note_change(void);
    has, and standard error says why. Then nothing that waits is to be sent. Ends the program if the file can't be read then. */
 bool save_changes(struct ptpm_clock *clock);
 
-/* Begins to save the clock, which a thread does, so that nothing is unsaved except by what comes; whether it is begun. What shows the
-   changes is sent after `end_save`. */
+/* Begins to save the clock, which a thread does; whether it is begun. Then nothing counts as unsaved, but what shows the changes is
+   sent after `end_save`. */
 bool begin_save(const struct ptpm_clock *clock);
 
 /* Whether a save was begun and not ended, and what can be read once it is done. */

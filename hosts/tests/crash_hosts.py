@@ -1,6 +1,7 @@
 """A clock and a session over the library as a host has them that saves and loses its power, for hosts/tests/crashes: nothing leaves before
 it is saved, and a restart goes on from the last save. With each live state goes its state in the model, also into the storage. Hosts that
 break one rule each are planted ones."""
+import dataclasses
 import sys
 from enum import Enum
 from pathlib import Path
@@ -13,6 +14,7 @@ from ptpm.requests import Requests  # noqa: E402
 from crash_model import GET, Answer, Asked, ClockState, ManagerState, start  # noqa: E402
 
 SAVE_FAILS, SAVE_LIES = 0.2, 0.3
+STARTING_HOPS_AT, HOPS_AT = 44, 45
 GIVES_UP = hasattr(Requests, "give_up")         # if the library lets requests go
 ATTEMPTS = 3
 
@@ -57,11 +59,19 @@ class Storage:
         return self.held
 
 
-class ClockHost:
-    """A clock with its storage, and the messages that wait for a save."""
+def with_fewer_hops(octets, most):
+    """What came in, with boundaryHops of this many at most, and startingBoundaryHops lowered by as much: as ptpm-clock has it."""
+    less = octets[HOPS_AT] - most
+    if less <= 0:
+        return octets
+    return octets[:STARTING_HOPS_AT] + bytes([max(octets[STARTING_HOPS_AT] - less, 0), most]) + octets[HOPS_AT + 1:]
 
-    def __init__(self, identity, ports, managers, planted):
-        self.identity, self.ports, self.managers, self.planted = identity, ports, managers, planted
+
+class ClockHost:
+    """A clock with its storage, and the messages that wait for a save. No message that comes in keeps more hops than these."""
+
+    def __init__(self, identity, ports, managers, hops, planted):
+        self.identity, self.ports, self.managers, self.hops, self.planted = identity, ports, managers, hops, planted
         self.begin_fresh()
         self.storage = Storage((self.clock.image(), self.state))
 
@@ -81,7 +91,7 @@ class ClockHost:
 
     def take(self, port, octets, is_get):
         """One turn: what became of the datagram."""
-        handled = self.clock.handle(port, octets)
+        handled = self.clock.handle(port, with_fewer_hops(octets, self.hops))
         self.is_unsaved |= self.has_to_save(handled, is_get)
         return handled
 
@@ -125,12 +135,16 @@ class SessionHost:
     def __init__(self, number, settings, planted):
         self.number, self.settings, self.planted = number, settings, planted
         self.begin_fresh()
-        self.storage = Storage((self.session.image(), self.state))
+        self.storage = Storage(self.to_save)
         self.told, self.to_tell = [], None
 
     def begin_fresh(self):
         self.session, self.state = Requests(self.settings), ManagerState()
         self.domain, self.is_unsaved, self.to_tell = self.settings.domain, False, None
+
+    @property
+    def to_save(self):
+        return self.session.image(), self.state, self.settings
 
     @property
     def asked(self):
@@ -146,7 +160,15 @@ class SessionHost:
     def begin(self, request):
         self.session.begin(request.action, request.id, request.field, request.port)
         asked = Asked(self.number, len(self.state.begun) + 1, request)
-        self.state, self.is_unsaved = ManagerState(self.state.begun + (asked,), True, self.state.let_go), True
+        self.state, self.is_unsaved = self.state._replace(begun=self.state.begun + (asked,), is_under_way=True), True
+
+    def go_on_with(self, hops):
+        """A session that has other hops goes on for this one, at its next number. The save of its next request is enough for that."""
+        self.settings = dataclasses.replace(self.settings, first=self.session.next_number, hops=hops)
+        self.session.close()
+        self.session = Requests(self.settings)
+        self.session.retune(self.domain)
+        self.state, self.is_unsaved = self.state._replace(earlier=len(self.state.begun)), True
 
     def send(self):
         """The message, with all attempts anew once they are used up."""
@@ -163,7 +185,7 @@ class SessionHost:
             return False, None
         report = self.session.report()
         told = self.asked, Answer(None if report.is_done or report.error else report.octets, report.error)
-        self.state, self.is_unsaved = ManagerState(self.state.begun, False, self.state.let_go), True
+        self.state, self.is_unsaved = self.state._replace(is_under_way=False), True
         if self.planted is Planted.SAVES_BEFORE_IT_REPORTS:
             self.to_tell = told
             return True, None
@@ -171,12 +193,12 @@ class SessionHost:
 
     def save(self, chance):
         is_lying = self.planted is Planted.SESSION_SAVE_LIES
-        self.is_unsaved = not self.storage.save((self.session.image(), self.state), chance, is_lying)
+        self.is_unsaved = not self.storage.save(self.to_save, chance, is_lying)
 
     def give_up(self):
         """Lets the request under way go. The save of the next one is enough for that."""
         self.session.give_up()
-        self.state, self.is_unsaved = ManagerState(self.state.begun, False, self.state.let_go | {self.asked}), True
+        self.state, self.is_unsaved = self.state._replace(is_under_way=False, let_go=self.state.let_go | {self.asked}), True
 
     def tell_late(self):
         """What a planted host kept back until it was saved."""
@@ -189,10 +211,12 @@ class SessionHost:
 
     def crash(self):
         """The request under way goes on, with all its attempts. The domain is noted without a save: the owner says it again."""
-        image, state = self.storage.lose_power()
+        image, state, settings = self.storage.lose_power()
         if self.planted is Planted.SESSION_STARTS_FRESH:
             self.begin_fresh()
             return
+        self.session.close()
+        self.settings, self.session = settings, Requests(settings)
         self.session.restore(image)
         self.state, self.is_unsaved, self.to_tell = state, False, None
         self.session.retune(self.domain)

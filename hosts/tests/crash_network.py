@@ -11,6 +11,7 @@ from crash_model import CLOCK_SET, GET, NEW, PORT_COMMAND, PORT_DATA_SET, PORT_S
 READER = "reader"                               # an end of a link
 READER_IDENTITY = bytes([0x0A, 0x0B, 0x0C, 0xFF, 0xFE, 0x0D, 0x0E, 0x0F, 0, 1])
 HOPS = 3
+LEAST_HOPS, MOST_HOPS = 2, 8                    # of a row of three clocks two pass a message on
 
 
 class Broken(Exception):
@@ -76,16 +77,30 @@ class World:
         self.chance, self.wrong, self.counts = chance, [], Counter()
         self.frames, self.came_in = [], set()
         ports = [chance.randint(1, 3) for _ in range(chance.randint(1, 3))]
-        self.targets = [chance.randrange(len(ports)) for _ in range(chance.randint(1, 3))]
+        owners = self.draw_sessions(len(ports))
         self.wiring = draw_wiring(chance, ports, len(self.targets))
         self.rights = [chance.choice((7, 7, 7, CLOCK_SET, PORT_SET | PORT_COMMAND, 0)) for _ in self.targets]
-        names = [ptpm.PortIdentity(ptpm.Identity(bytes([2, 0, 0, 0xFF, 0xFE, 0, 0, 16 + i])), 1) for i in range(len(self.targets))]
-        managers = [ptpm.Manager(name, ptpm.Rights(rights)) for name, rights in zip(names, self.rights)]
+        names = [ptpm.PortIdentity(ptpm.Identity(bytes([2, 0, 0, 0xFF, 0xFE, 0, 0, 16 + i])), 1) for i in owners]
         identities = [bytes([0xAA, 0xBB, 0xCC, 0xFF, 0xFE, 0, 0, i + 1]) for i in range(len(ports))]
-        self.clocks = [ClockHost(identity, count, managers, planted) for identity, count in zip(identities, ports)]
+        self.clocks = [ClockHost(identity, count, self.managers_of(i, names), chance.choice((LEAST_HOPS, HOPS, MOST_HOPS)), planted)
+                       for i, (identity, count) in enumerate(zip(identities, ports))]
         self.sessions = [SessionHost(i, self.settings(names[i], self.clocks[target]), planted) for i, target in enumerate(self.targets)]
         self.replied = {}                       # what left first in reply to each request
         self.read = [()] * len(ports)           # the requests of each clock that the reader saw the effect of
+
+    def draw_sessions(self, clocks):
+        """One to three managers, each with one to all of the clocks, and a session for each: whose they are. Their targets are theirs."""
+        self.managers = self.chance.randint(1, 3)
+        pairs = [(manager, target) for manager in range(self.managers)
+                 for target in self.chance.sample(range(clocks), self.chance.randint(1, clocks))]
+        self.targets = [target for _, target in pairs]
+        return [manager for manager, _ in pairs]
+
+    def managers_of(self, clock, names):
+        """The managers of a clock with their rights. It knows the others too, with all rights, and is never asked by them."""
+        rights = dict.fromkeys(names, 7)
+        rights.update((name, had) for name, had, target in zip(names, self.rights, self.targets) if target == clock)
+        return [ptpm.Manager(name, ptpm.Rights(had)) for name, had in rights.items()]
 
     def settings(self, name, clock):
         first = self.chance.choice((0, 7, 32760, 65530, self.chance.randrange(65536)))
@@ -228,7 +243,7 @@ class World:
         self.tell(session, told)
 
     def judge_session(self, session):
-        issued, wanted = session.session.issued, len(session.state.begun)
+        issued, wanted = session.session.issued, len(session.state.begun) - session.state.earlier
         self.need(issued == wanted, "session", session.number, "has begun", issued, "requests, and not", wanted)
         self.need(session.session.is_busy() == session.state.is_under_way, "session", session.number, "is busy or idle, and should not be")
 
@@ -244,6 +259,10 @@ class World:
         self.note(not others, "one request has two reports", (told, others))
         session.told.append(told)
 
+    def go_on_with(self, session, hops):
+        session.go_on_with(hops)
+        self.counts["sessions that went on at their next number"] += 1
+
     def begin(self, session, request):
         session.begin(request)
         self.judge_session(session)
@@ -251,7 +270,7 @@ class World:
 
     def send(self, session):
         octets = session.send()
-        number = (session.settings.first + session.asked.index - 1) % 65536
+        number = (session.settings.first + session.asked.index - session.state.earlier - 1) % 65536
         self.need(int.from_bytes(octets[30:32], "big") == number, session.asked, "has another number than", number)
         self.post(session.number, octets, Origin(session.asked, False))
 

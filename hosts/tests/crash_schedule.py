@@ -6,9 +6,10 @@ from crash_hosts import GIVES_UP, ptpm
 from crash_model import (COMMAND, DISABLE_PORT, ENABLE_PORT, GET, MASTER, NULL_PTP_MANAGEMENT, OF_NO_PROFILE, OF_PORT, PORT_DATA_SET,
                          READ_OF_CLOCK, READ_OF_PORT, SET, SMALL, USER_DESCRIPTION, UTC_PROPERTIES, VERSION_NUMBER, WHOLE_CLOCK, ClockState,
                          Request, observed, text_field)
-from crash_network import READER, Origin, reader_asks
+from crash_network import HOPS, MOST_HOPS, READER, Origin, reader_asks
 
 CRASH, CRASH_UNSAVED = 0.04, 0.15
+GOES_ON = 0.05
 LATEST = 8
 PRIORITY1, DOMAIN = 0x2005, 0x2007
 FORWARDING, ANY_STATE = (5, MASTER, 8, 9), (1, 2, 4, 5, MASTER, 7, 8, 9)
@@ -61,6 +62,8 @@ class Schedule:
         return self.world.clocks[self.world.targets[session.number]].state.sets["domain"]
 
     def begin(self, session):
+        if self.chance.random() < GOES_ON:
+            self.world.go_on_with(session, self.chance.randint(HOPS, MOST_HOPS))
         clock = self.world.clocks[self.world.targets[session.number]]
         self.world.begin(session, draw_request(self.chance, clock.ports, self.free_ports(clock), not self.is_row))
 

@@ -50,6 +50,6 @@ class Folder(unittest.TestCase):
         """Runs the agent of hosts/ on a Unix socket; its path. While it starts there is a socket for a moment now and then."""
         path = f"{self.folder}/{name}"
         stays = ["--user", "root"] if os.geteuid() == 0 else []  # whoever else it became could not answer in this folder
-        command = [*before, str(TOP / "hosts/clock"), *stays, "-n", "60", "-u", path]
+        command = [*before, str(TOP / "hosts/clock"), *stays, "-n", "600", "-u", path]
         self.run_until(lambda said: " in domain " in said, [*command, *words])
         return path

@@ -570,7 +570,7 @@ fn site_command<'a>(alloc: Global) -> Result<Command<'a>, AllocError> {
         alloc,
         "max-offset",
         "NS",
-        "An offset from the master of more than NS nanoseconds is a finding, of more than 1000000 if it is not given; 'none' is no limit",
+        "An offset from the master of more than NS nanoseconds is a finding (1000000 if it is not given); 'none' is no limit",
     );
     let site = with(site, offset)?;
     let delay = nanoseconds(

@@ -1,5 +1,5 @@
--- A datagram in a line of standard input (this project's profile). It is in hexadecimal digits: by itself, after a port number and
--- a space, as `ptpm answer` prints a message, or after words NAME=VALUE with a space behind each.
+-- A datagram in a line of standard input (this project's profile). It is in hexadecimal digits, by itself or after a port number
+-- and a space. `ptpm answer` prints a message in the second form. Words NAME=VALUE may come first, with a space after each.
 use Rattle.std.specs.Prelude.{ℕ, ◌==◌, ◌||◌, Bool, if◌then◌else◌, List, [], ◌∷◌, bytes_eq, codes, is_some, Option, Some, None, Result, Ok, Err}
 use Rattle.std.specs.List.{list_any, slice_split}
 use Rattle.std.specs.Option.{option_map_or}

@@ -20,7 +20,7 @@ use Rattle.ptpm_commands.specs.Faults.{is_outside}
 abbrev pub latest_line : {R : Type 0} → Lines R → List ℕ
 latest_line l = l.line.items
 
--- known octets, or, if these begin within a line that is too long, those behind its line feed
+-- known octets, or, if these begin within a line that is too long, those after its line feed
 abbrev pub left_of : Bool → Option (List ℕ) → Option (List ℕ)
 left_of true known = option_map (drop_through 10) known
 left_of false known = known
@@ -44,7 +44,7 @@ abbrev pub ReadsNext : Option (List ℕ) → Bool → List ℕ → Option (List 
 ReadsNext before more line after = BothKnown before after (λ xs ys.
     (begins_long (whole_lines xs) ≡ false) × IsNextWhole more line (whole_lines xs) (whole_lines ys))
 
--- the next line is too long, and those behind it are left
+-- the next line is too long, and those after it are left
 abbrev pub LeavesLong : Option (List ℕ) → Option (List ℕ) → Type 0
 LeavesLong before after = BothKnown before after (λ xs ys.
     (line : List ℕ × List ℕ) × ((whole_lines xs ≡ line ∷ whole_lines ys) × (is_long line.1 ≡ true)))
@@ -81,7 +81,7 @@ abbrev pub beside : {A B : Type 0} → A → Result B Fault → Result (A × B) 
 beside a (Ok b) = Ok (a, b)
 beside a (Err fault) = Err fault
 
--- its columns, and the datagram behind them
+-- its columns, and the datagram after them
 abbrev pub row_of_cells : ℕ → List (List ℕ) × List ℕ → Result (List (List ℕ) × Option (List ℕ)) Fault
 row_of_cells number parts = beside parts.0 (numbered number (datagram_of parts.1))
 

@@ -34,7 +34,7 @@ abbrev pub message_of_row : ℕ → Result (List (List ℕ) × Option (List ℕ)
 message_of_row number (Ok row) = message_in number row.0 row.1
 message_of_row number (Err fault) = Err fault
 
--- its message with its columns, none if `nothing` is behind these
+-- its message with its columns, none if `nothing` comes after these
 abbrev pub line_message : ℕ → List ℕ × List ℕ → Result (Option (List (List ℕ) × Message)) Fault
 line_message number line = unless_long number line.1 (message_of_row number (row_in number line.0))
 
@@ -67,7 +67,7 @@ good_first (Ok None) others = others
 good_first (Ok (Some value)) others = value ∷ others
 good_first (Err fault) others = others
 
--- what lines from this number on have, where a line with a fault has nothing
+-- what lines from this number on have; a line with a fault has nothing
 abbrev pub good : {A : Type 0}
     → (ℕ → List ℕ × List ℕ → Result (Option A) Fault)
     → ℕ

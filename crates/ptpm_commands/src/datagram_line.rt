@@ -1,5 +1,5 @@
-//! A datagram in a line: its hexadecimal digits, in the form that `ptpm answer` takes, in that of a line that it prints, or after
-//! words that say when and where it came.
+//! A datagram in a line: its hexadecimal digits, in the form that `ptpm answer` takes or in that of a line that it prints. Words
+//! NAME=VALUE may come before them.
 
 ghost use Rattle.std.specs.Prelude.{◌≡◌, ◌⊎◌, ◌<◌, IfErr, IfNone, IfOk, IfSome, IsErr, None, Ok, Some, length, option_map, if◌then◌else◌};
 ghost use Rattle.ptpm_commands.specs.DatagramLine.{after_port, after_words, behind_all, datagram_of, digits_of, is_note, is_word, texts};

@@ -15,17 +15,19 @@ use Rattle.ptpm_site.specs.SiteAnswers.{SiteAnswers}
 use Rattle.ptpm_site.specs.Tree.{IsFollowed}
 use Rattle.ptpm_site.proofs.Placing.{AreWithin-placed}
 
-module _ (t : SiteAnswers) (followed : List (Option ℕ)) (lost : List Lost) (placed : ArePlaced t followed) (all : All (IsLost t) lost) where
-  within : (p q : ℕ) → get_or followed p None ≡ Some q → p < length t.clocks
-  within p q e = ⊎_elim
-      (λ (inside : p < length t.clocks). inside)
-      (λ (past : length t.clocks ≤ p). absurd (none-some q (sym (get_or_past followed p None (omega (arith, placed.count))) ∙ e)))
-      (cases_lt p (length t.clocks))
+-- a clock that follows another is among all clocks
+pub placed_within : (t : SiteAnswers) (followed : List (Option ℕ)) → ArePlaced t followed → (p q : ℕ) → get_or followed p None ≡ Some q → p < length t.clocks
+placed_within t followed placed p q e = ⊎_elim
+    (λ (inside : p < length t.clocks). inside)
+    (λ (past : length t.clocks ≤ p). absurd (none-some q (sym (get_or_past followed p None (omega (arith, placed.count))) ∙ e)))
+    (cases_lt p (length t.clocks))
 
+module _ (t : SiteAnswers) (followed : List (Option ℕ)) (lost : List Lost) (placed : ArePlaced t followed) (all : All (IsLost t) lost) where
   pub IsFollowed-kept : (p : ℕ) (r : TreeRow) → IsKeptFollowed followed lost p r → IsFollowed t p r
   IsFollowed-kept p (row.Clock above depth) h =
       let inside = AreWithin-placed t followed placed p above h in
-      (within p above h, omega (arith, inside, placed.count), λ d. (placed.each p d (within p above h)).parent d ∙ ap (option_map (λ q. get_or t.clocks q d)) h)
+      let here : p < length t.clocks = placed_within t followed placed p above h in
+      (here, omega (arith, inside, placed.count), λ d. (placed.each p d here).parent d ∙ ap (option_map (λ q. get_or t.clocks q d)) h)
   IsFollowed-kept p (row.NotSeen domain parent) h =
       let l : Lost = record { domain = domain; parent = parent; place = p } in
       All-contains (IsLost t) lost l all h

@@ -7,6 +7,7 @@ pub mod Clocks
 pub mod DatagramLemmas
 pub mod Dropped
 pub mod Followed
+pub mod Growth
 pub mod KeptAnswers
 pub mod KeptStatements
 pub mod Links

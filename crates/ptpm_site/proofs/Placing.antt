@@ -22,7 +22,7 @@ use Rattle.ptpm_site.specs.SiteAnswers.{SiteAnswers}
 use Rattle.ptpm_site.proofs.Places.{is_some-lookup}
 use Rattle.ptpm_site.proofs.Sources.{exact_sources, sources_total}
 
-rising : (xs : List Source) → IsStrictlySortedBy source_cmp xs → IsSortedBy (λ a b. is_lt (source_cmp a b)) xs
+pub rising : (xs : List Source) → IsStrictlySortedBy source_cmp xs → IsSortedBy (λ a b. is_lt (source_cmp a b)) xs
 rising xs ordered k d low lt =
     ap is_lt (sources_total.antisymm (get_or xs (k + 1) d) (get_or xs k d) ∙ ap ordering_reverse (Less-from_sorted source_cmp xs k (k + 1) d ordered (omega arith) lt))
 

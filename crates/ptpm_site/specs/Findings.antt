@@ -208,8 +208,8 @@ loop_reported site s = option_to_list (option_map (λ clocks. said s (Loop clock
 unfoldable pub incomplete_reported : SiteAnswers → Source → List Said
 incomplete_reported site s = option_to_list (option_map (λ m. said s (Lacks m.0 m.1)) (lacking site s))
 
--- a member in which two answers differ, unless its value moves though nothing was changed; or if a clock that is its own grandmaster
--- says of itself what it says of its grandmaster
+-- A member in which two answers differ, unless its value moves though nothing was changed. What a clock that is its own grandmaster
+-- says of that one is passed over.
 unfoldable pub member_reported : {A : Type 0} → Contradiction → Source → Option ℕ → Bool → (A → Member → Option MemberValue) → List (Received A) → Member → List Said
 member_reported how s port is_own says_of received m =
     if is_moving m || is_own && is_of_grandmaster m then [] else option_to_list (option_map (λ change. said s (Otherwise how port change)) (contradiction how says_of m received))

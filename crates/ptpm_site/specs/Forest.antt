@@ -1,14 +1,23 @@
 -- Who follows whom, as the program keeps it, sorted.
-use Rattle.std.specs.Prelude.{◌≡◌, ℕ, List, Option, Some, None, slice_index_or}
+use Rattle.std.specs.Prelude.{◌≡◌, ℕ, ◌<◌, List, length, Option, Some, None, slice_index_or}
 use Rattle.std.specs.List.{All, Contains}
 use Rattle.std.specs.List.Sorted.{IsNonDecreasingBy}
 use Rattle.ptpm_codec.specs.declared.identity.PortIdentity.{PortIdentity}
 use Rattle.ptpm_site.specs.declared.forest.Follower.{Follower}
 use Rattle.ptpm_site.specs.declared.forest.Lost.{Lost}
+use Rattle.ptpm_site.specs.declared.source.Source.{Source}
 use Rattle.ptpm_site.specs.declared.tree.TreeRow.{TreeRow}
 use Rattle.ptpm_site.specs.declared.tree.TreeRow.TheVariants as row
 use Rattle.ptpm_site.specs.SiteAnswers.{SiteAnswers}
-use Rattle.ptpm_site.specs.Tree.{IsFollowed}
+use Rattle.ptpm_site.specs.Tree.{IsFollowed, domain_at}
+
+-- the clocks come by their domain
+abbrev pub AreSourcesByDomain : List Source → Type 0
+AreSourcesByDomain sources = IsNonDecreasingBy (λ (s : Source). s.domain) sources
+
+-- a clock that follows another is one of these, and of the same domain
+abbrev pub AreBeside : List Source → List (Option ℕ) → Type 0
+AreBeside sources followed = (p q : ℕ) → slice_index_or followed p None ≡ Some q → (p < length sources) × (domain_at sources p ≡ domain_at sources q)
 
 -- a follower, by the place that each clock follows
 abbrev pub IsFollower : List (Option ℕ) → Follower → Type 0

@@ -42,7 +42,7 @@ not_traceable d t =
 abbrev pub invalid_offset : TimePropertiesDataSet → Option ℤ
 invalid_offset t = if t.ptp_timescale && not t.utc_valid then Some t.utc_offset else None
 
--- currentUtcOffset, if it is said to be valid and is not so many seconds
+-- currentUtcOffset, if it is said to be valid and is another number of seconds
 abbrev pub wrong_offset : ℤ → TimePropertiesDataSet → Option WrongOffset
 wrong_offset tai_utc t =
     if t.ptp_timescale && t.utc_valid && not (int_eq t.utc_offset tai_utc)

@@ -72,7 +72,7 @@ pub enum What<'a> {
     UtcOffset(WrongOffset),
     /// It leads, and announces a leap second.
     Leap(Leap),
-    /// It leads, and a clock of a better class stands by.
+    /// It leads, and there is a clock of a better class that does not.
     BetterClock(Better),
     /// Not all that it was asked for was answered.
     Incomplete(Missing),
@@ -116,7 +116,7 @@ impl What<'_> {
 }
 
 impl What<'_> {
-    /// Whether time is wrong or missing by it, or a clock can't be told from another. Any other finding is a warning.
+    /// Whether time is wrong or missing by it, or two clocks look like one. Any other finding is a warning.
     pub fn is_critical(&self) -> bool {
         match self {
             What::TwoGrandmasters

@@ -1,13 +1,14 @@
 //! Who follows whom, by the places of the clocks in their order.
 
-ghost use Rattle.std.specs.Prelude.{◌≡◌, ◌<◌, false, None, IfOk, OnOk, MatchOption, length, slice_index_or};
+ghost use Rattle.std.specs.Prelude.{◌≡◌, ℕ, ◌<◌, ◌≤◌, false, None, IfOk, OnOk, MatchOption, length, slice_index_or, vec_len};
 ghost use Rattle.std.specs.List.{All, Contains, HoldsAt, list_any};
 ghost use Rattle.std.specs.List.Sorted.{IsStrictlySortedBy};
 ghost use Rattle.std.specs.Ordering.{eq_by_cmp};
 ghost use Rattle.ptpm_site.specs.Answers.{source_cmp};
 ghost use Rattle.ptpm_site.specs.Following.{ArePlaced, IsParentPlace};
-ghost use Rattle.ptpm_site.specs.Forest.{AreByDomain, AreFollowers, IsFollower, IsLost};
+ghost use Rattle.ptpm_site.specs.Forest.{AreBeside, AreByDomain, AreFollowers, AreSourcesByDomain, IsFollower, IsLost};
 ghost use Rattle.ptpm_site.specs.Site.{site_answers};
+ghost use Rattle.ptpm_site.specs.Tree.{domain_at};
 
 use crate::site::Site;
 use crate::source::Source;
@@ -46,6 +47,8 @@ pub struct Forest {
     lost: Vec<Lost>,
     ghost followers_are: { AreFollowers followed.items followers.items },
     ghost by_domain: { AreByDomain lost.items },
+    ghost sources_by_domain: { AreSourcesByDomain sources.items },
+    ghost beside: { AreBeside sources.items followed.items },
 }
 
 impl Forest {
@@ -79,7 +82,11 @@ impl Forest {
     }
 
     /// The places of a domain's clocks.
-    pub fn places_of(&self, domain: u8) -> Range<usize> {
+    pub fn places_of(&self, domain: u8) -> Range<usize>
+        ensures within { result.end ≤ vec_len self.now.sources }
+        ensures places { (p : ℕ) → result.start ≤ p → p < result.end → domain_at self.now.sources.items p ≡ domain }
+        ensures all { (p : ℕ) → p < vec_len self.now.sources → domain_at self.now.sources.items p ≡ domain → (result.start ≤ p) × (p < result.end) }
+    {
         let sources = self.sources.as_slice();
         let from = sources.partition_point(|source| source.domain < domain);
         let to = sources.partition_point(|source| source.domain <= domain);

@@ -207,8 +207,8 @@ fn judge_set<'a, T: DataSet>(
     Ok(())
 }
 
-/// A member in which two of these answers differ. A member is passed over if its value moves though nothing was changed, or if
-/// a clock that is its own grandmaster says it of itself too.
+/// A member in which two of these answers differ. A member is passed over if its value moves though nothing was changed. Of a
+/// clock that is its own grandmaster, so is what it says of that one: it is what the clock says of itself.
 #[tactic(auto, unfolding(crate::specs::Findings::member_reported))]
 fn judge_member<'a, T: DataSet>(
     alloc: Global,

@@ -159,7 +159,7 @@ fn is_better_than(class: u8, default: &DefaultDataSet) -> bool
     !default.slave_only && default.quality.class < 128 && default.quality.class < class
 }
 
-/// Whether another clock of the domain stands by that is of a better class than the one that leads.
+/// Whether another clock of the domain does not lead, and is of a better class than the one that leads.
 fn stands_by(site: &Site, source: Source, class: u8, other: Source) -> bool
     ensures { result ≡ stands_by (site_answers site.now) source class other }
 {
@@ -172,7 +172,7 @@ fn stands_by(site: &Site, source: Source, class: u8, other: Source) -> bool
     }
 }
 
-/// The first of these clocks that stands by, and is of a better class than the one that leads.
+/// The first of these clocks that does not lead, and is of a better class than the one that leads.
 fn first_that_stands_by<'a>(
     site: &Site,
     source: Source,

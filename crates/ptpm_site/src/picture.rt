@@ -1,9 +1,11 @@
 //! A site, judged.
 
 ghost use Rattle.std.specs.Prelude.{◌≡◌, IfOk, length};
+ghost use Rattle.std.specs.List.{All};
+ghost use Rattle.std.specs.List.Sorted.{IsNonDecreasingBy};
 ghost use Rattle.ptpm_site.specs.Findings.{findings_of, reported};
 ghost use Rattle.ptpm_site.specs.Site.{site_answers};
-ghost use Rattle.ptpm_site.specs.Tree.{AreBelow, IsFollowed, StandsOnce};
+ghost use Rattle.ptpm_site.specs.Tree.{AreBelow, IsFollowed, IsRow, StandsOnce, row_domain};
 
 use crate::finding::Finding;
 use crate::forest::Forest;
@@ -35,6 +37,8 @@ impl<'a> Picture<'a> {
         ensures clocks { IfOk result (λ picture. picture.forest.sources.items ≡ (site_answers site.now).clocks) }
         ensures once { IfOk result (λ picture. StandsOnce (length (site_answers site.now).clocks) picture.rows.items) }
         ensures below { IfOk result (λ picture. AreBelow (IsFollowed (site_answers site.now)) picture.rows.items) }
+        ensures rows { IfOk result (λ picture. All (IsRow (site_answers site.now)) picture.rows.items) }
+        ensures domains { IfOk result (λ picture. IsNonDecreasingBy (row_domain (site_answers site.now).clocks) picture.rows.items) }
         ensures findings { IfOk result (λ picture. reported picture.findings.items ≡ findings_of (site_answers site.now) limits) }
     {
         let forest = Forest::of(alloc, site)?;

@@ -15,7 +15,7 @@ use ptpm_codec::ClockIdentity;
 pub enum OffByUtc {
     /// By the clock's own offsetFromMaster, a TimeInterval.
     Offset(i64),
-    /// By those of all clocks that follow it: so many.
+    /// By those of all clocks that follow it. There are this many.
     Followers(usize),
 }
 

@@ -1,8 +1,15 @@
 //! The tree of a site: each clock below the one that it follows.
 
-ghost use Rattle.std.specs.Prelude.{IfOk, OnOk, vec_len};
-ghost use Rattle.ptpm_site.specs.Growing.{AreTrue};
-ghost use Rattle.ptpm_site.specs.Tree.{StandsOnce};
+ghost use Rattle.std.specs.Prelude.{◌≡◌, IfOk, None, OnOk, length, slice_index_or, true};
+ghost use Rattle.std.specs.List.{All};
+ghost use Rattle.std.specs.List.Sorted.{IsNonDecreasingBy};
+ghost use Rattle.ptpm_site.specs.declared.source.Source.{Source};
+ghost use Rattle.ptpm_site.specs.Following.{followed};
+ghost use Rattle.ptpm_site.specs.Growing.{Adds, AreTrue, IsForestOf, IsRowOf};
+ghost use Rattle.ptpm_site.specs.Loops.{AreLeast};
+ghost use Rattle.ptpm_site.specs.Site.{site_answers};
+ghost use Rattle.ptpm_site.specs.SiteAnswers.{SiteAnswers};
+ghost use Rattle.ptpm_site.specs.Tree.{IsRow, StandsOnce, row_domain};
 
 use crate::forest::Forest;
 use crate::marks::is_marked;
@@ -29,8 +36,12 @@ pub fn rows(
     forest: &Forest,
     least: &[bool],
 ) -> Result<Vec<TreeRow>, AllocError>
-    ensures once { IfOk result (λ rows. StandsOnce (vec_len forest.now.sources) rows.items) }
+    requires of { IsForestOf (site_answers site.now) forest.now }
+    requires least { AreLeast (site_answers site.now) least.now }
+    ensures once { IfOk result (λ rows. StandsOnce (length (site_answers site.now).clocks) rows.items) }
     ensures below { IfOk result (λ rows. AreTrue forest.now rows.items) }
+    ensures rows { IfOk result (λ rows. All (IsRow (site_answers site.now)) rows.items) }
+    ensures domains { IfOk result (λ rows. IsNonDecreasingBy (row_domain (site_answers site.now).clocks) rows.items) }
 {
     let mut builder = TreeBuilder::new(alloc);
     for domain in 0..=u8::MAX {
@@ -39,7 +50,7 @@ pub fn rows(
         add_loops(forest, domain, least, &mut builder)?;
         add_without_parent(site, forest, domain, &mut builder)?;
     }
-    builder.finish(forest)
+    builder.finish(forest.sources.len())
 }
 
 fn add_grandmasters(
@@ -48,23 +59,36 @@ fn add_grandmasters(
     domain: u8,
     builder: &mut TreeBuilder,
 ) -> Result<(), AllocError>
-    requires { AreTrue forest.now builder.old.rows.items }
-    ensures { OnOk result (AreTrue forest.now builder.new.rows.items) }
+    requires of { IsForestOf (site_answers site.now) forest.now }
+    requires below { AreTrue forest.now builder.old.rows.items }
+    ensures below { OnOk result (AreTrue forest.now builder.new.rows.items) }
+    ensures adds { OnOk result (Adds (IsRowOf (site_answers site.now) domain) builder.old.rows.items builder.new.rows.items) }
 {
-    for place in forest.places_of(domain) {
-        if let Some(source) = forest.sources.get(place) {
-            if site.is_own_grandmaster(*source) {
-                builder.add_subtree(forest, place, 0)?;
-            }
+    let places = forest.places_of(domain);
+    for place in places.start..places.end {
+        if is_grandmaster_at(site, forest, place) {
+            builder.add_subtree(forest, place, 0)?;
         }
     }
     Ok(())
 }
 
+/// Whether the clock at a place is its own grandmaster, and so follows none.
+fn is_grandmaster_at(site: &Site, forest: &Forest, place: usize) -> bool
+    requires { IsForestOf (site_answers site.now) forest.now }
+    ensures { result ≡ true → (d : Source) → followed (site_answers site.now) (slice_index_or (site_answers site.now).clocks place d) ≡ None }
+{
+    match forest.sources.get(place) {
+        Some(source) => site.is_own_grandmaster(*source),
+        None => false,
+    }
+}
+
 /// The clocks of a domain whose parent is not seen, below its port.
 fn add_lost(forest: &Forest, domain: u8, builder: &mut TreeBuilder) -> Result<(), AllocError>
     requires { AreTrue forest.now builder.old.rows.items }
-    ensures { OnOk result (AreTrue forest.now builder.new.rows.items) }
+    ensures below { OnOk result (AreTrue forest.now builder.new.rows.items) }
+    ensures adds { OnOk result ((site : SiteAnswers) → IsForestOf site forest.now → Adds (IsRowOf site domain) builder.old.rows.items builder.new.rows.items) }
 {
     let mut above = None;
     for lost in forest.lost_of(domain) {
@@ -85,9 +109,11 @@ fn add_loops(
     builder: &mut TreeBuilder,
 ) -> Result<(), AllocError>
     requires { AreTrue forest.now builder.old.rows.items }
-    ensures { OnOk result (AreTrue forest.now builder.new.rows.items) }
+    ensures below { OnOk result (AreTrue forest.now builder.new.rows.items) }
+    ensures adds { OnOk result ((site : SiteAnswers) → IsForestOf site forest.now → AreLeast site least.now → Adds (IsRowOf site domain) builder.old.rows.items builder.new.rows.items) }
 {
-    for place in forest.places_of(domain) {
+    let places = forest.places_of(domain);
+    for place in places.start..places.end {
         if is_marked(least, place) {
             builder.add_subtree(forest, place, 0)?;
         }
@@ -102,15 +128,27 @@ fn add_without_parent(
     domain: u8,
     builder: &mut TreeBuilder,
 ) -> Result<(), AllocError>
-    requires { AreTrue forest.now builder.old.rows.items }
-    ensures { OnOk result (AreTrue forest.now builder.new.rows.items) }
+    requires of { IsForestOf (site_answers site.now) forest.now }
+    requires below { AreTrue forest.now builder.old.rows.items }
+    ensures below { OnOk result (AreTrue forest.now builder.new.rows.items) }
+    ensures adds { OnOk result (Adds (IsRowOf (site_answers site.now) domain) builder.old.rows.items builder.new.rows.items) }
 {
-    for place in forest.places_of(domain) {
-        if let Some(source) = forest.sources.get(place) {
-            if site.parent(*source).is_none() {
-                builder.add_subtree(forest, place, 0)?;
-            }
+    let places = forest.places_of(domain);
+    for place in places.start..places.end {
+        if is_without_parent_at(site, forest, place) {
+            builder.add_subtree(forest, place, 0)?;
         }
     }
     Ok(())
+}
+
+/// Whether the clock at a place did not answer PARENT_DATA_SET, so that it is not known whom it follows.
+fn is_without_parent_at(site: &Site, forest: &Forest, place: usize) -> bool
+    requires { IsForestOf (site_answers site.now) forest.now }
+    ensures { result ≡ true → (d : Source) → followed (site_answers site.now) (slice_index_or (site_answers site.now).clocks place d) ≡ None }
+{
+    match forest.sources.get(place) {
+        Some(source) => site.parent(*source).is_none(),
+        None => false,
+    }
 }

@@ -268,7 +268,7 @@ fn put_leap(alloc: Global, map: &mut Map<String, Value>, leap: &Leap) -> Result<
     put(map, alloc, "leap59", Value::from(leap.leap59))
 }
 
-/// The clock that stands by, with what it says of itself.
+/// The clock of a better class, with what it says of itself.
 fn put_better(
     alloc: Global,
     map: &mut Map<String, Value>,

@@ -10,7 +10,7 @@ pub(crate) struct Whole(pub(crate) i64);
 #[derive(Clone, Copy)]
 pub(crate) struct Exact(pub(crate) i64);
 
-/// Two to a logarithm, in seconds: whole ones, or a fraction with all its digits. Beyond 2^62 and 2^-16 the power is left as it is.
+/// Two to a logarithm, in seconds: whole ones, or a fraction with all its digits. Beyond 2^62 and 2^-16 it is printed as a power.
 #[derive(Clone, Copy)]
 pub(crate) struct Seconds(pub(crate) i8);
 
@@ -24,7 +24,7 @@ impl fmt::Display for Seconds {
     }
 }
 
-/// One half to this power: as many digits behind the point.
+/// One half to this power, which has as many digits after the point.
 fn write_fraction<W: fmt::Write>(power: u8, f: &mut fmt::Formatter<W>) -> fmt::Result {
     let mut digits = 1u64;
     for _ in 0..power {

@@ -101,9 +101,10 @@ impl Sheet<'_> {
 
 /// Prints a line for each clock of these rows that leads.
 fn print_leaders<O: Write>(all: Rows<'_>, rows: &[TreeRow], out: &mut O) -> io::Result<()> {
+    let site = all.0.site;
     for row in rows {
         if let Some((source, clock)) = all.clock_of(row) {
-            if all.0.site.leads(source) {
+            if site.leads(source) {
                 print_spaces(MARGIN, out)?;
                 writeln!(out, "{}", GrandmasterLine { source, clock })?;
             }

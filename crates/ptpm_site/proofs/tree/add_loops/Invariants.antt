@@ -1,6 +1,11 @@
--- The rows stand where they may.
-use Rattle.ptpm_site.specs.Growing.{AreTrue}
+-- The rows stand where they may, and those that were added are of the domain.
+use Rattle.ptpm_site.specs.Growing.{Adds, AreTrue, IsForestOf, IsRowOf}
+use Rattle.ptpm_site.specs.Loops.{AreLeast}
+use Rattle.ptpm_site.specs.SiteAnswers.{SiteAnswers}
 use Rattle.ptpm_site.proofs.tree.add_loops.Given as goal
 
 abbrev pub invariant-loop-place : goal.invariant-loop-place
-invariant-loop-place l = AreTrue l.forest l.builder.rows.items
+invariant-loop-place l = record {
+  below : AreTrue l.forest l.builder.rows.items;
+  adds : (t : SiteAnswers) → IsForestOf t l.forest → AreLeast t l.least → Adds (IsRowOf t l.domain) l.fn.builder.rows.items l.builder.rows.items;
+}

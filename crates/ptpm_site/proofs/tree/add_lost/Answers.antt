@@ -1,6 +1,8 @@
 -- The row of the port is there already, or is the last one now.
-use Rattle.std.proofs.Common.{◌≡◌, [], true, Option, Some, None, get_or, inr, subst, sym, ap, ◌∙◌, arith}
+use Rattle.std.proofs.Common.{◌≡◌, ℕ, ◌<◌, [], length, refl, true, Option, Some, None, get_or, inr, subst, sym, ap, ◌∙◌, arith}
 use Rattle.std.proofs.lemmas.Bool.{not-false}
+use Rattle.std.proofs.lemmas.List.Elements.{All-contains}
+use Rattle.std.proofs.lemmas.Option.{same_Some}
 use Rattle.std.specs.List.{Contains}
 use Rattle.std.specs.Option.{option_eq}
 use Rattle.ptpm_codec.specs.Identity.{same_identity}
@@ -10,8 +12,12 @@ use Rattle.ptpm_site.specs.declared.forest.Lost.{Lost}
 use Rattle.ptpm_site.specs.declared.tree.TreeRow.{TreeRow}
 use Rattle.ptpm_site.specs.declared.tree.TreeRow.TheVariants as row
 use Rattle.ptpm_site.specs.declared.tree_builder.TreeBuilder.{TreeBuilder}
-use Rattle.ptpm_site.specs.Tree.{IsAbove}
+use Rattle.ptpm_site.specs.Forest.{IsLost}
+use Rattle.ptpm_site.specs.Growing.{Adds, IsForestOf, IsRowOf}
+use Rattle.ptpm_site.specs.SiteAnswers.{SiteAnswers}
+use Rattle.ptpm_site.specs.Tree.{IsAbove, IsFollowed, domain_at}
 use Rattle.ptpm_site.proofs.Below.{IsAbove-last}
+use Rattle.ptpm_site.proofs.Growth.{Adds-more, Adds-none, Adds-push, Adds-subtree, domain-at, some_source}
 use Rattle.ptpm_site.proofs.tree.add_lost.Goals as goal
 use Rattle.ptpm_site.proofs.tree.add_lost.Goals.{then-ne+in_ok-add_not_seen, else-ne}
 
@@ -36,3 +42,52 @@ add_subtree-requires-clause-stands c =
           (c.loop-lost.invariant.above lost.parent (same_above c.loop-lost.above lost.parent same))
     ] in
     inr (port, above, subst (λ n. let l : Lost = record { domain = n; parent = lost.parent; place = lost.place } in Contains c.args.forest.now.lost.items l) read.0 read.1)
+
+pub loop-lost-init : goal.loop-lost-init
+loop-lost-init c = record {
+  below = c.requires;
+  above = λ parent none. cc;
+  adds = λ t of. Adds-none (IsRowOf t c.args.domain) c.args.builder.now.rows.items;
+}
+
+pub loop-lost-preserved : goal.loop-lost-preserved
+loop-lost-preserved c =
+    let none : Lost = record { domain = 0; parent = record { clock = record { 0 = [] }; port = 0 }; place = 0 } in
+    let lost : Lost = get_or c.lost_of-lost-items.result.now c.loop-lost.lost-index none in
+    let port : TreeRow = row.NotSeen c.args.domain lost.parent in
+    let read = c.lost_of-lost-items.ensures c.loop-lost.lost-index none (omega arith) in
+    let forest = c.args.forest.now in
+    let first = c.args.builder.now.rows.items in
+    let old = c.loop-lost.builder.rows.items in
+    let mid = c.if-ne.builder.rows.items in
+    let is_lost : (t : SiteAnswers) → IsForestOf t forest → IsFollowed t lost.place port = λ t of.
+    subst (λ n. IsFollowed t lost.place (row.NotSeen n lost.parent)) read.0 (All-contains (IsLost t) forest.lost.items lost of.lost read.1) in
+    let above : (parent : PortIdentity) → c.if-ne.above ≡ Some parent → IsAbove mid 1 (row.NotSeen c.args.domain parent) = λ parent same. elim c.if-ne.branch [
+      | then-ne+in_ok-add_not_seen w ↦
+          let is : lost.parent ≡ parent = same_Some lost.parent parent (sym w.above-is ∙ same) in
+          subst (λ p. IsAbove mid 1 (row.NotSeen c.args.domain p)) is
+          (subst (λ (b : TreeBuilder). IsAbove b.rows.items 1 port) (sym w.builder-is)
+          (subst (λ rows. IsAbove rows 1 port) (sym w.in_ok-add_not_seen.ensures) (IsAbove-last old port)))
+      | else-ne w ↦
+          subst (λ (b : TreeBuilder). IsAbove b.rows.items 1 (row.NotSeen c.args.domain parent)) (sym w.builder-is)
+          (c.loop-lost.invariant.above parent (sym w.above-is ∙ same))
+    ] in
+    let adds : (t : SiteAnswers) → IsForestOf t forest → Adds (IsRowOf t c.args.domain) first mid = λ t of. elim c.if-ne.branch [
+      | then-ne+in_ok-add_not_seen w ↦
+          let one : IsRowOf t c.args.domain port = ((lost.place, is_lost t of), refl) in
+          subst (λ (b : TreeBuilder). Adds (IsRowOf t c.args.domain) first b.rows.items) (sym w.builder-is)
+          (Adds-more (IsRowOf t c.args.domain) (IsRowOf t c.args.domain) first old w.add_not_seen.new.self.rows.items (λ r h. h) (c.loop-lost.invariant.adds t of)
+          (Adds-push (IsRowOf t c.args.domain) old w.add_not_seen.new.self.rows.items port w.in_ok-add_not_seen.ensures one))
+      | else-ne w ↦
+          subst (λ (b : TreeBuilder). Adds (IsRowOf t c.args.domain) first b.rows.items) (sym w.builder-is) (c.loop-lost.invariant.adds t of)
+    ] in
+    record {
+      below = c.in_ok-add_subtree.ensures.below;
+      above = λ parent same. c.in_ok-add_subtree.ensures.above 1 (row.NotSeen c.args.domain parent) (omega arith) (above parent same);
+      adds = λ t of.
+          let fact = is_lost t of in
+          let here : lost.place < length t.clocks = fact.0 in
+          let same : domain_at t.clocks lost.place ≡ c.args.domain = domain-at t.clocks lost.place some_source here ∙ (fact.1 some_source).0 in
+          Adds-subtree t forest of c.args.domain lost.place 1 here same (λ zero. absurd (omega (arith, zero))) first mid c.add_subtree.new.self.rows.items (adds t of)
+          c.in_ok-add_subtree.ensures.adds;
+    }

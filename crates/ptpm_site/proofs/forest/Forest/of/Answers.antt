@@ -2,7 +2,8 @@
 use Rattle.std.proofs.lemmas.List.Sorted.{All-permutation}
 use Rattle.ptpm_site.specs.Forest.{IsFollower, IsLost}
 use Rattle.ptpm_site.specs.Site.{site_answers}
-use Rattle.ptpm_site.proofs.Sorted.{by_above, by_domain}
+use Rattle.ptpm_site.proofs.Growth.{AreBeside-placed}
+use Rattle.ptpm_site.proofs.Sorted.{by_above, by_domain, sources_by_domain}
 use Rattle.ptpm_site.proofs.forest.Forest.of.Goals as goal
 
 pub invariant_of-result : goal.invariant_of-result
@@ -13,6 +14,8 @@ invariant_of-result c = record {
     ordered = by_above c.sort.new.self.items c.in_ok-sort.ensures.sorted;
   };
   by_domain = by_domain c.sort-2.new.self.items c.in_ok-sort-2.ensures.sorted;
+  sources_by_domain = sources_by_domain c.in_ok-sources.sources.items c.in_ok-sources.ensures.ordered;
+  beside = AreBeside-placed (site_answers c.args.site.now) c.in_ok-sources.sources.items c.in_ok-followed.followed.items c.in_ok-sources.ensures.clocks c.in_ok-followed.ensures;
 }
 
 pub returns-clause-lost : goal.returns-clause-lost

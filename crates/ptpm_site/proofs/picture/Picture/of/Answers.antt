@@ -1,5 +1,5 @@
--- As many clocks have rows as there are clocks, and the marks of the places that lead loops are those of the clocks.
-use Rattle.std.proofs.Common.{◌≡◌, length, ap, subst, sym, arith}
+-- The marks of the places that lead loops are those of the clocks, and rows stand below what the answers say.
+use Rattle.std.proofs.Common.{◌≡◌, subst, sym}
 use Rattle.std.specs.List.Sorted.{IsStrictlySortedBy}
 use Rattle.ptpm_site.specs.Answers.{source_cmp}
 use Rattle.ptpm_site.specs.Following.{ArePlaced}
@@ -18,6 +18,17 @@ least_of_loops-requires c =
     let forest = c.in_ok-forest.forest in
     subst AreWithin (sym c.as_slice.ensures.value) (AreWithin-placed (site_answers c.args.site.now) forest.followed.items c.in_ok-forest.ensures.placed)
 
+pub rows-requires-clause-of : goal.rows-requires-clause-of
+rows-requires-clause-of c = record { clocks = c.in_ok-forest.ensures.clocks; lost = c.in_ok-forest.ensures.lost }
+
+pub rows-requires-clause-least : goal.rows-requires-clause-least
+rows-requires-clause-least c =
+    let t = site_answers c.args.site.now in
+    let followed = c.as_slice.result.now in
+    let placed : ArePlaced t followed = subst (ArePlaced t) (sym c.as_slice.ensures.value) c.in_ok-forest.ensures.placed in
+    let ordered : IsStrictlySortedBy source_cmp t.clocks = subst (IsStrictlySortedBy source_cmp) c.in_ok-forest.ensures.clocks c.in_ok-forest.ensures.ordered in
+    subst (AreLeast t) (sym c.as_slice-2.ensures.value) (AreLeast-placed t followed c.in_ok-least.least.items placed ordered c.in_ok-least.ensures)
+
 pub findings_of-requires : goal.findings_of-requires
 findings_of-requires c =
     let t = site_answers c.args.site.now in
@@ -25,12 +36,6 @@ findings_of-requires c =
     let placed : ArePlaced t followed = subst (ArePlaced t) (sym c.as_slice.ensures.value) c.in_ok-forest.ensures.placed in
     let ordered : IsStrictlySortedBy source_cmp t.clocks = subst (IsStrictlySortedBy source_cmp) c.in_ok-forest.ensures.clocks c.in_ok-forest.ensures.ordered in
     subst (AreLeast t) (sym c.as_slice-3.ensures.value) (AreLeast-placed t followed c.in_ok-least.least.items placed ordered c.in_ok-least.ensures)
-
-pub returns-clause-once : goal.returns-clause-once
-returns-clause-once c = λ p h.
-    let sources = c.in_ok-forest.forest.sources in
-    let same : length sources.items ≡ length (site_answers c.args.site.now).clocks = ap length c.in_ok-forest.ensures.clocks in
-    c.in_ok-rows.ensures.once p (omega (arith, sources.ok.0, same))
 
 pub returns-clause-below : goal.returns-clause-below
 returns-clause-below c =
