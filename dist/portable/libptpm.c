@@ -6440,7 +6440,7 @@ L1:;
     v16 = v11 + 192u * 1u;
     v17 = load64(v16);
     v18 = v17 == 0u;
-    if (v18) { v5 = 0u; v6 = v10; v7 = v9; v8 = v17; goto L6; }
+    if (v18) { v5 = 0u; v6 = v10; v7 = v9; v8 = 0u; goto L6; }
     else { goto L2; }
 L2:;
     v19 = v17 < UINT64_C(4318058069688566);
@@ -6476,8 +6476,8 @@ L5:;
     store8(v36, v30);
     v37 = v32 + 2129u * 1u;
     v38 = (u64)((u64)v4 + (u64)1u);
-    v39 = v38 == v17;
     memory_set(v37, 0u, 7u);
+    v39 = v38 == v17;
     if (v39) { v5 = 0u; v6 = v10; v7 = v26; v8 = v17; goto L6; }
     else { v4 = v38; goto L5; }
 L6:;
@@ -15871,8 +15871,8 @@ L24:;
     store8(v281, v275);
     v282 = v277 + 2129u * 1u;
     v283 = (u64)((u64)v14 + (u64)1u);
-    v284 = v283 == v262;
     memory_set(v282, 0u, 7u);
+    v284 = v283 == v262;
     if (v284) { v15 = v271; goto L25; }
     else { v14 = v283; goto L24; }
 L25:;

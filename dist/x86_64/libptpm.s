@@ -2557,7 +2557,7 @@
 	movq	8(%rdi), %rsi
 	movq	%rsp, %rdi
 	leaq	88(%rsp), %rcx
-	callq	"ptpm_saved::reading::read_entry"
+	callq	"ptpm_saved::entry_reading::read_entry"
 	cmpb	$1, (%rsp)
 	jne	.LBB15_19
 	movq	56(%rsp), %rdx
@@ -2588,7 +2588,7 @@
 	movdqa	%xmm0, 64(%rsp)
 	movq	%rsp, %rdi
 	leaq	88(%rsp), %rcx
-	callq	"ptpm_saved::reading::read_entry"
+	callq	"ptpm_saved::entry_reading::read_entry"
 	cmpb	$1, (%rsp)
 	jne	.LBB15_19
 	movzwl	16(%rsp), %eax
@@ -2645,10 +2645,10 @@
 .Lfunc_end15:
 	.size	"ptpm_saved::restoring::judge_entries", .Lfunc_end15-"ptpm_saved::restoring::judge_entries"
 
-	.section	".text.ptpm_saved::reading::read_entry","ax",@progbits
+	.section	".text.ptpm_saved::entry_reading::read_entry","ax",@progbits
 	.p2align	4
-	.type	"ptpm_saved::reading::read_entry",@function
-"ptpm_saved::reading::read_entry":
+	.type	"ptpm_saved::entry_reading::read_entry",@function
+"ptpm_saved::entry_reading::read_entry":
 	pushq	%rbp
 	pushq	%r15
 	pushq	%r14
@@ -3005,7 +3005,7 @@
 	addq	$3, %rsi
 	movq	%rsi, 8(%rsp)
 	movzwl	%cx, %eax
-	leaq	".Lswitch.table.ptpm_saved::reading::read_entry"(%rip), %rcx
+	leaq	".Lswitch.table.ptpm_saved::entry_reading::read_entry"(%rip), %rcx
 	movzbl	(%rax,%rcx), %ebp
 	leaq	262(%rsp), %rsi
 	movups	%xmm0, 128(%rsi)
@@ -3183,7 +3183,7 @@
 	je	.LBB16_74
 	jmp	.LBB16_13
 .Lfunc_end16:
-	.size	"ptpm_saved::reading::read_entry", .Lfunc_end16-"ptpm_saved::reading::read_entry"
+	.size	"ptpm_saved::entry_reading::read_entry", .Lfunc_end16-"ptpm_saved::entry_reading::read_entry"
 
 	.section	".text.ptpm_saved::restoring::read_sets","ax",@progbits
 	.p2align	4
@@ -4470,7 +4470,7 @@
 	movq	%rcx, %rdx
 	callq	"ptpm_host::managers::ConfiguredManagers::new"
 	cmpb	$0, 32(%rsp)
-	jne	.LBB22_15
+	jne	.LBB22_14
 	leaq	40(%rsp), %rsi
 	leaq	240(%rsp), %r12
 	movl	$200, %edx
@@ -4491,7 +4491,7 @@
 	movl	$0, %r15d
 	movl	$0, %esi
 	testb	$1, %al
-	je	.LBB22_14
+	je	.LBB22_13
 	cmpq	$1, %rbx
 	movq	%rbx, 16(%rsp)
 	jne	.LBB22_9
@@ -4501,13 +4501,12 @@
 	movq	%rsp, %r15
 	xorl	%ebp, %ebp
 	movq	%r14, %rcx
-.LBB22_13:
-	movq	%rbx, %rsi
-	jmp	.LBB22_14
+	xorl	%esi, %esi
+	jmp	.LBB22_13
 .LBB22_4:
 	xorl	%r15d, %r15d
 	xorl	%esi, %esi
-	jmp	.LBB22_14
+	jmp	.LBB22_13
 .LBB22_9:
 	movq	%r13, 8(%rsp)
 	movabsq	$4503599627370494, %r15
@@ -4560,6 +4559,7 @@
 	xorl	%ebp, %ebp
 	movq	%r14, %rcx
 	movq	%rdx, %r15
+	movq	%rbx, %rsi
 	jmp	.LBB22_13
 .LBB22_8:
 	leaq	(,%rbp,2), %rbx
@@ -4586,7 +4586,7 @@
 	movl	$0, 2132(%r15,%r12)
 	movq	%r14, %rcx
 	movq	16(%rsp), %rsi
-.LBB22_14:
+.LBB22_13:
 	movb	%bpl, (%r13)
 	movq	%rcx, 8(%r13)
 	movq	%r15, 16(%r13)
@@ -4600,7 +4600,7 @@
 	popq	%r15
 	popq	%rbp
 	retq
-.LBB22_15:
+.LBB22_14:
 	ud2
 .Lfunc_end22:
 	.size	"ptpm_host::judged::judged_table", .Lfunc_end22-"ptpm_host::judged::judged_table"
@@ -5019,10 +5019,10 @@
 .Lfunc_end24:
 	.size	"ptpm_data::data_sets::DataSets::copy", .Lfunc_end24-"ptpm_data::data_sets::DataSets::copy"
 
-	.section	".text.ptpm_saved::restoring::put_back_judged::<#08a0f82c1578ce1e>","ax",@progbits
+	.section	".text.ptpm_saved::restoring::put_back_judged::<#fae3adcc1f90236a>","ax",@progbits
 	.p2align	4
-	.type	"ptpm_saved::restoring::put_back_judged::<#08a0f82c1578ce1e>",@function
-"ptpm_saved::restoring::put_back_judged::<#08a0f82c1578ce1e>":
+	.type	"ptpm_saved::restoring::put_back_judged::<#fae3adcc1f90236a>",@function
+"ptpm_saved::restoring::put_back_judged::<#fae3adcc1f90236a>":
 	cmpq	$12, %rsi
 	jb	.LBB25_6
 	leaq	-12(%rsi), %rax
@@ -5058,18 +5058,18 @@
 	movq	%rax, 16(%rsp)
 	movq	%rsp, %rdi
 	movq	%rdx, %rsi
-	callq	"ptpm_saved::restoring::keep_entries::<#08a0f82c1578ce1e>"
+	callq	"ptpm_saved::restoring::keep_entries::<#fae3adcc1f90236a>"
 	addq	$24, %rsp
 	retq
 .LBB25_6:
 	ud2
 .Lfunc_end25:
-	.size	"ptpm_saved::restoring::put_back_judged::<#08a0f82c1578ce1e>", .Lfunc_end25-"ptpm_saved::restoring::put_back_judged::<#08a0f82c1578ce1e>"
+	.size	"ptpm_saved::restoring::put_back_judged::<#fae3adcc1f90236a>", .Lfunc_end25-"ptpm_saved::restoring::put_back_judged::<#fae3adcc1f90236a>"
 
-	.section	".text.ptpm_saved::restoring::keep_entries::<#08a0f82c1578ce1e>","ax",@progbits
+	.section	".text.ptpm_saved::restoring::keep_entries::<#fae3adcc1f90236a>","ax",@progbits
 	.p2align	4
-	.type	"ptpm_saved::restoring::keep_entries::<#08a0f82c1578ce1e>",@function
-"ptpm_saved::restoring::keep_entries::<#08a0f82c1578ce1e>":
+	.type	"ptpm_saved::restoring::keep_entries::<#fae3adcc1f90236a>",@function
+"ptpm_saved::restoring::keep_entries::<#fae3adcc1f90236a>":
 	pushq	%rbp
 	pushq	%r15
 	pushq	%r14
@@ -5201,7 +5201,7 @@
 	leaq	248(%rsp), %rcx
 	movq	%r11, %rsi
 	movq	%r15, %rdx
-	callq	"ptpm_saved::reading::read_entry"
+	callq	"ptpm_saved::entry_reading::read_entry"
 	cmpb	$1, 144(%rsp)
 	jne	.LBB26_107
 	movq	192(%rsp), %r11
@@ -5817,8 +5817,8 @@
 .LBB26_107:
 	ud2
 .Lfunc_end26:
-	.size	"ptpm_saved::restoring::keep_entries::<#08a0f82c1578ce1e>", .Lfunc_end26-"ptpm_saved::restoring::keep_entries::<#08a0f82c1578ce1e>"
-	.section	".rodata.ptpm_saved::restoring::keep_entries::<#08a0f82c1578ce1e>","a",@progbits
+	.size	"ptpm_saved::restoring::keep_entries::<#fae3adcc1f90236a>", .Lfunc_end26-"ptpm_saved::restoring::keep_entries::<#fae3adcc1f90236a>"
+	.section	".rodata.ptpm_saved::restoring::keep_entries::<#fae3adcc1f90236a>","a",@progbits
 	.p2align	2, 0x0
 .LJTI26_0:
 	.long	.LBB26_33-.LJTI26_0
@@ -8799,7 +8799,7 @@
 	leaq	160(%rsp), %rcx
 	movq	%rbx, %rdi
 	movq	%rsi, 112(%rsp)
-	callq	"ptpm_agent::forwarding::send_on::<#063d1b5a75da725a>"
+	callq	"ptpm_agent::forwarding::send_on::<#4f958940f30d0d8a>"
 	testb	%r15b, %r15b
 	je	.LBB42_63
 	movzwl	42(%r14), %ecx
@@ -8859,7 +8859,7 @@
 	movq	%r12, %rsi
 	movq	%r10, %rdx
 	movl	%ecx, 24(%rsp)
-	callq	"ptpm_table::heap_table::HeapTableReplyTable::look_with_rights"
+	callq	"ptpm_table::table_over::TableOverReplyTable::look_with_rights::<#b38049327146b0cc>"
 	movq	16(%rsp), %r8
 	movzbl	%al, %eax
 	leaq	.LJTI42_0(%rip), %rcx
@@ -8937,7 +8937,7 @@
 	leaq	184(%rsp), %rsi
 	leaq	32(%rsp), %rdx
 	movq	%rbx, %rdi
-	callq	"ptpm_data::data_sets::DataSets::read_into::<#5c8bfa10b5128dbe>"
+	callq	"ptpm_data::data_sets::DataSets::read_into::<#97cf1bf3097a0201>"
 	movq	%r15, %rdi
 	movl	%r12d, %r11d
 .LBB42_71:
@@ -8969,7 +8969,7 @@
 	movq	%r12, %rsi
 	movq	%r10, %rdx
 	movl	%ecx, 24(%rsp)
-	callq	"ptpm_table::heap_table::HeapTableReplyTable::look_with_rights"
+	callq	"ptpm_table::table_over::TableOverReplyTable::look_with_rights::<#b38049327146b0cc>"
 	movq	16(%rsp), %r8
 	cmpb	$2, %al
 	movq	152(%rsp), %rdi
@@ -9019,7 +9019,7 @@
 	movq	%r15, %rdi
 	movq	%rsi, %r8
 	movq	%rax, %rsi
-	callq	"ptpm_table::kept_messages::resend_each::<#063d1b5a75da725a>"
+	callq	"ptpm_table::kept_messages::resend_each::<#4f958940f30d0d8a>"
 	movq	%r14, %rdi
 	movq	176(%rsp), %rax
 	movq	%rax, (%rbp)
@@ -9037,7 +9037,7 @@
 	leaq	160(%rsp), %r8
 	movq	%rdi, %r14
 	movq	%rbx, %rdi
-	callq	"ptpm_agent::agent::Agent::accept::<#64162d7393b569e7>"
+	callq	"ptpm_agent::agent::Agent::accept::<#bbaac5897f5fe479>"
 	movq	%r14, %rdi
 	movq	176(%rsp), %rax
 	movq	%rax, (%rbp)
@@ -9056,10 +9056,10 @@
 	.long	.LBB42_55-.LJTI42_0
 	.long	.LBB42_52-.LJTI42_0
 
-	.section	".text.ptpm_table::heap_table::HeapTableReplyTable::look_with_rights","ax",@progbits
+	.section	".text.ptpm_table::table_over::TableOverReplyTable::look_with_rights::<#b38049327146b0cc>","ax",@progbits
 	.p2align	4
-	.type	"ptpm_table::heap_table::HeapTableReplyTable::look_with_rights",@function
-"ptpm_table::heap_table::HeapTableReplyTable::look_with_rights":
+	.type	"ptpm_table::table_over::TableOverReplyTable::look_with_rights::<#b38049327146b0cc>",@function
+"ptpm_table::table_over::TableOverReplyTable::look_with_rights::<#b38049327146b0cc>":
 	testq	%rsi, %rsi
 	je	.LBB43_20
 	pushq	%rbx
@@ -9163,12 +9163,12 @@
 	popq	%rbx
 	retq
 .Lfunc_end43:
-	.size	"ptpm_table::heap_table::HeapTableReplyTable::look_with_rights", .Lfunc_end43-"ptpm_table::heap_table::HeapTableReplyTable::look_with_rights"
+	.size	"ptpm_table::table_over::TableOverReplyTable::look_with_rights::<#b38049327146b0cc>", .Lfunc_end43-"ptpm_table::table_over::TableOverReplyTable::look_with_rights::<#b38049327146b0cc>"
 
-	.section	".text.ptpm_agent::agent::Agent::accept::<#64162d7393b569e7>","ax",@progbits
+	.section	".text.ptpm_agent::agent::Agent::accept::<#bbaac5897f5fe479>","ax",@progbits
 	.p2align	4
-	.type	"ptpm_agent::agent::Agent::accept::<#64162d7393b569e7>",@function
-"ptpm_agent::agent::Agent::accept::<#64162d7393b569e7>":
+	.type	"ptpm_agent::agent::Agent::accept::<#bbaac5897f5fe479>",@function
+"ptpm_agent::agent::Agent::accept::<#bbaac5897f5fe479>":
 	pushq	%rbp
 	pushq	%r15
 	pushq	%r14
@@ -9254,7 +9254,7 @@
 	leaq	24(%rsp), %rsi
 	leaq	48(%rsp), %rcx
 	movq	%r12, %rdi
-	callq	"ptpm_data::data_sets::DataSets::decide_into::<#5c8bfa10b5128dbe>"
+	callq	"ptpm_data::data_sets::DataSets::decide_into::<#97cf1bf3097a0201>"
 	movq	456(%r12), %rax
 	testq	%rax, %rax
 	je	.LBB44_32
@@ -9398,7 +9398,7 @@
 .LBB44_24:
 	movq	%r15, %rsi
 	movq	%r14, %rdx
-	callq	"ptpm_table::kept_messages::copy_each::<#063d1b5a75da725a>"
+	callq	"ptpm_table::kept_messages::copy_each::<#4f958940f30d0d8a>"
 	jmp	.LBB44_32
 .LBB44_25:
 	movq	%r14, %rdi
@@ -9473,7 +9473,7 @@
 	je	.LBB44_16
 	jmp	.LBB44_42
 .Lfunc_end44:
-	.size	"ptpm_agent::agent::Agent::accept::<#64162d7393b569e7>", .Lfunc_end44-"ptpm_agent::agent::Agent::accept::<#64162d7393b569e7>"
+	.size	"ptpm_agent::agent::Agent::accept::<#bbaac5897f5fe479>", .Lfunc_end44-"ptpm_agent::agent::Agent::accept::<#bbaac5897f5fe479>"
 
 	.section	.rodata.cst16,"aM",@progbits,16
 	.p2align	4, 0x0
@@ -9603,10 +9603,10 @@
 	.zero	1
 	.zero	1
 	.zero	1
-	.section	".text.ptpm_data::data_sets::DataSets::decide_into::<#5c8bfa10b5128dbe>","ax",@progbits
+	.section	".text.ptpm_data::data_sets::DataSets::decide_into::<#97cf1bf3097a0201>","ax",@progbits
 	.p2align	4
-	.type	"ptpm_data::data_sets::DataSets::decide_into::<#5c8bfa10b5128dbe>",@function
-"ptpm_data::data_sets::DataSets::decide_into::<#5c8bfa10b5128dbe>":
+	.type	"ptpm_data::data_sets::DataSets::decide_into::<#97cf1bf3097a0201>",@function
+"ptpm_data::data_sets::DataSets::decide_into::<#97cf1bf3097a0201>":
 	pushq	%rbp
 	pushq	%r15
 	pushq	%r14
@@ -9973,7 +9973,7 @@
 	movzbl	%r9b, %r8d
 	movzbl	%r15b, %r9d
 	movq	%rbx, %rcx
-	callq	"ptpm_data::data_sets::DataSets::put_answers::<#5c8bfa10b5128dbe>"
+	callq	"ptpm_data::data_sets::DataSets::put_answers::<#97cf1bf3097a0201>"
 .LBB45_40:
 	addq	$56, %rsp
 	popq	%rbx
@@ -10163,7 +10163,7 @@
 	popq	%r14
 	popq	%r15
 	popq	%rbp
-	jmp	"ptpm_data::data_sets::DataSets::put_larger_value::<#5c8bfa10b5128dbe>"
+	jmp	"ptpm_data::data_sets::DataSets::put_larger_value::<#97cf1bf3097a0201>"
 .LBB45_54:
 	movdqu	(%rcx), %xmm0
 	movdqu	16(%rcx), %xmm1
@@ -11119,8 +11119,8 @@
 	jne	.LBB45_156
 	jmp	.LBB45_219
 .Lfunc_end45:
-	.size	"ptpm_data::data_sets::DataSets::decide_into::<#5c8bfa10b5128dbe>", .Lfunc_end45-"ptpm_data::data_sets::DataSets::decide_into::<#5c8bfa10b5128dbe>"
-	.section	".rodata.ptpm_data::data_sets::DataSets::decide_into::<#5c8bfa10b5128dbe>","a",@progbits
+	.size	"ptpm_data::data_sets::DataSets::decide_into::<#97cf1bf3097a0201>", .Lfunc_end45-"ptpm_data::data_sets::DataSets::decide_into::<#97cf1bf3097a0201>"
+	.section	".rodata.ptpm_data::data_sets::DataSets::decide_into::<#97cf1bf3097a0201>","a",@progbits
 	.p2align	2, 0x0
 .LJTI45_0:
 	.long	.LBB45_3-.LJTI45_0
@@ -11367,10 +11367,10 @@
 .Lfunc_end46:
 	.size	"ptpm_codec::envelope::Envelope::refuse_in", .Lfunc_end46-"ptpm_codec::envelope::Envelope::refuse_in"
 
-	.section	".text.ptpm_data::data_sets::DataSets::put_larger_value::<#5c8bfa10b5128dbe>","ax",@progbits
+	.section	".text.ptpm_data::data_sets::DataSets::put_larger_value::<#97cf1bf3097a0201>","ax",@progbits
 	.p2align	4
-	.type	"ptpm_data::data_sets::DataSets::put_larger_value::<#5c8bfa10b5128dbe>",@function
-"ptpm_data::data_sets::DataSets::put_larger_value::<#5c8bfa10b5128dbe>":
+	.type	"ptpm_data::data_sets::DataSets::put_larger_value::<#97cf1bf3097a0201>",@function
+"ptpm_data::data_sets::DataSets::put_larger_value::<#97cf1bf3097a0201>":
 	pushq	%rbp
 	pushq	%r15
 	pushq	%r14
@@ -11882,12 +11882,12 @@
 	je	.LBB47_49
 	jmp	.LBB47_43
 .Lfunc_end47:
-	.size	"ptpm_data::data_sets::DataSets::put_larger_value::<#5c8bfa10b5128dbe>", .Lfunc_end47-"ptpm_data::data_sets::DataSets::put_larger_value::<#5c8bfa10b5128dbe>"
+	.size	"ptpm_data::data_sets::DataSets::put_larger_value::<#97cf1bf3097a0201>", .Lfunc_end47-"ptpm_data::data_sets::DataSets::put_larger_value::<#97cf1bf3097a0201>"
 
-	.section	".text.ptpm_data::data_sets::DataSets::put_answers::<#5c8bfa10b5128dbe>","ax",@progbits
+	.section	".text.ptpm_data::data_sets::DataSets::put_answers::<#97cf1bf3097a0201>","ax",@progbits
 	.p2align	4
-	.type	"ptpm_data::data_sets::DataSets::put_answers::<#5c8bfa10b5128dbe>",@function
-"ptpm_data::data_sets::DataSets::put_answers::<#5c8bfa10b5128dbe>":
+	.type	"ptpm_data::data_sets::DataSets::put_answers::<#97cf1bf3097a0201>",@function
+"ptpm_data::data_sets::DataSets::put_answers::<#97cf1bf3097a0201>":
 	pushq	%rbp
 	pushq	%r15
 	pushq	%r14
@@ -12592,7 +12592,7 @@
 	incq	16(%r11)
 	jmp	.LBB48_33
 .Lfunc_end48:
-	.size	"ptpm_data::data_sets::DataSets::put_answers::<#5c8bfa10b5128dbe>", .Lfunc_end48-"ptpm_data::data_sets::DataSets::put_answers::<#5c8bfa10b5128dbe>"
+	.size	"ptpm_data::data_sets::DataSets::put_answers::<#97cf1bf3097a0201>", .Lfunc_end48-"ptpm_data::data_sets::DataSets::put_answers::<#97cf1bf3097a0201>"
 
 	.section	".text.ptpm_codec::buffers::copy_any","ax",@progbits
 	.p2align	4
@@ -12871,10 +12871,10 @@
 .Lfunc_end50:
 	.size	"ptpm_codec::buffers::resize_over::<=640>", .Lfunc_end50-"ptpm_codec::buffers::resize_over::<=640>"
 
-	.section	".text.ptpm_table::kept_messages::copy_each::<#063d1b5a75da725a>","ax",@progbits
+	.section	".text.ptpm_table::kept_messages::copy_each::<#4f958940f30d0d8a>","ax",@progbits
 	.p2align	4
-	.type	"ptpm_table::kept_messages::copy_each::<#063d1b5a75da725a>",@function
-"ptpm_table::kept_messages::copy_each::<#063d1b5a75da725a>":
+	.type	"ptpm_table::kept_messages::copy_each::<#4f958940f30d0d8a>",@function
+"ptpm_table::kept_messages::copy_each::<#4f958940f30d0d8a>":
 	pushq	%rbp
 	pushq	%r15
 	pushq	%r14
@@ -13383,12 +13383,12 @@
 	popq	%rbp
 	retq
 .Lfunc_end51:
-	.size	"ptpm_table::kept_messages::copy_each::<#063d1b5a75da725a>", .Lfunc_end51-"ptpm_table::kept_messages::copy_each::<#063d1b5a75da725a>"
+	.size	"ptpm_table::kept_messages::copy_each::<#4f958940f30d0d8a>", .Lfunc_end51-"ptpm_table::kept_messages::copy_each::<#4f958940f30d0d8a>"
 
-	.section	".text.ptpm_table::kept_messages::resend_each::<#063d1b5a75da725a>","ax",@progbits
+	.section	".text.ptpm_table::kept_messages::resend_each::<#4f958940f30d0d8a>","ax",@progbits
 	.p2align	4
-	.type	"ptpm_table::kept_messages::resend_each::<#063d1b5a75da725a>",@function
-"ptpm_table::kept_messages::resend_each::<#063d1b5a75da725a>":
+	.type	"ptpm_table::kept_messages::resend_each::<#4f958940f30d0d8a>",@function
+"ptpm_table::kept_messages::resend_each::<#4f958940f30d0d8a>":
 	testq	%rsi, %rsi
 	je	.LBB52_14
 	pushq	%rbp
@@ -13494,12 +13494,12 @@
 .LBB52_14:
 	retq
 .Lfunc_end52:
-	.size	"ptpm_table::kept_messages::resend_each::<#063d1b5a75da725a>", .Lfunc_end52-"ptpm_table::kept_messages::resend_each::<#063d1b5a75da725a>"
+	.size	"ptpm_table::kept_messages::resend_each::<#4f958940f30d0d8a>", .Lfunc_end52-"ptpm_table::kept_messages::resend_each::<#4f958940f30d0d8a>"
 
-	.section	".text.ptpm_agent::forwarding::send_on::<#063d1b5a75da725a>","ax",@progbits
+	.section	".text.ptpm_agent::forwarding::send_on::<#4f958940f30d0d8a>","ax",@progbits
 	.p2align	4
-	.type	"ptpm_agent::forwarding::send_on::<#063d1b5a75da725a>",@function
-"ptpm_agent::forwarding::send_on::<#063d1b5a75da725a>":
+	.type	"ptpm_agent::forwarding::send_on::<#4f958940f30d0d8a>",@function
+"ptpm_agent::forwarding::send_on::<#4f958940f30d0d8a>":
 	movl	432(%rdi), %eax
 	incl	%eax
 	cmpw	$2, %ax
@@ -13649,12 +13649,12 @@
 .LBB53_29:
 	retq
 .Lfunc_end53:
-	.size	"ptpm_agent::forwarding::send_on::<#063d1b5a75da725a>", .Lfunc_end53-"ptpm_agent::forwarding::send_on::<#063d1b5a75da725a>"
+	.size	"ptpm_agent::forwarding::send_on::<#4f958940f30d0d8a>", .Lfunc_end53-"ptpm_agent::forwarding::send_on::<#4f958940f30d0d8a>"
 
-	.section	".text.ptpm_data::data_sets::DataSets::read_into::<#5c8bfa10b5128dbe>","ax",@progbits
+	.section	".text.ptpm_data::data_sets::DataSets::read_into::<#97cf1bf3097a0201>","ax",@progbits
 	.p2align	4
-	.type	"ptpm_data::data_sets::DataSets::read_into::<#5c8bfa10b5128dbe>",@function
-"ptpm_data::data_sets::DataSets::read_into::<#5c8bfa10b5128dbe>":
+	.type	"ptpm_data::data_sets::DataSets::read_into::<#97cf1bf3097a0201>",@function
+"ptpm_data::data_sets::DataSets::read_into::<#97cf1bf3097a0201>":
 	pushq	%rbx
 	subq	$16, %rsp
 	movq	%rsi, %rcx
@@ -13784,7 +13784,7 @@
 .LBB54_54:
 	addq	$16, %rsp
 	popq	%rbx
-	jmp	"ptpm_data::data_sets::DataSets::put_larger_value::<#5c8bfa10b5128dbe>"
+	jmp	"ptpm_data::data_sets::DataSets::put_larger_value::<#97cf1bf3097a0201>"
 .LBB54_43:
 	xorl	%eax, %eax
 	xorl	%r8d, %r8d
@@ -13832,7 +13832,7 @@
 	movzbl	%r10b, %edx
 	movzbl	%r8b, %r8d
 	movzbl	%al, %r9d
-	callq	"ptpm_data::data_sets::DataSets::put_answers::<#5c8bfa10b5128dbe>"
+	callq	"ptpm_data::data_sets::DataSets::put_answers::<#97cf1bf3097a0201>"
 	addq	$16, %rsp
 	popq	%rbx
 	retq
@@ -13997,8 +13997,8 @@
 	popq	%rbx
 	retq
 .Lfunc_end54:
-	.size	"ptpm_data::data_sets::DataSets::read_into::<#5c8bfa10b5128dbe>", .Lfunc_end54-"ptpm_data::data_sets::DataSets::read_into::<#5c8bfa10b5128dbe>"
-	.section	".rodata.ptpm_data::data_sets::DataSets::read_into::<#5c8bfa10b5128dbe>","a",@progbits
+	.size	"ptpm_data::data_sets::DataSets::read_into::<#97cf1bf3097a0201>", .Lfunc_end54-"ptpm_data::data_sets::DataSets::read_into::<#97cf1bf3097a0201>"
+	.section	".rodata.ptpm_data::data_sets::DataSets::read_into::<#97cf1bf3097a0201>","a",@progbits
 	.p2align	2, 0x0
 .LJTI54_0:
 	.long	.LBB54_8-.LJTI54_0
@@ -16517,7 +16517,7 @@ ptpm_clock_restore:
 	movq	%r12, %rdi
 	movq	%r14, %rsi
 	movq	%r15, %rdx
-	callq	"ptpm_saved::restoring::put_back_judged::<#08a0f82c1578ce1e>"
+	callq	"ptpm_saved::restoring::put_back_judged::<#fae3adcc1f90236a>"
 	movl	%eax, %ebp
 	movl	$16, %edi
 	movl	$8, %esi
@@ -28023,9 +28023,9 @@ ptpm_survey_receive:
 	.asciz	"\020\000\000\000\000\000\000\000\330\000\000\000\000\000\000\000\020\000\000\000\000\000\000\000X\000\000\000\000\000\000\000\020\000\000\000\000\000\000\000\f\000\000\000\000\000\000\000\304\005\000\000\000\000\000\000\f\000\000\000\000\000\000\000\020\000\000\000\000\000\000\000\032\000\000\000\000\000\000\000\020\000\000\000\000\000\000\000\020\000\000\000\000\000\000\000\n\000\000\000\000\000\000\000\b\000\003\000\000\000\000\000\030\000\000\000\000\000\000"
 	.size	.Lstatic.237, 120
 
-	.type	".Lswitch.table.ptpm_saved::reading::read_entry",@object
-	.section	".rodata..Lswitch.table.ptpm_saved::reading::read_entry","a",@progbits
-".Lswitch.table.ptpm_saved::reading::read_entry":
+	.type	".Lswitch.table.ptpm_saved::entry_reading::read_entry",@object
+	.section	".rodata..Lswitch.table.ptpm_saved::entry_reading::read_entry","a",@progbits
+".Lswitch.table.ptpm_saved::entry_reading::read_entry":
 	.byte	6
 	.zero	1
 	.zero	1
@@ -28035,7 +28035,7 @@ ptpm_survey_receive:
 	.byte	3
 	.byte	4
 	.byte	5
-	.size	".Lswitch.table.ptpm_saved::reading::read_entry", 9
+	.size	".Lswitch.table.ptpm_saved::entry_reading::read_entry", 9
 
 	.type	.Lswitch.table.ptpm_clock_image,@object
 	.section	.rodata..Lswitch.table.ptpm_clock_image,"a",@progbits

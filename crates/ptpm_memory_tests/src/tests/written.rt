@@ -160,8 +160,7 @@ fn draw_after_refused_memory(rt: HostRuntime) {
 #[test]
 fn site_after_refused_memory(rt: HostRuntime) {
     let alloc = rt.alloc();
-    let end =
-        "\n0 020000fffe000002 incomplete CURRENT_DATA_SET TIME_PROPERTIES_DATA_SET PORT_DATA_SET\n";
+    let end = "incomplete CURRENT_DATA_SET TIME_PROPERTIES_DATA_SET PORT_DATA_SET \"clock\"\n";
     is_right(&rt, alloc, Task::Site(Form::Text), end);
     let end = "],\n\"leftOut\":{\"clocks\":0,\"ports\":0}}\n";
     is_right(&rt, alloc, Task::Site(Form::Json), end);
