@@ -9,3 +9,4 @@ pub mod SavingLaws
 pub mod SavingClockLaws
 pub mod SavingSessionLaws
 pub mod WrittenLemmas
+pub mod NextSessionLaws

@@ -6,3 +6,4 @@ pub mod Saving
 pub mod SavingClock
 pub mod SavingSession
 pub mod Written
+pub mod NextSession
