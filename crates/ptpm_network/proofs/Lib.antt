@@ -52,3 +52,4 @@ pub mod Served
 pub mod AtWork
 pub mod GivingUp
 pub mod AllInTime
+pub mod Lowering

@@ -17,3 +17,4 @@ pub mod Copies
 pub mod ByManager
 pub mod Served
 pub mod GivingUp
+pub mod Lowered

@@ -6,6 +6,7 @@
 mod giving_up_laws;
 mod headline_laws;
 mod laws;
+mod lowered_laws;
 mod manager_laws;
 mod meanwhile_laws;
 mod way_laws;
@@ -21,6 +22,7 @@ pub use laws::{
     every_schedule, hops_lost, in_the_window, one_request_at_a_time, outbox_of_turns,
     running_networks_stand,
 };
+pub use lowered_laws::lowered_hops_answer_the_same;
 pub use manager_laws::{managers_in_time_are_served, served_so_far};
 pub use meanwhile_laws::{answerable_meanwhile, ways_stay_open};
 pub use way_laws::{
