@@ -59,7 +59,7 @@ rise-more : (before : ℕ) (reports : List Report) (last : ℕ) (report : Report
 rise-more before [] last report rise more = (omega (arith, rise, more), refl)
 rise-more before (x ∷ reports) last report rise more = (rise.0, rise-more x.index reports last report rise.1 more)
 
-told-kept : (m : PortIdentity) (k : ℕ) (es : List Accepted) (report : Report) → IsToldOf m k es report → IsKeptReport m es report
+pub told-kept : (m : PortIdentity) (k : ℕ) (es : List Accepted) (report : Report) → IsToldOf m k es report → IsKeptReport m es report
 told-kept m k es report t = subst (λ (x : Report). IsKeptReport m es x) (sym t.is)
     (ap (λ (o : Option Accepted). reports_of k o) t.kept ∙ ap (λ (answers : List Answer). reports_by k t.entry.reply answers) t.one)
 

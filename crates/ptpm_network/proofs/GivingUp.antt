@@ -1,6 +1,11 @@
 -- A manager whose own messages come in time is served in order, whatever it gives up, and whatever others do.
-use Rattle.ptpm_network.proofs.Common.{◌++◌, arith, by_test, ◌≡◌, ℕ, ◌+◌, ◌<◌, ◌≤◌, ◌==◌, ◌^◌, ◌&&◌, is_some, nat_lt, Bool, List, [], ◌∷◌, length, Option, Some, None, Result, Ok, Err, true, false, refl, sym, ◌∙◌, ap, subst, and_from, eq-eqb, eqb-true, ltb-false, same_Some, all_append, frame_at-all, AllByRecursion, Message, canonical, is_copy, received_of, IsAsked, strange_frame, with_place, AtPort, AtSession, End, HasEnd, IsNetwork, Network, manager, ports, Held, Frame, seen, Origin, RequestOf, ReplyTo, SessionValue, Happened, Refusal, network_event, after_turn, reaches, hears, RunningNetwork, begun, resumed, retuned, sent, due_message, Ask, begin_refusal, Event, Begin, IsInRange, frame_at, is_late_at, sends_in, StandsAfter, session_value, PortIdentity, Accepted, greatest, kept_reply, Report, same_identity, Clock, State, cond-true, cond-false, if◌then◌else◌, le_trans}
+use Rattle.ptpm_network.proofs.Common.{at_place, ◌++◌, arith, by_test, ◌≡◌, ℕ, ◌+◌, ◌<◌, ◌≤◌, ◌==◌, ◌^◌, ◌&&◌, is_some, nat_lt, Bool, List, [], ◌∷◌, length, Option, Some, None, Result, Ok, Err, true, false, refl, sym, ◌∙◌, ap, subst, and_from, eq-eqb, eqb-true, ltb-false, same_Some, all_append, frame_at-all, AllByRecursion, Message, canonical, is_copy, received_of, IsAsked, strange_frame, with_place, AtPort, AtSession, End, HasEnd, IsNetwork, Network, manager, ports, Held, Frame, seen, Origin, RequestOf, ReplyTo, SessionValue, Happened, Refusal, network_event, after_turn, reaches, hears, RunningNetwork, begun, resumed, retuned, sent, due_message, Ask, begin_refusal, Event, Begin, IsInRange, frame_at, is_late_at, sends_in, StandsAfter, session_value, PortIdentity, Accepted, greatest, kept_reply, Report, same_identity, Clock, State, cond-true, cond-false, if◌then◌else◌, le_trans}
 use Rattle.std.proofs.lemmas.Bool.{ltb-true}
+use Rattle.std.specs.FinMap.{get}
+use Rattle.ptpm_data.specs.ObservationBack.{Observation}
+use Rattle.ptpm_data.specs.ObservationLaws.{IsSizedObservation}
+use Rattle.ptpm_table.specs.Entries.{Entries}
+use Rattle.ptpm_agent.specs.Observing.{moved_state}
 use Rattle.ptpm_agent.specs.Turn.{NumberedRequest, after_request, entry_of}
 use Rattle.ptpm_manager.specs.Ask as ask
 use Rattle.ptpm_manager.specs.Receiving.{left_by}
@@ -10,7 +15,7 @@ use Rattle.ptpm_manager.specs.declared.receiving.Received.{Received}
 use Rattle.ptpm_manager.specs.declared.receiving.Received.TheVariants as received
 use Rattle.ptpm_network.specs.ByManager.{Account, is_behind, is_for, is_late_for, is_late_frame_for, with_begun}
 use Rattle.ptpm_network.specs.CarriedOut.{carried_at, carried_by_event, carried_of_frame}
-use Rattle.ptpm_network.specs.GivingUp.{Act, Acts, After, AreRising, AtStart, Further, GivesUp, GoesOn, Happens, HasHistory, Here, IsKeptReport, IsServedInOrder, RiseFrom, account_after, after_event, after_give_up, carried_as, index_at, index_of_held, network_act, nothing_yet}
+use Rattle.ptpm_network.specs.GivingUp.{Act, Acts, After, AreRising, AtStart, Further, GivesUp, GoesOn, Observes, Happens, HasHistory, Here, IsKeptReport, IsServedInOrder, RiseFrom, account_after, after_event, after_give_up, after_observation, carried_as, index_at, index_of_held, IsPossible, network_act, nothing_yet}
 use Rattle.ptpm_network.specs.Machine.{index_of}
 use Rattle.ptpm_network.specs.Served.{IsTimelyCopy}
 use Rattle.ptpm_network.specs.Invariant.{IsRequestFrame}
@@ -18,9 +23,9 @@ use Rattle.ptpm_network.specs.State.{initial_session_state}
 use Rattle.ptpm_network.proofs.Accepting.{greatest-grows, kept-joined}
 use Rattle.ptpm_network.proofs.AtWork.{IsAtWork, reach-waiting, reach-within, work-begun, work-gained, work-given, work-given_up, work-hears, work-set}
 use Rattle.ptpm_network.proofs.EachEvent.{HoldsAfterEach, holds_after}
-use Rattle.ptpm_network.proofs.Honest.{replayed-honest, IsHonest, IsSentBy, IsTrueFrame, begins-honest, frame-true, moved-honest, reaches-honest, sends-honest, sent-all, sent_by, session-honest, turns-honest}
+use Rattle.ptpm_network.proofs.Honest.{observed-honest, replayed-honest, IsHonest, IsSentBy, IsTrueFrame, begins-honest, frame-true, moved-honest, reaches-honest, sends-honest, sent-all, sent_by, session-honest, turns-honest}
 use Rattle.ptpm_network.proofs.Origins.{IsTrue}
-use Rattle.ptpm_network.proofs.Own.{TurnsOwn, turns_own}
+use Rattle.ptpm_network.proofs.Own.{IsLastOf, TurnsOwn, turns_own}
 use Rattle.ptpm_network.proofs.Owned.{IsOwnFrame, IsSaid, own-held, reports_with, sent-says}
 use Rattle.ptpm_network.proofs.Promise.{first_of_sessions, firsts}
 use Rattle.ptpm_network.proofs.Refusals.{begin-not_refused}
@@ -28,11 +33,11 @@ use Rattle.ptpm_network.proofs.Served.{stays-first, timely-for}
 use Rattle.ptpm_network.proofs.Serving.{IsGiven, comes_own, held-turned, with_accepted}
 use Rattle.ptpm_network.proofs.Lists.{flipped}
 
-abbrev AtWork : Network → ℕ → RunningNetwork → Account → Type 0
+abbrev pub AtWork : Network → ℕ → RunningNetwork → Account → Type 0
 AtWork N s r a = IsAtWork N s (r.session s) (r.reports s) (r.clock (N.session s).target) r.frames a
 
 -- every frame is true, and the session is as its account says
-record Works (N : Network) (s : ℕ) (r : RunningNetwork) (a : Account) : Type 0 where
+pub record Works (N : Network) (s : ℕ) (r : RunningNetwork) (a : Account) : Type 0 where
   pub network : IsNetwork N
   pub place : s < N.sessions
   pub honest : IsHonest N r
@@ -204,6 +209,28 @@ module _ (N : Network) (n : IsNetwork N) (s : ℕ) (place : s < N.sessions) (r :
       (subst (λ j. give_up_refusal (r.session j) ≡ None) ts fine))))
   works-given_up t next (Some reason) there fine is = absurd (cc)
 
+  -- a host observes its clock: what the clock keeps of a manager stays
+  works-observed : (c : ℕ) (o : Observation) → c < N.clocks → IsSizedObservation o.clock → Works N s (after_observation r c o) a
+  works-observed c o there fits =
+      let t = (N.session s).target in
+      let entries : (with_place r.clock c (moved_state o.clock o.ports (r.clock c)) t).entries ≡ (r.clock t).entries =
+      at_place (λ i (x : State). x.entries ≡ (r.clock i).entries) r.clock c (moved_state o.clock o.ports (r.clock c)) t refl refl in
+      works _ _ (observed-honest N r c o h there fits) (record {
+        setup = at.setup;
+        issued = at.issued;
+        last_begun = at.last_begun;
+        reach = at.reach;
+        told = at.told;
+        rising = at.rising;
+        kept = at.kept;
+        order = at.order;
+        held = record {
+          keeps = at.held.keeps;
+          last = subst (λ (es : Entries). IsLastOf (manager N s) (N.session s).setup.first a.accepted (get es (manager N s))) (sym entries) at.held.last;
+          frames_say = at.held.frames_say;
+        };
+      })
+
 clock-by : (N : Network) (r next : RunningNetwork) (s c : ℕ) (o : Option GiveUpRefusal)
     → after_give_up r s o ≡ Some next
     → next.clock c ≡ r.clock c
@@ -213,7 +240,7 @@ clock-by N r next s c (Some reason) is = absurd (cc)
 none-some : {A P : Type 0} (a : A) → None ≡ Some a → P
 none-some a e = absurd (cc)
 
-works-act : (N : Network) (s : ℕ) (r next : RunningNetwork) (a : Account) (x : Act)
+pub works-act : (N : Network) (s : ℕ) (r next : RunningNetwork) (a : Account) (x : Act)
     → Works N s r a → Acts N s r next x
     → Works N s next (account_after N s r x a)
 unfolding network_act
@@ -223,6 +250,10 @@ works-act N s r next a (GivesUp t) at acts = by_test (nat_lt t N.sessions)
     (λ y. works-given_up N at.network s at.place r at.honest a at.work t next (give_up_refusal (r.session t)) (ltb-true t N.sessions y) refl
     (sym (cond-true (nat_lt t N.sessions) (after_give_up r t (give_up_refusal (r.session t))) None y) ∙ acts.happens))
     (λ o. none-some next (sym (cond-false (nat_lt t N.sessions) (after_give_up r t (give_up_refusal (r.session t))) None o) ∙ acts.happens))
+works-act N s r next a (Observes c o) at acts = by_test (nat_lt c N.clocks)
+    (λ y. subst (λ x. Works N s x a) (same_Some _ next (sym (cond-true (nat_lt c N.clocks) (Some (after_observation r c o)) None y) ∙ acts.happens))
+    (works-observed N at.network s at.place r at.honest a at.work c o (ltb-true c N.clocks y) acts.possible))
+    (λ n. none-some next (sym (cond-false (nat_lt c N.clocks) (Some (after_observation r c o)) None n) ∙ acts.happens))
 
 works-first : (N : Network) (s : ℕ) (r : RunningNetwork) → s < N.sessions → StandsAfter N [] r → Works N s r nothing_yet
 works-first N s r place start =
@@ -250,7 +281,7 @@ works-first N s r place start =
 
 -- ---- what it is served
 
-works-by : (N : Network) (s : ℕ) (r : RunningNetwork) (a : Account) → HasHistory N s r a → Works N s r a
+pub works-by : (N : Network) (s : ℕ) (r : RunningNetwork) (a : Account) → HasHistory N s r a → Works N s r a
 works-by N s r a (AtStart start place at) = works-first N s start place at
 works-by N s r a (After before next b x history acts) = works-act N s before next b x (works-by N s before b history) acts
 
@@ -305,7 +336,7 @@ rising-before j m c s (q ∷ qs) es rising =
     (rising-before j m c (after_request c s q) qs (if same_identity m q.manager then d ∷ es else es) rising)
 
 -- what is kept for request k is in the second list as in the first, in which it is no later than the last
-record StaysKept (m : PortIdentity) (k : ℕ) (es more : List Accepted) : Type 0 where
+pub record StaysKept (m : PortIdentity) (k : ℕ) (es more : List Accepted) : Type 0 where
   pub same : kept_reply m k more ≡ kept_reply m k es
   pub known : k ≤ greatest m more
 
@@ -329,12 +360,12 @@ kept-carried j m k c s (q ∷ qs) es rising known =
     let rest = kept-carried j m k c (after_request c s q) qs (if here then d ∷ es else es) rising first.known in
     record { same = rest.same ∙ first.same; known = rest.known }
 
-kept-act : (N : Network) (s k : ℕ) (r : RunningNetwork) (a : Account) (x : Act)
+pub kept-act : (N : Network) (s k : ℕ) (r : RunningNetwork) (a : Account) (x : Act)
     → AreRising (manager N s) (account_after N s r x a).accepted → k ≤ greatest (manager N s) a.accepted
     → StaysKept (manager N s) k a.accepted (account_after N s r x a).accepted
 kept-act N s k r a (Happens e) rising known =
     kept-carried (index_at r e) (manager N s) k (N.clock (N.session s).target) (r.clock (N.session s).target) (carried_by_event N r (N.session s).target e) a.accepted rising known
-kept-act N s k r a (GivesUp t) rising known = record { same = refl; known = known }
+kept-act N s k r a _ rising known = record { same = refl; known = known }
 
 history-on : (N : Network) (s : ℕ) (r : RunningNetwork) (a : Account) (t : RunningNetwork) (b : Account)
     → HasHistory N s r a → GoesOn N s r a t b
@@ -365,3 +396,45 @@ unfolding network_act
 clock-stays N r next s c is = by_test (nat_lt s N.sessions)
     (λ y. clock-by N r next s c (give_up_refusal (r.session s)) (sym (cond-true (nat_lt s N.sessions) (after_give_up r s (give_up_refusal (r.session s))) None y) ∙ is))
     (λ o. none-some next (sym (cond-false (nat_lt s N.sessions) (after_give_up r s (give_up_refusal (r.session s))) None o) ∙ is))
+
+pub observed-only : (N : Network) (r next : RunningNetwork) (c : ℕ) (o : Observation)
+    → network_act N r (Observes c o) ≡ Some next
+    → next ≡ after_observation r c o
+unfolding network_act
+observed-only N r next c o is = by_test (nat_lt c N.clocks)
+    (λ y. sym (same_Some _ next (sym (cond-true (nat_lt c N.clocks) (Some (after_observation r c o)) None y) ∙ is)))
+    (λ n. none-some next (sym (cond-false (nat_lt c N.clocks) (Some (after_observation r c o)) None n) ∙ is))
+
+-- ---- every frame stays true
+
+module _ (N : Network) (r : RunningNetwork) (n : IsNetwork N) (h : IsHonest N r) where
+  each-honest : HoldsAfterEach N r (λ e x. IsHonest N x)
+  each-honest = record {
+    begins = λ t q there id fine. session-honest N r t _ h (begins-honest N r t q n h there id fine);
+    sends = λ t there. sends-honest N r t n h there;
+    resumes = λ t attempts there. moved-honest N r h t (λ x. resumed x attempts) there refl refl;
+    retunes = λ t domain there. moved-honest N r h t (λ x. retuned x domain) there refl refl;
+    delivers = λ k x e. let i = frame-true N n r h k x e in reaches-honest N n r h x x.end i.says i.end;
+    replays = λ k end x e there. replayed-honest N n r h k x end e there;
+    intrudes = λ c port datagram end says. turns-honest N r c port (strange_frame c port datagram) n h end says;
+  }
+
+  honest-given_up : (t : ℕ) (next : RunningNetwork) (o : Option GiveUpRefusal) → t < N.sessions → after_give_up r t o ≡ Some next → IsHonest N next
+  honest-given_up t next None there is =
+      subst (IsHonest N) (same_Some _ next is)
+      (session-honest N r t (given_up (r.session t)) h (record { setup = (h.sessions t there).setup; asked = λ q e. absurd (cc) }))
+  honest-given_up t next (Some reason) there is = absurd (cc)
+
+  pub honest-act : (next : RunningNetwork) (x : Act) → IsPossible x → network_act N r x ≡ Some next → IsHonest N next
+  unfolding network_act
+  honest-act next (Happens e) i is =
+      let happened = happened-as (network_event N r e) next is in
+      subst (IsHonest N) happened.2 (holds_after N r (λ e x. IsHonest N x) each-honest e i happened.0 happened.1)
+  honest-act next (GivesUp t) i is = by_test (nat_lt t N.sessions)
+      (λ y. honest-given_up t next (give_up_refusal (r.session t)) (ltb-true t N.sessions y)
+      (sym (cond-true (nat_lt t N.sessions) (after_give_up r t (give_up_refusal (r.session t))) None y) ∙ is))
+      (λ o. none-some next (sym (cond-false (nat_lt t N.sessions) (after_give_up r t (give_up_refusal (r.session t))) None o) ∙ is))
+  honest-act next (Observes c o) i is = by_test (nat_lt c N.clocks)
+      (λ y. subst (IsHonest N) (same_Some _ next (sym (cond-true (nat_lt c N.clocks) (Some (after_observation r c o)) None y) ∙ is))
+      (observed-honest N r c o h (ltb-true c N.clocks y) i))
+      (λ n. none-some next (sym (cond-false (nat_lt c N.clocks) (Some (after_observation r c o)) None n) ∙ is))

@@ -7,15 +7,19 @@ use Rattle.ptpm_manager.specs.declared.receiving.Received.TheVariants as receive
 use Rattle.ptpm_manager.specs.declared.setup.Setup.{Setup}
 use Rattle.ptpm_manager.specs.Ask as ask
 use Rattle.ptpm_agent.specs.declared.verdict.Verdict.TheVariants as verdicts
+use Rattle.ptpm_data.specs.ObservationBack.{Observation}
+use Rattle.ptpm_data.specs.ObservationLaws.{IsSizedObservation}
 use Rattle.ptpm_agent.specs.Laws.{IsKept}
+use Rattle.ptpm_agent.specs.Observing.{moved_state}
 use Rattle.ptpm_agent.specs.Turn.{kept_reply_of, next_by}
 use Rattle.ptpm_agent.proofs.Entries.{accepted_entry, get-insert_other, get-insert_same}
 use Rattle.ptpm_agent.proofs.Turns.{turn-next}
+use Rattle.ptpm_network.specs.GivingUp.{after_observation}
 use Rattle.ptpm_network.proofs.Answering.{rendered-says}
 use Rattle.ptpm_network.proofs.Messages.{canonical-message, request-fits, request-valid}
 use Rattle.ptpm_network.proofs.Origins.{IsCopyBy, IsTrue, is_copy_by, message-true}
 use Rattle.ptpm_network.proofs.Refusals.{asked-not_refused, begin-not_refused}
-use Rattle.ptpm_network.proofs.Requests.{answered as reply-answers, kept, read_answered}
+use Rattle.ptpm_network.proofs.Requests.{answered as reply-answers, kept, observed-kept, read_answered}
 use Rattle.ptpm_network.proofs.Steps.{has_peers}
 use Rattle.ptpm_network.proofs.Truth.{passed_on-true, turn_frames-all}
 use Rattle.ptpm_network.proofs.Turning.{turn-reads}
@@ -134,6 +138,17 @@ turns-honest N r c port f n h end i = record {
       (turn-next (IsHonestClock (ports N c)) (N.clock c) (r.clock c) port f.octets (h.clocks c end.0) (λ v e. next-honest (N.clock c) (ports N c) (r.clock c) v _ (i v e).0 (h.clocks c end.0))) (h.clocks d there);
   sessions = h.sessions;
   frames = grind (arith, all_append, frames-true);
+}
+
+-- its host observes it
+pub observed-honest : (N : Network) (r : RunningNetwork) (c : ℕ) (o : Observation)
+    → IsHonest N r → c < N.clocks → IsSizedObservation o.clock
+    → IsHonest N (after_observation r c o)
+observed-honest N r c o h there fits = record {
+  clocks = λ d exists. at_place (λ j (s : State). IsHonestClock (ports N j) s) r.clock c (moved_state o.clock o.ports (r.clock c)) d
+      (record { sets = observed-kept o (ports N c) (r.clock c).sets fits (h.clocks c there).sets; kept = (h.clocks c there).kept }) (h.clocks d exists);
+  sessions = h.sessions;
+  frames = h.frames;
 }
 
 -- ---- sessions

@@ -1,9 +1,13 @@
 -- What a request keeps of the data sets, and what its reply says.
-use Rattle.ptpm_network.proofs.Common.{arith, ◌≡◌, refl, ℕ, zero, suc, ◌+◌, ◌<◌, ◌≤◌, ◌^◌, Bool, true, false, List, length, map, Option, Some, None, cond-true, cond-false, length-map, AllByRecursion, filter, range_with_len, ErrorId, Action, IsDataField, changed_by, is_named, data_field_at, is_of_port, DataSetsValue, refusal_of, answer, named_ports, outcome, read_refusal, read_reply_to, reply_of, reply_to, RequestValue, changed_by-ports, changed_by-sized, Answers, AreDataSets, HasOneAnswer, IsForOne, IsSendable, IsSendableOutcome, all_made, filter-few, length-range_with_len}
+use Rattle.ptpm_network.proofs.Common.{◌∙◌, arith, ◌≡◌, refl, ℕ, zero, suc, ◌+◌, ◌<◌, ◌≤◌, ◌^◌, Bool, true, false, List, length, map, Option, Some, None, cond-true, cond-false, length-map, AllByRecursion, filter, range_with_len, ErrorId, Action, IsDataField, changed_by, is_named, data_field_at, is_of_port, DataSetsValue, refusal_of, answer, named_ports, outcome, read_refusal, read_reply_to, reply_of, reply_to, RequestValue, changed_by-ports, changed_by-sized, Answers, AreDataSets, HasOneAnswer, IsForOne, IsSendable, IsSendableOutcome, all_made, filter-few, length-range_with_len}
 use Rattle.ptpm_codec.specs.declared.message.Action.TheVariants as actions
 use Rattle.ptpm_data.specs.declared.rights.Rights.{Rights}
+use Rattle.ptpm_data.specs.Observation.{observed}
+use Rattle.ptpm_data.specs.ObservationBack.{Observation}
+use Rattle.ptpm_data.specs.ObservationLaws.{IsSizedObservation}
 use Rattle.ptpm_data.specs.RequestLaws.{IsFieldWithin, IsSized, field_limit}
 use Rattle.ptpm_data.proofs.FieldSizes.{of_id}
+use Rattle.ptpm_data.proofs.Observed.{observed-ports, observed-sized}
 use Rattle.ptpm_data.proofs.ReplyLemmas.{answers_of, reply_of-one}
 
 -- ---- data sets of a number of ports
@@ -15,6 +19,23 @@ pub kept : (q : RequestValue) (r : Rights) (ports : ℕ) (d : DataSetsValue)
     → AreDataSets ports d
     → AreDataSets ports (changed_by q r d)
 kept q r ports d s = grind (arith, changed_by-sized, sized, changed_by-ports)
+
+-- what is observed keeps them
+pub observed-kept : (o : Observation) (ports : ℕ) (d : DataSetsValue)
+    → IsSizedObservation o.clock → AreDataSets ports d
+    → AreDataSets ports (observed o.clock o.ports d)
+observed-kept o ports d fits s =
+    let after = observed-sized o.clock o.ports d fits (sized ports d s) in
+    let count : length (observed o.clock o.ports d).ports ≡ ports = observed-ports o.clock o.ports d ∙ s.ports_are in
+    record {
+      identity = after.identity;
+      parent = after.parent;
+      grandmaster = after.grandmaster;
+      description = after.text;
+      ports_are = count;
+      some_port = s.some_port;
+      at_most_eight = s.at_most_eight;
+    }
 
 -- ---- what an answer says
 

@@ -1,11 +1,14 @@
--- A network in which sessions also let their requests go: what one manager may rely on there, while its own messages come in time. The
--- messages of others may come as late as can be, and others may give up what they like.
+-- A network in which sessions also let their requests go, and hosts observe their clocks. What one manager may rely on there, while its
+-- own messages come in time. The messages of others may come as late as can be, and others may give up what they like.
 use Rattle.std.specs.Prelude.{◌≡◌, ℕ, ◌+◌, ◌-◌, ◌<◌, ◌≤◌, nat_lt, Bool, false, List, [], ◌∷◌, slice_get, Option, Some, None, Result, Ok, Err, if◌then◌else◌, true}
 use Rattle.std.specs.List.{AllByRecursion}
 use Rattle.ptpm_codec.specs.declared.identity.PortIdentity.{PortIdentity}
 use Rattle.ptpm_codec.specs.Identity.{same_identity}
 use Rattle.ptpm_codec.specs.declared.message.Message.{Message}
+use Rattle.ptpm_data.specs.ObservationBack.{Observation}
+use Rattle.ptpm_data.specs.ObservationLaws.{IsSizedObservation}
 use Rattle.ptpm_agent.specs.Addressing.{heard_of}
+use Rattle.ptpm_agent.specs.Observing.{moved_state}
 use Rattle.ptpm_agent.specs.Once.{Accepted, greatest, kept_reply}
 use Rattle.ptpm_agent.specs.Turn.{Clock, NumberedRequest, State, after_request, entry_of, reply_messages, turn}
 use Rattle.ptpm_manager.specs.declared.error.GiveUpRefusal.{GiveUpRefusal}
@@ -14,7 +17,7 @@ use Rattle.ptpm_manager.specs.Session.{give_up_refusal, given_up, reach_limit}
 use Rattle.ptpm_network.specs.ByManager.{Account, is_late_for, with_begun}
 use Rattle.ptpm_network.specs.CarriedOut.{carried_by_event}
 use Rattle.ptpm_network.specs.Events.{Event, Deliver, IsInRange, Refusal, frame_at}
-use Rattle.ptpm_network.specs.Machine.{index_of}
+use Rattle.ptpm_network.specs.Machine.{index_of, with_place}
 use Rattle.ptpm_network.specs.Network.{Network, manager}
 use Rattle.ptpm_network.specs.RunningNetwork.{Happened, Held, RunningNetwork, network_event, with_session_value}
 use Rattle.ptpm_network.specs.Served.{IsTimelyCopy}
@@ -28,6 +31,8 @@ pub data Act : Type 0 where
   Happens : (event : Event) → Act
   -- a session lets its unanswered request go
   GivesUp : (session : ℕ) → Act
+  -- a host reports what it observes of its clock; if this is refused, nothing moves
+  Observes : (clock : ℕ) → (observation : Observation) → Act
 
 abbrev pub after_event : Result Happened Refusal → Option RunningNetwork
 after_event (Ok happened) = Some happened.network
@@ -37,15 +42,20 @@ abbrev pub after_give_up : RunningNetwork → ℕ → Option GiveUpRefusal → O
 after_give_up r s None = Some (with_session_value r s (given_up (r.session s)))
 after_give_up r s (Some reason) = None
 
+abbrev pub after_observation : RunningNetwork → ℕ → Observation → RunningNetwork
+after_observation r c o = record r { clock = with_place r.clock c (moved_state o.clock o.ports (r.clock c)) }
+
 -- the network after an act, if it is not refused
 unfoldable pub network_act : Network → RunningNetwork → Act → Option RunningNetwork
 network_act N r (Happens e) = after_event (network_event N r e)
 network_act N r (GivesUp s) =
     if nat_lt s N.sessions then after_give_up r s (give_up_refusal (r.session s)) else None
+network_act N r (Observes c o) = if nat_lt c N.clocks then Some (after_observation r c o) else None
 
 abbrev pub IsPossible : Act → Type 0
 IsPossible (Happens e) = IsInRange e
 IsPossible (GivesUp s) = Unit {0}
+IsPossible (Observes c o) = IsSizedObservation o.clock
 
 -- ---- one manager's account of it
 
@@ -74,14 +84,14 @@ account_after N s r (Happens e) a = record {
   begun = with_begun s e a.begun;
   accepted = carried_as (index_at r e) (manager N s) (N.clock (N.session s).target) (r.clock (N.session s).target) (carried_by_event N r (N.session s).target e) a.accepted;
 }
-account_after N s r (GivesUp t) a = a
+account_after N s r _ a = a
 
 abbrev pub nothing_yet : Account
 nothing_yet = record { begun = []; accepted = [] }
 
 abbrev pub is_late_act : Network → ℕ → RunningNetwork → Act → Bool
 is_late_act N s r (Happens e) = is_late_for N s r e
-is_late_act N s r (GivesUp t) = false
+is_late_act N s r _ = false
 
 -- an act that is not refused leads from one network to another, and is no late delivery for this session
 pub record Acts (N : Network) (s : ℕ) (r next : RunningNetwork) (x : Act) : Type 0 where

@@ -1,4 +1,4 @@
-use Rattle.ptpm_network.proofs.GivingUp.{clock-stays, decided, served-in-order}
+use Rattle.ptpm_network.proofs.GivingUp.{clock-stays, decided, observed-only, served-in-order}
 use Rattle.ptpm_network.proofs.giving_up_laws.managers_that_give_up_are_served.Goals as goal
 
 pub returns-clause-served : goal.returns-clause-served
@@ -9,3 +9,6 @@ returns-clause-fence c = decided
 
 pub returns-clause-clocks : goal.returns-clause-clocks
 returns-clause-clocks c = clock-stays
+
+pub returns-clause-observed : goal.returns-clause-observed
+returns-clause-observed c = observed-only
