@@ -1,10 +1,9 @@
 -- A request that was under way when its session or others crashed is answered along a way by sending it again.
-use Rattle.ptpm_network.proofs.Common.{by_test, arith, ◌≡◌, ℕ, ◌+◌, ◌<◌, ◌≤◌, ◌==◌, Bool, true, false, List, [], ◌∷◌, ◌++◌, map, length, length-append, length-map, append-nil, Option, Some, None, option_map, option_or, refl, sym, ◌∙◌, ap, subst, ⊎_elim, eqb-true, eq-eqb, true≢false, cond-true, cond-false, option_or-none, is_some, Ok, result_err, slice_get-map, slice_get_within, slice_get, all_weaker, all_append, AllByRecursion, Contains, PortIdentity, State, StandsAt, SessionValue, Report, is_waiting, send_refusal, Event, Deliver, Send, SendRefused, no_session, Refusal, IsInRange, frame_at, frames_limit, no_room, refusal, step, step_by, run, is_late_delivery, is_late_at, sends_in, unanswered, at_place, happens, is_late_frame, initial_state, End, AtPort, AtSession, IsNetwork, Network, Held, Happened, RunningNetwork, held, network_event, reaches, StandsAfter, AreFirsts, Stands, Frame, Neither, Origin, ReplyTo, RequestOf, NetworkState, history, is_idle, is_late, issued, session_value, IsFrame, IsOfOrigin, IsReached, ComeIn, ComesIn, handed_in, Hop, IsAnswerable, IsWay, LinksHaveAtMost, made_each_way, with_place-other, with_place-same}
-use Rattle.std.proofs.Common.{get_or}
-use Rattle.std.proofs.lemmas.Option.{slice_get-get_or, get_or_from_slice_get}
-use Rattle.std.proofs.lemmas.List.Elements.{Contains-append_cases, Contains-get_or, Contains-push_cases}
+use Rattle.ptpm_network.proofs.Common.{arith, ◌≡◌, ℕ, ◌+◌, ◌<◌, ◌≤◌, ◌==◌, true, false, List, [], ◌∷◌, ◌++◌, map, length, length-append, length-map, Option, Some, None, option_map, refl, sym, ◌∙◌, ap, subst, eqb-true, eq-eqb, true≢false, cond-true, cond-false, option_or-none, is_some, Ok, result_err, slice_get-map, slice_get, all_append, AllByRecursion, Contains, PortIdentity, SessionValue, Report, is_waiting, Event, Deliver, Send, Refusal, IsInRange, frame_at, frames_limit, no_room, refusal, step, step_by, run, is_late_delivery, is_late_at, sends_in, unanswered, at_place, is_late_frame, initial_state, End, AtPort, AtSession, IsNetwork, Network, Held, Happened, RunningNetwork, held, network_event, reaches, StandsAfter, AreFirsts, Stands, Frame, Neither, Origin, ReplyTo, RequestOf, NetworkState, is_idle, is_late, issued, session_value, IsFrame, IsOfOrigin, IsReached, ComeIn, handed_in, Hop, IsAnswerable, IsWay, LinksHaveAtMost, made_each_way}
+use Rattle.std.proofs.lemmas.Option.{slice_get-get_or}
+use Rattle.std.proofs.lemmas.List.Elements.{Contains-append_cases, Contains-push_cases}
 use Rattle.ptpm_network.specs.RunningNetwork.{Done}
-use Rattle.ptpm_network.proofs.Answerable.{answerable-alone, answerable-at, answering}
+use Rattle.ptpm_network.proofs.Answerable.{answerable-alone, answerable-at}
 use Rattle.ptpm_network.proofs.Held.{frame_at-map}
 use Rattle.ptpm_network.proofs.Leaving.{way-stays}
 use Rattle.ptpm_network.proofs.Promise.{first_of_sessions, firsts}
@@ -13,11 +12,10 @@ use Rattle.ptpm_network.proofs.Receiving.{not_idle}
 use Rattle.ptpm_network.proofs.Running.{follows}
 use Rattle.ptpm_network.proofs.Schedule.{reached}
 use Rattle.ptpm_network.proofs.Steps.{frames-stay}
-use Rattle.ptpm_restarts.specs.AsIfNever.{AreTimely, IsAsIfNever, IsTimely, is_late_event, is_late_held, is_late_in, never_crashed}
-use Rattle.ptpm_restarts.specs.GoingOn.{IsAnsweredAgain, StandsWithFewer, handed_in_saved, save_at, saves_first}
-use Rattle.ptpm_restarts.specs.Incidents.{Happens, Incident, SaveClock, SaveSession, after_incidents, comes_in, delivered, incident, refused, saves_clock, unless}
-use Rattle.ptpm_restarts.specs.Restarting as restarting
-use Rattle.ptpm_restarts.specs.Restarting.{RestartingNetwork, SessionLog, held_frames, log_of, running, waiting_at, waiting_elsewhere, with_log}
+use Rattle.ptpm_restarts.specs.AsIfNever.{AreTimely, IsAsIfNever, IsTimely, is_late_held, is_late_in, never_crashed}
+use Rattle.ptpm_restarts.specs.GoingOn.{IsAnsweredAgain, StandsWithFewer, handed_in_saved, save_at}
+use Rattle.ptpm_restarts.specs.Incidents.{Happens, Incident, SaveClock, after_incidents, comes_in, delivered, incident, refused, saves_clock}
+use Rattle.ptpm_restarts.specs.Restarting.{RestartingNetwork, SessionLog, held_frames, running, waiting_at, waiting_elsewhere, with_log}
 use Rattle.ptpm_restarts.specs.Storage.{Stored, saved}
 use Rattle.ptpm_restarts.proofs.AtOnce.{Is, comes-once, held-sent, refused-as, sends-once, unless-none}
 use Rattle.ptpm_restarts.proofs.Beside.{here}

@@ -1,14 +1,17 @@
 -- If no frame waits and each change is saved at once, an event does what it does in a network that runs.
-use Rattle.ptpm_network.proofs.Common.{by_test, arith, ◌≡◌, ℕ, ◌==◌, ◌<◌, Bool, true, false, not, List, [], ◌∷◌, ◌++◌, map, append-nil, Option, Some, None, option_map, option_or, refl, sym, ◌∙◌, ap, subst, true≢false, eqb-true, eq-eqb, cond-true, cond-false, first_of, filter, Ok, Err, Result, result_err, State, turn, Verdict, SessionValue, Report, begin_refusal, begun, resumed, retuned, send_refusal, sent, answered, received_of, is_waiting, Event, Begin, Send, Resume, Retune, Deliver, Replay, Stranger, Refusal, BeginRefused, SendRefused, forged, frame_at, no_end, no_frame, no_port, no_room, no_session, strange_frame, with_place, with_place-other, with_place-same, at_place, End, AtPort, AtSession, Network, Held, Happened, Frame, RunningNetwork, after_turn, replays, delivers, held, hears, network_event, nothing_to_resume, reaches, seen, sends_in, turn_frames, unless_refused, with_session_value}
-use Rattle.ptpm_manager.specs.Ask as ask
+use Rattle.ptpm_network.proofs.Common.{arith, nat_lt, lt-ltb, ◌≡◌, ℕ, ◌<◌, Bool, true, false, not, List, [], ◌∷◌, ◌++◌, map, append-nil, Option, Some, None, option_map, option_or, refl, sym, ◌∙◌, ap, subst, true≢false, eqb-true, eq-eqb, cond-true, first_of, Ok, Err, Result, result_err, State, Verdict, SessionValue, Report, begin_refusal, resumed, retuned, send_refusal, sent, received_of, is_waiting, Event, Begin, Send, Resume, Retune, Deliver, Replay, Stranger, Refusal, BeginRefused, SendRefused, forged, frame_at, no_end, no_port, no_room, no_session, strange_frame, with_place, at_place, End, AtPort, AtSession, Network, Held, Happened, Frame, RunningNetwork, after_turn, replays, delivers, hears, network_event, nothing_to_resume, reaches, seen, sends_in, unless_refused, with_session_value}
+use Rattle.ptpm_data.specs.Members.{DataSetsValue, IsConsistent}
+use Rattle.ptpm_data.specs.Observation.{observed}
+use Rattle.ptpm_data.specs.ObservationBack.{Observation, clock_observation, observed_each, port_observation}
+use Rattle.ptpm_data.proofs.ObservingBack.{observed_back}
+use Rattle.ptpm_agent.specs.Observing.{moved_state}
 use Rattle.ptpm_manager.specs.declared.error.SendError.TheVariants as send_errors
 use Rattle.ptpm_manager.specs.declared.receiving.Received.{Received}
 use Rattle.ptpm_manager.specs.declared.receiving.Received.TheVariants as received
 use Rattle.ptpm_agent.specs.declared.verdict.Verdict.TheVariants as verdicts
-use Rattle.ptpm_network.specs.RunningNetwork as running_network
 use Rattle.ptpm_network.proofs.Worth.{session-named}
 use Rattle.ptpm_restarts.specs.GoingOn.{IsCalm, save_at, save_due, save_of_frame}
-use Rattle.ptpm_restarts.specs.Incidents.{CrashSession, Happens, SaveClock, SaveSession, after_incidents, replayed, comes_in, delivered, happens, incident, no_room_for, refused, saves_clock, unless}
+use Rattle.ptpm_restarts.specs.Incidents.{CrashClock, CrashSession, Happens, Observes, SaveSession, after_incidents, replayed, comes_in, crashes_clock, delivered, happens, incident, refused, saves_clock, unless}
 use Rattle.ptpm_restarts.specs.Restarting as restarting
 use Rattle.ptpm_restarts.specs.Restarting.{RestartingNetwork, SessionLog, after_verdict, held_frames, log_of, log_told, log_with, running, sent_or_waiting, takes_turn, waiting_at, waiting_elsewhere, with_log}
 use Rattle.ptpm_restarts.specs.Storage.{Stored, changed, noted, restored, saved, saved_as}
@@ -269,3 +272,18 @@ starts-with N k s domain attempts place waits =
     ∙ not-refused (no_session N s) _ (session-named N s place) ∙ not-refused (nothing_to_resume (two.session s).live.session) _ due in
     ap (λ (j : RestartingNetwork). j.session s) (unless-none (refused N two (Resume s attempts)) two _ none) ∙ here two.session s _
     ∙ ap (λ (x : Stored SessionLog). noted x (record (x.live) { session = resumed x.live.session attempts })) is
+
+-- and a clock, with what was observed when it saved
+pub starts-observed : (N : Network) (k : RestartingNetwork) (c : ℕ) (d : DataSetsValue) (os : List Observation)
+    → c < N.clocks → IsConsistent d → (k.clock c).stored.sets ≡ observed_each os d
+    → (after_incidents N k (CrashClock c ∷ Observes c (record { clock = clock_observation d; ports = map port_observation d.ports }) ∷ [])).clock c
+    ≡ saved_as (record { sets = d; entries = (k.clock c).stored.entries })
+starts-observed N k c d os place consistent is =
+    let one : RestartingNetwork = crashes_clock k c in
+    let o : Observation = record { clock = clock_observation d; ports = map port_observation d.ports } in
+    let moved : Stored State = noted (one.clock c) (moved_state o.clock o.ports (one.clock c).live) in
+    ap (λ (j : RestartingNetwork). j.clock c) (cond-true (nat_lt c N.clocks) (record one { clock = with_place one.clock c moved }) one (lt-ltb c N.clocks place))
+    ∙ here one.clock c moved
+    ∙ ap (λ (x : Stored State). noted x (moved_state o.clock o.ports x.live)) (here k.clock c (restored (k.clock c)))
+    ∙ ap (λ (sets : DataSetsValue). saved_as {A = State} (record { sets = sets; entries = (k.clock c).stored.entries }))
+    (ap (observed o.clock o.ports) is ∙ observed_back os d consistent)

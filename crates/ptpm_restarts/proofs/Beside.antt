@@ -1,7 +1,7 @@
 -- A network that never crashes, compared with one that does, if the changes of these clocks and sessions that are not saved will
 -- be lost.
-use Rattle.ptpm_network.proofs.Common.{by_test, arith, ◌≡◌, ℕ, ◌&&◌, ◌==◌, ◌⊎◌, inl, inr, Bool, true, false, List, ◌++◌, map, refl, sym, ◌∙◌, ap, subst, eqb-true, eq-eqb, true≢false, State, with_place, Held, RunningNetwork, at_place, at_places, with_place-other, with_place-same}
-use Rattle.ptpm_restarts.specs.Restarting.{RestartingNetwork, SessionLog, log_of, running, sent_or_waiting, turned, with_log}
+use Rattle.ptpm_network.proofs.Common.{by_test, arith, ◌≡◌, ℕ, ◌&&◌, ◌⊎◌, inl, inr, Bool, true, false, List, ◌++◌, refl, sym, ◌∙◌, subst, eqb-true, eq-eqb, true≢false, State, with_place, Held, RunningNetwork, at_place, at_places, with_place-same}
+use Rattle.ptpm_restarts.specs.Restarting.{RestartingNetwork, SessionLog, log_of, sent_or_waiting, turned, with_log}
 use Rattle.ptpm_restarts.specs.Incidents.{crashes_clock, saves_clock}
 use Rattle.ptpm_restarts.specs.Storage.{Stored, restored, saved}
 use Rattle.ptpm_restarts.proofs.Settled.{IsAct, IsSettled, front-false, front-true, not_both, settled-restored, settled-saved}

@@ -1,5 +1,5 @@
 -- What follows if a network is as one that never crashed: the headline, and that a report that is made again is the same.
-use Rattle.ptpm_network.proofs.Common.{arith, ◌≡◌, ℕ, ◌<◌, List, [], ◌∷◌, refl, sym, ◌∙◌, ap, subst, Contains, Accepted, Answer, Report, answer_body, outcome_in, Headline, IsWorth, entries_of, Network, manager, NetworkState, RunningNetwork, accepted_at_target, initial_state, run}
+use Rattle.ptpm_network.proofs.Common.{◌≡◌, ℕ, ◌<◌, List, [], ◌∷◌, sym, ◌∙◌, ap, subst, Contains, Accepted, Report, answer_body, outcome_in, Headline, IsWorth, entries_of, Network, manager, NetworkState, accepted_at_target, initial_state, run}
 use Rattle.ptpm_network.proofs.Promise.{stands-headline}
 use Rattle.ptpm_restarts.specs.AsIfNever.{IsAsIfNever, never_crashed}
 use Rattle.ptpm_restarts.specs.Incidents.{Incident}

@@ -4,9 +4,12 @@ pub mod Beside
 pub mod Sound
 pub mod Worth
 pub mod Steps
+pub mod Standing
 pub mod Shapes
 pub mod Runs
 pub mod AtOnce
 pub mod Again
 pub mod Undone
 pub mod Laws
+pub mod Acting
+pub mod ActRuns

@@ -1,20 +1,21 @@
 -- One incident after another: what a network that never crashes does meanwhile, and the state that it
 -- comes to.
-use Rattle.ptpm_network.proofs.Common.{State, true≢false, arith, ◌≡◌, ℕ, ◌<◌, ◌&&◌, Bool, true, false, List, [], ◌∷◌, ◌++◌, Option, Some, None, append_assoc, append-nil, refl, sym, ◌∙◌, ap, subst, is_none, cond-true, result_err, all_weaker, AllByRecursion, Contains, Ok, Result, Report, SessionValue, received_of, Event, Begin, Send, Resume, Retune, Deliver, Replay, Stranger, Refusal, IsInRange, frame_at, no_room, run, step, taken, initial_state, with_place, AtSession, HasEnd, IsNetwork, Network, Held, Happened, RunningNetwork, goes_on, initial_network, network_event, network_run, StandsAfter, IsReached, IsWorth, NetworkState, all_append, at_place}
+use Rattle.ptpm_network.proofs.Common.{is_late_delivery, State, true≢false, arith, ◌≡◌, ℕ, ◌<◌, Bool, true, false, List, [], ◌∷◌, ◌++◌, Option, Some, None, append_assoc, append-nil, refl, sym, ◌∙◌, ap, subst, is_none, cond-true, result_err, all_weaker, AllByRecursion, Contains, Ok, Result, Report, received_of, Event, Deliver, Replay, Refusal, IsInRange, frame_at, no_room, run, step, taken, initial_state, with_place, AtSession, Network, Held, Happened, RunningNetwork, goes_on, initial_network, network_event, network_run, StandsAfter, IsWorth, NetworkState, all_append, at_place}
 use Rattle.ptpm_manager.specs.declared.receiving.Received.TheVariants as received
 use Rattle.ptpm_network.specs.Events.{refusal}
 use Rattle.ptpm_network.proofs.Promise.{stands-event, stands-first, stands-judged}
 use Rattle.ptpm_network.proofs.Schedule.{reached}
 use Rattle.ptpm_network.proofs.Taking.{run-append}
 use Rattle.ptpm_restarts.specs.AsIfNever.{AreSomeOf, AreTimely, Ended, IsAsIfNever, IsPossible, IsPromisedRestarting, IsSame, IsTimely, Skip, Take, is_late_in, never_crashed}
-use Rattle.ptpm_restarts.specs.Incidents.{CrashClock, CrashSession, Happens, Incident, SaveClock, SaveSession, after_incidents, happens, incident, refused, unless}
-use Rattle.ptpm_restarts.specs.Restarting.{RestartingNetwork, SessionLog, held_frames, initial_restarting, log_of, running, sent_or_waiting}
+use Rattle.ptpm_restarts.specs.Incidents.{CrashClock, CrashSession, GivesUp, Happens, Observes, Incident, SaveClock, SaveSession, after_incidents, happens, incident, refused, unless}
+use Rattle.ptpm_restarts.specs.Restarting.{RestartingNetwork, SessionLog, held_frames, initial_restarting, log_of, sent_or_waiting}
 use Rattle.ptpm_restarts.specs.Storage.{Stored}
 use Rattle.ptpm_restarts.proofs.Beside.{IsBeside, clock-crashed, clock-saved, session-crashed, session-saved}
 use Rattle.ptpm_restarts.proofs.Sent.{all-held, all_contains}
 use Rattle.ptpm_restarts.proofs.Settled.{settled-as}
 use Rattle.ptpm_restarts.proofs.Shapes.{AreSound, ByShape, by-shape, incident-sound, incident-stay}
-use Rattle.ptpm_restarts.proofs.Steps.{Goes, Stay, Stays, Step, among, event-step, heard-live, in_time-there, numbered, room-there}
+use Rattle.ptpm_restarts.proofs.Standing.{heard-live, in_time-there, standing}
+use Rattle.ptpm_restarts.proofs.Steps.{Goes, Stay, Stays, Step, among, event-step, numbered, room-there}
 use Rattle.ptpm_restarts.proofs.Worth.{worth-heard, worth-step}
 
 -- ---- all that was reported
@@ -45,7 +46,7 @@ module _ (lc ls : ℕ → Bool) (N : Network) (past : List Event) (k : Restartin
   worth-hears n s x report is end timely room e place =
       let m = numbered r.frames x (all_contains (Contains r.frames) k.frames x h.frames.sent (among k.frames n x is)) in
       let same = heard-live lc ls N past k r h sound at s m.0 x report place m.1 timely e in
-      worth-heard N past r s m.0 x report at place m.1 end (room-there lc ls N past k r h sound at room) (in_time-there lc ls N past k r h sound at m.0 x m.1 timely)
+      worth-heard N past r s m.0 x report at place m.1 end (room-there lc ls k r h room) (in_time-there lc ls N past k r h sound at m.0 x m.1 timely)
       (ap (λ (l : SessionLog). received_of l.session x.octets) same ∙ e)
 
   worth-shapes : ByShape N k (AreWorth N (run N (initial_state N) past))
@@ -61,9 +62,8 @@ module _ (lc ls : ℕ → Bool) (N : Network) (past : List Event) (k : Restartin
         (λ place. all_append (IsWorth N (run N (initial_state N) past) s) (k.told s) (report ∷ []) (worth s place) (worth-hears n s x report is end timely room e place, tt)) (worth t);
   }
 
-  worth-incident : (i : Incident) → IsTimely N k i → AreWorth N (run N (initial_state N) past) (incident N k i)
-  worth-incident (Happens e) timely = by-shape N k (AreWorth N (run N (initial_state N) past)) worth-shapes e timely
-  worth-incident _ timely = worth
+  worth-incident : (e : Event) → IsTimely N k (Happens e) → AreWorth N (run N (initial_state N) past) (incident N k (Happens e))
+  worth-incident e timely = by-shape N k (AreWorth N (run N (initial_state N) past)) worth-shapes e timely
 
 -- ---- all incidents
 
@@ -94,7 +94,7 @@ pub record Went (N : Network) (past : List Event) (r : RunningNetwork) (k : Rest
 abbrev Goes-on : Network → List Event → RunningNetwork → RestartingNetwork → List Incident → Type 0
 Goes-on N past r k is = (events : List Event) × Went N past r k is events (network_run N r events)
 
-same-later : (xs ys us vs : List Held) (e f : Event) → Stay xs us → Stay ys vs → IsSame xs ys e f → IsSame us vs e f
+pub same-later : (xs ys us vs : List Held) (e f : Event) → Stay xs us → Stay ys vs → IsSame xs ys e f → IsSame us vs e f
 same-later xs ys us vs (Deliver n) (Deliver m) a b (h, p, q) = (h, a n h p, b m h q)
 same-later xs ys us vs (Replay n end) (Replay m other) a b (h, p, q, e) = (h, a n h p, b m h q, e)
 same-later xs ys us vs _ _ a b is = is
@@ -143,19 +143,23 @@ went-event N past k r e f h is at timely ok same stay (events, w) =
           }),
     )
 
-step-unless : (lc ls : ℕ → Bool) (N : Network) (past : List Event) (k : RestartingNetwork) (r : RunningNetwork) (e : Event) (o : Option Refusal)
+-- no late delivery
+abbrev InTime : Network → List Event → Event → Type 0
+InTime N past e = is_late_delivery (run N (initial_state N) past) e ≡ false
+
+pub step-unless : (lc ls : ℕ → Bool) (N : Network) (Fine : Event → Type 0) (k : RestartingNetwork) (r : RunningNetwork) (e : Event) (o : Option Refusal)
     → IsBeside lc ls k r → refused N k e ≡ o
-    → (refused N k e ≡ None → Step N past r k.frames lc ls e (happens N k e))
-    → Step N past r k.frames lc ls e (unless o k (happens N k e))
-step-unless lc ls N past k r e None h is go = go is
-step-unless lc ls N past k r e (Some reason) h is go = Stays h
+    → (refused N k e ≡ None → Step N Fine r k.frames lc ls e (happens N k e))
+    → Step N Fine r k.frames lc ls e (unless o k (happens N k e))
+step-unless lc ls N Fine k r e None h is go = go is
+step-unless lc ls N Fine k r e (Some reason) h is go = Stays h
 
 -- by one event, and whatever comes after it
 went-by : (N : Network) (past : List Event) (k : RestartingNetwork) (r : RunningNetwork) (e : Event) (is : List Incident)
     → StandsAfter N past r → IsTimely N k (Happens e) → AreWorth N (run N (initial_state N) past) (incident N k (Happens e))
     → ((p : List Event) (x : RunningNetwork) → StandsAfter N p x → IsBeside (clocks_lost is) (sessions_lost is) (incident N k (Happens e)) x
     → AreWorth N (run N (initial_state N) p) (incident N k (Happens e)) → Goes-on N p x (incident N k (Happens e)) is)
-    → Step N past r k.frames (clocks_lost is) (sessions_lost is) e (incident N k (Happens e))
+    → Step N (InTime N past) r k.frames (clocks_lost is) (sessions_lost is) e (incident N k (Happens e))
     → Goes-on N past r k (Happens e ∷ is)
 went-by N past k r e is at timely worth behind (Stays stays) = went-nothing N past k r (Happens e) is timely (behind past r at stays worth)
 went-by N past k r e is at timely worth behind (Goes f next ok range late same stay goes) =
@@ -180,10 +184,10 @@ went N past k r [] at h sound worth possible timely = (
   },
 )
 went N past k r (Happens e ∷ is) at h sound worth possible timely =
-    went-by N past k r e is at timely.0 (worth-incident (clocks_lost is) (sessions_lost is) N past k r h sound at worth (Happens e) timely.0)
+    went-by N past k r e is at timely.0 (worth-incident (clocks_lost is) (sessions_lost is) N past k r h sound at worth e timely.0)
     (λ p x there beside worth'. went N p (incident N k (Happens e)) x is there beside (incident-sound N k sound (Happens e) timely.0) worth' possible.1 timely.1)
-    (step-unless (clocks_lost is) (sessions_lost is) N past k r e (refused N k e) h refl
-    (λ none. event-step (clocks_lost is) (sessions_lost is) N past k r h sound at e possible.0 (timely.0 none) none))
+    (step-unless (clocks_lost is) (sessions_lost is) N (InTime N past) k r e (refused N k e) h refl
+    (λ none. event-step (clocks_lost is) (sessions_lost is) N (InTime N past) k r h (standing (clocks_lost is) (sessions_lost is) N past k r h sound at) e possible.0 (timely.0 none) none))
 went N past k r (SaveClock c ∷ is) at h sound worth possible timely =
     went-nothing N past k r (SaveClock c) is tt (went N past (incident N k (SaveClock c)) r is at (clock-saved (clocks_lost is) (sessions_lost is) k r c h) (incident-sound N k sound (SaveClock c) tt) worth possible.1 timely.1)
 went N past k r (SaveSession s ∷ is) at h sound worth possible timely =
@@ -192,17 +196,19 @@ went N past k r (CrashClock c ∷ is) at h sound worth possible timely =
     went-nothing N past k r (CrashClock c) is tt (went N past (incident N k (CrashClock c)) r is at (clock-crashed (clocks_lost is) (sessions_lost is) k r c h) (incident-sound N k sound (CrashClock c) tt) worth possible.1 timely.1)
 went N past k r (CrashSession s ∷ is) at h sound worth possible timely =
     went-nothing N past k r (CrashSession s) is tt (went N past (incident N k (CrashSession s)) r is at (session-crashed (clocks_lost is) (sessions_lost is) k r s h) (incident-sound N k sound (CrashSession s) tt) worth possible.1 timely.1)
+went N past k r (GivesUp s ∷ is) at h sound worth possible timely = absurd possible.0
+went N past k r (Observes c o ∷ is) at h sound worth possible timely = absurd possible.0
 
 -- ---- from the start
 
-starts : (N : Network) (lc ls : ℕ → Bool) → IsBeside lc ls (initial_restarting N) (initial_network N)
+pub starts : (N : Network) (lc ls : ℕ → Bool) → IsBeside lc ls (initial_restarting N) (initial_network N)
 starts N lc ls = record {
   clocks = λ c. settled-as (lc c) _ _ refl;
   sessions = λ s. settled-as (ls s) _ _ refl;
   frames = record { sent = tt; later = tt; room = omega arith };
 }
 
-sound-first : (N : Network) → AreSound N (initial_restarting N)
+pub sound-first : (N : Network) → AreSound N (initial_restarting N)
 sound-first N s = record { live = refl; stored = refl; issued = omega arith; behind = λ u. absurd (true≢false (sym u)); told_live = tt; told_stored = tt }
 
 pub as_if_never : (N : Network) (is : List Incident) → IsPromisedRestarting N is → IsAsIfNever N is (after_incidents N (initial_restarting N) is)

@@ -1,6 +1,6 @@
 -- Frames that were sent here, or wait, and those of a network that never crashes. It sent the first, and those that wait at a
 -- clock whose changes will not be lost.
-use Rattle.ptpm_network.proofs.Common.{by_test, arith, ◌≡◌, ℕ, ◌+◌, ◌≤◌, ◌==◌, not, Bool, true, false, if◌then◌else◌, List, [], ◌∷◌, ◌++◌, map, length, length-append, length-map, refl, sym, ◌∙◌, subst, cond-true, cond-false, filter, AllByRecursion, Contains, with_place, Held, all_append, all_get, all_made, all_weaker, with_place-other, with_place-same, true≢false}
+use Rattle.ptpm_network.proofs.Common.{by_test, arith, ◌≡◌, ℕ, ◌+◌, ◌≤◌, ◌==◌, Bool, true, false, if◌then◌else◌, List, [], ◌∷◌, ◌++◌, map, length, length-append, refl, sym, ◌∙◌, subst, cond-true, cond-false, AllByRecursion, Contains, with_place, Held, all_append, all_get, all_made, all_weaker, with_place-other, with_place-same, true≢false}
 use Rattle.std.proofs.Common.{get_or}
 use Rattle.std.proofs.lemmas.Option.{slice_get-get_or}
 use Rattle.std.proofs.lemmas.List.Elements.{Contains-append_left, Contains-append_right, Contains-push}

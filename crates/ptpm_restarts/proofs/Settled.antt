@@ -1,6 +1,6 @@
 -- What a network that never crashes has in place of what this one has stored. It is the value as it is live, or, if a crash will
 -- lose the changes that are not saved, as it is stored.
-use Rattle.ptpm_network.proofs.Common.{arith, ◌≡◌, ℕ, ◌&&◌, List, Result, Ok, Err, Clock, Message, DecodeError, judged, reading, turn, turn_by, Bool, true, false, if◌then◌else◌, refl, sym, ◌∙◌, subst, true≢false, cond-true, cond-false}
+use Rattle.ptpm_network.proofs.Common.{arith, ◌≡◌, ℕ, ◌&&◌, List, Result, Ok, Err, Clock, Message, DecodeError, judged, reading, turn, turn_by, Bool, true, false, if◌then◌else◌, refl, ◌∙◌}
 use Rattle.ptpm_agent.specs.declared.verdict.Verdict.{Verdict}
 use Rattle.ptpm_agent.specs.declared.verdict.Verdict.TheVariants as verdicts
 use Rattle.ptpm_agent.specs.Turn.{State, next_by}

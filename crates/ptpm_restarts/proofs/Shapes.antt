@@ -1,14 +1,17 @@
 -- The few things that an event comes to here, and what each keeps.
-use Rattle.ptpm_network.proofs.Common.{arith, ◌≡◌, ℕ, ◌<◌, Bool, true, false, List, [], ◌∷◌, ◌++◌, Option, Some, None, refl, option_or-none, no_room, AllByRecursion, Report, RequestValue, SessionValue, State, begun, received_of, Event, Begin, Send, Resume, Retune, Deliver, Replay, Stranger, Refusal, frame_at, with_place, AtPort, AtSession, End, Network, Held, at_place, at_places}
+use Rattle.ptpm_network.proofs.Common.{nat_lt, if◌then◌else◌, ◌≡◌, ℕ, Bool, true, false, List, [], ◌∷◌, ◌++◌, Option, Some, None, refl, option_or-none, no_room, Report, RequestValue, SessionValue, State, begun, received_of, Event, Begin, Send, Resume, Retune, Deliver, Replay, Stranger, Refusal, frame_at, with_place, AtPort, AtSession, End, Network, Held, at_place, at_places}
+use Rattle.ptpm_agent.specs.Observing.{moved_state}
+use Rattle.ptpm_manager.specs.declared.error.GiveUpRefusal.{GiveUpRefusal}
 use Rattle.ptpm_manager.specs.Ask as ask
+use Rattle.ptpm_manager.specs.Session.{give_up_refusal}
 use Rattle.ptpm_manager.specs.declared.receiving.Received.{Received}
 use Rattle.ptpm_manager.specs.declared.receiving.Received.TheVariants as received
 use Rattle.ptpm_restarts.specs.AsIfNever.{IsTimely, is_late_event, is_late_held, is_late_in}
-use Rattle.ptpm_restarts.specs.Incidents.{CrashClock, CrashSession, Happens, Incident, SaveClock, SaveSession, replayed, comes_in, delivered, happens, incident, no_room_for, refused, unless}
+use Rattle.ptpm_restarts.specs.Incidents.{CrashClock, CrashSession, GivesUp, Happens, Observes, lets_go, Incident, SaveClock, SaveSession, replayed, comes_in, delivered, happens, incident, no_room_for, refused, unless}
 use Rattle.ptpm_restarts.specs.Restarting as restarting
 use Rattle.ptpm_restarts.specs.Restarting.{RestartingNetwork, SessionLog, held_frames, sent_or_waiting, with_log}
-use Rattle.ptpm_restarts.specs.Storage.{Stored, changed, restored, saved}
-use Rattle.ptpm_restarts.proofs.Sound.{IsSound, sound-begun, sound-noted, sound-restored, sound-saved, sound-told}
+use Rattle.ptpm_restarts.specs.Storage.{Stored, noted}
+use Rattle.ptpm_restarts.proofs.Sound.{IsSound, sound-begun, sound-given_up, sound-noted, sound-restored, sound-saved, sound-told}
 use Rattle.ptpm_restarts.proofs.Steps.{Stay, stay-append}
 
 pub record ByShape (N : Network) (k : RestartingNetwork) (P : RestartingNetwork → Type 0) : Type 0 where
@@ -94,12 +97,26 @@ module _ (N : Network) (k : RestartingNetwork) (h : AreSound N k) where
         at_places (λ i told z. IsSound (N.session i).setup told z) k.told k.session s (k.told s ++ report ∷ []) _ t (sound-told (N.session s).setup (k.told s) (k.session s) (h s) report) (h t);
   }
 
+  given_up-sound : (s : ℕ) (o : Option GiveUpRefusal) → AreSound N (lets_go o k s)
+  given_up-sound s None = logged-sound s _ (sound-given_up (N.session s).setup (k.told s) (k.session s) (h s))
+  given_up-sound s (Some reason) = h
+
+  gives_up-sound : (s : ℕ) (b : Bool) → AreSound N (if b then lets_go (give_up_refusal (k.session s).live.session) k s else k)
+  gives_up-sound s true = given_up-sound s (give_up_refusal (k.session s).live.session)
+  gives_up-sound s false = h
+
+  observes-sound : (b : Bool) (clock : ℕ → Stored State) → AreSound N (if b then record k { clock = clock } else k)
+  observes-sound true clock = h
+  observes-sound false clock = h
+
   pub incident-sound : (i : Incident) → IsTimely N k i → AreSound N (incident N k i)
   incident-sound (Happens e) timely = by-shape N k (AreSound N) sound-shapes e timely
   incident-sound (SaveClock c) timely = h
   incident-sound (SaveSession s) timely = logged-sound s _ (sound-saved (N.session s).setup (k.told s) (k.session s) (h s))
   incident-sound (CrashClock c) timely = h
   incident-sound (CrashSession s) timely = logged-sound s _ (sound-restored (N.session s).setup (k.told s) (k.session s) (h s))
+  incident-sound (GivesUp s) timely = gives_up-sound s (nat_lt s N.sessions)
+  incident-sound (Observes c o) timely = observes-sound (nat_lt c N.clocks) (with_place k.clock c (noted (k.clock c) (moved_state o.clock o.ports (k.clock c).live)))
 
 -- ---- frames stay where they are
 
@@ -122,7 +139,21 @@ module _ (N : Network) (k : RestartingNetwork) where
     hears = λ m s x report at end timely room e n y is. is;
   }
 
+  given_up-stay : (s : ℕ) (o : Option GiveUpRefusal) → StaysIn (lets_go o k s)
+  given_up-stay s None = λ n y is. is
+  given_up-stay s (Some reason) = λ n y is. is
+
+  gives_up-stay : (s : ℕ) (b : Bool) → StaysIn (if b then lets_go (give_up_refusal (k.session s).live.session) k s else k)
+  gives_up-stay s true = given_up-stay s (give_up_refusal (k.session s).live.session)
+  gives_up-stay s false = λ n y is. is
+
+  observes-stay : (b : Bool) (clock : ℕ → Stored State) → StaysIn (if b then record k { clock = clock } else k)
+  observes-stay true clock = λ n y is. is
+  observes-stay false clock = λ n y is. is
+
   pub incident-stay : (i : Incident) → IsTimely N k i → StaysIn (incident N k i)
   incident-stay (Happens e) timely = by-shape N k StaysIn stay-shapes e timely
   incident-stay (SaveClock c) timely = stay-append k.frames _
+  incident-stay (GivesUp s) timely = gives_up-stay s (nat_lt s N.sessions)
+  incident-stay (Observes c o) timely = observes-stay (nat_lt c N.clocks) (with_place k.clock c (noted (k.clock c) (moved_state o.clock o.ports (k.clock c).live)))
   incident-stay _ timely = λ n y is. is

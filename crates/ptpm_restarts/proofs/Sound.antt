@@ -1,6 +1,7 @@
 -- What is stored of a session is never ahead of what is live. It is older if a request is under way that is not saved. All its
 -- reports were made.
 use Rattle.ptpm_network.proofs.Common.{arith, ◌≡◌, ◌<◌, ◌≤◌, ap, is_some, Bool, true, false, List, [], ◌∷◌, ◌++◌, refl, sym, ◌∙◌, true≢false, AllByRecursion, Contains, Report, RequestValue, SessionValue, begun, is_waiting}
+use Rattle.ptpm_manager.specs.Session.{given_up}
 use Rattle.ptpm_manager.specs.declared.setup.Setup.{Setup}
 use Rattle.ptpm_restarts.specs.Restarting.{SessionLog, log_told}
 use Rattle.ptpm_restarts.specs.Storage.{Stored, changed, noted, restored, saved}
@@ -46,6 +47,16 @@ module _ (setup : Setup) (told : List Report) where
 
     pub sound-begun : (q : RequestValue) → IsSound setup told (changed x (record (x.live) { session = begun x.live.session q }))
     sound-begun q = record { live = h.live; stored = h.stored; issued = omega (arith, h.issued); behind = λ u w. omega (arith, h.issued); told_live = h.told_live; told_stored = h.told_stored }
+
+    pub sound-given_up : IsSound setup told (changed x (record (x.live) { session = given_up x.live.session }))
+    sound-given_up = record {
+      live = h.live;
+      stored = h.stored;
+      issued = h.issued;
+      behind = λ u w. absurd (true≢false (sym w));
+      told_live = h.told_live;
+      told_stored = h.told_stored;
+    }
 
     pub sound-noted : (v : SessionValue)
         → v.setup ≡ x.live.session.setup → v.issued ≡ x.live.session.issued → v.unanswered ≡ x.live.session.unanswered

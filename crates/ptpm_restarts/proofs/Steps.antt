@@ -1,5 +1,5 @@
 -- What a network that never crashes does while one event happens here: nothing, or the same event.
-use Rattle.ptpm_network.proofs.Common.{by_test, arith, ◌≡◌, ℕ, ◌+◌, ◌-◌, ◌<◌, ◌≤◌, ◌==◌, ◌&&◌, ◌⊎◌, Bool, true, false, nat_lt, List, [], ◌∷◌, ◌++◌, map, length, length-append, length-map, Option, Some, None, option_map, option_or, refl, sym, ◌∙◌, ap, subst, ⊎_elim, inl, inr, eqb-true, ltb-true, ltb-false, cond-true, cond-false, true≢false, first_of, first_of-none, option_or-none, slice_get_within, slice_get, Contains, Ok, Err, Result, result_err, State, SessionValue, Report, begin_refusal, begun, resumed, retuned, send_refusal, sent, due_message, received_of, Event, Begin, Send, Resume, Retune, Deliver, Replay, Stranger, Refusal, BeginRefused, FramesAtMaximum, IsInRange, SendRefused, forged, frame_at, frames_limit, no_end, no_frame, no_port, no_room, no_session, is_late_delivery, is_late_frame, run, initial_state, strange_frame, with_place, End, AtPort, AtSession, HasEnd, Network, IsNetwork, peers, Held, Happened, RunningNetwork, after_turn, replays, delivers, held, hears, network_event, nothing_to_resume, reaches, seen, sends_in, sent_posted, turn_frames, unless_refused, with_session_value, StandsAfter, Stands, Frame, Neither, Origin, ReplyTo, RequestOf, is_late, is_late_at, NetworkState, issued, IsOfOrigin, IsReached, get_append, at_places, with_place-same, with_place-other, same_Some, and_parts, reading, number_of, Message, answered, turn, Verdict, Clock}
+use Rattle.ptpm_network.proofs.Common.{by_test, arith, ◌≡◌, ℕ, ◌+◌, ◌-◌, ◌<◌, ◌≤◌, ◌==◌, ◌&&◌, ◌⊎◌, Bool, true, false, List, [], ◌∷◌, ◌++◌, map, length, length-append, length-map, Option, Some, None, option_map, refl, sym, ◌∙◌, ap, subst, inl, inr, eqb-true, ltb-true, ltb-false, cond-true, cond-false, first_of-none, option_or-none, slice_get_within, slice_get, Contains, Ok, Result, result_err, State, SessionValue, Report, begun, resumed, retuned, send_refusal, sent, due_message, received_of, Event, Begin, Send, Resume, Retune, Deliver, Replay, Stranger, Refusal, IsInRange, SendRefused, forged, frame_at, no_end, no_port, no_room, no_session, strange_frame, with_place, End, AtPort, AtSession, HasEnd, Network, peers, Held, Happened, RunningNetwork, replays, held, hears, network_event, seen, sends_in, sent_posted, turn_frames, unless_refused, with_session_value, Frame, get_append, at_places, same_Some, answered, turn}
 use Rattle.std.proofs.lemmas.Option.{slice_get-get_or, get_or_from_slice_get}
 use Rattle.std.proofs.lemmas.List.Elements.{Contains-get_or}
 use Rattle.ptpm_manager.specs.Ask as ask
@@ -7,24 +7,14 @@ use Rattle.ptpm_manager.specs.declared.receiving.Received.{Received}
 use Rattle.ptpm_manager.specs.declared.receiving.Received.TheVariants as received
 use Rattle.ptpm_network.specs.RunningNetwork.{Done}
 use Rattle.ptpm_network.specs.RunningNetwork as running_network
-use Rattle.ptpm_network.proofs.Held.{frame_at-map}
-use Rattle.ptpm_network.proofs.Promise.{first_of_sessions, firsts}
-use Rattle.ptpm_network.proofs.Reaching.{frame_at-is}
-use Rattle.ptpm_network.proofs.Schedule.{reached}
-use Rattle.ptpm_network.proofs.Frames.{heard-frame, same_read, says_reply}
-use Rattle.ptpm_network.proofs.Messages.{reply_at}
-use Rattle.ptpm_network.proofs.Origins.{heard-true}
-use Rattle.ptpm_network.proofs.Receiving.{takes-by, takes-last, takes-own}
-use Rattle.ptpm_manager.specs.declared.setup.Setup.{Setup}
 use Rattle.ptpm_restarts.specs.AsIfNever.{IsSame, is_late_event, is_late_held, is_late_in}
-use Rattle.ptpm_restarts.specs.Incidents.{replayed, comes_in, delivered, happens, no_room_for, refused}
+use Rattle.ptpm_restarts.specs.Incidents.{replayed, comes_in, delivered, happens, refused}
 use Rattle.ptpm_restarts.specs.Restarting.{RestartingNetwork, SessionLog, begins, held_frames, log_of, log_told, log_with, notes, running, sends, takes_turn, turned, with_log}
 use Rattle.ptpm_restarts.specs.Restarting as restarting
 use Rattle.ptpm_restarts.specs.Storage.{Stored, changed, noted}
 use Rattle.ptpm_restarts.proofs.Beside.{IsBeside, after_clock, log-stays, turned-beside}
-use Rattle.ptpm_restarts.proofs.Sound.{IsSound}
-use Rattle.ptpm_restarts.proofs.Sent.{AreSent, all_contains, going, going-all, sent-both}
-use Rattle.ptpm_restarts.proofs.Settled.{IsAct, IsSettled, changed-act, not_both, noted-act, settled-live, turn-act, turn-next}
+use Rattle.ptpm_restarts.proofs.Sent.{AreSent, all_contains, going-all, sent-both}
+use Rattle.ptpm_restarts.proofs.Settled.{IsAct, IsSettled, changed-act, not_both, noted-act, turn-act, turn-next}
 use Rattle.ptpm_restarts.proofs.Worth.{delivers-to}
 
 -- ---- frames by their numbers
@@ -62,128 +52,46 @@ passes (Some reason) x e = absurd (cc)
 fewer : (xs ys : List Held) → length xs ≤ length ys → no_room ys ≡ None → no_room xs ≡ None
 fewer xs ys le e = grind (arith, ltb-true, ltb-false, first_of-none)
 
--- ---- in time
-
-settled-issued : (lost : Bool) (x : Stored SessionLog) (a : SessionLog)
-    → IsSettled lost x a → x.stored.session.issued ≤ x.live.session.issued
-    → a.session.issued ≤ x.live.session.issued
-settled-issued true x a h le = grind arith
-settled-issued false x a h le = grind arith
-
-late-fewer : (j few many : ℕ) → few ≤ many → is_late_at j many ≡ false → is_late_at j few ≡ false
-late-fewer j few many le n = grind (arith, ltb-true, ltb-false)
-
 -- ---- one event
 
--- What the other does while this one becomes another by an event: nothing, or this event.
-pub data Step (N : Network) (past : List Event) (r : RunningNetwork) (here : List Held) (lc ls : ℕ → Bool) (e : Event) (k : RestartingNetwork) : Type 0 where
-  Stays : IsBeside lc ls k r → Step N past r here lc ls e k
-  Goes : (f : Event) (h : Happened) → network_event N r f ≡ Ok h → IsInRange f
-      → is_late_delivery (run N (initial_state N) past) f ≡ false → IsSame here r.frames e f
-      → Stay r.frames h.network.frames → IsBeside lc ls k h.network → Step N past r here lc ls e k
+-- a frame comes in; no other event can be late
+abbrev pub is_delivery : Event → Bool
+is_delivery (Deliver n) = true
+is_delivery _ = false
 
--- the frame that the machine has in this place
-record IsFrameOf (w : NetworkState) (m : ℕ) (x : Held) : Type 0 where
-  pub frame : Frame
-  pub at : frame_at w.frames m ≡ Some frame
-  pub is : held frame ≡ x
+-- What the other does while this one becomes another by an event: nothing, or this event, which is fine there.
+pub data Step (N : Network) (Fine : Event → Type 0) (r : RunningNetwork) (here : List Held) (lc ls : ℕ → Bool) (e : Event) (k : RestartingNetwork) : Type 0 where
+  Stays : IsBeside lc ls k r → Step N Fine r here lc ls e k
+  Goes : (f : Event) (h : Happened) → network_event N r f ≡ Ok h → IsInRange f → Fine f → IsSame here r.frames e f
+      → Stay r.frames h.network.frames → IsBeside lc ls k h.network → Step N Fine r here lc ls e k
+
+-- What is known of the other. What is no delivery is fine there, and so is a delivery that is in time here. A session that takes its
+-- answer here is as there.
+pub record Facts (N : Network) (Fine : Event → Type 0) (k : RestartingNetwork) (r : RunningNetwork) : Type 0 where
+  pub others : (e : Event) → is_delivery e ≡ false → Fine e
+  pub ends : (m : ℕ) (x : Held) → frame_at r.frames m ≡ Some x → HasEnd N x.end
+  pub comes_in : (m : ℕ) (x : Held) → frame_at r.frames m ≡ Some x → is_late_in k x.origin ≡ false → Fine (Deliver m)
+  pub heard : (s m : ℕ) (x : Held) (report : Report) → s < N.sessions → frame_at r.frames m ≡ Some x → is_late_in k x.origin ≡ false
+      → received_of (k.session s).live.session x.octets ≡ received.Answered report
+      → log_of r s ≡ (k.session s).live
 
 pub some-of : (o : Option Frame) (x : Held) → option_map held o ≡ Some x → (f : Frame) × (o ≡ Some f) × (held f ≡ x)
 some-of None x e = absurd (cc)
 some-of (Some f) x e = (f, refl, same_Some (held f) x e)
 
-module _ (lc ls : ℕ → Bool) (N : Network) (past : List Event) (k : RestartingNetwork) (r : RunningNetwork) (h : IsBeside lc ls k r) (order : (s : ℕ) → IsSound (N.session s).setup (k.told s) (k.session s)) (at : StandsAfter N past r) where
-  abbrev state : NetworkState
-  state = run N (initial_state N) past
+pub room-there : (lc ls : ℕ → Bool) (k : RestartingNetwork) (r : RunningNetwork)
+    → IsBeside lc ls k r → no_room (held_frames k) ≡ None
+    → no_room r.frames ≡ None
+room-there lc ls k r h e = fewer r.frames (held_frames k)
+    (omega (arith, h.frames.room, going-all lc k.waiting, length-append k.frames (map (λ (w : ℕ × Held). w.1) k.waiting), length-map k.waiting (λ (w : ℕ × Held). w.1))) e
 
+module _ (lc ls : ℕ → Bool) (N : Network) (Fine : Event → Type 0) (k : RestartingNetwork) (r : RunningNetwork) (h : IsBeside lc ls k r) (facts : Facts N Fine k r) where
   abbrev Goal : Event → RestartingNetwork → Type 0
-  Goal e k' = Step N past r k.frames lc ls e k'
-
-  there : Stands N (first_of_sessions N N.sessions) r state
-  there = at.stands (first_of_sessions N N.sessions) (firsts N at.promised.network)
-
-  known : IsReached N state
-  known = reached N past at.promised.network at.promised.in_range
-
-  pub room-there : no_room (held_frames k) ≡ None → no_room r.frames ≡ None
-  room-there e = fewer r.frames (held_frames k)
-      (omega (arith, h.frames.room, going-all lc k.waiting, length-append k.frames (map (λ (w : ℕ × Held). w.1) k.waiting), length-map k.waiting (λ (w : ℕ × Held). w.1))) e
-
-  -- ---- frames that come in
-
-  frame-of : (m : ℕ) (x : Held) → frame_at r.frames m ≡ Some x → IsFrameOf state m x
-  frame-of m x is =
-      let f = some-of (frame_at state.frames m) x (sym (frame_at-map state.frames m) ∙ ap (λ (fs : List Held). frame_at fs m) (sym there.frames) ∙ is) in
-      record { frame = f.0; at = f.1; is = f.2 }
-
-  origin-of : (m : ℕ) (x : Held) → frame_at r.frames m ≡ Some x → IsOfOrigin N state x.octets x.origin
-  origin-of m x is =
-      let f = frame-of m x is in
-      subst (λ (y : Held). IsOfOrigin N state y.octets y.origin) f.is (frame_at-is N state m f.frame known f.at).origin
-
-  pub end-of : (m : ℕ) (x : Held) → frame_at r.frames m ≡ Some x → HasEnd N x.end
-  end-of m x is =
-      let f = frame-of m x is in
-      subst (λ (y : Held). HasEnd N y.end) f.is (frame_at-is N state m f.frame known f.at).end
-
-  begun-there : (s : ℕ) → s < N.sessions → issued state s ≡ (r.session s).issued
-  begun-there s place = sym (ap (λ (v : SessionValue). v.issued) (there.sessions s place))
-
-  origin-timely : (octets : List ℕ) (q : Origin) → IsOfOrigin N state octets q → is_late_in k q ≡ false → is_late state q ≡ false
-  origin-timely octets (RequestOf s j) (place, says) timely =
-      late-fewer j (issued state s) (k.session s).live.session.issued
-      (omega (arith, begun-there s place, settled-issued (ls s) (k.session s) (log_of r s) (h.sessions s) (order s).issued)) timely
-  origin-timely octets (ReplyTo s j) (place, says) timely =
-      late-fewer j (issued state s) (k.session s).live.session.issued
-      (omega (arith, begun-there s place, settled-issued (ls s) (k.session s) (log_of r s) (h.sessions s) (order s).issued)) timely
-  origin-timely octets Neither says timely = refl
-
-  pub in_time-there : (m : ℕ) (x : Held)
-      → frame_at r.frames m ≡ Some x → is_late_in k x.origin ≡ false
-      → is_late_delivery state (Deliver m) ≡ false
-  in_time-there m x is timely =
-      let f = frame-of m x is in
-      ap (is_late_frame state) f.at
-      ∙ origin-timely f.frame.octets f.frame.origin (frame_at-is N state m f.frame known f.at).origin
-      (subst (λ (y : Held). is_late_in k y.origin ≡ false) (sym f.is) timely)
-
-  -- ---- an answer
-
-  -- A session that begins a request does not send it before it saves. So no reply to it comes while that is unsaved.
-  unheard : (s m : ℕ) (x : Held) (report : Report)
-      → s < N.sessions → frame_at r.frames m ≡ Some x → is_late_in k x.origin ≡ false
-      → ls s ≡ true → (k.session s).is_unsaved ≡ true
-      → received_of (k.session s).live.session x.octets ≡ received.Answered report
-      → ⊥
-  unheard s m x report place is timely lost unsaved hears' =
-      let n = at.promised.network in
-      let live : SessionValue = (k.session s).live.session in
-      let takes = takes-by live x.octets report (reading x.octets) refl hears' in
-      let origin = origin-of m x is in
-      let own = takes-own N s live x.octets x.origin report n place (order s).live takes
-      (heard-true N state x.octets x.origin n known (heard-frame N state x.octets x.origin origin) takes.message takes.read).1 in
-      let says = says_reply N state s own.0 x.octets n known (subst (IsOfOrigin N state x.octets) own.1 origin) in
-      let number : takes.message.number ≡ number_of (N.session s).setup.first own.0 = grind (arith, same_read) in
-      let time : live.issued ≤ own.0 + 32768 = ltb-false (own.0 + 32768) live.issued (subst (λ (q : Origin). is_late_in k q ≡ false) own.1 timely) in
-      let stored : issued state s ≡ (k.session s).stored.session.issued =
-      begun-there s place ∙ ap (λ (l : SessionLog). l.session.issued) ((h.sessions s).at ∙ cond-true _ _ _ lost) in
-      let behind = (order s).behind unsaved takes.accepted.waiting in
-      let last : own.0 ≡ live.issued = takes-last (N.session s).setup.first own.0 live x.octets report takes
-      (ap (λ (p : Setup). p.first) (order s).live) number says.positive (omega (arith, says.says.within, stored, behind)) time in
-      omega (arith, last, says.says.within, stored, behind)
-
-  -- so a session that takes its answer is as there
-  pub heard-live : (s m : ℕ) (x : Held) (report : Report)
-      → s < N.sessions → frame_at r.frames m ≡ Some x → is_late_in k x.origin ≡ false
-      → received_of (k.session s).live.session x.octets ≡ received.Answered report
-      → log_of r s ≡ (k.session s).live
-  heard-live s m x report place is timely hears' = by_test (ls s && (k.session s).is_unsaved)
-      (λ y. let both = and_parts (ls s) (k.session s).is_unsaved y in absurd (unheard s m x report place is timely both.0 both.1 hears'))
-      (λ n. settled-live (ls s) (k.session s) (log_of r s) (h.sessions s) n)
+  Goal e k' = Step N Fine r k.frames lc ls e k'
 
   -- ---- sessions
 
-  logged : (s : ℕ) (x : Stored SessionLog) (y : SessionLog) (here there' : List Held) (told : ℕ → List Report) (session : ℕ → SessionValue) (reports : ℕ → List Report)
+  pub logged : (s : ℕ) (x : Stored SessionLog) (y : SessionLog) (here there' : List Held) (told : ℕ → List Report) (session : ℕ → SessionValue) (reports : ℕ → List Report)
       → IsSettled (ls s) x y
       → ((t : ℕ) → log_of (record r { session = session; reports = reports }) t ≡ with_place (log_of r) s y t)
       → AreSent lc here k.waiting there'
@@ -196,7 +104,7 @@ module _ (lc ls : ℕ → Bool) (N : Network) (past : List Event) (k : Restartin
   }
 
   -- a session is another, with the reports that it had
-  log-other : (s : ℕ) (v : SessionValue) (t : ℕ)
+  pub log-other : (s : ℕ) (v : SessionValue) (t : ℕ)
       → log_of r s ≡ (k.session s).live
       → log_of (record r { session = with_place r.session s v; reports = r.reports }) t ≡ with_place (log_of r) s (log_with k s v) t
   log-other s v t same = grind (arith, eqb-true)
@@ -204,7 +112,7 @@ module _ (lc ls : ℕ → Bool) (N : Network) (past : List Event) (k : Restartin
   acts : (e : Event) (s : ℕ) (v : SessionValue) (x : Stored SessionLog)
       → IsAct (ls s) (k.session s) (log_of r s) x (log_with k s v)
       → (r.session s ≡ (k.session s).live.session → network_event N r e ≡ Ok (record { deed = Done; network = with_session_value r s v }))
-      → IsInRange e → is_late_delivery state e ≡ false → IsSame k.frames r.frames e e
+      → IsInRange e → Fine e → IsSame k.frames r.frames e e
       → Goal e (with_log k s x)
   acts e s v x act ok range late same = by_test (ls s && x.is_unsaved)
       (λ y. Stays (log-stays lc ls k r s x h (act.stays y)))
@@ -225,7 +133,7 @@ module _ (lc ls : ℕ → Bool) (N : Network) (past : List Event) (k : Restartin
       let ok : network_event N r (Send s) ≡ Ok (record { deed = Done; network = sends_in N r s }) =
       passes (no_session N s) _ exists ∙ passes (no_room r.frames) _ fits ∙ passes (option_map SendRefused (send_refusal (r.session s))) _ (ap (λ (v : SessionValue). option_map SendRefused (send_refusal v)) same ∙ due) in
       let made : SessionValue → List Held = λ v. sent_posted (peers N.links (AtSession s)) s v.issued (due_message v) in
-      Goes (Send s) (record { deed = Done; network = sends_in N r s }) ok tt refl refl (stay-append r.frames (made (r.session s)))
+      Goes (Send s) (record { deed = Done; network = sends_in N r s }) ok tt (facts.others (Send s) refl) refl (stay-append r.frames (made (r.session s)))
       (subst (λ (v : SessionValue). IsBeside lc ls (sends false N k s) (record r { session = with_place r.session s (sent v); frames = r.frames ++ made v })) (sym same)
       (logged s (noted (k.session s) (log_with k s (sent (k.session s).live.session))) (log_with k s (sent (k.session s).live.session))
       (k.frames ++ made (k.session s).live.session) (r.frames ++ made (k.session s).live.session) k.told (with_place r.session s (sent (k.session s).live.session)) r.reports
@@ -235,7 +143,7 @@ module _ (lc ls : ℕ → Bool) (N : Network) (past : List Event) (k : Restartin
 
   takes-on : (c port : ℕ) (f : Frame) (e g : Event) (next : State) (made : List Held) (k' : RestartingNetwork)
       → next ≡ (turn (N.clock c) (k.clock c).live port f.octets).next → made ≡ map held (turn_frames N (k.clock c).live c port f)
-      → network_event N r g ≡ Ok (running_network.takes_turn N r c port f) → IsInRange g → is_late_delivery state g ≡ false → IsSame k.frames r.frames e g
+      → network_event N r g ≡ Ok (running_network.takes_turn N r c port f) → IsInRange g → Fine g → IsSame k.frames r.frames e g
       → IsBeside lc ls k' r ⊎ ((r.clock c ≡ (k.clock c).live) × IsBeside lc ls k' (after_clock lc ls k r c next made))
       → Goal e k'
   takes-on c port f e g next made k' n m ok range late same (inl stays) = Stays stays
@@ -247,7 +155,7 @@ module _ (lc ls : ℕ → Bool) (N : Network) (past : List Event) (k : Restartin
       (subst (λ (s : State). IsBeside lc ls k' (after_clock lc ls k r c (turn (N.clock c) s port f.octets).next (map held (turn_frames N s c port f)))) (sym live) as_live)
 
   takes : (c port : ℕ) (f : Frame) (e g : Event)
-      → network_event N r g ≡ Ok (running_network.takes_turn N r c port f) → IsInRange g → is_late_delivery state g ≡ false → IsSame k.frames r.frames e g
+      → network_event N r g ≡ Ok (running_network.takes_turn N r c port f) → IsInRange g → Fine g → IsSame k.frames r.frames e g
       → Goal e (takes_turn N k c port f)
   takes c port f e g ok range late same =
       takes-on c port f e g (turn (N.clock c) (k.clock c).live port f.octets).next (map held (turn_frames N (k.clock c).live c port f)) (takes_turn N k c port f) refl refl ok range late same
@@ -267,8 +175,8 @@ module _ (lc ls : ℕ → Bool) (N : Network) (past : List Event) (k : Restartin
       → Goal (Deliver n) (restarting.hears k s y)
   hears-as n m s x (received.Ignored reason) here' there' end fits timely e = Stays h
   hears-as n m s x (received.Answered report) here' there' end fits timely e =
-      let place : s < N.sessions = subst (HasEnd N) end (end-of m x there') in
-      let same = heard-live s m x report place there' timely e in
+      let place : s < N.sessions = subst (HasEnd N) end (facts.ends m x there') in
+      let same = facts.heard s m x report place there' timely e in
       let told : ℕ → List Report = with_place k.told s (k.told s ++ report ∷ []) in
       let act = changed-act (ls s) (k.session s) (log_of r s) (log_told (k.session s).live report) (h.sessions s) in
       let z : Stored SessionLog = changed (k.session s) (log_told (k.session s).live report) in
@@ -279,7 +187,7 @@ module _ (lc ls : ℕ → Bool) (N : Network) (past : List Event) (k : Restartin
       let next : Happened = record { deed = running_network.Heard (received.Answered report); network = hears r s (received.Answered report) } in
       Goes (Deliver m) next
       (delivers-to N r m x (AtSession s) there' end fits ∙ ap (λ (q : Received). Ok (record { deed = running_network.Heard q; network = hears r s q })) as_there)
-      tt (in_time-there m x there' timely) (x, here', there') (λ i w is. is)
+      tt (facts.comes_in m x there' timely) (x, here', there') (λ i w is. is)
       (logged s z (log_told (k.session s).live report) k.frames r.frames told (with_place r.session s (answered (r.session s))) (with_place r.reports s (r.reports s ++ report ∷ []))
       (act.goes o).1 (λ t. log-heard s report t same) h.frames))
 
@@ -288,7 +196,7 @@ module _ (lc ls : ℕ → Bool) (N : Network) (past : List Event) (k : Restartin
       → no_room r.frames ≡ None → is_late_in k x.origin ≡ false
       → Goal (Deliver n) (comes_in N k x e)
   comes n m x (AtPort c port) here' there' end fits timely =
-      takes c port (seen x) (Deliver n) (Deliver m) (delivers-to N r m x (AtPort c port) there' end fits) tt (in_time-there m x there' timely) (x, here', there')
+      takes c port (seen x) (Deliver n) (Deliver m) (delivers-to N r m x (AtPort c port) there' end fits) tt (facts.comes_in m x there' timely) (x, here', there')
   comes n m x (AtSession s) here' there' end fits timely = hears-as n m s x (received_of (k.session s).live.session x.octets) here' there' end fits timely refl
 
   came : (n : ℕ) (q : Option Held)
@@ -312,7 +220,7 @@ module _ (lc ls : ℕ → Bool) (N : Network) (past : List Event) (k : Restartin
       let exists : no_end N end ≡ None = (clear (no_end N end) _ none).0 in
       Goes (Replay m.0 end) (record { deed = Done; network = record r { frames = r.frames ++ made } })
       (ap (λ (o : Option Held). replays N r o end) m.1 ∙ passes (no_end N end) _ exists ∙ passes (no_room r.frames) _ fits)
-      tt refl (x, is, m.1, refl) (stay-append r.frames made)
+      tt (facts.others (Replay m.0 end) refl) (x, is, m.1, refl) (stay-append r.frames made)
       (record { clocks = h.clocks; sessions = h.sessions; frames = sent-both lc k.frames k.waiting r.frames made h.frames })
 
   -- ---- any event
@@ -323,27 +231,27 @@ module _ (lc ls : ℕ → Bool) (N : Network) (past : List Event) (k : Restartin
   unfolding network_event
   event-step (Begin s a) range timely none =
       acts (Begin s a) s (begun (k.session s).live.session (ask.request_of a)) _ (changed-act (ls s) (k.session s) (log_of r s) _ (h.sessions s))
-      (λ same. grind (arith, clear, passes, option_or-none)) range refl refl
+      (λ same. grind (arith, clear, passes, option_or-none)) range (facts.others _ refl) refl
   event-step (Send s) range timely none =
       let all = option_or-none _ (no_room (held_frames k)) none in
       let one = clear (no_session N s) _ all.0 in
       let two = clear (no_room k.frames) _ one.1 in
       let three = clear (option_map SendRefused (send_refusal (k.session s).live.session)) _ two.1 in
-      sends-on s (k.session s).is_unsaved refl one.0 (room-there all.1) three.0
+      sends-on s (k.session s).is_unsaved refl one.0 (room-there lc ls k r h all.1) three.0
   event-step (Resume s attempts) range timely none =
       acts (Resume s attempts) s (resumed (k.session s).live.session attempts) _ (noted-act (ls s) (k.session s) (log_of r s) _ (h.sessions s))
-      (λ same. grind (arith, clear, passes, option_or-none)) range refl refl
+      (λ same. grind (arith, clear, passes, option_or-none)) range (facts.others _ refl) refl
   event-step (Retune s domain) range timely none =
       acts (Retune s domain) s (retuned (k.session s).live.session domain) _ (noted-act (ls s) (k.session s) (log_of r s) _ (h.sessions s))
-      (λ same. grind (arith, clear, passes, option_or-none)) range refl refl
-  event-step (Deliver n) range timely none = came n (frame_at k.frames n) refl (room-there (option_or-none _ (no_room (held_frames k)) none).1) timely
+      (λ same. grind (arith, clear, passes, option_or-none)) range (facts.others _ refl) refl
+  event-step (Deliver n) range timely none = came n (frame_at k.frames n) refl (room-there lc ls k r h (option_or-none _ (no_room (held_frames k)) none).1) timely
   event-step (Replay n end) range timely none =
       let all = option_or-none _ (no_room (held_frames k)) none in
-      replays-on n end (frame_at k.frames n) refl all.0 (room-there all.1)
+      replays-on n end (frame_at k.frames n) refl all.0 (room-there lc ls k r h all.1)
   event-step (Stranger c port datagram) range timely none =
       let all = option_or-none _ (no_room (held_frames k)) none in
       let one = clear (no_port N c port) _ all.0 in
       let two = clear (forged N datagram) _ one.1 in
       takes c port (strange_frame c port datagram) (Stranger c port datagram) (Stranger c port datagram)
-      (passes (no_port N c port) _ one.0 ∙ passes (forged N datagram) _ two.0 ∙ passes (no_room r.frames) _ (room-there all.1))
-      range refl refl
+      (passes (no_port N c port) _ one.0 ∙ passes (forged N datagram) _ two.0 ∙ passes (no_room r.frames) _ (room-there lc ls k r h all.1))
+      range (facts.others (Stranger c port datagram) refl) refl

@@ -1,9 +1,11 @@
 -- What was not saved when a crash came has not happened, and nobody has seen it.
-use Rattle.ptpm_network.proofs.Common.{arith, ◌≡◌, ℕ, ◌==◌, List, [], ◌∷◌, ◌++◌, map, Some, refl, sym, ◌∙◌, ap, subst, eqb-true, eq-eqb, State, Verdict, turn, Ask, begun, Event, Begin, Deliver, frame_at, with_place, End, AtPort, Network, Held, held, seen, turn_frames}
+use Rattle.ptpm_network.proofs.Common.{nat_lt, Bool, true, false, if◌then◌else◌, Option, None, arith, ◌≡◌, ℕ, List, [], ◌∷◌, ◌++◌, map, Some, sym, ◌∙◌, ap, eqb-true, eq-eqb, State, Verdict, turn, Ask, begun, Begin, Deliver, frame_at, with_place, AtPort, Network, Held, held, seen, turn_frames}
+use Rattle.ptpm_manager.specs.declared.error.GiveUpRefusal.{GiveUpRefusal}
 use Rattle.ptpm_manager.specs.Ask.{request_of}
+use Rattle.ptpm_manager.specs.Session.{give_up_refusal, given_up}
 use Rattle.ptpm_agent.specs.declared.verdict.Verdict.TheVariants as verdicts
-use Rattle.ptpm_restarts.specs.Incidents.{CrashClock, CrashSession, Happens, after_incidents, comes_in, crashes_clock, delivered, happens, incident, refused}
-use Rattle.ptpm_restarts.specs.Restarting.{RestartingNetwork, after_verdict, log_with, turned, waiting_elsewhere, with_log}
+use Rattle.ptpm_restarts.specs.Incidents.{CrashClock, CrashSession, GivesUp, Happens, after_incidents, comes_in, crashes_clock, delivered, happens, incident, lets_go, refused}
+use Rattle.ptpm_restarts.specs.Restarting.{RestartingNetwork, after_verdict, log_with, turned, waiting_elsewhere}
 use Rattle.ptpm_restarts.specs.Storage.{Stored, changed, restored, saved_as}
 use Rattle.ptpm_restarts.proofs.AtOnce.{elsewhere-own}
 use Rattle.ptpm_restarts.proofs.Shapes.{unless-each}
@@ -49,3 +51,16 @@ session-undone N k s a is =
     unless-each (λ (j : RestartingNetwork). incident N j (CrashSession s) ≡ k) (refused N k (Begin s a)) k (happens N k (Begin s a))
     (λ i. record k { session = λ t. stays k.session s t is i })
     (λ none i. record k { session = λ t. back k.session s (log_with k s (begun (k.session s).live.session (request_of a))) t is i })
+
+module _ (N : Network) (k : RestartingNetwork) (s : ℕ) (is : k.session s ≡ saved_as (k.session s).live) where
+  let-go-undone : (o : Option GiveUpRefusal) → incident N (lets_go o k s) (CrashSession s) ≡ k
+  let-go-undone None = (λ i. record k { session = λ t. back k.session s (log_with k s (given_up (k.session s).live.session)) t is i })
+  let-go-undone (Some reason) = (λ i. record k { session = λ t. stays k.session s t is i })
+
+  gives-up-undone : (b : Bool)
+      → incident N (if b then lets_go (give_up_refusal (k.session s).live.session) k s else k) (CrashSession s) ≡ k
+  gives-up-undone true = let-go-undone (give_up_refusal (k.session s).live.session)
+  gives-up-undone false = (λ i. record k { session = λ t. stays k.session s t is i })
+
+  pub given-up-undone : after_incidents N k (GivesUp s ∷ CrashSession s ∷ []) ≡ k
+  given-up-undone = gives-up-undone (nat_lt s N.sessions)

@@ -1,5 +1,5 @@
 -- What a report is worth at one moment it is worth ever after, and what a session takes for its answer is worth that already.
-use Rattle.ptpm_network.proofs.Common.{by_test, arith, ◌≡◌, ℕ, ◌<◌, ◌≤◌, ◌==◌, ◌&&◌, ◌++◌, List, [], ◌∷◌, Option, Some, None, false, refl, sym, ◌∙◌, ap, subst, ⊎_elim, inl, inr, length, append-nil, append_assoc, cond-true, cond-false, eqb-true, eq-eqb, slice_get, option_map, option_or, PortIdentity, same_identity, RequestValue, DataSetsValue, Clock, Accepted, RequestCopy, Delivery, applied_once, copies, initial_history, Event, Refusal, Begin, Send, Resume, Retune, Deliver, Replay, Stranger, IsInRange, refusal, no_room, frame_at, IsReached, Ok, Result, Report, received_of, arrives, delivered, delivered_at_clock, delivery, is_late_delivery, reported, run, step, strange_frame, with_frames, with_place, with_session, AtPort, AtSession, End, HasEnd, IsNetwork, Network, manager, ports, Held, Happened, RunningNetwork, held, hears, delivers, network_event, reaches, unless_refused, StandsAfter, Stands, Frame, NetworkState, SessionState, accepted_at_target, copies_at, initial_state, IsWorth, WasCarriedOut, entries_of, get_append, get_last, same_Some, with_place-same}
+use Rattle.ptpm_network.proofs.Common.{by_test, arith, ◌≡◌, ℕ, ◌<◌, ◌≤◌, ◌==◌, ◌&&◌, ◌++◌, List, [], ◌∷◌, Option, Some, None, false, refl, sym, ◌∙◌, ap, subst, ⊎_elim, inl, length, append-nil, append_assoc, cond-true, cond-false, eqb-true, eq-eqb, slice_get, option_map, PortIdentity, same_identity, RequestValue, DataSetsValue, Clock, Accepted, RequestCopy, Delivery, applied_once, copies, initial_history, Event, Refusal, Begin, Send, Resume, Retune, Deliver, Replay, Stranger, IsInRange, refusal, no_room, frame_at, IsReached, Ok, Report, received_of, arrives, delivered_at_clock, delivery, is_late_delivery, reported, run, step, strange_frame, with_place, AtPort, AtSession, End, HasEnd, IsNetwork, Network, manager, ports, Held, Happened, RunningNetwork, held, hears, delivers, network_event, reaches, unless_refused, StandsAfter, Frame, NetworkState, SessionState, accepted_at_target, copies_at, initial_state, IsWorth, WasCarriedOut, entries_of, get_append, get_last, same_Some, with_place-same}
 use Rattle.std.proofs.lemmas.List.Elements.{filter_map-append}
 use Rattle.ptpm_manager.specs.declared.receiving.Received.{Received}
 use Rattle.ptpm_manager.specs.declared.receiving.Received.TheVariants as received

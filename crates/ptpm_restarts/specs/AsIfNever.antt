@@ -11,7 +11,7 @@ use Rattle.ptpm_network.specs.RunningNetwork.{Held, RunningNetwork, initial_netw
 use Rattle.ptpm_network.specs.Stands.{StandsAfter}
 use Rattle.ptpm_network.specs.State.{Neither, Origin, ReplyTo, RequestOf, initial_state, is_late_at}
 use Rattle.ptpm_network.specs.Worth.{IsWorth}
-use Rattle.ptpm_restarts.specs.Incidents.{Happens, Incident, incident, refused}
+use Rattle.ptpm_restarts.specs.Incidents.{GivesUp, Happens, Incident, Observes, incident, refused}
 use Rattle.ptpm_restarts.specs.Restarting.{RestartingNetwork, held_frames, initial_restarting, running}
 
 -- ---- the premises
@@ -38,8 +38,11 @@ abbrev pub AreTimely : Network → RestartingNetwork → List Incident → Type 
 AreTimely N k [] = Unit {0}
 AreTimely N k (i ∷ is) = IsTimely N k i × AreTimely N (incident N k i) is
 
+-- what may happen where nobody gives up and no host observes
 abbrev pub IsPossible : Incident → Type 0
 IsPossible (Happens e) = IsInRange e
+IsPossible (GivesUp s) = ⊥
+IsPossible (Observes c o) = ⊥
 IsPossible _ = Unit {0}
 
 -- The premises are the headline's: a network that a file describes, events that a program can hand in, and no frame that is

@@ -1,16 +1,19 @@
 -- What may happen in a network whose clocks and sessions save and crash, and what it makes of it.
-use Rattle.std.specs.Prelude.{ℕ, List, [], ◌∷◌, ◌++◌, Option, Some, None}
+use Rattle.std.specs.Prelude.{ℕ, nat_lt, List, [], ◌∷◌, ◌++◌, Option, Some, None, if◌then◌else◌}
 use Rattle.std.specs.Option.{option_or}
 use Rattle.std.specs.Result.{result_err}
+use Rattle.ptpm_data.specs.ObservationBack.{Observation}
+use Rattle.ptpm_agent.specs.Observing.{moved_state}
+use Rattle.ptpm_manager.specs.declared.error.GiveUpRefusal.{GiveUpRefusal}
 use Rattle.ptpm_manager.specs.Ask.{request_of}
 use Rattle.ptpm_manager.specs.Receiving.{received_of}
-use Rattle.ptpm_manager.specs.Session.{begun, resumed, retuned}
+use Rattle.ptpm_manager.specs.Session.{begun, give_up_refusal, given_up, resumed, retuned}
 use Rattle.ptpm_network.specs.Events.{Event, Begin, Send, Resume, Retune, Deliver, Replay, Stranger, Refusal, frame_at, no_room}
 use Rattle.ptpm_network.specs.Machine.{strange_frame, with_place}
 use Rattle.ptpm_network.specs.Network.{AtPort, AtSession, End, Network}
 use Rattle.ptpm_network.specs.RunningNetwork.{Held, network_event, seen}
 use Rattle.ptpm_restarts.specs.Restarting.{RestartingNetwork, begins, hears, held_frames, notes, running, sends, takes_turn, waiting_at, waiting_elsewhere, with_log}
-use Rattle.ptpm_restarts.specs.Storage.{restored, saved}
+use Rattle.ptpm_restarts.specs.Storage.{noted, restored, saved}
 
 pub data Incident : Type 0 where
   -- what may happen in any network
@@ -20,6 +23,10 @@ pub data Incident : Type 0 where
   -- it loses what is unsaved, and goes on from its last save
   CrashClock : (clock : ℕ) → Incident
   CrashSession : (session : ℕ) → Incident
+  -- a session gives up its unanswered request
+  GivesUp : (session : ℕ) → Incident
+  -- a host reports what it observes of its clock; if this is refused, nothing moves
+  Observes : (clock : ℕ) → (observation : Observation) → Incident
 
 -- ---- saves and crashes
 
@@ -77,6 +84,23 @@ abbrev pub unless : Option Refusal → RestartingNetwork → RestartingNetwork �
 unless None k next = next
 unless (Some reason) k next = k
 
+-- ---- giving up, and observing
+
+-- to give up a request is a change; the save of the next one is enough for it
+abbrev pub lets_go : Option GiveUpRefusal → RestartingNetwork → ℕ → RestartingNetwork
+lets_go None k s = begins k s (given_up (k.session s).live.session)
+lets_go (Some reason) k s = k
+
+abbrev pub gives_up : Network → RestartingNetwork → ℕ → RestartingNetwork
+gives_up N k s = if nat_lt s N.sessions then lets_go (give_up_refusal (k.session s).live.session) k s else k
+
+-- Nothing has to be saved for an observation. A clock that crashes may have lost more of what was observed than is lost here. Then
+-- that is one more observation, after the crash.
+abbrev pub observes : Network → RestartingNetwork → ℕ → Observation → RestartingNetwork
+observes N k c o =
+    if nat_lt c N.clocks
+    then record k { clock = with_place k.clock c (noted (k.clock c) (moved_state o.clock o.ports (k.clock c).live)) } else k
+
 -- ---- one incident, and a list of them
 
 abbrev pub incident : Network → RestartingNetwork → Incident → RestartingNetwork
@@ -85,6 +109,8 @@ incident N k (SaveClock c) = saves_clock k c
 incident N k (SaveSession s) = with_log k s (saved (k.session s))
 incident N k (CrashClock c) = crashes_clock k c
 incident N k (CrashSession s) = with_log k s (restored (k.session s))
+incident N k (GivesUp s) = gives_up N k s
+incident N k (Observes c o) = observes N k c o
 
 abbrev pub after_incidents : Network → RestartingNetwork → List Incident → RestartingNetwork
 after_incidents N k [] = k

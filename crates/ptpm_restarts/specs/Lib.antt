@@ -3,3 +3,4 @@ pub mod Restarting
 pub mod Incidents
 pub mod AsIfNever
 pub mod GoingOn
+pub mod ActsAsIfNever

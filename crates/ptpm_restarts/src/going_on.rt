@@ -1,7 +1,9 @@
 //! How a network goes on that was restarted. Each law is the contract of a function that does nothing, and speaks only of the definitions.
 
-ghost use Rattle.std.specs.Prelude.{◌≡◌, ◌+◌, ◌<◌, ◌≤◌, [], ◌∷◌, ℕ, length, List, Ok, Some, true};
+ghost use Rattle.std.specs.Prelude.{◌≡◌, ◌+◌, ◌<◌, ◌≤◌, [], ◌∷◌, ℕ, length, List, map, Ok, Some, true};
 ghost use Rattle.std.specs.Result.{result_err};
+ghost use Rattle.ptpm_data.specs.Members.{DataSetsValue, IsConsistent};
+ghost use Rattle.ptpm_data.specs.ObservationBack.{Observation, clock_observation, observed_each, port_observation};
 ghost use Rattle.ptpm_agent.specs.Turn.{turn};
 ghost use Rattle.ptpm_agent.specs.declared.verdict.Verdict.TheVariants as verdicts;
 ghost use Rattle.ptpm_manager.specs.declared.ask.Ask.{Ask};
@@ -13,7 +15,7 @@ ghost use Rattle.ptpm_network.specs.RunningNetwork.{Happened, Held, network_even
 ghost use Rattle.ptpm_network.specs.Way.{Hop, IsWay, LinksHaveAtMost, made_each_way};
 ghost use Rattle.ptpm_restarts.specs.AsIfNever.{IsAsIfNever};
 ghost use Rattle.ptpm_restarts.specs.GoingOn.{IsAnsweredAgain, IsCalm, StandsWithFewer, save_due};
-ghost use Rattle.ptpm_restarts.specs.Incidents.{CrashClock, CrashSession, Happens, Incident, after_incidents, refused};
+ghost use Rattle.ptpm_restarts.specs.Incidents.{CrashClock, CrashSession, GivesUp, Happens, Observes, Incident, after_incidents, refused};
 ghost use Rattle.ptpm_restarts.specs.Restarting.{RestartingNetwork, held_frames, running};
 ghost use Rattle.ptpm_restarts.specs.Storage.{saved_as};
 
@@ -46,7 +48,8 @@ pub fn saved_at_once()
 {}
 
 /// A session that starts again goes on with what it saved, in any domain and with any number of attempts. It is one that crashed,
-/// was retuned and was resumed.
+/// was retuned and was resumed. A clock that starts again has the data sets that it saved, with what its host observes as it was then.
+/// It is one that crashed, and whose host observed just that.
 pub fn started_again()
     ensures domain { (N : Network) (k : RestartingNetwork) (s domain : ℕ) →
         s < N.sessions →
@@ -56,10 +59,15 @@ pub fn started_again()
         s < N.sessions → is_waiting (k.session s).stored.session ≡ true →
         (after_incidents N k (CrashSession s ∷ Happens (Retune s domain) ∷ Happens (Resume s attempts) ∷ [])).session s
         ≡ saved_as (record ((k.session s).stored) { session = resumed (retuned (k.session s).stored.session domain) attempts }) }
+    ensures observed { (N : Network) (k : RestartingNetwork) (c : ℕ) (d : DataSetsValue) (os : List Observation) →
+        c < N.clocks → IsConsistent d → (k.clock c).stored.sets ≡ observed_each os d →
+        (after_incidents N k (CrashClock c
+        ∷ Observes c (record { clock = clock_observation d; ports = map port_observation d.ports }) ∷ [])).clock c
+        ≡ saved_as (record { sets = d; entries = (k.clock c).stored.entries }) }
 {}
 
-/// What is not saved has not happened. Let a clock answer a request for the first time, or let a session begin a request, and
-/// crash before it saves. If nothing was unsaved before, the network is then as it was: no frame has left.
+/// What is not saved has not happened. Let a clock answer a request for the first time, or let a session begin a request or give one
+/// up. Let it crash before it saves. If nothing was unsaved before, the network is then as it was: no frame has left.
 pub fn undone_before_the_save()
     ensures clock { (N : Network) (k : RestartingNetwork) (n c port : ℕ) (h : Held) →
         frame_at k.frames n ≡ Some h → h.end ≡ AtPort c port →
@@ -69,4 +77,7 @@ pub fn undone_before_the_save()
     ensures session { (N : Network) (k : RestartingNetwork) (s : ℕ) (a : Ask) →
         k.session s ≡ saved_as (k.session s).live →
         after_incidents N k (Happens (Begin s a) ∷ CrashSession s ∷ []) ≡ k }
+    ensures given_up { (N : Network) (k : RestartingNetwork) (s : ℕ) →
+        k.session s ≡ saved_as (k.session s).live →
+        after_incidents N k (GivesUp s ∷ CrashSession s ∷ []) ≡ k }
 {}

@@ -3,9 +3,11 @@
 ghost use Rattle.std.specs.Prelude.{◌≡◌, ◌<◌, ℕ, List};
 ghost use Rattle.std.specs.List.{Contains};
 ghost use Rattle.ptpm_manager.specs.declared.report.Report.{Report};
+ghost use Rattle.ptpm_network.specs.GivingUp.{IsServedInOrder};
 ghost use Rattle.ptpm_network.specs.Headline.{Headline};
 ghost use Rattle.ptpm_network.specs.Machine.{state_after};
 ghost use Rattle.ptpm_network.specs.Network.{Network};
+ghost use Rattle.ptpm_restarts.specs.ActsAsIfNever.{ActsAsIfNever, IsPromisedActing};
 ghost use Rattle.ptpm_restarts.specs.AsIfNever.{IsAsIfNever, IsPromisedRestarting, never_crashed};
 ghost use Rattle.ptpm_restarts.specs.Incidents.{Incident, after_incidents};
 ghost use Rattle.ptpm_restarts.specs.Restarting.{RestartingNetwork, initial_restarting, running};
@@ -31,5 +33,28 @@ pub fn restarts_lose_messages_alone()
         (record (running k) { frames = (never_crashed N a.events).frames }) }
     ensures told_again { (N : Network) (is : List Incident) (k : RestartingNetwork) (s : ℕ) (x y : Report) →
         IsAsIfNever N is k → s < N.sessions →
+        Contains (k.told s) x → Contains (k.told s) y → x.index ≡ y.index → x ≡ y }
+{}
+
+/// So it is where sessions also give requests up, and hosts observe their clocks. Any clock or session may crash between these, and
+/// right after. If no frame is delivered late:
+/// - the network is as one that never crashed, which went through some of the same acts, in the same order, none of them refused. The
+///   data sets, entries, requests under way, reports and frames are as above;
+/// - each session has an account of acts there. So `managers_that_give_up_are_served` of ptpm_network says what its manager may rely on.
+///   Each of its requests is carried out once at most, in their order. None is decided anew once a later one is reported;
+/// - what is reported there was reported here, once or more. All that was ever reported here is the reply that is kept in the account,
+///   so an answer that is reported again is the same.
+///
+/// To give up a request is a change. If that is not saved before a crash, the request is under way again. Nothing is saved for an
+/// observation.
+pub fn restarts_among_acts()
+    ensures as_if_never { (N : Network) (is : List Incident) →
+        IsPromisedActing N is →
+        ActsAsIfNever N is (after_incidents N (initial_restarting N) is) }
+    ensures served { (N : Network) (is : List Incident) (k : RestartingNetwork) (s : ℕ)
+        (a : ActsAsIfNever N is k) →
+        s < N.sessions → IsServedInOrder N s a.network (a.account s) }
+    ensures told_again { (N : Network) (is : List Incident) (k : RestartingNetwork) (s : ℕ) (x y : Report) →
+        ActsAsIfNever N is k → s < N.sessions →
         Contains (k.told s) x → Contains (k.told s) y → x.index ≡ y.index → x ≡ y }
 {}
