@@ -9,4 +9,5 @@ pub mod SavingLaws
 pub mod SavingClockLaws
 pub mod SavingSessionLaws
 pub mod WrittenLemmas
+pub mod WithholdingLaws
 pub mod NextSessionLaws

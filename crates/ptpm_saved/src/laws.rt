@@ -79,6 +79,30 @@ pub fn next_session_law()
         ≡ map (counted_after s.issued) (all_reports session_reports session_process (next_session s hops) hs) }
 {}
 
+/// A clock that takes no datagram while something is unsaved gives no message out before it is saved. Its host may make any calls,
+/// in any order. The calls are events at a clock that saves before it answers, so that clock's law holds for them. And a
+/// datagram that has to be saved gives nothing out, nor does any that comes while something is unsaved: that one does nothing. The
+/// premise is that the host says of no image that it is saved before a restart would find it.
+pub fn withholding_clock_law()
+    ensures powered { (c : Clock) (s : State) (calls : List (Event Datagram Observation))
+        → IsConsistent s.sets
+        → IsAsIfPowered (clock_process c) s
+        (events_of (clock_process c) held_by_clock (started s) calls)
+        (called_each (clock_process c) held_by_clock (started s) calls) }
+    ensures withholds { (c : Clock) (d : Device State (ℕ × List ℕ)) (x : Datagram)
+        → Withholds (clock_process c) held_by_clock d x }
+{}
+
+/// The same for a session that sends nothing while something is unsaved. It still hears and begins meanwhile.
+pub fn withholding_session_law()
+    ensures powered { (s : SessionValue) (calls : List (Event SessionInput SessionNote))
+        → IsAsIfPowered session_process s
+        (events_of session_process held_by_session (started s) calls)
+        (called_each session_process held_by_session (started s) calls) }
+    ensures withholds { (d : Device SessionValue (List ℕ)) (x : SessionInput)
+        → Withholds session_process held_by_session d x }
+{}
+
 /// The entries of a table are sixteen at most, in the order of their managers. Their managers are those of the table, and the
 /// table would keep each entry.
 fn entries_law<T: LendingTable>(table: &T)
