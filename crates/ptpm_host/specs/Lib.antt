@@ -22,3 +22,6 @@ pub mod RateLaw
 pub mod Restoring
 pub mod Words
 pub mod Parsing
+pub mod Blanks
+pub mod Withheld
+pub mod SavingClock

@@ -39,6 +39,10 @@ use Rattle.ptpm_host.specs.declared.refusal.StartRefusal.{StartRefusal}
 use Rattle.ptpm_host.specs.declared.refusal.StartRefusal.TheVariants as refusals
 use Rattle.ptpm_host.specs.declared.refusal.ReportRefusal.{ReportRefusal}
 use Rattle.ptpm_host.specs.declared.refusal.ReportRefusal.TheVariants as reports
+use Rattle.ptpm_host.specs.declared.refusal.SavedRefusal.{SavedRefusal}
+use Rattle.ptpm_host.specs.declared.refusal.SavedRefusal.TheVariants as saves
+use Rattle.ptpm_host.specs.declared.refusal.SavingRefusal.{SavingRefusal}
+use Rattle.ptpm_host.specs.declared.refusal.SavingRefusal.TheVariants as saving
 use Rattle.ptpm_host.specs.declared.refusal.SendRefusal.{SendRefusal}
 use Rattle.ptpm_host.specs.declared.refusal.SendRefusal.TheVariants as sends
 use Rattle.ptpm_host.specs.declared.refusal.SessionRefusal.{SessionRefusal}
@@ -129,9 +133,23 @@ no_survey = 46
 abbrev pub other_sizes : ℕ
 other_sizes = 47
 
+-- a change is not saved yet
+abbrev pub unsaved : ℕ
+unsaved = 118
+
 abbrev pub handle_number : HandleRefusal → ℕ
 handle_number handles.NoPort = 33
 handle_number handles.NoRoom = no_room
+
+-- why a clock that is to be saved handles no datagram
+abbrev pub saving_number : SavingRefusal → ℕ
+saving_number (saving.Handle refusal) = handle_number refusal
+saving_number saving.Unsaved = unsaved
+
+-- why a clock does not count as saved
+abbrev pub saved_number : SavedRefusal → ℕ
+saved_number saves.NoRoom = no_room
+saved_number saves.OtherImage = 119
 
 abbrev pub read_number : ReadRefusal → ℕ
 read_number reads.NoPort = 33

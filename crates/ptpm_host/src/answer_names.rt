@@ -51,7 +51,7 @@ fn datagram_name(number: u32) -> Option<&'static str>
     }
 }
 
-/// Why a call changed nothing, 32 to 57 and 104 to 117.
+/// Why a call changed nothing, 32 to 57 and 104 to 119.
 #[tactic(auto, unfolding(crate::specs::AnswerNames::name_in))]
 fn refusal_name(number: u32) -> Option<&'static str>
     ensures { option_map (λ name. name.now) result ≡ name_in refusal_names number }
@@ -96,6 +96,8 @@ fn refusal_name(number: u32) -> Option<&'static str>
         115 => Some("WORD_COUNT"),
         116 => Some("OTHER_NAME"),
         117 => Some("NO_VALUE"),
+        118 => Some("UNSAVED"),
+        119 => Some("OTHER_IMAGE"),
         _ => None,
     }
 }

@@ -3,6 +3,7 @@
 #![tactic(auto)]
 
 mod answer_names;
+mod blanks;
 mod clock;
 mod data_set_reading;
 mod error_names;
@@ -20,10 +21,12 @@ mod rate;
 mod refusal;
 mod reported_outcome;
 mod restoring;
+mod saving_clock;
 mod sent;
 mod session;
 mod session_settings;
 mod settings;
+mod standing;
 mod survey;
 mod survey_settings;
 mod texts;
@@ -40,17 +43,19 @@ pub use numbers::{
     NO_CLOCK, NO_MEMORY, NO_ROOM, NO_SESSION, NO_SURVEY, OTHER_SIZES, begin_number,
     clock_restore_number, give_up_number, handle_number, heard_number, observe_number,
     outcome_number, parse_number, read_number, report_number, restore_number, resume_number,
-    send_number, session_number, start_number, surveyed_number, verdict_number,
+    saved_number, saving_number, send_number, session_number, start_number, surveyed_number,
+    verdict_number,
 };
 pub use observing::{ObservedClock, ObservedPort, left_number};
 pub use parsing::parse_field;
 pub use passed_on::{MessageKey, PassedOn, PassedOnPlace};
 pub use rate::Rate;
 pub use refusal::{
-    ClockRestoreRefusal, HandleRefusal, ParseRefusal, ReadRefusal, ReportRefusal, SendRefusal,
-    SessionRefusal, StartRefusal,
+    ClockRestoreRefusal, HandleRefusal, ParseRefusal, ReadRefusal, ReportRefusal, SavedRefusal,
+    SavingRefusal, SendRefusal, SessionRefusal, StartRefusal,
 };
 pub use reported_outcome::ReportedOutcome;
+pub use saving_clock::SavingClock;
 pub use sent::Sent;
 pub use session::{Heard, HostedSession};
 pub use session_settings::SessionSettings;

@@ -7,11 +7,11 @@
 //! refusals of a restore, and those from 112 on are further refusals of a call.
 
 ghost use Rattle.std.specs.Prelude.{◌≡◌, ◌≤◌};
-ghost use Rattle.ptpm_host.specs.Numbers.{begin_number, cause_number, clock_restore_number, give_up_number, handle_number, heard_number, image_number, managers_number, member_number, observe_number, parse_number, read_number, reason_number, report_number, restore_number, resume_number, send_number, session_number, start_number, surveyed_number, outcome_number, values_number, verdict_number};
+ghost use Rattle.ptpm_host.specs.Numbers.{begin_number, cause_number, clock_restore_number, give_up_number, handle_number, heard_number, image_number, managers_number, member_number, observe_number, parse_number, read_number, reason_number, report_number, restore_number, resume_number, saved_number, saving_number, send_number, session_number, start_number, surveyed_number, outcome_number, values_number, verdict_number};
 
 use crate::refusal::{
-    ClockRestoreRefusal, HandleRefusal, ParseRefusal, ReadRefusal, ReportRefusal, SendRefusal,
-    SessionRefusal, StartRefusal,
+    ClockRestoreRefusal, HandleRefusal, ParseRefusal, ReadRefusal, ReportRefusal, SavedRefusal,
+    SavingRefusal, SendRefusal, SessionRefusal, StartRefusal,
 };
 use crate::reported_outcome::ReportedOutcome;
 use crate::session::Heard;
@@ -38,6 +38,9 @@ pub const NO_SURVEY: u32 = 46;
 
 /// A struct of the host has another size than this library's.
 pub const OTHER_SIZES: u32 = 47;
+
+/// A change is not saved yet.
+const UNSAVED: u32 = 118;
 
 /// What became of a datagram, 1 to 24. A datagram that is no management message is recognized first. The numbers of the other
 /// verdicts are in the order of the verdicts, so that LLVM makes no table of them.
@@ -134,6 +137,28 @@ pub fn handle_number(refusal: HandleRefusal) -> u32
     match refusal {
         HandleRefusal::NoPort => 33,
         HandleRefusal::NoRoom => NO_ROOM,
+    }
+}
+
+/// Why a clock that is to be saved handles no datagram, 33, 34 or 118.
+pub fn saving_number(refusal: SavingRefusal) -> u32
+    ensures number { result ≡ saving_number refusal }
+    ensures some { 1 ≤ result }
+{
+    match refusal {
+        SavingRefusal::Handle(refusal) => handle_number(refusal),
+        SavingRefusal::Unsaved => UNSAVED,
+    }
+}
+
+/// Why a clock does not count as saved, 34 or 119.
+pub fn saved_number(refusal: SavedRefusal) -> u32
+    ensures number { result ≡ saved_number refusal }
+    ensures some { 1 ≤ result }
+{
+    match refusal {
+        SavedRefusal::NoRoom => NO_ROOM,
+        SavedRefusal::OtherImage => 119,
     }
 }
 

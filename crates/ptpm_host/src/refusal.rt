@@ -38,6 +38,23 @@ pub enum HandleRefusal {
     NoRoom,
 }
 
+/// Why a clock that is to be saved handles no datagram, in the order in which the reasons are judged.
+#[derive(Clone, Copy, Debug, PartialEq, Eq)]
+pub enum SavingRefusal {
+    Handle(HandleRefusal),
+    /// Something is not saved.
+    Unsaved,
+}
+
+/// Why a clock does not count as saved, in the order in which the reasons are judged.
+#[derive(Clone, Copy, Debug, PartialEq, Eq)]
+pub enum SavedRefusal {
+    /// There is room for fewer than fifteen messages.
+    NoRoom,
+    /// The image is of another state.
+    OtherImage,
+}
+
 /// Why the data sets are not read, in the order in which the reasons are judged.
 #[derive(Clone, Copy, Debug, PartialEq, Eq)]
 pub enum ReadRefusal {

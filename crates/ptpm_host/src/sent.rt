@@ -10,6 +10,7 @@ ghost use Rattle.ptpm_codec.specs.Envelope.{envelope_of, sent_with};
 ghost use Rattle.ptpm_codec.specs.Message.{Fits};
 ghost use Rattle.ptpm_codec.specs.Reading.{IsWellFormed};
 ghost use Rattle.ptpm_table.specs.KeptMessages.{renewed};
+ghost use Rattle.ptpm_host.specs.Blanks.{IsBlank};
 ghost use Rattle.ptpm_host.specs.Clock.{IsWhole, KeepsBehind, message_in};
 
 use ptpm_codec::{
@@ -31,9 +32,10 @@ pub struct Sent {
 const _: () = prove!(size_of::<Sent>() == 1_476);
 
 impl Sent {
-    /// A message without octets, for no port.
+    /// A message without octets, for no port, in a place of zeros.
     pub fn empty() -> Sent
-        ensures { message_in result ≡ (0, []) }
+        ensures message { message_in result ≡ (0, []) }
+        ensures blank { IsBlank result }
     {
         Sent {
             port: 0,
