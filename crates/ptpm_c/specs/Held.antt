@@ -1,6 +1,7 @@
 -- What a handle holds: a clock, a session, a survey, or nothing.
 use Rattle.std.specs.Prelude.{◌≡◌, ℕ, Option, Some, None}
 use Rattle.ptpm_host.specs.declared.clock.HostedClock.{HostedClock}
+use Rattle.ptpm_host.specs.declared.saving_clock.SavingClock.{SavingClock}
 use Rattle.ptpm_host.specs.declared.session.HostedSession.{HostedSession}
 use Rattle.ptpm_host.specs.declared.survey.HostedSurvey.{HostedSurvey}
 use Rattle.ptpm_host.specs.Numbers.{no_session}
@@ -21,23 +22,49 @@ clock_of hosts.Nothing = None
 clock_of (hosts.Clock clock) = Some clock.value
 clock_of (hosts.Session session) = None
 clock_of (hosts.Survey survey) = None
+clock_of (hosts.SavingClock clock) = None
+
+-- of a clock whose host says when it was saved
+abbrev pub saving_clock_of : Hosted → Option SavingClock
+saving_clock_of hosts.Nothing = None
+saving_clock_of (hosts.Clock clock) = None
+saving_clock_of (hosts.Session session) = None
+saving_clock_of (hosts.Survey survey) = None
+saving_clock_of (hosts.SavingClock clock) = Some clock.value
+
+-- of either kind of clock
+abbrev pub any_clock_of : Hosted → Option HostedClock
+any_clock_of hosts.Nothing = None
+any_clock_of (hosts.Clock clock) = Some clock.value
+any_clock_of (hosts.Session session) = None
+any_clock_of (hosts.Survey survey) = None
+any_clock_of (hosts.SavingClock clock) = Some clock.value.clock.value
 
 abbrev pub session_of : Hosted → Option HostedSession
 session_of hosts.Nothing = None
 session_of (hosts.Clock clock) = None
 session_of (hosts.Session session) = Some session.value
 session_of (hosts.Survey survey) = None
+session_of (hosts.SavingClock clock) = None
 
 abbrev pub survey_of : Hosted → Option HostedSurvey
 survey_of hosts.Nothing = None
 survey_of (hosts.Clock clock) = None
 survey_of (hosts.Session session) = None
 survey_of (hosts.Survey survey) = Some survey.value
+survey_of (hosts.SavingClock clock) = None
 
--- the clock, the session, or the survey, that a handle holds, if it holds one
+-- the clock, the session, or the survey, that a handle holds, if it holds one. A clock sends at once, and a saving clock once it is
+-- saved
 
 abbrev pub clock_held : Keeping → Option HostedClock
 clock_held keeping = clock_of (held keeping)
+
+abbrev pub saving_clock_held : Keeping → Option SavingClock
+saving_clock_held keeping = saving_clock_of (held keeping)
+
+abbrev pub any_clock_held : Keeping → Option HostedClock
+any_clock_held keeping = any_clock_of (held keeping)
 
 abbrev pub session_held : Keeping → Option HostedSession
 session_held keeping = session_of (held keeping)

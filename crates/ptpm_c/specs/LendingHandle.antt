@@ -9,7 +9,7 @@ use Rattle.ptpm_c.specs.Lending.{with_kept}
 
 -- the handle, whose pointer points to this
 abbrev pub holding : Handle → Kept → Handle
-holding h w = record { keeping = with_kept h.keeping w; live = true; tied = refl }
+holding h w = record { keeping = with_kept h.keeping w; live = true; restored = h.restored; tied = refl }
 
 abbrev pub LendsHeld : MutBor Handle → Option (MutBor Kept) → Fml
 LendsHeld s r = LendsIf handle.the_row kept.the_row s r (holding s.now) s.now

@@ -8,3 +8,4 @@ pub mod Sizes
 pub mod Lending
 pub mod LendingHandle
 pub mod Fields
+pub mod Withholding

@@ -1,62 +1,106 @@
 //! What a host in C keeps of a clock, a session or a survey.
 
-ghost use Rattle.std.specs.Prelude.{◌≡◌, IfNone, IfSome, MatchOption, None, OnSome, Some, is_some};
+ghost use Rattle.std.specs.Prelude.{◌≡◌, ◌==◌, IfNone, IfSome, MatchOption, None, OnSome, Some, is_some};
 ghost use Rattle.ptpm_data.specs.Changed.{changed};
 ghost use Rattle.ptpm_host.specs.declared.clock.HostedClock.{HostedClock};
-ghost use Rattle.ptpm_c.specs.declared.kept.Hosted.TheVariants.{Clock, Nothing, Session, Survey};
+ghost use Rattle.ptpm_c.specs.declared.kept.Hosted.TheVariants as hosts;
 
 use crate::keeping::Keeping;
 use crate::kept::{Hosted, Kept};
 use ptpm_data::{ChangedMembers, DataSets};
-use ptpm_host::{HostedClock, HostedSession, HostedSurvey};
+use ptpm_host::{HostedClock, HostedSession, HostedSurvey, SavingClock};
 use std::alloc::Global;
 use std::mem;
 
-/// `struct ptpm_clock { void *at; bool live; }`, and the same of a session and a survey: if it is all zeros it holds nothing.
+/// `struct ptpm_clock { void *at; bool live; uint8_t restored; }`, and the same of a session and a survey: if it is all zeros it holds
+/// nothing.
 #[repr(C)]
 #[derive(Drop)]
 pub struct Handle {
     keeping: Keeping,
     live: bool,
+    /// 1 if it holds what was restored last, and no call has changed that since; otherwise another number. A host that was compiled
+    /// before there was this member leaves anything here, so it is no `bool`.
+    restored: u8,
     ghost tied: { live ≡ is_some keeping.kept },
 }
 
 impl Handle {
     ghost use Rattle.std.specs.Borrow.{sem};
-    ghost use Rattle.ptpm_c.specs.Held.{clock_held, held, session_held, survey_held};
+    ghost use Rattle.ptpm_c.specs.Held.{clock_held, held, saving_clock_held, session_held, survey_held};
     ghost use Rattle.ptpm_c.specs.LendingHandle.{LendsHeld};
 
     /// Holds nothing.
     pub fn empty() -> Handle
-        ensures { held result.keeping ≡ Nothing }
+        ensures holds { held result.keeping ≡ hosts.Nothing }
+        ensures restored { result.restored ≡ 0 }
     {
         Handle {
             keeping: Keeping::nothing(),
             live: false,
+            restored: 0,
         }
     }
 
     /// Holds this, in this box.
     pub fn of(mut kept: Box<Kept>, hosted: Hosted) -> Handle
-        ensures { held result.keeping ≡ hosted }
+        ensures holds { held result.keeping ≡ hosted }
+        ensures restored { result.restored ≡ 0 }
     {
         *kept = Kept::of(hosted);
         Handle {
             keeping: Keeping::of_box(kept),
             live: true,
+            restored: 0,
         }
+    }
+
+    /// Holds this, in this box, right after it was restored.
+    pub fn of_restored(kept: Box<Kept>, hosted: Hosted) -> Handle
+        ensures holds { held result.keeping ≡ hosted }
+        ensures restored { result.restored ≡ 1 }
+    {
+        let mut handle = Handle::of(kept, hosted);
+        handle.restored = 1;
+        handle
+    }
+
+    /// Whether what it holds was restored, and is as it was then.
+    pub fn is_restored(&self) -> bool
+        ensures { result ≡ (self.now.restored == 1) }
+    {
+        self.restored == 1
     }
 
     /// Takes the clock out, and the box that it is to be kept in again. What is no clock stays.
     pub fn take_clock(&mut self, alloc: Global) -> Option<(Box<Kept>, Box<HostedClock>)>
-        ensures some { IfSome result (λ taken. held self.old.keeping ≡ Clock taken.1) }
-        ensures left { OnSome result (held self.new.keeping ≡ Nothing) }
+        ensures some { IfSome result (λ taken. held self.old.keeping ≡ hosts.Clock taken.1) }
+        ensures left { OnSome result (held self.new.keeping ≡ hosts.Nothing) }
         ensures none { IfNone result (clock_held self.old.keeping ≡ None) }
         ensures unchanged { IfNone result (held self.new.keeping ≡ held self.old.keeping) }
+        ensures restored { self.new.restored ≡ 0 }
     {
         let (kept, hosted) = self.open(alloc)?;
         match hosted {
             Hosted::Clock(clock) => Some((kept, clock)),
+            other => {
+                *self = Handle::of(kept, other);
+                None
+            }
+        }
+    }
+
+    /// Takes out a clock whose host says when it was saved, in the same way.
+    pub fn take_saving_clock(&mut self, alloc: Global) -> Option<(Box<Kept>, Box<SavingClock>)>
+        ensures some { IfSome result (λ taken. held self.old.keeping ≡ hosts.SavingClock taken.1) }
+        ensures left { OnSome result (held self.new.keeping ≡ hosts.Nothing) }
+        ensures none { IfNone result (saving_clock_held self.old.keeping ≡ None) }
+        ensures unchanged { IfNone result (held self.new.keeping ≡ held self.old.keeping) }
+        ensures restored { self.new.restored ≡ 0 }
+    {
+        let (kept, hosted) = self.open(alloc)?;
+        match hosted {
+            Hosted::SavingClock(clock) => Some((kept, clock)),
             other => {
                 *self = Handle::of(kept, other);
                 None
@@ -70,6 +114,7 @@ impl Handle {
             → clock_held self.old.keeping ≡ Some c
             → result ≡ changed before.now c.agent.sets }
         ensures unchanged { held self.new.keeping ≡ held self.old.keeping }
+        ensures restored { self.new.restored ≡ 0 }
     {
         let Some((kept, clock)) = self.take_clock(alloc) else {
             return ChangedMembers::NONE;
@@ -81,8 +126,8 @@ impl Handle {
 
     /// Takes the session out, in the same way.
     pub fn take_session(&mut self, alloc: Global) -> Option<(Box<Kept>, Box<HostedSession>)>
-        ensures some { IfSome result (λ taken. held self.old.keeping ≡ Session taken.1) }
-        ensures left { OnSome result (held self.new.keeping ≡ Nothing) }
+        ensures some { IfSome result (λ taken. held self.old.keeping ≡ hosts.Session taken.1) }
+        ensures left { OnSome result (held self.new.keeping ≡ hosts.Nothing) }
         ensures none { IfNone result (session_held self.old.keeping ≡ None) }
         ensures unchanged { IfNone result (held self.new.keeping ≡ held self.old.keeping) }
     {
@@ -98,8 +143,8 @@ impl Handle {
 
     /// Takes the survey out, in the same way.
     pub fn take_survey(&mut self, alloc: Global) -> Option<(Box<Kept>, Box<HostedSurvey>)>
-        ensures some { IfSome result (λ taken. held self.old.keeping ≡ Survey taken.1) }
-        ensures left { OnSome result (held self.new.keeping ≡ Nothing) }
+        ensures some { IfSome result (λ taken. held self.old.keeping ≡ hosts.Survey taken.1) }
+        ensures left { OnSome result (held self.new.keeping ≡ hosts.Nothing) }
         ensures none { IfNone result (survey_held self.old.keeping ≡ None) }
         ensures unchanged { IfNone result (held self.new.keeping ≡ held self.old.keeping) }
     {
@@ -116,7 +161,7 @@ impl Handle {
     /// What it holds, in place. Whoever only reads it writes nothing to the handle.
     pub fn kept(&mut self) -> Option<&mut Kept>
         ensures* writes_back { sem 𝓛 (LendsHeld self.entry result) }
-        ensures value { MatchOption result (held self.old.keeping ≡ Nothing)
+        ensures value { MatchOption result (held self.old.keeping ≡ hosts.Nothing)
             (λ kept. kept.now.hosted.value ≡ held self.old.keeping) }
     {
         if !self.live {
@@ -127,7 +172,8 @@ impl Handle {
 
     /// Ends what it holds.
     pub fn end(&mut self, alloc: Global)
-        ensures { held self.new.keeping ≡ Nothing }
+        ensures holds { held self.new.keeping ≡ hosts.Nothing }
+        ensures restored { self.new.restored ≡ 0 }
     {
         if let Some((_, hosted)) = self.open(alloc) {
             drop(hosted);
@@ -136,11 +182,12 @@ impl Handle {
 
     /// Takes out the box, if there is one, and what is kept in it.
     fn open(&mut self, alloc: Global) -> Option<(Box<Kept>, Hosted)>
-        ensures left { held self.new.keeping ≡ Nothing }
+        ensures left { held self.new.keeping ≡ hosts.Nothing }
+        ensures restored { self.new.restored ≡ 0 }
         ensures some { IfSome result (λ opened. opened.1 ≡ held self.old.keeping) }
-        ensures none { IfNone result (held self.old.keeping ≡ Nothing) }
+        ensures none { IfNone result (held self.old.keeping ≡ hosts.Nothing) }
     {
-        let Handle { keeping, live } = mem::replace(self, Handle::empty());
+        let Handle { keeping, live, .. } = mem::replace(self, Handle::empty());
         if !live {
             return None;
         }

@@ -3,7 +3,7 @@
 ghost use Rattle.std.specs.Prelude.{◌≡◌};
 ghost use Rattle.std.specs.Option.{option_copied};
 
-use ptpm_host::{HostedClock, HostedSession, HostedSurvey};
+use ptpm_host::{HostedClock, HostedSession, HostedSurvey, SavingClock};
 use std::mem::ManuallyDrop;
 
 /// One of the things that a handle can hold, each in a block of its own.
@@ -14,6 +14,8 @@ pub enum Hosted {
     Clock(Box<HostedClock>),
     Session(Box<HostedSession>),
     Survey(Box<HostedSurvey>),
+    /// A clock whose host says when it was saved.
+    SavingClock(Box<SavingClock>),
 }
 
 /// Only `into_hosted` lets it go. So nothing is to be done when its box is let go.
@@ -23,7 +25,7 @@ pub struct Kept {
 }
 
 impl Kept {
-    ghost use Rattle.ptpm_c.specs.Held.{clock_of, session_of, survey_of};
+    ghost use Rattle.ptpm_c.specs.Held.{any_clock_of, saving_clock_of, session_of, survey_of};
 
     /// Keeps this.
     pub fn of(hosted: Hosted) -> Kept
@@ -34,12 +36,23 @@ impl Kept {
         }
     }
 
-    /// The clock that is kept.
+    /// The clock that is kept, whether its host says when it was saved or not.
     pub fn clock(&self) -> Option<&HostedClock>
-        ensures { option_copied result ≡ clock_of self.now.hosted.value }
+        ensures { option_copied result ≡ any_clock_of self.now.hosted.value }
     {
         match &*self.hosted {
             Hosted::Clock(clock) => Some(clock.as_ref()),
+            Hosted::SavingClock(clock) => Some(clock.clock()),
+            _ => None,
+        }
+    }
+
+    /// The clock that is kept, if its host says when it was saved.
+    pub fn saving_clock(&self) -> Option<&SavingClock>
+        ensures { option_copied result ≡ saving_clock_of self.now.hosted.value }
+    {
+        match &*self.hosted {
+            Hosted::SavingClock(clock) => Some(clock.as_ref()),
             _ => None,
         }
     }

@@ -10,6 +10,7 @@ ghost use Rattle.ptpm_data.specs.declared.observation.ObservationError.{Observat
 ghost use Rattle.ptpm_host.specs.declared.clock.HostedClock.{HostedClock};
 ghost use Rattle.ptpm_host.specs.declared.refusal.ReadRefusal.{ReadRefusal};
 ghost use Rattle.ptpm_host.specs.declared.refusal.StartRefusal.{StartRefusal};
+ghost use Rattle.ptpm_host.specs.declared.saving_clock.SavingClock.{SavingClock};
 ghost use Rattle.ptpm_host.specs.Clock.{IsFreshClock, start_by, start_refusal};
 ghost use Rattle.ptpm_host.specs.Numbers.{no_clock, no_memory, observe_number, read_number, start_number, verdict_number};
 ghost use Rattle.ptpm_agent.specs.declared.verdict.Verdict.{Verdict};
@@ -17,8 +18,9 @@ ghost use Rattle.ptpm_host.specs.Observing.{IsObserved, left_number, observe_ref
 ghost use Rattle.ptpm_host.specs.DataSetReading.{read_refusal};
 ghost use Rattle.ptpm_host.specs.Settings.{clock_start, default_identity, port_start};
 ghost use Rattle.ptpm_c.specs.declared.kept.Hosted.TheVariants.{Nothing};
-ghost use Rattle.ptpm_c.specs.Held.{clock_held, held};
+ghost use Rattle.ptpm_c.specs.Held.{any_clock_held, clock_held, held, saving_clock_held};
 ghost use Rattle.ptpm_c.specs.Turned.{AreWritten, FindsNoClock, RefusesTurn, TakesTurn, why_not_handed};
+ghost use Rattle.ptpm_c.specs.Withholding.{Observes, RefusesCall, TakesCall};
 
 mod agreement;
 mod fields;
@@ -31,6 +33,7 @@ mod saving;
 mod saving_clock;
 mod session;
 mod survey;
+mod withholding;
 
 use crate::handle::Handle;
 use crate::kept::{Hosted, Kept};
@@ -83,6 +86,7 @@ pub extern "C" fn ptpm_clock_start(
     ensures memory { start_refusal settings.now ports.now managers.now ≡ None
         → result ≢ 0
         → result ≡ no_memory }
+    ensures restored { handle.new.restored ≡ 0 }
 {
     handle.end(alloc);
     let clock = match HostedClock::start_boxed(alloc, settings, ports, managers) {
@@ -97,8 +101,9 @@ pub extern "C" fn ptpm_clock_start(
 }
 
 /// What becomes of a datagram that comes in at a port: the number of the verdict, or of the refusal. The first `count` places
-/// of `sent` get what the clock sends. The places after them stay as they are, and so does what follows each message. Takes no
-/// memory.
+/// of `sent` get what the clock sends. The places after them stay as they are, and so does what follows each message. A clock
+/// whose host says when it was saved sends nothing for a new request, and leaves zeros in the places that it used. It refuses each
+/// datagram while something is unsaved. Takes no memory.
 #[tactic(auto, using(crate::proofs::Turns::turned_to, ptpm_host::specs::OutboxLaws::kept_by_none))]
 #[unsafe(no_mangle)]
 pub extern "C" fn ptpm_clock_handle(
@@ -116,13 +121,23 @@ pub extern "C" fn ptpm_clock_handle(
     ensures refused { (c : HostedClock)
         → clock_held handle.old.keeping ≡ Some c
         → RefusesTurn c port sent.old result count.new sent.new (clock_held handle.new.keeping) }
-    ensures places { AreWritten sent.old count.new sent.new }
+    ensures places { saving_clock_held handle.old.keeping ≡ None
+        → AreWritten sent.old count.new sent.new }
+    ensures saving { (w : SavingClock)
+        → saving_clock_held handle.old.keeping ≡ Some w
+        → TakesCall w port datagram.now sent.old result count.new sent.new
+        (saving_clock_held handle.new.keeping) }
+    ensures withheld { (w : SavingClock)
+        → saving_clock_held handle.old.keeping ≡ Some w
+        → RefusesCall w port sent.old result count.new sent.new
+        (saving_clock_held handle.new.keeping) }
     ensures empty { FindsNoClock handle.old.keeping sent.old result count.new sent.new
         handle.new.keeping }
+    ensures restored { handle.new.restored ≡ 0 }
 {
     *count = 0;
     let Some((kept, mut clock)) = handle.take_clock(alloc) else {
-        return NO_CLOCK;
+        return withholding::judge(alloc, handle, port, datagram, sent, count);
     };
     let number = match clock.handle(port, datagram, sent) {
         Ok(handled) => {
@@ -157,18 +172,33 @@ pub extern "C" fn ptpm_clock_handle_changed(
         → why_not_handed c port sent.old ≡ None
         → IsSomeAnd (clock_held handle.new.keeping)
         (λ d. members.new ≡ changed c.agent.sets d.agent.sets) }
+    ensures changed_saving { (w : SavingClock)
+        → saving_clock_held handle.old.keeping ≡ Some w
+        → result ≡ verdict_number Verdict.AnsweredNew
+        → IsSomeAnd (saving_clock_held handle.new.keeping)
+        (λ x. members.new ≡ changed w.clock.value.agent.sets x.clock.value.agent.sets) }
     ensures new_alone { result ≢ verdict_number Verdict.AnsweredNew → members.new ≡ no_members }
     ensures refused { (c : HostedClock)
         → clock_held handle.old.keeping ≡ Some c
         → RefusesTurn c port sent.old result count.new sent.new (clock_held handle.new.keeping) }
-    ensures places { AreWritten sent.old count.new sent.new }
+    ensures places { saving_clock_held handle.old.keeping ≡ None
+        → AreWritten sent.old count.new sent.new }
+    ensures saving { (w : SavingClock)
+        → saving_clock_held handle.old.keeping ≡ Some w
+        → TakesCall w port datagram.now sent.old result count.new sent.new
+        (saving_clock_held handle.new.keeping) }
+    ensures withheld { (w : SavingClock)
+        → saving_clock_held handle.old.keeping ≡ Some w
+        → RefusesCall w port sent.old result count.new sent.new
+        (saving_clock_held handle.new.keeping) }
     ensures empty { FindsNoClock handle.old.keeping sent.old result count.new sent.new
         handle.new.keeping }
+    ensures restored { handle.new.restored ≡ 0 }
 {
     *count = 0;
     *members = ChangedMembers::NONE;
     let Some((kept, clock)) = handle.take_clock(alloc) else {
-        return NO_CLOCK;
+        return withholding::judge_changed(alloc, handle, port, datagram, sent, count, members);
     };
     let before = clock.sets().copy();
     *handle = Handle::of(kept, Hosted::Clock(clock));
@@ -203,13 +233,18 @@ pub extern "C" fn ptpm_clock_observe(
         → observe_refusal observed.now ports.now c ≡ Some e
         → (result ≡ observe_number e)
         × ((left.new ≡ 0) × (clock_held handle.new.keeping ≡ Some c)) }
-    ensures empty { clock_held handle.old.keeping ≡ None
+    ensures saving { (w : SavingClock)
+        → saving_clock_held handle.old.keeping ≡ Some w
+        → Observes w observed.now ports.now result left.new
+        (saving_clock_held handle.new.keeping) }
+    ensures empty { any_clock_held handle.old.keeping ≡ None
         → (result ≡ no_clock)
         × ((left.new ≡ 0) × (held handle.new.keeping ≡ held handle.old.keeping)) }
+    ensures restored { handle.new.restored ≡ 0 }
 {
     *left = 0;
     let Some((kept, mut clock)) = handle.take_clock(alloc) else {
-        return NO_CLOCK;
+        return withholding::observe(alloc, handle, observed, ports, left);
     };
     let number = match clock.observe(observed, ports) {
         Ok(stayed) => {
@@ -233,16 +268,16 @@ pub extern "C" fn ptpm_clock_read(
     size: &mut usize,
 ) -> u32
     ensures kept { held handle.new.keeping ≡ held handle.old.keeping }
-    ensures field { (c : HostedClock) → clock_held handle.old.keeping ≡ Some c →
+    ensures field { (c : HostedClock) → any_clock_held handle.old.keeping ≡ Some c →
         read_refusal id port (length octets.old) c.agent.sets ≡ None →
         (result ≡ 0) × (take size.new octets.new ≡ data_field_of_id id port c.agent.sets) }
     ensures within { size.new ≤ length octets.new }
     ensures behind { drop size.new octets.new ≡ drop size.new octets.old }
     ensures refused { (c : HostedClock) (e : ReadRefusal)
-        → clock_held handle.old.keeping ≡ Some c
+        → any_clock_held handle.old.keeping ≡ Some c
         → read_refusal id port (length octets.old) c.agent.sets ≡ Some e
         → (result ≡ read_number e) × (size.new ≡ 0) }
-    ensures empty { clock_held handle.old.keeping ≡ None → (result ≡ no_clock) × (size.new ≡ 0) }
+    ensures empty { any_clock_held handle.old.keeping ≡ None → (result ≡ no_clock) × (size.new ≡ 0) }
 {
     *size = 0;
     let Some(kept) = handle.kept() else {

@@ -7,7 +7,7 @@ ghost use Rattle.ptpm_host.specs.declared.refusal.ClockRestoreRefusal.{ClockRest
 ghost use Rattle.ptpm_host.specs.Clock.{state_in};
 ghost use Rattle.ptpm_host.specs.Numbers.{clock_restore_number, no_clock, no_memory, no_room};
 ghost use Rattle.ptpm_host.specs.Restoring.{CanRestore, IsBack, IsRestoreRefused};
-ghost use Rattle.ptpm_c.specs.Held.{clock_held, held};
+ghost use Rattle.ptpm_c.specs.Held.{any_clock_held, clock_held, held};
 
 use crate::handle::Handle;
 use crate::kept::{Hosted, Kept};
@@ -20,16 +20,16 @@ use std::alloc::Global;
 pub extern "C" fn ptpm_clock_image(handle: &mut Handle, octets: &mut [u8], size: &mut usize) -> u32
     ensures kept { held handle.new.keeping ≡ held handle.old.keeping }
     ensures image { (c : HostedClock)
-        → clock_held handle.old.keeping ≡ Some c
+        → any_clock_held handle.old.keeping ≡ Some c
         → length (clock_image (state_in c)) ≤ length octets.old
         → (result ≡ 0)
         × ((size.new ≡ length (clock_image (state_in c)))
         × (octets.new ≡ clock_image (state_in c) ++ drop size.new octets.old)) }
     ensures room { (c : HostedClock)
-        → clock_held handle.old.keeping ≡ Some c
+        → any_clock_held handle.old.keeping ≡ Some c
         → length octets.old < length (clock_image (state_in c))
         → (result ≡ no_room) × ((size.new ≡ 0) × (octets.new ≡ octets.old)) }
-    ensures empty { clock_held handle.old.keeping ≡ None
+    ensures empty { any_clock_held handle.old.keeping ≡ None
         → (result ≡ no_clock) × ((size.new ≡ 0) × (octets.new ≡ octets.old)) }
 {
     *size = 0;
@@ -73,6 +73,7 @@ pub extern "C" fn ptpm_clock_restore(
     ensures refused { result ≢ 0 → (e : ClockRestoreRefusal)
         × IsRestoreRefused (record { 0 = identity.now }) ports managers.now image.now e
         × (result ≡ clock_restore_number e) }
+    ensures fresh { result ≡ 0 → handle.new.restored ≡ 1 }
     ensures unchanged { result ≢ 0
         → (gone.new ≡ 0) × (held handle.new.keeping ≡ held handle.old.keeping) }
 {
@@ -85,7 +86,7 @@ pub extern "C" fn ptpm_clock_restore(
         return NO_MEMORY;
     };
     handle.end(alloc);
-    *handle = Handle::of(kept, Hosted::Clock(clock));
+    *handle = Handle::of_restored(kept, Hosted::Clock(clock));
     *gone = lost as usize;
     0
 }
