@@ -62,7 +62,7 @@ enum {
 
 /* A clock: 2,608 octets at one pointer with one manager, and 34,648 with sixteen. All zeros hold no clock: struct ptpm_clock
    clock = { 0 }; */
-struct ptpm_clock { void *at; PTPM_TO_EIGHT bool live; };
+struct ptpm_clock { void *at; PTPM_TO_EIGHT bool live; uint8_t restored; };
 
 /* The start values of a clock's own members: ptpm_clock_defaults writes them all, then the host writes its own over them.
    A flag is set if it is not 0. Without its has_ flag a value is the clock's own, and parent_port is its port 0. An
@@ -244,7 +244,7 @@ enum {
 };
 
 /* A session of a manager, about 1,600 octets at one pointer. All zeros hold no session. */
-struct ptpm_session { void *at; PTPM_TO_EIGHT bool live; };
+struct ptpm_session { void *at; PTPM_TO_EIGHT bool live; uint8_t restored; };
 
 /* One manager, the clock that it manages, and how its requests are numbered and sent. A clock treats a request as new if its
    number is up to 32,767 ahead of the latest that it accepted from this manager. So a manager that starts again continues with
@@ -264,7 +264,7 @@ struct ptpm_session_settings {
 enum { PTPM_GET = 0, PTPM_SET = 1, PTPM_COMMAND = 3 };
 
 /* A survey of a manager: what it asks and its answers, at one pointer. All zeros hold no survey. */
-struct ptpm_survey { void *at; PTPM_TO_EIGHT bool live; };
+struct ptpm_survey { void *at; PTPM_TO_EIGHT bool live; uint8_t restored; };
 
 /* One manager, and the GET that it sends to every port of every clock, or of one. A clock answers one that is for every clock
    whatever numbers it took from this manager before. A late answer to an earlier GET with the same number and id is taken for this
@@ -332,12 +332,15 @@ enum { PTPM_MOST_ANSWERS = 512 };
 /* What calls return. 0 says that the call was done. 1 to 31 say what became of a datagram or of a request. From 32 on the call was
    refused (ptpm_is_refusal). 48 to 63 say why nothing starts, or an observation is refused. 64 to 101 say which member is out of
    its range. 104 to 110 say why a restore is refused. 112 says that a request can't be given up. 113 to 117 say why words are no
-   dataField.
+   dataField. 118 and 119 say that something is not saved.
 
    Each kind of call has a type for its answers. With -Wenum-compare gcc, g++ and clang++ warn if an answer is compared with a
    name of another kind. A name that several kinds of calls return is a plain number, and compares with each type. Each type has
    it again with the kind in front, such as PTPM_HANDLE_NO_CLOCK for PTPM_NO_CLOCK, so that -Wswitch and debuggers know it. A
    uint32_t holds any answer. */
+
+/* From now on a clock gives nothing out before it is saved (ptpm_clock_saving). */
+#define PTPM_SAVING 0
 
 /* A datagram is of another domain. */
 #define PTPM_OTHER_DOMAIN 1
@@ -372,6 +375,7 @@ enum { PTPM_MOST_ANSWERS = 512 };
 #define PTPM_TOO_MANY_MANAGERS 51       /* over sixteen */
 #define PTPM_MANAGER_TWICE 52
 #define PTPM_IDENTITY_IS_ZERO 56        /* the clock's identity is all zeros */
+#define PTPM_UNSAVED 118                /* a clock or a session was changed and not saved, and nothing is given out before it is */
 #define PTPM_BAD_CLOCK_ACCURACY 70
 #define PTPM_BAD_LEAP59 88              /* both leaps */
 #define PTPM_BAD_STATE 94
@@ -427,7 +431,8 @@ enum {
     PTPM_BAD_PEER_DELAY
 };
 
-/* ptpm_clock_handle and ptpm_clock_handle_changed. */
+/* ptpm_clock_handle, ptpm_clock_handle_changed and ptpm_clock_saving. The last returns only PTPM_SAVING, PTPM_NO_CLOCK and
+   PTPM_NO_MEMORY, and the others never PTPM_SAVING or PTPM_NO_MEMORY. */
 __extension__ enum PTPM_FOUR_OCTETS(ptpm_handled) {
     PTPM_HANDLE_OTHER_DOMAIN = PTPM_OTHER_DOMAIN,
     PTPM_OWN_MESSAGE = 2,               /* the clock sent it */
@@ -448,7 +453,9 @@ __extension__ enum PTPM_FOUR_OCTETS(ptpm_handled) {
     PTPM_HANDLE_BAD_TEXT = PTPM_BAD_TEXT,
     PTPM_HANDLE_NO_CLOCK = PTPM_NO_CLOCK,
     PTPM_HANDLE_NO_PORT = PTPM_NO_PORT,
-    PTPM_HANDLE_NO_ROOM = PTPM_NO_ROOM  /* for fewer than PTPM_MOST_SENT messages */
+    PTPM_HANDLE_NO_ROOM = PTPM_NO_ROOM, /* for fewer than PTPM_MOST_SENT messages */
+    PTPM_HANDLE_NO_MEMORY = PTPM_NO_MEMORY,
+    PTPM_HANDLE_UNSAVED = PTPM_UNSAVED
 };
 
 /* ptpm_clock_observe. */
@@ -570,12 +577,13 @@ __extension__ enum PTPM_FOUR_OCTETS(ptpm_reported) {
     PTPM_REPORT_NO_SURVEY = PTPM_NO_SURVEY
 };
 
-/* ptpm_session_image and ptpm_clock_image. */
+/* ptpm_session_image and ptpm_clock_image, ptpm_clock_image_of and ptpm_clock_saved. */
 __extension__ enum PTPM_FOUR_OCTETS(ptpm_saved) {
     PTPM_SAVED = 0,
     PTPM_SAVE_NO_CLOCK = PTPM_NO_CLOCK,
-    PTPM_SAVE_NO_ROOM = PTPM_NO_ROOM,   /* for fewer octets than the image has */
-    PTPM_SAVE_NO_SESSION = PTPM_NO_SESSION
+    PTPM_SAVE_NO_ROOM = PTPM_NO_ROOM,   /* for fewer octets than the image has, or for fewer than PTPM_MOST_SENT messages */
+    PTPM_SAVE_NO_SESSION = PTPM_NO_SESSION,
+    PTPM_OTHER_IMAGE = 119              /* it was changed since that image */
 };
 
 /* ptpm_session_restore and ptpm_clock_restore. */
@@ -686,8 +694,12 @@ static inline enum ptpm_started ptpm_clock_start_sized(struct ptpm_clock *handle
 /* Judges a datagram that came in at a port, carries its request out, and makes what is to be sent.
    Takes:   the port, counted from 1; size octets; and room places, PTPM_MOST_SENT or more.
    Returns: what became of the datagram; or why it was not judged, and then *count is 0.
-   Writes:  *count, and the first *count places of sent: of each its port, its size, and as many octets.
-   Caller:  sends these messages in their order, whatever the call returns, each at its port. */
+            PTPM_UNSAVED comes after PTPM_NO_PORT and PTPM_NO_ROOM, and only at a clock that saves (ptpm_clock_saving). Such a
+            datagram counts as lost.
+   Writes:  *count, and the first *count places of sent: of each its port, its size, and as many octets. A clock that saves has
+            *count 0 with PTPM_ANSWERED_NEW, and then places have zeros, as many as messages wait for ptpm_clock_saved.
+   Caller:  sends these messages in their order, each at its port. If the answer is PTPM_ANSWERED_NEW and the clock is to outlast its
+            power, the caller first saves its image. While that is not done it sends nothing, also of later calls. */
 enum ptpm_handled ptpm_clock_handle(struct ptpm_clock *clock, uint16_t port, const uint8_t *datagram, size_t size,
                                     struct ptpm_sent *sent, size_t room, size_t *count);
 
@@ -696,7 +708,8 @@ enum ptpm_handled ptpm_clock_handle(struct ptpm_clock *clock, uint16_t port, con
    Returns: what ptpm_clock_handle returns.
    Writes:  what ptpm_clock_handle writes, and *changed: the members that have another value after the call than before it. It
             is all zeros after every answer except PTPM_ANSWERED_NEW, and after a GET or a request that was refused.
-   Caller:  does what ptpm_clock_handle asks of it, and acts on each change. ptpm_clock_read reads the new values. */
+   Caller:  does what ptpm_clock_handle asks of it, and then acts on each change: if the clock saves, after ptpm_clock_saved.
+            ptpm_clock_read reads the new values. */
 enum ptpm_handled ptpm_clock_handle_changed(struct ptpm_clock *clock, uint16_t port, const uint8_t *datagram, size_t size,
                                             struct ptpm_sent *sent, size_t room, size_t *count, struct ptpm_changed *changed);
 
@@ -723,6 +736,35 @@ enum ptpm_read ptpm_clock_read(const struct ptpm_clock *clock, uint16_t id, uint
    Returns: PTPM_SAVED, or why not.
    Writes:  *size, and that number of octets from octets on: the image. If the call is refused, *size is 0 and no octet is written. */
 enum ptpm_saved ptpm_clock_image(const struct ptpm_clock *clock, uint8_t *octets, size_t room, size_t *size);
+
+/* Has a clock give nothing out before it is saved. Without it a host has to see to that itself, for each message that it sends.
+   With it PTPM_ANSWERED_NEW comes without messages. Until ptpm_clock_saved the clock refuses each datagram with PTPM_UNSAVED,
+   also a repeat, whose answer would show what is not saved. ptpm_clock_saved then gives the messages. Nothing else changes.
+   So there is one save for each new request. A clock that was just restored is saved. Any other clock is not: it takes no datagram
+   before ptpm_clock_saved. Call it right after the start or the restore.
+   Returns: PTPM_SAVING, or PTPM_NO_CLOCK; or PTPM_NO_MEMORY, and then the clock gives messages out as before. If the clock saves
+            already, the answer is PTPM_SAVING, and nothing changes.
+   Memory:  40 octets, until the clock is stopped.
+   Caller:  saves the clock after each PTPM_ANSWERED_NEW, and at once if it was not restored. */
+enum ptpm_handled ptpm_clock_saving(struct ptpm_clock *clock);
+
+/* Like ptpm_clock_image, of a clock that saves. It also says which state the image is of.
+   Takes:   what ptpm_clock_image takes.
+   Returns: what ptpm_clock_image returns; PTPM_NO_CLOCK also for a clock that does not save.
+   Writes:  what ptpm_clock_image writes, and *token: a number that is another one after each PTPM_ANSWERED_NEW. It is 0 if the call
+            is refused. It says nothing about another clock, or about a clock before it was restored.
+   Caller:  stores the image, and calls ptpm_clock_saved with the token once a restart would find it, whatever happens to the
+            power. Not before: what is sent earlier may be forgotten. */
+enum ptpm_saved ptpm_clock_image_of(const struct ptpm_clock *clock, uint8_t *octets, size_t room, size_t *size, uint64_t *token);
+
+/* Takes the caller's word that a restart would find the image of this token. The messages that waited are given out, and the clock
+   takes datagrams again. An observation in between does not matter: the one of the image counts until the next.
+   Takes:   the token of ptpm_clock_image_of; and room places, PTPM_MOST_SENT or more.
+   Returns: PTPM_SAVED; or PTPM_NO_CLOCK, also for a clock that does not save, PTPM_NO_ROOM or PTPM_OTHER_IMAGE, in this order, and then
+            nothing changes. With the token of a clock that is saved already it returns PTPM_SAVED, and no message.
+   Writes:  *count, and the first *count places of sent, as ptpm_clock_handle does. *count is 0 if the call is refused.
+   Caller:  sends these messages in their order, each at its port, and acts on what the turn changed. */
+enum ptpm_saved ptpm_clock_saved(struct ptpm_clock *clock, uint64_t token, struct ptpm_sent *sent, size_t room, size_t *count);
 
 /* Puts the clock of an image in the handle, instead of what it holds, which is then freed.
    Takes:   the identity and the number of ports that the clock of the image must have; at most sixteen managers; and size octets.

@@ -137,6 +137,7 @@ PTPM_CLOCK_IMAGE_OCTETS = 27185
 PTPM_MOST_ANSWERS = 512
 
 # Answers that several kinds of calls give.
+PTPM_SAVING = 0
 PTPM_OTHER_DOMAIN = 1
 PTPM_NOT_A_REPLY = 10
 PTPM_OTHER_TARGET = 11
@@ -163,6 +164,7 @@ PTPM_GRANDMASTER_DIFFERS = 50
 PTPM_TOO_MANY_MANAGERS = 51
 PTPM_MANAGER_TWICE = 52
 PTPM_IDENTITY_IS_ZERO = 56
+PTPM_UNSAVED = 118
 PTPM_BAD_CLOCK_ACCURACY = 70
 PTPM_BAD_LEAP59 = 88
 PTPM_BAD_STATE = 94
@@ -243,6 +245,8 @@ PTPM_HANDLE_BAD_TEXT = 23
 PTPM_HANDLE_NO_CLOCK = 32
 PTPM_HANDLE_NO_PORT = 33
 PTPM_HANDLE_NO_ROOM = 34
+PTPM_HANDLE_NO_MEMORY = 35
+PTPM_HANDLE_UNSAVED = 118
 
 # enum ptpm_observed.
 PTPM_OBSERVED = 0
@@ -348,6 +352,7 @@ PTPM_SAVED = 0
 PTPM_SAVE_NO_CLOCK = 32
 PTPM_SAVE_NO_ROOM = 34
 PTPM_SAVE_NO_SESSION = 37
+PTPM_OTHER_IMAGE = 119
 
 # enum ptpm_restored.
 PTPM_RESTORED = 0
@@ -384,6 +389,7 @@ class ptpm_clock(Structure):
     _fields_ = [
         ("at", c_void_p),
         ("live", c_bool),
+        ("restored", c_uint8),
     ]
 
 
@@ -529,6 +535,7 @@ class ptpm_session(Structure):
     _fields_ = [
         ("at", c_void_p),
         ("live", c_bool),
+        ("restored", c_uint8),
     ]
 
 
@@ -549,6 +556,7 @@ class ptpm_survey(Structure):
     _fields_ = [
         ("at", c_void_p),
         ("live", c_bool),
+        ("restored", c_uint8),
     ]
 
 
@@ -616,6 +624,15 @@ CALLS: Dict[str, Tuple[Any, List[Any]]] = {
     ),
     "ptpm_clock_read": (c_uint32, [POINTER(ptpm_clock), c_uint16, c_uint16, POINTER(c_uint8), c_size_t, POINTER(c_size_t)]),
     "ptpm_clock_image": (c_uint32, [POINTER(ptpm_clock), POINTER(c_uint8), c_size_t, POINTER(c_size_t)]),
+    "ptpm_clock_saving": (c_uint32, [POINTER(ptpm_clock)]),
+    "ptpm_clock_image_of": (
+        c_uint32,
+        [POINTER(ptpm_clock), POINTER(c_uint8), c_size_t, POINTER(c_size_t), POINTER(c_uint64)],
+    ),
+    "ptpm_clock_saved": (
+        c_uint32,
+        [POINTER(ptpm_clock), c_uint64, POINTER(ptpm_sent), c_size_t, POINTER(c_size_t)],
+    ),
     "ptpm_clock_restore": (
         c_uint32,
         [

@@ -96,8 +96,19 @@ class Clock(Handle):
         with self._turn:
             room = (self._sent, len(self._sent), ctypes.byref(count), ctypes.byref(changed))
             answer = judged(library.ptpm_clock_handle_changed(self._at, *came_in, *room))
-            messages = [(sent.port, bytes(memoryview(sent.octets)[: sent.size])) for sent in self._sent[: count.value]]
+            messages = self._messages(count.value)
         return Handled(HandleAnswer(answer), messages, Changed.of_library(changed))
+
+    def _messages(self, count: int) -> List[Tuple[int, bytes]]:
+        """The messages in the first places."""
+        return [(sent.port, bytes(memoryview(sent.octets)[: sent.size])) for sent in self._sent[:count]]
+
+    def _saved(self, token: int) -> List[Tuple[int, bytes]]:
+        """Says that a restart would find the image of this token. Returns what waited for that."""
+        count = ctypes.c_size_t()
+        with self._turn:
+            done(library.ptpm_clock_saved(self._at, token, self._sent, len(self._sent), ctypes.byref(count)))
+            return self._messages(count.value)
 
     def observe(self, observed: ObservedClock, ports: Sequence[ObservedPort] = ()) -> Set[int]:
         """Sets what the host observes about its clock and its first ports. Returns the disabled ports for which a state was

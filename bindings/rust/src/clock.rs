@@ -122,9 +122,14 @@ impl Clock {
         Ok((clock, gone))
     }
 
+    /// The handle, for the calls of a clock that is saved.
+    pub(crate) fn handle_mut(&mut self) -> &mut sys::ptpm_clock {
+        &mut self.handle
+    }
+
     /// A handle that holds nothing.
     const fn none() -> Self {
-        Self { handle: sys::ptpm_clock { at: null_mut(), live: false } }
+        Self { handle: sys::ptpm_clock { at: null_mut(), live: false, restored: 0 } }
     }
 
     /// Makes the clock's image in the room that it is given. A host saves it before it sends the messages of a turn that is

@@ -95,6 +95,8 @@ errors! {
     WordCount = PTPM_WORD_COUNT, "there are more or fewer words than a name and a value for each member";
     OtherName = PTPM_OTHER_NAME, "a word is not the name of the member that comes next";
     NoValue = PTPM_NO_VALUE, "a word is no value of the member, or no SET has the member";
+    Unsaved = PTPM_UNSAVED, "something is not saved, and nothing is given out before it is";
+    OtherImage = PTPM_OTHER_IMAGE, "it was changed since that image was made";
 }
 
 /// The number of a call that was done is 0, and every other one an error.

@@ -32,6 +32,7 @@ pub type ptpm_parsed = u32;
 pub struct ptpm_clock {
     pub at: *mut c_void,
     pub live: bool,
+    pub restored: u8,
 }
 
 #[repr(C)]
@@ -176,6 +177,7 @@ pub struct ptpm_changed {
 pub struct ptpm_session {
     pub at: *mut c_void,
     pub live: bool,
+    pub restored: u8,
 }
 
 #[repr(C)]
@@ -195,6 +197,7 @@ pub struct ptpm_session_settings {
 pub struct ptpm_survey {
     pub at: *mut c_void,
     pub live: bool,
+    pub restored: u8,
 }
 
 #[repr(C)]
@@ -278,6 +281,21 @@ extern "C" {
         size: *mut usize,
     ) -> ptpm_read;
     pub fn ptpm_clock_image(clock: *const ptpm_clock, octets: *mut u8, room: usize, size: *mut usize) -> ptpm_saved;
+    pub fn ptpm_clock_saving(clock: *mut ptpm_clock) -> ptpm_handled;
+    pub fn ptpm_clock_image_of(
+        clock: *const ptpm_clock,
+        octets: *mut u8,
+        room: usize,
+        size: *mut usize,
+        token: *mut u64,
+    ) -> ptpm_saved;
+    pub fn ptpm_clock_saved(
+        clock: *mut ptpm_clock,
+        token: u64,
+        sent: *mut ptpm_sent,
+        room: usize,
+        count: *mut usize,
+    ) -> ptpm_saved;
     pub fn ptpm_clock_restore(
         clock: *mut ptpm_clock,
         identity: *const u8,

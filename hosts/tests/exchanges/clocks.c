@@ -15,6 +15,9 @@ struct turn { uint32_t answer; size_t count; struct ptpm_sent sent[PTPM_MOST_SEN
 static struct turn turn;
 static struct ptpm_changed changed;
 
+/* Whether the clock of the page gives nothing out before it is saved. */
+static bool is_saving;
+
 void stop_clock(void) { ptpm_clock_stop(&clock_of_page); }
 
 static uint32_t start(void *given) {
@@ -24,6 +27,7 @@ static uint32_t start(void *given) {
 
 static void run_start(char *words) {
     read_start(&words, &start_of_page);
+    is_saving = false;
     say("%s\n", answer_name(refusing(start, &start_of_page, NULL), "STARTED"));
 }
 
@@ -34,13 +38,14 @@ static size_t image_of(const struct ptpm_clock *clock, uint8_t *octets) {
 
 static size_t state(uint8_t *octets) { return image_of(&clock_of_page, octets); }
 
-/* Starts the second clock from the first one's image; whether there is one. */
+/* Starts the second clock from the first one's image, and saves it as the first; whether there is one. */
 static bool restores_second(struct ptpm_clock *second) {
     static uint8_t image[MOST_OCTETS];
     const struct start *as = &start_of_page;
     size_t gone, size = state(image);
     return size > 0 && ptpm_clock_restore(second, as->clock.identity, as->port_count, as->managers.of, as->managers.count, image, size,
-                                          &gone) == PTPM_RESTORED && gone == 0;
+                                          &gone) == PTPM_RESTORED && gone == 0
+           && (!is_saving || ptpm_clock_saving(second) == PTPM_SAVING);
 }
 
 static bool is_same_turn(const struct turn *one, const struct turn *other) {
@@ -58,18 +63,40 @@ static bool is_same_clock(const struct ptpm_clock *other) {
     return image_of(other, two) == size && memcmp(one, two, size) == 0;
 }
 
-/* Hands a datagram in at both clocks. */
+/* Says if something of a message is left in places that a clock gave no message in. */
+static void check_withheld(void) {
+    const uint8_t *octets = (const uint8_t *)turn.sent;
+    for (size_t i = 0; i < sizeof turn.sent; i++) {
+        if (octets[i] != 0 && octets[i] != 0xee) {
+            say("it leaves something of a message\n");
+            return;
+        }
+    }
+}
+
+/* Hands a datagram in at both clocks; only at the first if that refuses it, since the second is saved. */
 static void handle(uint16_t port, const struct octets *datagram, size_t places) {
     static struct turn again;
     struct ptpm_clock second = { 0 };
     bool is_twice = restores_second(&second);
     turn.count = again.count = 1;
+    memset(turn.sent, 0xee, sizeof turn.sent);
     turn.answer = ptpm_clock_handle_changed(&clock_of_page, port, datagram->at, datagram->size, turn.sent, places, &turn.count, &changed);
-    if (is_twice) {
+    if (is_saving && (turn.answer == PTPM_ANSWERED_NEW || turn.answer == PTPM_UNSAVED)) check_withheld();
+    if (is_twice && turn.answer != PTPM_UNSAVED) {
         again.answer = ptpm_clock_handle(&second, port, datagram->at, datagram->size, again.sent, places, &again.count);
         if (!is_same_turn(&turn, &again) || !is_same_clock(&second)) say("the clock that was restored does something else\n");
     }
     ptpm_clock_stop(&second);
+}
+
+/* What is sent, a line each. */
+static void say_turn(void) {
+    for (size_t i = 0; i < turn.count; i++) {
+        say("%u: ", turn.sent[i].port);
+        say_message(turn.sent[i].octets, turn.sent[i].size);
+        note_message(turn.sent[i].octets, turn.sent[i].size);
+    }
 }
 
 static void run_in(char *words) {
@@ -80,11 +107,7 @@ static void run_in(char *words) {
     handle(port, &datagram, places);
     note_message(datagram.at, datagram.size);
     say("%s\n", answer_name(turn.answer, "0"));
-    for (size_t i = 0; i < turn.count; i++) {
-        say("%u: ", turn.sent[i].port);
-        say_message(turn.sent[i].octets, turn.sent[i].size);
-        note_message(turn.sent[i].octets, turn.sent[i].size);
-    }
+    say_turn();
 }
 
 /* The members whose bits are set, by the names that the refusals of a start give them after BAD_. */
@@ -133,6 +156,40 @@ static void run_image(char *words) {
     say_written(answer, "SAVED", size, say_octets);
 }
 
+static uint32_t begin_saving(void *given) {
+    (void)given;
+    return ptpm_clock_saving(&clock_of_page);
+}
+
+static void run_saving(char *words) {
+    (void)words;
+    uint32_t answer = refusing(begin_saving, NULL, state);
+    if (answer == PTPM_SAVING) is_saving = true;
+    say("%s\n", answer_name(answer, "SAVING"));
+}
+
+/* The image is what `image` shows, so only its token is shown, and whether it is another. */
+static void run_image_of(char *words) {
+    static uint8_t image[MOST_OCTETS];
+    size_t size = 1, octets = next_room(&words, PTPM_CLOCK_IMAGE_OCTETS);
+    uint64_t token = 0xee;
+    clear_room();
+    uint32_t answer = ptpm_clock_image_of(&clock_of_page, room, octets, &size, &token);
+    say("%s %llu\n", answer_name(answer, "SAVED"), (unsigned long long)token);
+    if (!wrote_alone(size)) say("it writes past what it says\n");
+    if (answer == PTPM_SAVED && (image_of(&clock_of_page, image) != size || memcmp(room, image, size) != 0)) say("it is another image\n");
+}
+
+/* `saved TOKEN`. */
+static void run_saved(char *words) {
+    size_t places = next_room(&words, PTPM_MOST_SENT);
+    uint64_t token = (uint64_t)next_number(&words, 0);
+    turn.count = 1;
+    turn.answer = ptpm_clock_saved(&clock_of_page, token, turn.sent, places, &turn.count);
+    say("%s\n", answer_name(turn.answer, "SAVED"));
+    say_turn();
+}
+
 struct restore { uint8_t identity[8]; size_t ports; struct managers managers; struct octets image; size_t gone; };
 
 static uint32_t restore(void *given) {
@@ -155,6 +212,7 @@ static void run_restore(char *words) {
     uint32_t answer = refusing(restore, &from, state);
     say("%s\n", answer_name(answer, "RESTORED"));
     if (answer != PTPM_RESTORED) return;
+    is_saving = false;
     if (from.gone != 0) say("gone: %zu\n", from.gone);
     memcpy(start_of_page.clock.identity, from.identity, 8);
     start_of_page.port_count = from.ports;
@@ -163,10 +221,12 @@ static void run_restore(char *words) {
 
 static void run_stop(char *words) {
     (void)words;
+    is_saving = false;
     stop_clock();
 }
 
 const struct command clock_commands[] = {
     { "clock", run_start }, { "in", run_in }, { "changed", run_changed }, { "observe", run_observe }, { "read", run_read },
-    { "image", run_image }, { "restore", run_restore }, { "stop", run_stop }, { NULL, NULL },
+    { "image", run_image }, { "restore", run_restore }, { "saving", run_saving }, { "image-of", run_image_of }, { "saved", run_saved },
+    { "stop", run_stop }, { NULL, NULL },
 };

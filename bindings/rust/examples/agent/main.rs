@@ -7,7 +7,7 @@
 //! servo of this agent is made up: each time it halves its offset. A `pmc` has its interface's MAC with `fffe` in the middle as its
 //! identity, at port 1: with that as MANAGER its SETs are carried out.
 //!
-//! With a FILE the clock outlasts its power: it is saved before what it answers is sent, and the next run goes on from it. A save that
+//! With a FILE the clock outlasts its power, and the next run goes on from it: it gives nothing out before it is saved. A save that
 //! fails ends the agent, as a loss of power would.
 
 mod port;
@@ -15,7 +15,7 @@ mod store;
 
 use ptpm::{
     Clock, ClockMembers, ClockSettings, Handled, ManagementId, Manager, ObservedClock, ObservedPort, Outbox, PortMembers,
-    PortSettings, PortState, Rights, TimeInterval, MOST_READ,
+    PortSettings, PortState, Ports, Rights, SavingClock, SavingTurn, TimeInterval, CLOCK_IMAGE_OCTETS, MOST_READ,
 };
 use std::error::Error;
 use std::net::UdpSocket;
@@ -43,37 +43,69 @@ impl Servo {
     }
 }
 
-/// The clock, where it is kept, its ports' sockets, and the servo.
+/// A clock that forgets all when it ends, or one that is saved before it answers, with its file.
+enum Kept {
+    Forgetting(Clock),
+    Saved(SavingClock, Store),
+}
+
+impl Kept {
+    fn observe(&mut self, observed: &ObservedClock, ports: &[ObservedPort]) -> Result<Ports, ptpm::Error> {
+        match self {
+            Self::Forgetting(clock) => clock.observe(observed, ports),
+            Self::Saved(clock, _) => clock.observe(observed, ports),
+        }
+    }
+
+    fn read<'a>(&self, id: ManagementId, port: u16, room: &'a mut [u8; MOST_READ]) -> Result<&'a [u8], ptpm::Error> {
+        match self {
+            Self::Forgetting(clock) => clock.read(id, port, room),
+            Self::Saved(clock, _) => clock.read(id, port, room),
+        }
+    }
+}
+
+/// The clock, its ports' sockets, and the servo.
 struct Agent {
-    clock: Clock,
-    store: Option<Store>,
+    clock: Kept,
     sockets: Vec<UdpSocket>,
     servo: Servo,
     outbox: Box<Outbox>,
+    room: Box<[u8; CLOCK_IMAGE_OCTETS]>,
 }
 
 /// The clock of the store, or a new one if none was ever saved there. What is refused there is no reason for a new one: that
 /// would carry out requests again that were carried out before.
 fn clock_of(
-    store: Option<&mut Store>,
+    store: Option<Store>,
     settings: &ClockSettings,
     ports: &[PortSettings],
     managers: &[Manager],
-) -> Result<Clock, Box<dyn Error>> {
-    let Some(store) = store else { return Ok(Clock::start(settings, ports, managers)?) };
+) -> Result<Kept, Box<dyn Error>> {
+    let Some(mut store) = store else { return Ok(Kept::Forgetting(Clock::start(settings, ports, managers)?)) };
     let Some(image) = store.load()? else {
-        let clock = Clock::start(settings, ports, managers)?;
-        store.save(&clock)?;
-        return Ok(clock);
+        let mut clock = SavingClock::new(Clock::start(settings, ports, managers)?)?;
+        let mut room = Box::new([0; CLOCK_IMAGE_OCTETS]);
+        let unsaved = clock.unsaved(&mut room)?;
+        store.save(unsaved.image())?;
+        unsaved.saved(&mut Outbox::boxed())?;
+        return Ok(Kept::Saved(clock, store));
     };
     let (clock, gone) = Clock::restore(settings.identity, ports.len(), managers, &image)?;
     println!("it goes on where it was saved; requests of {gone} managers are let go");
-    Ok(clock)
+    Ok(Kept::Saved(SavingClock::new(clock)?, store))
+}
+
+/// Says of a request that it was dropped.
+fn note(port: u16, handled: Handled) {
+    if matches!(handled, Handled::DroppedOld | Handled::DroppedConflict) {
+        eprintln!("port {port}: {handled}");
+    }
 }
 
 impl Agent {
     fn start(
-        mut store: Option<Store>,
+        store: Option<Store>,
         identity: &str,
         interfaces: &[String],
         manager: Option<&String>,
@@ -84,13 +116,13 @@ impl Agent {
         };
         let settings = ClockSettings { user_description: "an agent in Rust".into(), ..ClockSettings::new(identity.parse()?) };
         let ports = vec![PortSettings { state: PortState::Slave, ..PortSettings::new() }; interfaces.len()];
-        let clock = clock_of(store.as_mut(), &settings, &ports, &managers)?;
+        let clock = clock_of(store, &settings, &ports, &managers)?;
         let mut sockets = Vec::new();
         for interface in interfaces {
             sockets.push(port::open(interface).map_err(|error| format!("{interface}: {error}"))?);
         }
         let servo = Servo { offset: TimeInterval::of_nanoseconds(1 << 20) };
-        Ok(Self { clock, store, sockets, servo, outbox: Outbox::boxed() })
+        Ok(Self { clock, sockets, servo, outbox: Outbox::boxed(), room: Box::new([0; CLOCK_IMAGE_OCTETS]) })
     }
 
     /// Tells the clock what was found since.
@@ -102,13 +134,27 @@ impl Agent {
 
     /// Hands a datagram in, saves what is new, sends what is to be sent, and acts on what changed.
     fn come_in(&mut self, port: u16, datagram: &[u8]) -> Result<(), Box<dyn Error>> {
-        let (turn, changed) = self.clock.handle_changed(port, datagram, &mut self.outbox)?;
-        match (turn.handled(), &mut self.store) {
-            (Handled::AnsweredNew, Some(store)) => store.save(&self.clock)?,
-            (handled @ (Handled::DroppedOld | Handled::DroppedConflict), _) => eprintln!("port {port}: {handled}"),
-            _ => {}
-        }
-        for (port, octets) in turn.messages {
+        let (messages, changed) = match &mut self.clock {
+            Kept::Forgetting(clock) => {
+                let (turn, changed) = clock.handle_changed(port, datagram, &mut self.outbox)?;
+                note(port, turn.handled());
+                (turn.messages, changed)
+            }
+            Kept::Saved(clock, store) => {
+                let (turn, changed) = clock.handle(port, datagram, &mut self.outbox, &mut self.room)?;
+                match turn {
+                    SavingTurn::Sent(turn) => {
+                        note(port, turn.handled());
+                        (turn.messages, changed)
+                    }
+                    SavingTurn::Unsaved(unsaved) => {
+                        store.save(unsaved.image())?;
+                        (unsaved.saved(&mut self.outbox)?, changed)
+                    }
+                }
+            }
+        };
+        for (port, octets) in messages {
             port::send(&self.sockets[usize::from(port) - 1], octets);
         }
         if changed.clock.intersects(ClockMembers::PRIORITY1) {

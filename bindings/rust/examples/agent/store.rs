@@ -1,6 +1,6 @@
-//! Where the agent keeps its clock across a loss of power: a file that is replaced whole, and which one process has at a time.
+//! Where the agent keeps its clock across a loss of power: a file that is replaced whole, and which one process has at a time. Its
+//! octets are an image and a seal, by which damage is found.
 
-use ptpm::{Clock, Error, CLOCK_IMAGE_OCTETS};
 use std::ffi::{c_int, OsString};
 use std::fs::{self, File, OpenOptions};
 use std::io::{self, ErrorKind, Write};
@@ -15,11 +15,16 @@ extern "C" {
     fn flock(file: c_int, operation: c_int) -> c_int;
 }
 
+/// What the seal begins with. Then come the count of saves, 8 octets, and the CRC-32 of all before it, 4 octets.
+const MARK: &[u8] = b"ptps";
+const SEAL_OCTETS: usize = 16;
+
 /// The file of a clock's image.
 pub struct Store {
     path: PathBuf,
     folder: File,
-    room: Box<[u8; CLOCK_IMAGE_OCTETS]>,
+    /// How often it was saved.
+    saves: u64,
     /// Locked as long as it is open.
     _lock: File,
 }
@@ -53,24 +58,43 @@ impl Store {
             Some(folder) if !folder.as_os_str().is_empty() => File::open(folder).map_err(of(folder))?,
             _ => File::open(".")?,
         };
-        Ok(Self { path: path.into(), folder, room: Box::new([0; CLOCK_IMAGE_OCTETS]), _lock: lock })
+        Ok(Self { path: path.into(), folder, saves: 0, _lock: lock })
     }
 
-    /// The image that was saved last, or none if there never was one.
-    pub fn load(&self) -> io::Result<Option<Vec<u8>>> {
-        match fs::read(&self.path) {
-            Ok(image) => Ok(Some(image)),
-            Err(error) if error.kind() == ErrorKind::NotFound => Ok(None),
-            Err(error) => Err(of(&self.path)(error)),
+    /// The image that was saved last, or none if there never was one. A file without a seal is an image.
+    pub fn load(&mut self) -> io::Result<Option<Vec<u8>>> {
+        let mut octets = match fs::read(&self.path) {
+            Ok(octets) => octets,
+            Err(error) if error.kind() == ErrorKind::NotFound => return Ok(None),
+            Err(error) => return Err(of(&self.path)(error)),
+        };
+        let image = octets.len().saturating_sub(SEAL_OCTETS);
+        let (sealed, crc) = octets.split_at(octets.len().saturating_sub(4));
+        if let Some(saves) = octets[image..].strip_prefix(MARK).and_then(|rest| rest.first_chunk()) {
+            if crc != crc_of(sealed).to_be_bytes() {
+                return Err(of(&self.path)(io::Error::new(ErrorKind::InvalidData, "the file is damaged")));
+            }
+            self.saves = u64::from_be_bytes(*saves);
+            octets.truncate(image);
         }
+        Ok(Some(octets))
     }
 
-    /// Saves the clock. Once this has returned its file has it, whatever happens to the power; before, it has this clock or the one
+    /// Saves an image. Once this has returned its file has it, whatever happens to the power; before, it has this one or the one
     /// before. After an error it may have either.
-    pub fn save(&mut self, clock: &Clock) -> io::Result<()> {
-        let image = clock.image(&mut self.room).map_err(|error: Error| io::Error::other(error.to_string()))?;
-        replace(&self.path, &self.folder, image).map_err(of(&self.path))
+    pub fn save(&mut self, image: &[u8]) -> io::Result<()> {
+        self.saves += 1;
+        let mut octets = [image, MARK, &self.saves.to_be_bytes()].concat();
+        octets.extend(crc_of(&octets).to_be_bytes());
+        replace(&self.path, &self.folder, &octets).map_err(of(&self.path))
     }
+}
+
+/// The CRC-32 of IEEE 802.3, with its bits in reverse order.
+fn crc_of(octets: &[u8]) -> u32 {
+    !octets.iter().fold(u32::MAX, |crc, octet| {
+        (0..8).fold(crc ^ u32::from(*octet), |crc, _| crc >> 1 ^ if crc & 1 == 1 { 0xedb8_8320 } else { 0 })
+    })
 }
 
 /// Has the file at a path, in this folder, have these octets.

@@ -112,6 +112,7 @@ pub const PTPM_CLOCK_IMAGE_OCTETS: usize = 27185;
 pub const PTPM_MOST_ANSWERS: usize = 512;
 
 // Answers that several kinds of calls give.
+pub const PTPM_SAVING: u32 = 0;
 pub const PTPM_OTHER_DOMAIN: u32 = 1;
 pub const PTPM_NOT_A_REPLY: u32 = 10;
 pub const PTPM_OTHER_TARGET: u32 = 11;
@@ -138,6 +139,7 @@ pub const PTPM_GRANDMASTER_DIFFERS: u32 = 50;
 pub const PTPM_TOO_MANY_MANAGERS: u32 = 51;
 pub const PTPM_MANAGER_TWICE: u32 = 52;
 pub const PTPM_IDENTITY_IS_ZERO: u32 = 56;
+pub const PTPM_UNSAVED: u32 = 118;
 pub const PTPM_BAD_CLOCK_ACCURACY: u32 = 70;
 pub const PTPM_BAD_LEAP59: u32 = 88;
 pub const PTPM_BAD_STATE: u32 = 94;
@@ -218,6 +220,8 @@ pub const PTPM_HANDLE_BAD_TEXT: u32 = 23;
 pub const PTPM_HANDLE_NO_CLOCK: u32 = 32;
 pub const PTPM_HANDLE_NO_PORT: u32 = 33;
 pub const PTPM_HANDLE_NO_ROOM: u32 = 34;
+pub const PTPM_HANDLE_NO_MEMORY: u32 = 35;
+pub const PTPM_HANDLE_UNSAVED: u32 = 118;
 
 // `enum ptpm_observed`.
 pub const PTPM_OBSERVED: u32 = 0;
@@ -323,6 +327,7 @@ pub const PTPM_SAVED: u32 = 0;
 pub const PTPM_SAVE_NO_CLOCK: u32 = 32;
 pub const PTPM_SAVE_NO_ROOM: u32 = 34;
 pub const PTPM_SAVE_NO_SESSION: u32 = 37;
+pub const PTPM_OTHER_IMAGE: u32 = 119;
 
 // `enum ptpm_restored`.
 pub const PTPM_RESTORED: u32 = 0;
