@@ -1,16 +1,16 @@
 -- A saving clock is after each call as the device of the definitions is.
-use Rattle.std.proofs.Common.{◌≡◌, ◌≢◌, ◌∙◌, ◌&&◌, ◌||◌, ◌++◌, ℕ, Bool, true, false, List, [], ◌∷◌, Option, Some, None, Result, Ok, ap, refl, sym, subst, arith, append-nil, length}
+use Rattle.std.proofs.Common.{◌≡◌, ◌∙◌, ◌≤◌, ◌&&◌, ◌||◌, ◌++◌, ℕ, Bool, true, false, List, [], Option, Some, None, Result, Ok, Err, ap, refl, sym, subst, arith, append-nil, length, take}
 use Rattle.std.specs.Prelude.{if◌then◌else◌, nat_le}
-use Rattle.std.specs.FinMap.{get, insert}
+use Rattle.std.specs.FinMap.{get}
 use Rattle.std.proofs.lemmas.Bool.{false≢true}
+use Rattle.std.proofs.lemmas.List.{length-map, length-take-le}
 use Rattle.std.proofs.lemmas.Bool.Decides.{nat_tests}
 use Rattle.ptpm_codec.specs.declared.error.DecodeError.{DecodeError}
 use Rattle.ptpm_codec.specs.declared.message.Message.{Message}
 use Rattle.ptpm_codec.specs.Message.{IsValid}
 use Rattle.ptpm_codec.specs.Reading.{reading}
-use Rattle.ptpm_data.specs.ObservationBack.{Observation}
 use Rattle.ptpm_data.specs.RequestLaws.{IsSized}
-use Rattle.ptpm_table.specs.Entries.{Entry, FitsCount, HasEntry, HasRoom}
+use Rattle.ptpm_table.specs.Entries.{Entry, FitsCount}
 use Rattle.ptpm_table.specs.Rendering.{rendered}
 use Rattle.ptpm_agent.specs.declared.verdict.Verdict.{Verdict}
 use Rattle.ptpm_agent.specs.declared.verdict.Verdict.TheVariants as verdicts
@@ -20,17 +20,16 @@ use Rattle.ptpm_agent.specs.Turn.{Clock, State, carried_out, entry_of, judged, k
 use Rattle.ptpm_agent.proofs.Entries.{get-insert_same}
 use Rattle.ptpm_agent.proofs.Fitting.{fits_numbered}
 use Rattle.ptpm_agent.proofs.Turns.{new_parts, turned_new}
-use Rattle.ptpm_saved.specs.Saving.{Comes, Device, Event, Notes, Process, Saves, took}
-use Rattle.ptpm_saved.specs.SavingClock.{Datagram, clock_process, held_by_clock, is_new}
+use Rattle.ptpm_saved.specs.Saving.{Comes, Device, Process, took}
+use Rattle.ptpm_saved.specs.SavingClock.{clock_process, held_by_clock, is_new}
 use Rattle.ptpm_saved.specs.Withholding.{called}
 use Rattle.ptpm_host.specs.declared.clock.HostedClock.{HostedClock}
-use Rattle.ptpm_host.specs.declared.saving_clock.SavingClock.{SavingClock}
+use Rattle.ptpm_host.specs.declared.sent.Sent.{Sent}
 use Rattle.ptpm_host.specs.declared.standing.Standing.{Standing}
 use Rattle.ptpm_host.specs.declared.standing.Standing.TheVariants as standings
 use Rattle.ptpm_host.specs.declared.standing.Withheld.{Withheld}
-use Rattle.ptpm_host.specs.Clock.{clock_in, state_in}
-use Rattle.ptpm_host.specs.SavingClock.{IsAsDevice, IsCalled, LeadsTo}
-use Rattle.ptpm_host.specs.Withheld.{has_reply, is_kept, is_unsaved, messages_due}
+use Rattle.ptpm_host.specs.Clock.{clock_in, message_in, messages_in, state_in}
+use Rattle.ptpm_host.specs.Withheld.{has_reply, is_unsaved, messages_due}
 
 abbrev ClockDevice : Type 0
 ClockDevice = Device State (ℕ × List ℕ)
@@ -60,36 +59,6 @@ nothing_due : (c : HostedClock) (st : Standing) → is_unsaved st ≡ false → 
 nothing_due c standings.Saved clean = refl
 nothing_due c standings.Unsaved clean = refl
 nothing_due c (standings.Withholding w) clean = absurd (false≢true (sym clean))
-
-not_new : (verdict : Verdict) → verdict ≢ verdicts.AnsweredNew → is_new verdict ≡ false
-not_new verdicts.AnsweredNew other = absurd (other refl)
-not_new _ other = refl
-
-pub other_called : (before after : SavingClock) (port : ℕ) (datagram : List ℕ) (verdict : Verdict) (given : List (ℕ × List ℕ))
-    → is_unsaved before.standing ≡ false
-    → after.standing ≡ before.standing
-    → IsTurned (turn (clock_in before.clock.value) (state_in before.clock.value) port datagram) verdict given (state_in after.clock.value)
-    → verdict ≢ verdicts.AnsweredNew
-    → IsCalled before (Comes (port, datagram)) given after
-other_called before after port datagram verdict given clean same turned other d like =
-    let p = clock_process (clock_in before.clock.value) in
-    let at : State → Bool = λ s. is_new (turn (clock_in before.clock.value) s port datagram).verdict in
-    let old : at d.live ≡ false =
-    ap at like.live ∙ sym (ap is_new turned.verdict_is) ∙ not_new verdict other in
-    let here : called p held_by_clock d (Comes (port, datagram)) ≡ took p false d (port, datagram) =
-    taken p held_by_clock false d (port, datagram) (like.is_unsaved ∙ clean) old in
-    let leads : LeadsTo given after d (took p false d (port, datagram)) = record {
-      as_device = record {
-        live = ap (λ (s : State). (turn (clock_in before.clock.value) s port datagram).next) like.live
-            ∙ state_is _ _ (sym turned.sets_are) (sym turned.entries_are);
-        is_unsaved = sym (ap is_unsaved same ∙ clean);
-        waiting = like.waiting ∙ nothing_due before.clock.value before.standing clean
-            ∙ sym (nothing_due after.clock.value after.standing (ap is_unsaved same ∙ clean));
-      };
-      given_out = ap (λ (s : State). d.ready ++ outbox_of (turn (clock_in before.clock.value) s port datagram)) like.live
-          ∙ ap (λ (l : List (ℕ × List ℕ)). d.ready ++ l) (sym turned.outbox_is);
-    } in
-    subst (LeadsTo given after d) (sym here) leads
 
 -- ---- a new request
 
@@ -142,55 +111,69 @@ new_has_reply c s next port datagram v verdict out read turned new sized valid =
     ap (λ (e : Option Entry). has_reply e v.number) kept.entry
     ∙ has_own (entry_of c s (numbered_from v)) v.number refl (few_answers _ _ fits.count)
 
-pub new_called : (before after : SavingClock) (port : ℕ) (datagram : List ℕ) (v : Message) (verdict : Verdict) (out : List (ℕ × List ℕ))
-    → is_unsaved before.standing ≡ false
-    → after.standing ≡ standings.Withholding (record { heard = heard_of v; ingress = port })
-    → clock_in after.clock.value ≡ clock_in before.clock.value
+-- the clock with this standing is as the device e is, which gave these messages out
+pub record IsLed (c : HostedClock) (st : Standing) (given : List (ℕ × List ℕ)) (d e : ClockDevice) : Type 0 where
+  pub live : e.live ≡ state_in c
+  pub is_unsaved : e.is_unsaved ≡ is_unsaved st
+  pub waiting : e.waiting ≡ messages_due c st
+  pub given_out : e.ready ≡ d.ready ++ given
+
+pub new_led : (before after : HostedClock) (st waits : Standing) (port : ℕ) (datagram : List ℕ) (v : Message) (verdict : Verdict)
+    (out : List (ℕ × List ℕ))
+    → is_unsaved st ≡ false
+    → waits ≡ standings.Withholding (record { heard = heard_of v; ingress = port })
+    → clock_in after ≡ clock_in before
     → reading datagram ≡ Ok v
-    → IsTurned (turn (clock_in before.clock.value) (state_in before.clock.value) port datagram) verdict out (state_in after.clock.value)
+    → IsTurned (turn (clock_in before) (state_in before) port datagram) verdict out (state_in after)
     → verdict ≡ verdicts.AnsweredNew
-    → IsCalled before (Comes (port, datagram)) [] after
-new_called before after port datagram v verdict out clean waits clock read turned new d like =
-    let c = clock_in before.clock.value in
+    → (d : ClockDevice)
+    → d.live ≡ state_in before
+    → d.is_unsaved ≡ is_unsaved st
+    → d.waiting ≡ messages_due before st
+    → IsLed after waits [] d (called (clock_process (clock_in before)) held_by_clock d (Comes (port, datagram)))
+new_led before after st waits port datagram v verdict out clean is_waiting clock read turned new d live unsaved waiting =
+    let c = clock_in before in
     let p = clock_process c in
     let at : State → Bool = λ s. is_new (turn c s port datagram).verdict in
-    let changes : at d.live ≡ true = ap at like.live ∙ sym (ap is_new turned.verdict_is) ∙ ap is_new new in
+    let changes : at d.live ≡ true = ap at live ∙ sym (ap is_new turned.verdict_is) ∙ ap is_new new in
     let here : called p held_by_clock d (Comes (port, datagram)) ≡ took p true d (port, datagram) =
-    taken p held_by_clock true d (port, datagram) (like.is_unsaved ∙ clean) changes in
-    let kept = kept_new c (state_in before.clock.value) (state_in after.clock.value) port datagram v verdict out read turned new in
-    let leads : LeadsTo [] after d (took p true d (port, datagram)) = record {
-      as_device = record {
-        live = ap (λ (s : State). (turn c s port datagram).next) like.live
-            ∙ state_is _ _ (sym turned.sets_are) (sym turned.entries_are);
-        is_unsaved = sym (ap is_unsaved waits);
-        waiting =
-            (λ i. (like.waiting ∙ nothing_due before.clock.value before.standing clean) i ++ outbox_of (turn c (like.live i) port datagram))
-            ∙ kept.due
-            ∙ ap (λ (k : Clock). reply_messages k port (heard_of v) (kept_reply_of (get (state_in after.clock.value).entries v.source))) (sym clock)
-            ∙ sym (ap (messages_due after.clock.value) waits);
-      };
+    taken p held_by_clock true d (port, datagram) (unsaved ∙ clean) changes in
+    let kept = kept_new c (state_in before) (state_in after) port datagram v verdict out read turned new in
+    let led : IsLed after waits [] d (took p true d (port, datagram)) = record {
+      live = ap (λ (s : State). (turn c s port datagram).next) live ∙ state_is _ _ (sym turned.sets_are) (sym turned.entries_are);
+      is_unsaved = sym (ap is_unsaved is_waiting);
+      waiting =
+          (λ i. (waiting ∙ nothing_due before st clean) i ++ outbox_of (turn c (live i) port datagram))
+          ∙ kept.due
+          ∙ ap (λ (k : Clock). reply_messages k port (heard_of v) (kept_reply_of (get (state_in after).entries v.source))) (sym clock)
+          ∙ sym (ap (messages_due after) is_waiting);
       given_out = sym (append-nil d.ready);
     } in
-    subst (LeadsTo [] after d) (sym here) leads
+    subst (IsLed after waits [] d) (sym here) led
 
--- ---- a save, and an observation
+-- a datagram that is no message makes no new request
+pub none_new : (c : Clock) (s next : State) (port : ℕ) (datagram : List ℕ) (cause : DecodeError) (verdict : Verdict) (out : List (ℕ × List ℕ))
+    → reading datagram ≡ Err cause
+    → IsTurned (turn c s port datagram) verdict out next
+    → verdict ≡ verdicts.AnsweredNew
+    → ⊥
+unfolding turn
+none_new c s next port datagram cause verdict out read turned new =
+    let malformed : verdict ≡ verdicts.Malformed cause =
+    turned.verdict_is ∙ ap (λ (r : Result Message DecodeError). (turn_by c s port datagram r).verdict) read in
+    cc
 
-pub saved_called : (before after : SavingClock) (given : List (ℕ × List ℕ))
-    → given ≡ messages_due before.clock.value before.standing
-    → after.clock ≡ before.clock
-    → after.standing ≡ standings.Saved
-    → IsCalled before Saves given after
-saved_called before after given is same saved d like = record {
-  as_device = record {
-    live = like.live ∙ sym (ap (λ c. state_in c.value) same);
-    is_unsaved = sym (ap is_unsaved saved);
-    waiting = sym (ap (messages_due after.clock.value) saved);
-  };
-  given_out = ap (λ (l : List (ℕ × List ℕ)). d.ready ++ l) (like.waiting ∙ sym is);
-}
+-- as many messages were made as there are in the first places
+pub as_many : (count : ℕ) (room : List Sent) (out : List (ℕ × List ℕ))
+    → count ≤ length room
+    → messages_in (take count room) ≡ out
+    → length out ≡ count
+as_many count room out inside are =
+    sym (ap length are) ∙ length-map message_in (take count room) ∙ length-take-le count room inside
 
--- ---- the reply that waits
+-- ---- a save
 
-kept_entry : (found : Option Entry) (n : ℕ) → has_reply found n ≡ true → (e : Entry) × (found ≡ Some e) × (e.number ≡ n) × (nat_le (length e.reply.answers) 15 ≡ true)
-kept_entry None n has = absurd (false≢true has)
-kept_entry (Some e) n has = (e, refl, grind (arith, nat_tests), grind (arith, nat_tests))
+pub nothing_waits : (c : HostedClock) (st : Standing) → ((w : Withheld) → st ≡ standings.Withholding w → ⊥) → messages_due c st ≡ []
+nothing_waits c standings.Saved other = refl
+nothing_waits c standings.Unsaved other = refl
+nothing_waits c (standings.Withholding w) other = absurd (other w refl)

@@ -215,6 +215,7 @@ impl SavingClock {
     /// Takes its host's word that a restart would find the image of this token. What was withheld is written into the first places
     /// of `room`, and the clock takes datagrams again. Answers how many messages there are. The places after them stay, and so
     /// does what follows each message. If it is refused, nothing changes. Takes no memory.
+    #[tactic(auto, using(crate::specs::OutboxLaws::kept_by_none, crate::proofs::SavingCalls::nothing_waits))]
     pub fn saved(&mut self, token: u64, room: &mut [Sent]) -> Result<usize, SavedRefusal>
         ensures called { IfOk result
             (λ n. IsCalled self.old Saves (messages_in (take n room.new)) self.new) }
@@ -237,11 +238,13 @@ impl SavingClock {
         if token != self.changes {
             return Err(SavedRefusal::OtherImage);
         }
+        let Standing::Withholding(copy) = self.standing else {
+            self.standing = Standing::Saved;
+            return Ok(0);
+        };
         let mut places = Outbox::new(room);
-        if let Standing::Withholding(copy) = self.standing {
-            let table = self.clock.agent.table();
-            table.send_again(&copy.heard, copy.ingress, &mut places);
-        }
+        let table = self.clock.agent.table();
+        table.send_again(&copy.heard, copy.ingress, &mut places);
         self.standing = Standing::Saved;
         Ok(places.count())
     }
