@@ -169,7 +169,7 @@ pub as_many : (count : ℕ) (room : List Sent) (out : List (ℕ × List ℕ))
     → messages_in (take count room) ≡ out
     → length out ≡ count
 as_many count room out inside are =
-    sym (ap length are) ∙ length-map message_in (take count room) ∙ length-take-le count room inside
+    sym (ap length are) ∙ length-map (take count room) message_in ∙ length-take-le count room inside
 
 -- ---- a save
 
