@@ -1,0 +1,3 @@
+pub mod Opening
+pub mod Standing
+pub mod Parts

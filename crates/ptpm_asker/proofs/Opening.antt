@@ -1,0 +1,32 @@
+-- What is restored is long enough to be read, and has the first number that is read in it.
+use Rattle.std.proofs.Common.{◌≡◌, ℕ, Bool, true, false, not, ◌&&◌, nat_le, List, [], ◌∷◌, length, Option, Some, None}
+use Rattle.std.proofs.lemmas.Bool.{and_parts, cond-true, not-false}
+use Rattle.std.specs.Option.{option_or}
+use Rattle.ptpm_codec.specs.declared.identity.ClockIdentity.{ClockIdentity}
+use Rattle.ptpm_codec.specs.declared.identity.PortIdentity.{PortIdentity}
+use Rattle.ptpm_codec.specs.Ordered.{first_of}
+use Rattle.ptpm_codec.specs.Layout.{number_at}
+use Rattle.ptpm_data.proofs.StartLemmas.{passes}
+use Rattle.ptpm_manager.specs.ImageReading.{session_at, setup_at}
+use Rattle.ptpm_manager.specs.Restoring.{head_refusal, is_image, is_long, restore_refusal}
+use Rattle.ptpm_asker.specs.Asker.{first_in}
+
+second_none : {A : Type 0} (r s : Option A) → option_or r s ≡ None → s ≡ None
+second_none None s h = h
+second_none (Some x) s h = cc
+
+image_long : (octets : List ℕ) → is_image octets ≡ true → is_long octets ≡ true
+unfolding is_image
+image_long octets h = (and_parts (is_long octets) _ (and_parts (is_long octets && _) _ h).0).0
+
+pub restored-long : (me : PortIdentity) (target : ClockIdentity) (ports first : ℕ) (octets : List ℕ)
+    → restore_refusal me target ports first octets ≡ None
+    → is_long octets ≡ true
+unfolding restore_refusal
+restored-long me target ports first octets h =
+    image_long octets (not-false _ (passes (not (is_image octets)) _ _ (second_none (head_refusal octets) _ h)).0)
+
+pub first-read : (octets : List ℕ) → is_long octets ≡ true → first_in octets ≡ (session_at octets).setup.first
+unfolding setup_at
+first-read octets h =
+    cond-true (nat_le 53 (length octets)) (number_at 31 octets) 0 (and_parts (nat_le 53 (length octets)) _ h).0

@@ -1,0 +1,143 @@
+-- A desk is what one asker has: its session as it is, the session as its file has it, and the notebook of its owner. What may happen
+-- at it, in these sentences: nothing is sent that the file has not; nothing leaves the file that the notes have not as told; nothing
+-- is begun that the notes have not as begun (this project's profile).
+use Rattle.std.specs.Prelude.{◌≡◌, ◌⊎◌, ℕ, ◌+◌, true, false, List, [], ◌∷◌, Option, Some, None}
+use Rattle.ptpm_codec.specs.SequenceNumber.{number_of}
+use Rattle.ptpm_data.specs.Request.{RequestValue}
+use Rattle.ptpm_manager.specs.declared.ask.Ask.{Ask}
+use Rattle.ptpm_manager.specs.declared.receiving.Received.{Received}
+use Rattle.ptpm_manager.specs.declared.receiving.Received.TheVariants as received
+use Rattle.ptpm_manager.specs.declared.report.Outcome.{Outcome}
+use Rattle.ptpm_manager.specs.declared.setup.Setup.{Setup}
+use Rattle.ptpm_manager.specs.Ask.{request_of}
+use Rattle.ptpm_manager.specs.Receiving.{left_by, received_of}
+use Rattle.ptpm_manager.specs.Session.{SessionValue, anew, begun, fresh, given_up, is_waiting, resumed, retuned, sent}
+use Rattle.ptpm_asker.specs.Question.{asks_question, is_question}
+
+pub data Note : Type 0 where
+  IsBegun : (tag number : ℕ) → Note
+  IsTold : (tag number : ℕ) (outcome : Outcome) → Note
+  -- the owner gives up a request of an earlier run
+  IsLetGo : (number : ℕ) → Note
+
+-- what an answer that was heard says
+pub record Heard : Type 0 where
+  pub number : ℕ
+  pub outcome : Outcome
+
+pub record Desk : Type 0 where
+  pub live : SessionValue
+  pub file : Option SessionValue
+  -- the latest is the first
+  pub notes : List Note
+  -- the latest answer that was heard since the last crash
+  pub heard : Option Heard
+
+-- the number of the request that was begun last, and that of the next one
+abbrev pub latest_number : SessionValue → ℕ
+latest_number s = number_of s.setup.first s.issued
+
+abbrev pub next_number : SessionValue → ℕ
+next_number s = number_of s.setup.first (s.issued + 1)
+
+-- ---- moves
+
+pub data Move : Type 0 where
+  Begins : (tag : ℕ) (ask : Ask) → Move
+  Saves : Move
+  Sends : Move
+  Hears : (datagram : List ℕ) → Move
+  Notes : (note : Note) → Move
+  Resumes : (attempts : ℕ) → Move
+  Retunes : (domain : ℕ) → Move
+  LetsGo : Move
+  -- a session that is in no file begins anew at another number
+  Starts : (setup : Setup) (domain : ℕ) → Move
+  -- what is in no file and in no note is lost
+  Crashes : Move
+
+-- the session that a program goes on with; without a file nothing is under way
+abbrev pub reopened : Option SessionValue → SessionValue → SessionValue
+reopened None s = given_up s
+reopened (Some f) s = anew f
+
+abbrev pub heard_after : SessionValue → Option Heard → Received → Option Heard
+heard_after s before (received.Answered report) = Some (record { number = latest_number s; outcome = report.outcome })
+heard_after s before (received.Ignored reason) = before
+
+abbrev pub moved : Desk → Move → Desk
+moved d (Begins tag ask) = record d { live = begun d.live (request_of ask) }
+moved d Saves = record d { file = Some d.live }
+moved d Sends = record d { live = sent d.live }
+moved d (Hears datagram) = record d {
+  live = left_by d.live (received_of d.live datagram);
+  heard = heard_after d.live d.heard (received_of d.live datagram);
+}
+moved d (Notes note) = record d { notes = note ∷ d.notes }
+moved d (Resumes attempts) = record d { live = resumed d.live attempts }
+moved d (Retunes domain) = record d { live = retuned d.live domain }
+moved d LetsGo = record d { live = given_up d.live }
+moved d (Starts setup domain) = record d { live = fresh setup domain }
+moved d Crashes = record d { live = reopened d.file d.live; heard = None }
+
+abbrev pub moved_by : Desk → List Move → Desk
+moved_by d [] = d
+moved_by d (m ∷ ms) = moved_by (moved d m) ms
+
+-- ---- which moves are allowed
+
+-- the file has this under way, under this number; as long as there is no file, a question asks whether a number is new
+abbrev pub HasRequest : Option SessionValue → Option RequestValue → ℕ → Type 0
+HasRequest None q number = asks_question q ≡ true
+HasRequest (Some f) q number = (f.unanswered ≡ q) × (latest_number f ≡ number)
+
+-- the file has what the session has under way
+abbrev pub HasIt : Option SessionValue → SessionValue → Type 0
+HasIt file s = HasRequest file s.unanswered (latest_number s)
+
+-- the latest note says that this is begun
+abbrev pub SaysBegun : List Note → ℕ → ℕ → Type 0
+SaysBegun [] tag number = ⊥
+SaysBegun (IsBegun t n ∷ further) tag number = (t ≡ tag) × (n ≡ number)
+SaysBegun (IsTold t n outcome ∷ further) tag number = ⊥
+SaysBegun (IsLetGo n ∷ further) tag number = ⊥
+
+-- the latest note says what came of the request of this number, or that its owner gives it up
+abbrev pub SaysTold : List Note → ℕ → Type 0
+SaysTold [] number = ⊥
+SaysTold (IsBegun t n ∷ further) number = ⊥
+SaysTold (IsTold t n outcome ∷ further) number = n ≡ number
+SaysTold (IsLetGo n ∷ further) number = n ≡ number
+
+-- what is under way in the file stays there, or is a question, or is told
+abbrev pub MayLeave : Option RequestValue → SessionValue → SessionValue → List Note → Type 0
+MayLeave None f s notes = Unit {0}
+MayLeave (Some q) f s notes = HasIt (Some f) s ⊎ ((is_question q ≡ true) ⊎ SaysTold notes (latest_number f))
+
+abbrev pub LeavesTold : Option SessionValue → SessionValue → List Note → Type 0
+LeavesTold None s notes = Unit {0}
+LeavesTold (Some f) s notes = MayLeave f.unanswered f s notes
+
+-- what is noted as told is what the answer says that was heard
+abbrev pub IsHeard : Note → Option Heard → Type 0
+IsHeard (IsBegun tag number) heard = Unit {0}
+IsHeard (IsTold tag number outcome) heard = heard ≡ Some (record { number = number; outcome = outcome })
+IsHeard (IsLetGo number) heard = Unit {0}
+
+abbrev pub IsAllowed : Desk → Move → Type 0
+IsAllowed d (Begins tag ask) =
+    (is_waiting d.live ≡ false) × ((is_question (request_of ask) ≡ true) ⊎ SaysBegun d.notes tag (next_number d.live))
+IsAllowed d Saves = LeavesTold d.file d.live d.notes
+IsAllowed d Sends = (is_waiting d.live ≡ true) × HasIt d.file d.live
+IsAllowed d (Hears datagram) = Unit {0}
+IsAllowed d (Notes note) = IsHeard note d.heard
+IsAllowed d (Resumes attempts) = Unit {0}
+IsAllowed d (Retunes domain) = Unit {0}
+IsAllowed d LetsGo = SaysTold d.notes (latest_number d.live)
+IsAllowed d (Starts setup domain) = d.file ≡ None
+IsAllowed d Crashes = Unit {0}
+
+-- each of these moves is, where it comes
+abbrev pub AreAllowed : Desk → List Move → Type 0
+AreAllowed d [] = Unit {0}
+AreAllowed d (m ∷ ms) = IsAllowed d m × AreAllowed (moved d m) ms

@@ -1,0 +1,5 @@
+pub mod Question
+pub mod Desk
+pub mod Asker
+pub mod Turns
+pub mod Allowed

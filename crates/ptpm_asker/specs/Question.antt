@@ -1,0 +1,57 @@
+-- The question whether a session's next number is new to the clock: a GET of a data set that each clock has, with random octets in
+-- place of its dataField. A clock ignores them, and takes a repeat for one by them. So an answer shows that the number is new.
+-- And what an earlier run left under way (this project's profile).
+use Rattle.std.specs.Prelude.{ℕ, ◌==◌, ◌&&◌, ◌||◌, Bool, true, false, if◌then◌else◌, List, length, take, Option, Some, None}
+use Rattle.ptpm_codec.specs.declared.message.Action.{Action}
+use Rattle.ptpm_codec.specs.declared.message.Action.TheVariants as actions
+use Rattle.ptpm_codec.specs.Layout.{octet}
+use Rattle.ptpm_data.specs.ManagementId.{is_of_port}
+use Rattle.ptpm_data.specs.Request.{RequestValue}
+use Rattle.ptpm_manager.specs.declared.ask.Ask.{Ask}
+use Rattle.ptpm_asker.specs.declared.earlier.Earlier.{Earlier}
+use Rattle.ptpm_asker.specs.declared.earlier.Earlier.TheVariants as earlier
+
+-- DEFAULT_DATA_SET; PORT_DATA_SET for an id of a port, since some clocks answer only if the port is named
+abbrev pub question_id : ℕ → ℕ
+question_id id = if is_of_port id then 0x2004 else 0x2000
+
+-- as many octets as the data set has
+abbrev pub question_size : ℕ → ℕ
+question_size id = if is_of_port id then 26 else 20
+
+-- the question before a request
+abbrev pub question : List ℕ → Ask → Ask
+question drawn a = record { action = actions.Get; id = question_id a.id; port = a.port; octets = take (question_size a.id) drawn }
+
+abbrev pub is_get : Action → Bool
+is_get actions.Get = true
+is_get actions.Set = false
+is_get actions.Response = false
+is_get actions.Command = false
+is_get actions.Acknowledge = false
+
+-- whether a request is a question
+abbrev pub is_question : RequestValue → Bool
+is_question q =
+    is_get q.action && ((q.id == 0x2000 && length q.octets == 20) || (q.id == 0x2004 && length q.octets == 26))
+
+abbrev pub asks_question : Option RequestValue → Bool
+asks_question None = false
+asks_question (Some q) = is_question q
+
+-- ---- what an earlier run left under way
+
+-- a SET of DOMAIN has the domain in its first octet (15.5.3.2.3)
+abbrev pub change_of : RequestValue → Earlier
+change_of q = if q.id == 0x2007 && length q.octets == 2 then earlier.MovesTo (octet 0 q.octets) else earlier.Changes
+
+abbrev pub by_action : Action → RequestValue → Earlier
+by_action actions.Get q = earlier.Reads
+by_action actions.Set q = change_of q
+by_action actions.Response q = earlier.Changes
+by_action actions.Command q = earlier.Changes
+by_action actions.Acknowledge q = earlier.Changes
+
+abbrev pub earlier_of : Option RequestValue → Earlier
+earlier_of None = earlier.NoRequest
+earlier_of (Some q) = if is_question q then earlier.Question else by_action q.action q

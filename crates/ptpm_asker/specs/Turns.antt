@@ -1,0 +1,316 @@
+-- What each input makes of an asker: what it is after it, what it hands out, and the moves that its session goes through.
+use Rattle.std.specs.Prelude.{◌≡◌, ℕ, ◌+◌, ◌-◌, ◌^◌, ◌%◌, ◌==◌, ◌&&◌, ◌||◌, not, nat_lt, min, Bool, true, false, if◌then◌else◌, List, [], ◌∷◌, ◌++◌, Option, Some, None, is_some}
+use Rattle.std.specs.Option.{option_or}
+use Rattle.ptpm_codec.specs.Ordered.{first_of}
+use Rattle.ptpm_codec.specs.SequenceNumber.{number_of}
+use Rattle.ptpm_codec.specs.declared.message.Message.{Message}
+use Rattle.ptpm_codec.specs.Canonical.{canonical}
+use Rattle.ptpm_manager.specs.declared.ask.Ask.{Ask}
+use Rattle.ptpm_manager.specs.declared.error.BeginError.{BeginError}
+use Rattle.ptpm_manager.specs.declared.error.BeginError.TheVariants as begins
+use Rattle.ptpm_manager.specs.declared.error.GiveUpRefusal.{GiveUpRefusal}
+use Rattle.ptpm_manager.specs.declared.error.GiveUpRefusal.TheVariants as give_ups
+use Rattle.ptpm_manager.specs.declared.receiving.Received.{Received}
+use Rattle.ptpm_manager.specs.declared.receiving.Received.TheVariants as received
+use Rattle.ptpm_manager.specs.declared.report.Outcome.{Outcome}
+use Rattle.ptpm_manager.specs.Ask.{ask_refusal, request_of}
+use Rattle.ptpm_manager.specs.Receiving.{left_by, received_of}
+use Rattle.ptpm_manager.specs.Session.{SessionValue, answered, begun, due_message, fresh, give_up_refusal, given_up, is_waiting, resumed, retuned, send_refusal, sent}
+use Rattle.ptpm_asker.specs.declared.earlier.Earlier.{Earlier}
+use Rattle.ptpm_asker.specs.declared.earlier.Earlier.TheVariants as earlier
+use Rattle.ptpm_asker.specs.declared.output.Output.{Output}
+use Rattle.ptpm_asker.specs.declared.output.Output.TheVariants as outputs
+use Rattle.ptpm_asker.specs.declared.stage.Stage.{Stage}
+use Rattle.ptpm_asker.specs.declared.stage.Stage.TheVariants as stages
+use Rattle.ptpm_asker.specs.Asker.{AskerValue, setup_with}
+use Rattle.ptpm_asker.specs.Desk.{Move, Begins, Hears, LetsGo, Notes, IsLetGo, Resumes, Retunes, Saves, Sends, Starts}
+use Rattle.ptpm_asker.specs.Question.{question}
+
+pub record Turn : Type 0 where
+  pub asker : AskerValue
+  pub output : Output
+  pub moves : List Move
+
+abbrev pub turn : AskerValue → Output → List Move → Turn
+turn a output moves = record { asker = a; output = output; moves = moves }
+
+abbrev pub idle : AskerValue → Turn
+idle a = turn a outputs.Nothing []
+
+-- these moves come before those of a turn
+abbrev pub after_moves : List Move → Turn → Turn
+after_moves moves t = record t { moves = moves ++ t.moves }
+
+-- the number of the latest request, and of the next
+abbrev pub latest : AskerValue → ℕ
+latest a = number_of a.first a.session.issued
+
+abbrev pub next : AskerValue → ℕ
+next a = number_of a.first (a.session.issued + 1)
+
+abbrev pub later : ℕ → ℕ → ℕ
+later now time = min (now + time) (2 ^ 64 - 1)
+
+-- what is handed out to be sent is the session's request
+abbrev pub IsMessage : Output → SessionValue → List ℕ → Type 0
+IsMessage outputs.Nothing s octets = Unit {0}
+IsMessage (outputs.Begun tag number) s octets = Unit {0}
+IsMessage outputs.Save s octets = Unit {0}
+IsMessage (outputs.Send wake_at) s octets = (v : Message) → due_message s ≡ Some v → octets ≡ canonical v
+IsMessage (outputs.WakeAt time) s octets = Unit {0}
+IsMessage (outputs.Told tag number outcome) s octets = Unit {0}
+IsMessage (outputs.Failed was_sent) s octets = Unit {0}
+
+-- ---- parts of turns
+
+abbrev pub fails : AskerValue → Turn
+fails a = turn (record a { stage = stages.Over }) (outputs.Failed (a.has_left || a.is_out)) []
+
+abbrev pub has_sent : AskerValue → ℕ → AskerValue
+has_sent a now = record a {
+  stage = stages.Asking;
+  wake_at = later now a.settings.timeout;
+  has_left = a.has_left || a.is_out;
+  is_out = true;
+}
+
+-- the request under way is sent, while attempts are left
+abbrev pub sends : AskerValue → ℕ → Turn
+sends a now =
+    if is_some (send_refusal a.session) then fails a
+    else turn (has_sent (record a { session = sent a.session }) now) (outputs.Send (later now a.settings.timeout)) (Sends ∷ [])
+
+-- it is sent with all attempts of this run
+abbrev pub resumes : AskerValue → ℕ → Turn
+resumes a now =
+    if is_waiting a.session then
+        after_moves (Resumes a.settings.attempts ∷ [])
+        (sends (record a { session = resumed a.session a.settings.attempts; has_left = false; is_out = false }) now)
+    else fails a
+
+-- the owner is to note that what it wants is begun
+abbrev pub announces : AskerValue → Turn
+announces a = turn (record a { stage = stages.Noting; is_testing = false }) (outputs.Begun a.tag (next a)) []
+
+abbrev pub saves : AskerValue → Turn
+saves a = turn (record a { stage = stages.Saving }) outputs.Save []
+
+-- ---- ask
+
+abbrev pub is_resting : Stage → Bool
+is_resting stages.Resting = true
+is_resting stages.Waiting = false
+is_resting stages.Noting = false
+is_resting stages.Saving = false
+is_resting stages.Asking = false
+is_resting stages.Telling = false
+is_resting stages.Over = false
+
+-- whether a request of an earlier run is to be settled first
+abbrev pub is_unsettled : Earlier → Bool
+is_unsettled earlier.NoRequest = false
+is_unsettled earlier.Question = false
+is_unsettled earlier.Reads = true
+is_unsettled (earlier.MovesTo domain) = true
+is_unsettled earlier.Changes = true
+
+abbrev pub is_left_question : Earlier → Bool
+is_left_question earlier.NoRequest = false
+is_left_question earlier.Question = true
+is_left_question earlier.Reads = false
+is_left_question (earlier.MovesTo domain) = false
+is_left_question earlier.Changes = false
+
+abbrev pub is_busy : AskerValue → Bool
+is_busy a = not (is_resting a.stage) || is_unsettled a.earlier
+
+abbrev pub asks_refusal : AskerValue → Ask → Option BeginError
+asks_refusal a wanted = option_or (first_of ((is_busy a, begins.Busy) ∷ [])) (ask_refusal a.settings.ports wanted)
+
+-- whether the question is asked as a request of the session
+abbrev pub asks_in_session : AskerValue → Bool
+asks_in_session a = not (is_left_question a.earlier) && (not a.is_new && a.is_kept)
+
+-- A question that a crash left is sent again. A number that was tested in this run is taken. If there is a file, the question was
+-- begun in its session. A new session waits first.
+abbrev pub goes_on_asking : AskerValue → ℕ → Turn
+goes_on_asking a now =
+    if is_left_question a.earlier then resumes (record a { is_testing = true }) now
+    else if a.is_new then announces a
+    else if a.is_kept then saves (record a { is_testing = true })
+    else turn (record a { stage = stages.Waiting; wake_at = later now a.settings.wait }) (outputs.WakeAt (later now a.settings.wait)) []
+
+abbrev pub asked_of : AskerValue → ℕ → Ask → ℕ → AskerValue
+asked_of a tag wanted domain = record a { session = retuned a.session domain; wanted = Some wanted; tag = tag }
+
+abbrev pub with_question : AskerValue → Ask → AskerValue
+with_question a wanted = record a { session = begun a.session (request_of (question a.drawn wanted)) }
+
+abbrev pub asks : AskerValue → ℕ → ℕ → Ask → ℕ → Turn
+asks a now tag wanted domain =
+    if asks_in_session a then
+        after_moves (Retunes domain ∷ Begins 0 (question a.drawn wanted) ∷ [])
+        (goes_on_asking (with_question (asked_of a tag wanted domain) wanted) now)
+    else after_moves (Retunes domain ∷ []) (goes_on_asking (asked_of a tag wanted domain) now)
+
+-- ---- settle and let_go
+
+abbrev pub settling_domain : Earlier → ℕ → ℕ → ℕ
+settling_domain earlier.NoRequest own domain = own
+settling_domain earlier.Question own domain = own
+settling_domain earlier.Reads own domain = domain
+settling_domain (earlier.MovesTo there) own domain = if there == domain then domain else own
+settling_domain earlier.Changes own domain = own
+
+abbrev pub can_settle : AskerValue → Bool
+can_settle a = is_resting a.stage && is_unsettled a.earlier
+
+abbrev pub lets_go_refusal : AskerValue → Option GiveUpRefusal
+lets_go_refusal a = if can_settle a then give_up_refusal a.session else Some give_ups.Idle
+
+abbrev pub settles : AskerValue → ℕ → ℕ → ℕ → Turn
+settles a now tag domain =
+    let there = settling_domain a.earlier a.session.domain domain in
+    after_moves (Retunes there ∷ [])
+    (resumes (record a { session = retuned a.session there; tag = tag; is_testing = false }) now)
+
+-- the owner has noted that it gives the request up
+abbrev pub lets_go : AskerValue → Turn
+lets_go a =
+    after_moves (Notes (IsLetGo (latest a)) ∷ LetsGo ∷ [])
+    (saves (record a { session = given_up a.session; earlier = earlier.NoRequest }))
+
+-- ---- hear
+
+-- an answer to the question shows that the number is new; one to a request is told
+abbrev pub is_answered : AskerValue → Outcome → Turn
+is_answered a outcome =
+    if a.is_testing then
+        (if a.is_kept then announces (record a { is_new = true }) else saves (record a { is_new = true; is_kept = true }))
+    else turn (record a { stage = stages.Telling }) (outputs.Told a.tag (latest a) outcome) []
+
+-- nothing of an earlier run is under way
+abbrev pub settled : AskerValue → AskerValue
+settled a = record a { earlier = earlier.NoRequest }
+
+abbrev pub heard_as : AskerValue → Received → Turn
+heard_as a (received.Answered report) = is_answered (settled (record a { session = answered a.session })) report.outcome
+heard_as a (received.Ignored reason) = idle a
+
+abbrev pub hears_at : Stage → AskerValue → List ℕ → Turn
+hears_at stages.Resting a datagram = idle a
+hears_at stages.Waiting a datagram = idle a
+hears_at stages.Noting a datagram = idle a
+hears_at stages.Saving a datagram = idle a
+hears_at stages.Asking a datagram = after_moves (Hears datagram ∷ []) (heard_as a (received_of a.session datagram))
+hears_at stages.Telling a datagram = idle a
+hears_at stages.Over a datagram = idle a
+
+abbrev pub hears : AskerValue → List ℕ → Turn
+hears a datagram = hears_at a.stage a datagram
+
+-- ---- wake
+
+-- a session that begins at this number asks whether it is new
+abbrev pub tested : AskerValue → ℕ → ℕ → Ask → AskerValue
+tested a first numbers_left wanted = record a {
+  session = begun (fresh (setup_with a.settings first) a.session.domain) (request_of (question a.drawn wanted));
+  first = first;
+  numbers_left = numbers_left;
+  is_testing = true;
+  has_left = false;
+  is_out = false;
+}
+
+abbrev pub tests_wanted : AskerValue → ℕ → ℕ → Option Ask → ℕ → Turn
+tests_wanted a first numbers_left None now = idle a
+tests_wanted a first numbers_left (Some wanted) now =
+    after_moves (Starts (setup_with a.settings first) a.session.domain ∷ Begins 0 (question a.drawn wanted) ∷ [])
+    (sends (tested a first numbers_left wanted) now)
+
+abbrev pub has_more_numbers : AskerValue → Bool
+has_more_numbers a = a.is_testing && (not a.is_kept && nat_lt 0 a.numbers_left)
+
+abbrev pub sends_or_tests : AskerValue → ℕ → Turn
+sends_or_tests a now =
+    if is_some (send_refusal a.session) && has_more_numbers a then
+        tests_wanted a ((a.first + 16384) % 65536) (a.numbers_left - 1) a.wanted now
+    else sends a now
+
+abbrev pub wakes_at : Stage → AskerValue → ℕ → Turn
+wakes_at stages.Resting a now = idle a
+wakes_at stages.Waiting a now = tests_wanted a a.first a.numbers_left a.wanted now
+wakes_at stages.Noting a now = idle a
+wakes_at stages.Saving a now = idle a
+wakes_at stages.Asking a now = sends_or_tests a now
+wakes_at stages.Telling a now = idle a
+wakes_at stages.Over a now = idle a
+
+abbrev pub wakes : AskerValue → ℕ → Turn
+wakes a now = if nat_lt now a.wake_at then idle a else wakes_at a.stage a now
+
+-- ---- unsent
+
+-- there is no way for the message that was handed out
+abbrev pub has_no_way : AskerValue → Turn
+has_no_way a =
+    if not a.is_out then idle a
+    else if a.has_left then turn (record a { is_out = false }) outputs.Nothing []
+    else fails (record a { is_out = false })
+
+abbrev pub unsents_at : Stage → AskerValue → Turn
+unsents_at stages.Resting a = idle a
+unsents_at stages.Waiting a = idle a
+unsents_at stages.Noting a = idle a
+unsents_at stages.Saving a = idle a
+unsents_at stages.Asking a = has_no_way a
+unsents_at stages.Telling a = idle a
+unsents_at stages.Over a = idle a
+
+abbrev pub unsents : AskerValue → Turn
+unsents a = unsents_at a.stage a
+
+-- ---- saved
+
+abbrev pub rests : AskerValue → Turn
+rests a = turn (record a { stage = stages.Resting }) outputs.Nothing []
+
+abbrev pub goes_on : Option Ask → AskerValue → Turn
+goes_on None a = rests a
+goes_on (Some wanted) a = announces a
+
+-- what is under way is sent; or what is wanted is announced
+abbrev pub goes_on_saved : AskerValue → ℕ → Turn
+goes_on_saved a now = if is_waiting a.session then resumes a now else goes_on a.wanted a
+
+abbrev pub saved_at : Stage → AskerValue → ℕ → Turn
+saved_at stages.Resting a now = idle a
+saved_at stages.Waiting a now = idle a
+saved_at stages.Noting a now = idle a
+saved_at stages.Saving a now = goes_on_saved a now
+saved_at stages.Asking a now = idle a
+saved_at stages.Telling a now = idle a
+saved_at stages.Over a now = idle a
+
+abbrev pub saved : AskerValue → ℕ → Turn
+saved a now = saved_at a.stage a now
+
+-- ---- noted
+
+abbrev pub begins_wanted : AskerValue → Option Ask → Turn
+begins_wanted a None = idle a
+begins_wanted a (Some wanted) =
+    after_moves (Begins a.tag wanted ∷ [])
+    (saves (record a { session = begun a.session (request_of wanted); wanted = None; is_testing = false }))
+
+abbrev pub noted_at : Stage → AskerValue → Turn
+noted_at stages.Resting a = idle a
+noted_at stages.Waiting a = idle a
+noted_at stages.Noting a = begins_wanted a a.wanted
+noted_at stages.Saving a = idle a
+noted_at stages.Asking a = idle a
+noted_at stages.Telling a = saves a
+noted_at stages.Over a = idle a
+
+abbrev pub noted : AskerValue → Turn
+noted a = noted_at a.stage a

@@ -1,0 +1,578 @@
+//! One manager asks one clock, one request at a time.
+
+ghost use Rattle.std.specs.Prelude.{◌≡◌, ◌≢◌, ◌≤◌, false, true, length, Err, None, Ok, Some, ◌↔◌, IfErr, IfNone, IfOk, IfSome, IsSome, OnErr, OnOk, OnSome, MatchResult};
+ghost use Rattle.ptpm_manager.specs.declared.error.BeginError.{BeginError};
+ghost use Rattle.ptpm_manager.specs.declared.error.GiveUpRefusal.{GiveUpRefusal};
+ghost use Rattle.ptpm_manager.specs.declared.error.RestoreError.{RestoreError};
+ghost use Rattle.ptpm_codec.specs.SequenceNumber.{number_of};
+ghost use Rattle.ptpm_asker.specs.Asker.{first_in};
+ghost use Rattle.ptpm_manager.specs.ImageReading.{session_at};
+ghost use Rattle.ptpm_manager.specs.Receiving.{NeedsMemory, received_of};
+ghost use Rattle.ptpm_manager.specs.Restoring.{restore_refusal};
+
+use crate::earlier::Earlier;
+use crate::output::Output;
+use crate::question::{DRAWN_OCTETS, begin_question};
+use crate::settings::Settings;
+use crate::stage::Stage;
+use ptpm_codec::{Buffer, OutOfMemory, u16_at};
+use ptpm_manager::{Ask, BeginError, GiveUpRefusal, Outcome, Received, RestoreError, Session};
+use std::alloc::Global;
+use std::marker::Model;
+
+/// The distance of the numbers that a new session tries: of four so far apart one is new, whatever the latest of this manager is.
+const APART: u16 = 16_384;
+
+/// How many numbers follow the first that a new session tries.
+const FURTHER_NUMBERS: u8 = 3;
+
+/// One manager, one clock, one request at a time. It is handed what came in and what was done, and hands out what is to be done next.
+/// After `Begun`, `Save` and `Told` it hands out nothing before that is done. Contracts see its session and where it stands.
+#[derive(Debug, Drop)]
+pub struct Asker {
+    alloc: Global,
+    settings: Settings,
+    /// Random octets for the question of this run.
+    drawn: [u8; DRAWN_OCTETS],
+    session: Session,
+    /// The number of the session's first request.
+    first: u16,
+    stage: Stage,
+    /// What the owner asked, until it is begun.
+    wanted: Option<Ask>,
+    /// How the owner names its request.
+    tag: u64,
+    /// Whether the request under way is the question.
+    is_testing: bool,
+    /// Whether the question was answered in this run.
+    is_new: bool,
+    /// Whether there is a file.
+    is_kept: bool,
+    /// What the file had under way.
+    earlier: Earlier,
+    /// How many further numbers a new session may try.
+    numbers_left: u8,
+    wake_at: u64,
+    /// Whether a message of the request under way left in this run, before the latest.
+    has_left: bool,
+    /// Whether the latest message left, as far as is known.
+    is_out: bool,
+}
+
+impl Model for Asker {
+    ghost use Rattle.ptpm_asker.specs.Asker.{AskerValue, IsAsker, asker_value};
+
+    ghost Value = { AskerValue };
+
+    ghost view = { asker_value };
+
+    ghost invariant = { IsAsker };
+}
+
+impl Asker {
+    ghost use Rattle.ptpm_asker.specs.Asker.{AreSettings, at_rest, opened, opened_new};
+    ghost use Rattle.ptpm_asker.specs.Turns.{IsMessage, announces, asks, asks_refusal, begins_wanted, can_settle, fails, goes_on_asking, goes_on_saved, has_sent, hears, is_answered, is_busy, is_resting, later, latest, lets_go, lets_go_refusal, next, noted, resumes, saved, saves, sends, sends_or_tests, settled, settles, tests_wanted, unsents, wakes};
+
+    /// An asker whose session has no file yet. Its first number and its octets are drawn at random. Takes no memory: `alloc` is kept
+    /// for the octets of requests and answers.
+    pub fn open_new(
+        alloc: Global,
+        settings: Settings,
+        number: u16,
+        drawn: [u8; DRAWN_OCTETS],
+    ) -> Asker
+        requires { AreSettings settings }
+        ensures { result ≡ opened_new settings drawn number }
+    {
+        let session = settings.fresh_session(alloc, number, 0);
+        Asker::at_rest(alloc, settings, drawn, session, number, false, Earlier::NoRequest, FURTHER_NUMBERS)
+    }
+
+    /// An asker with the session that its file has. The octets are drawn at random. It is refused for the first reason that holds.
+    /// Memory is asked for the dataField of the request under way alone.
+    pub fn open(
+        alloc: Global,
+        settings: Settings,
+        drawn: [u8; DRAWN_OCTETS],
+        image: &[u8],
+    ) -> Result<Asker, RestoreError>
+        requires { AreSettings settings }
+        ensures opened { IfOk result (λ a. a ≡ opened settings drawn (session_at image.now)) }
+        ensures permitted { OnOk result
+            (restore_refusal settings.me settings.target settings.ports (first_in image.now) image.now
+            ≡ None) }
+        ensures refused { (e : RestoreError)
+            → restore_refusal settings.me settings.target settings.ports (first_in image.now) image.now
+            ≡ Some e
+            → result ≡ Err e }
+        ensures no_other { IfErr result
+            (λ e.
+            e ≢ RestoreError.OutOfMemory
+            → restore_refusal settings.me settings.target settings.ports (first_in image.now) image.now
+            ≡ Some e) }
+    {
+        let first = first_in(image);
+        let session = Session::restored(
+            alloc,
+            image,
+            settings.me,
+            settings.target,
+            settings.ports,
+            first,
+        )?;
+        let earlier = Earlier::of_image(image);
+        Ok(Asker::at_rest(alloc, settings, drawn, session, first, true, earlier, 0))
+    }
+
+    /// Where it stands.
+    pub fn stage(&self) -> Stage
+        ensures { result ≡ self.now.stage }
+    {
+        self.stage
+    }
+
+    /// What the file had under way, until it is answered or let go.
+    pub fn earlier(&self) -> Earlier
+        ensures { result ≡ self.now.earlier }
+    {
+        self.earlier
+    }
+
+    /// The session, which is to be saved after `Save`.
+    pub fn session(&self) -> &Session
+        ensures { result.now ≡ self.now.session }
+    {
+        &self.session
+    }
+
+    /// Asks a request, which the owner names `tag`, in a domain. It is refused as busy if the asker does not rest or a request of an
+    /// earlier run is not settled; and for what a session refuses. Then the asker stays as it was.
+    pub fn ask(
+        &mut self,
+        buffer: &mut Buffer,
+        now: u64,
+        tag: u64,
+        wanted: Ask,
+        domain: u8,
+    ) -> Result<Output, BeginError>
+        ensures asker { OnOk result (self.new ≡ (asks self.old now tag wanted domain).asker) }
+        ensures output { IfOk result (λ o. o ≡ (asks self.old now tag wanted domain).output) }
+        ensures message { IfOk result (λ o. IsMessage o self.new.session buffer.new.items) }
+        ensures permitted { OnOk result (asks_refusal self.old wanted ≡ None) }
+        ensures refused { (e : BeginError) → asks_refusal self.old wanted ≡ Some e → result ≡ Err e }
+        ensures unchanged { OnErr result (self.new ≡ self.old) }
+    {
+        if self.is_busy() {
+            return Err(BeginError::Busy);
+        }
+        self.settings.judge(self.alloc, &wanted)?;
+        if !self.earlier.is_left_question() && !self.is_new && self.is_kept {
+            begin_question(&mut self.session, &wanted, &self.drawn)?;
+        }
+        self.session.retune(domain);
+        self.tag = tag;
+        self.wanted = Some(wanted);
+        Ok(self.go_on(buffer, now))
+    }
+
+    /// Sends the request of an earlier run again, under its number, with all attempts of this run. A SET or a COMMAND is sent in the
+    /// domain in which it was asked. A GET is sent in this run's, and so is a SET of DOMAIN to it. `None`, and nothing changes, if
+    /// there is none or the asker does not rest.
+    pub fn settle(&mut self, buffer: &mut Buffer, now: u64, tag: u64, domain: u8) -> Option<Output>
+        ensures asker { OnSome result (self.new ≡ (settles self.old now tag domain).asker) }
+        ensures output { IfSome result (λ o. o ≡ (settles self.old now tag domain).output) }
+        ensures message { IfSome result (λ o. IsMessage o self.new.session buffer.new.items) }
+        ensures permitted { IsSome result ↔ (can_settle self.old ≡ true) }
+        ensures unchanged { IfNone result (self.new ≡ self.old) }
+    {
+        if !self.can_settle() {
+            return None;
+        }
+        let there = self.earlier.settling_domain(self.session.domain(), domain);
+        self.session.retune(there);
+        self.tag = tag;
+        self.is_testing = false;
+        Some(self.resume(buffer, now))
+    }
+
+    /// Gives up the request of an earlier run. Its owner has noted that before. Takes no memory.
+    pub fn let_go(&mut self) -> Result<Output, GiveUpRefusal>
+        ensures asker { OnOk result (self.new ≡ (lets_go self.old).asker) }
+        ensures output { IfOk result (λ o. o ≡ (lets_go self.old).output) }
+        ensures refusal { MatchResult result (λ _. lets_go_refusal self.old ≡ None)
+            (λ e. lets_go_refusal self.old ≡ Some e) }
+        ensures unchanged { OnErr result (self.new ≡ self.old) }
+    {
+        if !self.can_settle() {
+            return Err(GiveUpRefusal::Idle);
+        }
+        self.session.give_up()?;
+        self.earlier = Earlier::NoRequest;
+        Ok(self.save())
+    }
+
+    /// Hears a datagram. If it answers the request under way, that is told. If it answers the question, the number is new. Otherwise
+    /// nothing changes. Memory is asked for the dataField of an answer alone; if it is refused, the asker stays as it was.
+    pub fn hear(&mut self, datagram: &[u8]) -> Result<Output, OutOfMemory>
+        ensures asker { OnOk result (self.new ≡ (hears self.old datagram.now).asker) }
+        ensures output { IfOk result (λ o. o ≡ (hears self.old datagram.now).output) }
+        ensures memory { OnErr result (NeedsMemory (received_of self.old.session datagram.now)) }
+        ensures unchanged { OnErr result (self.new ≡ self.old) }
+    {
+        match self.stage {
+            Stage::Asking => match self.session.receive(datagram)? {
+                Received::Answered(report) => Ok(self.take(report.outcome)),
+                Received::Ignored(_) => Ok(Output::Nothing),
+            },
+            _ => Ok(Output::Nothing),
+        }
+    }
+
+    /// Time has come. Earlier than it was told, nothing changes. What was heard before is handed in first.
+    pub fn wake(&mut self, buffer: &mut Buffer, now: u64) -> Result<Output, BeginError>
+        ensures asker { OnOk result (self.new ≡ (wakes self.old now).asker) }
+        ensures output { IfOk result (λ o. o ≡ (wakes self.old now).output) }
+        ensures message { IfOk result (λ o. IsMessage o self.new.session buffer.new.items) }
+        ensures unchanged { OnErr result (self.new ≡ self.old) }
+    {
+        if now < self.wake_at {
+            return Ok(Output::Nothing);
+        }
+        match self.stage {
+            Stage::Waiting => {
+                let first = self.first;
+                let numbers_left = self.numbers_left;
+                self.test(buffer, now, first, numbers_left)
+            }
+            Stage::Asking => self.send_or_test(buffer, now),
+            _ => Ok(Output::Nothing),
+        }
+    }
+
+    /// There was no way for the message that was handed out. If none of the request left before, that ends the asking.
+    pub fn unsent(&mut self) -> Output
+        ensures asker { self.new ≡ (unsents self.old).asker }
+        ensures output { result ≡ (unsents self.old).output }
+    {
+        match self.stage {
+            Stage::Asking if self.is_out => {
+                self.is_out = false;
+                if self.has_left {
+                    Output::Nothing
+                } else {
+                    self.fail()
+                }
+            }
+            _ => Output::Nothing,
+        }
+    }
+
+    /// The session is in its file, on the disk.
+    pub fn saved(&mut self, buffer: &mut Buffer, now: u64) -> Output
+        ensures asker { self.new ≡ (saved self.old now).asker }
+        ensures output { result ≡ (saved self.old now).output }
+        ensures message { IsMessage result self.new.session buffer.new.items }
+    {
+        match self.stage {
+            Stage::Saving => self.go_on_saved(buffer, now),
+            _ => Output::Nothing,
+        }
+    }
+
+    /// What was handed out to be noted is written where the owner keeps it. Memory is asked for the dataField of a request alone; if
+    /// it is refused, the asker stays as it was.
+    pub fn noted(&mut self) -> Result<Output, BeginError>
+        ensures asker { OnOk result (self.new ≡ (noted self.old).asker) }
+        ensures output { IfOk result (λ o. o ≡ (noted self.old).output) }
+        ensures unchanged { OnErr result (self.new ≡ self.old) }
+    {
+        match self.stage {
+            Stage::Noting => self.begin_wanted(),
+            Stage::Telling => Ok(self.save()),
+            _ => Ok(Output::Nothing),
+        }
+    }
+
+    // ---- parts of turns
+
+    fn at_rest(
+        alloc: Global,
+        settings: Settings,
+        drawn: [u8; DRAWN_OCTETS],
+        session: Session,
+        first: u16,
+        is_kept: bool,
+        earlier: Earlier,
+        numbers_left: u8,
+    ) -> Asker
+        requires { AreSettings settings }
+        ensures { result ≡ at_rest settings drawn session first is_kept earlier numbers_left }
+    {
+        Asker {
+            alloc,
+            settings,
+            drawn,
+            session,
+            first,
+            stage: Stage::Resting,
+            wanted: None,
+            tag: 0,
+            is_testing: false,
+            is_new: false,
+            is_kept,
+            earlier,
+            numbers_left,
+            wake_at: 0,
+            has_left: false,
+            is_out: false,
+        }
+    }
+
+    fn is_busy(&self) -> bool
+        ensures { result ≡ is_busy self.now }
+    {
+        !self.is_resting() || self.earlier.is_unsettled()
+    }
+
+    fn can_settle(&self) -> bool
+        ensures { result ≡ can_settle self.now }
+    {
+        self.is_resting() && self.earlier.is_unsettled()
+    }
+
+    fn is_resting(&self) -> bool
+        ensures { result ≡ is_resting self.now.stage }
+    {
+        matches!(self.stage, Stage::Resting)
+    }
+
+    /// The sequence number of the latest request.
+    fn latest(&self) -> u16
+        ensures { result ≡ latest self.now }
+    {
+        number_of(self.first, self.session.issued())
+    }
+
+    /// The sequence number of the next request.
+    fn next(&self) -> u16
+        ensures { result ≡ next self.now }
+    {
+        number_of(self.first, self.session.issued() + 1)
+    }
+
+    /// Goes on with what is wanted. If the question is to be asked, it is begun.
+    fn go_on(&mut self, buffer: &mut Buffer, now: u64) -> Output
+        ensures asker { self.new ≡ (goes_on_asking self.old now).asker }
+        ensures output { result ≡ (goes_on_asking self.old now).output }
+        ensures message { IsMessage result self.new.session buffer.new.items }
+    {
+        if self.earlier.is_left_question() {
+            self.is_testing = true;
+            self.resume(buffer, now)
+        } else if self.is_new {
+            self.announce()
+        } else if self.is_kept {
+            self.is_testing = true;
+            self.save()
+        } else {
+            let time = now.saturating_add(self.settings.wait);
+            self.stage = Stage::Waiting;
+            self.wake_at = time;
+            Output::WakeAt { time }
+        }
+    }
+
+    fn save(&mut self) -> Output
+        ensures asker { self.new ≡ (saves self.old).asker }
+        ensures output { result ≡ (saves self.old).output }
+    {
+        self.stage = Stage::Saving;
+        Output::Save
+    }
+
+    fn announce(&mut self) -> Output
+        ensures asker { self.new ≡ (announces self.old).asker }
+        ensures output { result ≡ (announces self.old).output }
+    {
+        self.stage = Stage::Noting;
+        self.is_testing = false;
+        Output::Begun {
+            tag: self.tag,
+            number: self.next(),
+        }
+    }
+
+    fn fail(&mut self) -> Output
+        ensures asker { self.new ≡ (fails self.old).asker }
+        ensures output { result ≡ (fails self.old).output }
+    {
+        self.stage = Stage::Over;
+        Output::Failed {
+            was_sent: self.has_left || self.is_out,
+        }
+    }
+
+    /// What was sent leaves with this message in the buffer.
+    fn note_sent(&mut self, now: u64) -> Output
+        ensures asker { self.new ≡ has_sent self.old now }
+        ensures output { result ≡ Output.Send (later now self.old.settings.timeout) }
+    {
+        let wake_at = now.saturating_add(self.settings.timeout);
+        self.stage = Stage::Asking;
+        self.wake_at = wake_at;
+        self.has_left = self.has_left || self.is_out;
+        self.is_out = true;
+        Output::Send { wake_at }
+    }
+
+    /// Sends the request under way, while attempts are left.
+    fn send(&mut self, buffer: &mut Buffer, now: u64) -> Output
+        ensures asker { self.new ≡ (sends self.old now).asker }
+        ensures output { result ≡ (sends self.old now).output }
+        ensures message { IsMessage result self.new.session buffer.new.items }
+    {
+        match self.session.send(buffer) {
+            Ok(()) => self.note_sent(now),
+            Err(_) => self.fail(),
+        }
+    }
+
+    /// Sends the request under way with all attempts of this run.
+    fn resume(&mut self, buffer: &mut Buffer, now: u64) -> Output
+        ensures asker { self.new ≡ (resumes self.old now).asker }
+        ensures output { result ≡ (resumes self.old now).output }
+        ensures message { IsMessage result self.new.session buffer.new.items }
+    {
+        match self.session.resume(self.settings.attempts) {
+            Ok(()) => {
+                self.has_left = false;
+                self.is_out = false;
+                self.send(buffer, now)
+            }
+            Err(_) => self.fail(),
+        }
+    }
+
+    /// Sends the request under way, or asks whether the next number is new.
+    fn send_or_test(&mut self, buffer: &mut Buffer, now: u64) -> Result<Output, BeginError>
+        ensures asker { OnOk result (self.new ≡ (sends_or_tests self.old now).asker) }
+        ensures output { IfOk result (λ o. o ≡ (sends_or_tests self.old now).output) }
+        ensures message { IfOk result (λ o. IsMessage o self.new.session buffer.new.items) }
+        ensures unchanged { OnErr result (self.new ≡ self.old) }
+    {
+        match self.session.send(buffer) {
+            Ok(()) => Ok(self.note_sent(now)),
+            Err(_) if self.is_testing && !self.is_kept && self.numbers_left > 0 => {
+                let first = ((self.first as u32 + APART as u32) % 65_536) as u16;
+                let numbers_left = self.numbers_left - 1;
+                self.test(buffer, now, first, numbers_left)
+            }
+            Err(_) => Ok(self.fail()),
+        }
+    }
+
+    /// Asks in a session at this number whether it is new.
+    fn test(
+        &mut self,
+        buffer: &mut Buffer,
+        now: u64,
+        first: u16,
+        numbers_left: u8,
+    ) -> Result<Output, BeginError>
+        ensures asker { OnOk result
+            (self.new ≡ (tests_wanted self.old first numbers_left self.old.wanted now).asker) }
+        ensures output { IfOk result
+            (λ o. o ≡ (tests_wanted self.old first numbers_left self.old.wanted now).output) }
+        ensures message { IfOk result (λ o. IsMessage o self.new.session buffer.new.items) }
+        ensures unchanged { OnErr result (self.new ≡ self.old) }
+    {
+        let Some(wanted) = &self.wanted else {
+            return Ok(Output::Nothing);
+        };
+        let mut session = self
+            .settings
+            .fresh_session(self.alloc, first, self.session.domain());
+        begin_question(&mut session, wanted, &self.drawn)?;
+        self.session = session;
+        self.first = first;
+        self.numbers_left = numbers_left;
+        self.is_testing = true;
+        self.has_left = false;
+        self.is_out = false;
+        Ok(self.send(buffer, now))
+    }
+
+    /// Takes the answer to the request under way.
+    fn take(&mut self, outcome: Outcome) -> Output
+        ensures asker { self.new ≡ (is_answered (settled self.old) outcome).asker }
+        ensures output { result ≡ (is_answered (settled self.old) outcome).output }
+    {
+        self.earlier = Earlier::NoRequest;
+        if !self.is_testing {
+            self.stage = Stage::Telling;
+            return Output::Told {
+                tag: self.tag,
+                number: self.latest(),
+                outcome,
+            };
+        }
+        self.is_new = true;
+        if self.is_kept {
+            return self.announce();
+        }
+        self.is_kept = true;
+        self.save()
+    }
+
+    /// Sends what is under way. If nothing is, announces what is wanted.
+    fn go_on_saved(&mut self, buffer: &mut Buffer, now: u64) -> Output
+        ensures asker { self.new ≡ (goes_on_saved self.old now).asker }
+        ensures output { result ≡ (goes_on_saved self.old now).output }
+        ensures message { IsMessage result self.new.session buffer.new.items }
+    {
+        match self.session.resume(self.settings.attempts) {
+            Ok(()) => {
+                self.has_left = false;
+                self.is_out = false;
+                self.send(buffer, now)
+            }
+            Err(_) => match &self.wanted {
+                Some(_) => self.announce(),
+                None => {
+                    self.stage = Stage::Resting;
+                    Output::Nothing
+                }
+            },
+        }
+    }
+
+    /// Begins what is wanted.
+    fn begin_wanted(&mut self) -> Result<Output, BeginError>
+        ensures asker { OnOk result (self.new ≡ (begins_wanted self.old self.old.wanted).asker) }
+        ensures output { IfOk result (λ o. o ≡ (begins_wanted self.old self.old.wanted).output) }
+        ensures unchanged { OnErr result (self.new ≡ self.old) }
+    {
+        let Some(wanted) = &self.wanted else {
+            return Ok(Output::Nothing);
+        };
+        self.session.begin(wanted)?;
+        self.wanted = None;
+        self.is_testing = false;
+        Ok(self.save())
+    }
+}
+
+/// The sequence number of the k-th request of a session whose first has this number.
+fn number_of(first: u16, k: u64) -> u16
+    requires { k ≤ 1000001 }
+    ensures { result ≡ number_of first k }
+{
+    ((first as u64 + k.saturating_sub(1)) % 65_536) as u16
+}
+
+/// The number of the first request that an image has; 0 of octets that are too few for one.
+fn first_in(image: &[u8]) -> u16
+    ensures { result ≡ first_in image.now }
+{
+    if image.len() >= 53 { u16_at(image, 31) } else { 0 }
+}

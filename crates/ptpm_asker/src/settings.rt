@@ -1,0 +1,62 @@
+//! What an asker is set up with.
+
+ghost use Rattle.std.specs.Prelude.{◌≡◌, Err, None, Some, OnOk};
+ghost use Rattle.ptpm_manager.specs.declared.error.BeginError.{BeginError};
+ghost use Rattle.ptpm_manager.specs.Ask.{ask_refusal};
+ghost use Rattle.ptpm_manager.specs.Session.{fresh};
+
+use ptpm_codec::{ClockIdentity, PortIdentity};
+use ptpm_manager::{Ask, BeginError, Session};
+use std::alloc::Global;
+
+/// The manager, its clock, and how requests are sent. Times are in milliseconds.
+#[derive(Clone, Copy, Debug)]
+pub struct Settings {
+    pub me: PortIdentity,
+    /// The clock that is managed.
+    pub target: ClockIdentity,
+    /// How many ports that clock has, 1 to 8.
+    pub ports: u16,
+    /// Both hop fields of a request, in a session that begins here.
+    pub hops: u8,
+    /// How often a request is sent at most.
+    pub attempts: u8,
+    /// How long an answer is waited for before the request is sent again.
+    pub timeout: u64,
+    /// How long a new session waits, longer than any copy is on its way.
+    pub wait: u64,
+}
+
+impl Settings {
+    ghost use Rattle.ptpm_asker.specs.Asker.{AreSettings, setup_with};
+
+    /// A session that begins at this number, in a domain. Takes no memory.
+    pub(crate) fn fresh_session(&self, alloc: Global, first: u16, domain: u8) -> Session
+        requires { AreSettings self.now }
+        ensures { result ≡ fresh (setup_with self.now first) domain }
+    {
+        Session::new(
+            alloc,
+            self.me,
+            self.target,
+            self.ports,
+            domain,
+            first,
+            self.hops,
+            self.attempts,
+        )
+    }
+
+    /// Judges what is asked by itself. It is begun in a session that is let go.
+    #[tactic(auto, unfolding(ptpm_manager::specs::Session::begin_refusal))]
+    pub(crate) fn judge(&self, alloc: Global, wanted: &Ask) -> Result<(), BeginError>
+        requires { AreSettings self.now }
+        ensures permitted { OnOk result (ask_refusal self.now.ports wanted.now ≡ None) }
+        ensures refused { (e : BeginError)
+            → ask_refusal self.now.ports wanted.now ≡ Some e
+            → result ≡ Err e }
+    {
+        let mut session = self.fresh_session(alloc, 0, 0);
+        session.begin(wanted)
+    }
+}
