@@ -1,3 +1,6 @@
 pub mod Opening
 pub mod Standing
 pub mod Parts
+pub mod Inputs
+pub mod Ends
+pub mod Allowed

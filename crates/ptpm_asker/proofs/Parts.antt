@@ -1,5 +1,5 @@
 -- Turns that others are made of, and how they go on.
-use Rattle.std.proofs.Common.{◌≡◌, ◌≤◌, ℕ, ◌+◌, Bool, true, false, List, [], ◌∷◌, length, take, Option, Some, None, inl, inr, refl, sym, ap, subst, is_some, cond, if◌then◌else◌, arith}
+use Rattle.std.proofs.Common.{◌≡◌, ◌≤◌, ℕ, ◌+◌, Bool, true, false, List, [], ◌∷◌, length, take, Option, Some, None, inl, inr, refl, sym, ap, subst, is_some, cond, ◌==◌, ◌&&◌, ◌||◌, arith}
 use Rattle.std.proofs.lemmas.Bool.{cases_Bool, cond-true, cond-false}
 use Rattle.std.proofs.lemmas.List.{length-take-le}
 use Rattle.ptpm_data.specs.ManagementId.{is_of_port}
@@ -110,5 +110,13 @@ told_leaves f s notes h = told_may f.unanswered f s notes h
 taken : (drawn : List ℕ) (n : ℕ) → length drawn ≡ 26 → n ≤ 26 → length (take n drawn) ≡ n
 taken drawn n h l = let le : n ≤ length drawn = omega arith in length-take-le n drawn le
 
+one_of : (b : Bool) (drawn : List ℕ)
+    → length drawn ≡ 26
+    → ((cond b 0x2004 0x2000 == 0x2000) && (length (take (cond b 26 20) drawn) == 20))
+    || ((cond b 0x2004 0x2000 == 0x2004) && (length (take (cond b 26 20) drawn) == 26))
+    ≡ true
+one_of true drawn h = subst (λ (n : ℕ). (n == 26) ≡ true) (sym (taken drawn 26 h (omega arith))) refl
+one_of false drawn h = subst (λ (n : ℕ). ((n == 20) || false) ≡ true) (sym (taken drawn 20 h (omega arith))) refl
+
 pub is_one : (drawn : List ℕ) (wanted : Ask) → length drawn ≡ 26 → is_question (request_of (question drawn wanted)) ≡ true
-is_one drawn wanted h = ?
+is_one drawn wanted h = one_of (is_of_port wanted.id) drawn h

@@ -126,4 +126,4 @@ goes_on_after d m due t h g = record { allowed = (h, g.allowed); live = g.live; 
 
 pub goes_if : (b : Bool) (d : Desk) (due : List Move) (t u : Turn)
     → (b ≡ true → GoesOn d due t) → (b ≡ false → GoesOn d due u) → GoesOn d due (if b then t else u)
-goes_if b d due t u yes no = cond_both b t u (λ v. GoesOn d due v) yes no
+goes_if b d due t u p q = cond_both b t u (λ v. GoesOn d due v) p q

@@ -186,7 +186,7 @@ lets_go a =
 abbrev pub is_answered : AskerValue → Outcome → Turn
 is_answered a outcome =
     if a.is_testing then
-        (if a.is_kept then announces (record a { is_new = true }) else saves (record a { is_new = true; is_kept = true }))
+        (if a.is_kept then announces (record a { is_new = true }) else saves (record a { is_new = true }))
     else turn (record a { stage = stages.Telling }) (outputs.Told a.tag (latest a) outcome) []
 
 -- nothing of an earlier run is under way
@@ -279,9 +279,10 @@ abbrev pub goes_on : Option Ask → AskerValue → Turn
 goes_on None a = rests a
 goes_on (Some wanted) a = announces a
 
--- what is under way is sent; or what is wanted is announced
+-- there is a file now; what is under way is sent; or what is wanted is announced
 abbrev pub goes_on_saved : AskerValue → ℕ → Turn
-goes_on_saved a now = if is_waiting a.session then resumes a now else goes_on a.wanted a
+goes_on_saved a now =
+    if is_waiting a.session then resumes (record a { is_kept = true }) now else goes_on a.wanted (record a { is_kept = true })
 
 abbrev pub saved_at : Stage → AskerValue → ℕ → Turn
 saved_at stages.Resting a now = idle a
@@ -298,7 +299,7 @@ saved a now = saved_at a.stage a now
 -- ---- noted
 
 abbrev pub begins_wanted : AskerValue → Option Ask → Turn
-begins_wanted a None = idle a
+begins_wanted a None = rests a
 begins_wanted a (Some wanted) =
     after_moves (Begins a.tag wanted ∷ [])
     (saves (record a { session = begun a.session (request_of wanted); wanted = None; is_testing = false }))

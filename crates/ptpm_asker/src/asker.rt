@@ -518,10 +518,10 @@ impl Asker {
         }
         self.is_new = true;
         if self.is_kept {
-            return self.announce();
+            self.announce()
+        } else {
+            self.save()
         }
-        self.is_kept = true;
-        self.save()
     }
 
     /// Sends what is under way. If nothing is, announces what is wanted.
@@ -530,6 +530,7 @@ impl Asker {
         ensures output { result ≡ (goes_on_saved self.old now).output }
         ensures message { IsMessage result self.new.session buffer.new.items }
     {
+        self.is_kept = true;
         match self.session.resume(self.settings.attempts) {
             Ok(()) => {
                 self.has_left = false;
@@ -553,6 +554,7 @@ impl Asker {
         ensures unchanged { OnErr result (self.new ≡ self.old) }
     {
         let Some(wanted) = &self.wanted else {
+            self.stage = Stage::Resting;
             return Ok(Output::Nothing);
         };
         self.session.begin(wanted)?;

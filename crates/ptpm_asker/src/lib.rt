@@ -6,6 +6,7 @@
 
 mod asker;
 mod earlier;
+mod laws;
 mod output;
 mod question;
 mod settings;
@@ -13,6 +14,7 @@ mod stage;
 
 pub use asker::Asker;
 pub use earlier::Earlier;
+pub use laws::asker_is_allowed;
 pub use output::Output;
 pub use question::DRAWN_OCTETS;
 pub use settings::Settings;
