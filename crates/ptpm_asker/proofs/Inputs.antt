@@ -22,7 +22,7 @@ use Rattle.ptpm_asker.specs.declared.stage.Stage.TheVariants as stages
 use Rattle.ptpm_asker.specs.Asker.{AskerValue, setup_with}
 use Rattle.ptpm_asker.specs.Desk.{Begins, Desk, HasIt, HasRequest, Heard, Hears, IsBegun, IsLetGo, IsTold, LeavesTold, LetsGo, Move, Note, Notes, Retunes, SaysBegun, Saves, Starts, heard_after, latest_number, moved, next_number}
 use Rattle.ptpm_asker.specs.Question.{asks_question, question}
-use Rattle.ptpm_asker.specs.Turns.{Turn, after_moves, announces, asked_of, asks, asks_in_session, asks_refusal, begins_wanted, can_settle, fails, goes_on, goes_on_asking, goes_on_saved, has_more_numbers, has_no_way, heard_as, hears_at, idle, is_answered, is_busy, is_left_question, is_resting, is_unsettled, later, latest, lets_go, lets_go_refusal, next, resumes, rests, saves, sends, sends_or_tests, settled, settles, settling_domain, tested, tests_wanted, turn, unsents_at, wakes, wakes_at, with_question}
+use Rattle.ptpm_asker.specs.Turns.{Turn, after_moves, announces, as_earlier, asked_of, asks, asks_in_session, asks_refusal, begins_wanted, can_settle, fails, goes_on, goes_on_asking, goes_on_saved, has_more_numbers, has_no_way, heard_as, hears_at, idle, is_answered, is_busy, is_left_question, is_resting, is_unsettled, later, latest, lets_go, lets_go_refusal, next, resumes, rests, saves, sends, sends_or_tests, settled, settles, settling_domain, tested, tests_wanted, turn, unsents_at, wakes, wakes_at, with_question}
 use Rattle.ptpm_asker.specs.Allowed.{done_at}
 use Rattle.ptpm_asker.proofs.Standing.{Goes, GoesOn, IsAsking, IsAtRest, IsFree, IsFreeOf, IsNoting, IsOfLatest, IsQuestionLeft, IsResting, IsSaving, IsTelling, IsUnderWay, IsWaiting, IsWell, RestsWith, Stands, StandsAt, TestsQuestion, desk, goes_after, goes_if, goes_on_after}
 use Rattle.ptpm_asker.proofs.Parts.{announces_so, fails_so, free_leaves, idles, is_one, resumes_so, saves_so, sends_so, told_leaves}
@@ -286,6 +286,22 @@ wakes_so stages.Over a file notes heard due now all here = idles a file notes he
 
 -- ---- unsent
 
+unsettled_so : (e : Earlier) (file : Option SessionValue) (s : SessionValue)
+    → IsUnderWay file s
+    → RestsWith (if is_unsettled e then e else earlier.Changes) file s
+unsettled_so earlier.NoRequest file s under = under
+unsettled_so earlier.Question file s under = under
+unsettled_so earlier.Reads file s under = under
+unsettled_so (earlier.MovesTo domain) file s under = under
+unsettled_so earlier.Changes file s under = under
+
+left_so : (is_testing : Bool) (e : Earlier) (file : Option SessionValue) (s : SessionValue)
+    → IsUnderWay file s
+    → (is_testing ≡ true → asks_question s.unanswered ≡ true)
+    → RestsWith (as_earlier is_testing e) file s
+left_so true e file s under asks = record { under_way = under; asks = asks refl }
+left_so false e file s under asks = unsettled_so e file s under
+
 pub unsents_so : (st : Stage) (a : AskerValue) (file : Option SessionValue) (notes : List Note) (heard : Option Heard) (due : List Move)
     → Stands a file notes heard due
     → StandsAt st a file notes heard due
@@ -301,11 +317,22 @@ unsents_so stages.Asking a file notes heard due all here is =
     let v : IsWell b file = record { size = all.well.size; first = all.well.first; unkept = all.well.unkept } in
     let h : StandsAt stages.Asking b file notes heard due = record { due_is = here.due_is; under_way = here.under_way; tests = here.tests } in
     let at : StandsAt b.stage b file notes heard due = subst (λ (s : Stage). StandsAt s b file notes heard due) (sym is) h in
-    goes_if (not a.is_out) d due (idle a) (if a.has_left then turn b outputs.Nothing [] else fails b)
+    let what = as_earlier a.is_testing a.earlier in
+    let c = record b { stage = stages.Resting; earlier = what } in
+    let out = turn c (outputs.Failed false) [] in
+    let rests : RestsWith what file a.session = left_so a.is_testing a.earlier file a.session here.under_way (λ t. here.tests t here.under_way.waiting) in
+    goes_if (not a.is_out) d due (idle a) (if a.has_left then turn b outputs.Nothing [] else out)
     (λ _. idles a file notes heard due all)
-    (λ _. goes_if a.has_left d due (turn b outputs.Nothing []) (fails b)
+    (λ _. goes_if a.has_left d due (turn b outputs.Nothing []) out
         (λ _. record { allowed = tt; live = refl; stands = record { well = v; at = at } })
-        (λ _. fails_so b file notes heard due v))
+        (λ _. record {
+          allowed = tt;
+          live = refl;
+          stands = record {
+            well = record { size = v.size; first = v.first; unkept = v.unkept };
+            at = record { due_is = refl; rests = rests };
+          };
+        }))
 unsents_so stages.Telling a file notes heard due all here is = idles a file notes heard due all
 unsents_so stages.Over a file notes heard due all here is = idles a file notes heard due all
 

@@ -251,12 +251,19 @@ wakes a now = if nat_lt now a.wake_at then idle a else wakes_at a.stage a now
 
 -- ---- unsent
 
--- there is no way for the message that was handed out
+-- what a request of this run is to the next
+abbrev pub as_earlier : Bool → Earlier → Earlier
+as_earlier is_testing what =
+    if is_testing then earlier.Question else if is_unsettled what then what else earlier.Changes
+
+-- There is no way for the message that was handed out. If none of the request left before, it is as one of an earlier run.
 abbrev pub has_no_way : AskerValue → Turn
 has_no_way a =
     if not a.is_out then idle a
     else if a.has_left then turn (record a { is_out = false }) outputs.Nothing []
-    else fails (record a { is_out = false })
+    else turn
+        (record a { stage = stages.Resting; earlier = as_earlier a.is_testing a.earlier; is_out = false })
+        (outputs.Failed false) []
 
 abbrev pub unsents_at : Stage → AskerValue → Turn
 unsents_at stages.Resting a = idle a

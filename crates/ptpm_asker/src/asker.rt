@@ -249,7 +249,8 @@ impl Asker {
         }
     }
 
-    /// There was no way for the message that was handed out. If none of the request left before, that ends the asking.
+    /// There was no way for the message that was handed out. If none of the request left before, it is as one of an earlier run: it
+    /// can be settled or let go. If it is a question, it is sent again for the next request.
     pub fn unsent(&mut self) -> Output
         ensures asker { self.new ≡ (unsents self.old).asker }
         ensures output { result ≡ (unsents self.old).output }
@@ -258,10 +259,11 @@ impl Asker {
             Stage::Asking if self.is_out => {
                 self.is_out = false;
                 if self.has_left {
-                    Output::Nothing
-                } else {
-                    self.fail()
+                    return Output::Nothing;
                 }
+                self.stage = Stage::Resting;
+                self.earlier = self.earlier.of_next_run(self.is_testing);
+                Output::Failed { was_sent: false }
             }
             _ => Output::Nothing,
         }

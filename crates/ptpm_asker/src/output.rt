@@ -20,6 +20,6 @@ pub enum Output {
         number: u16,
         outcome: Outcome,
     },
-    /// There is no answer. The request stays in the file. `was_sent` is false if no message of it left.
+    /// There is no answer. The request stays in the file. `was_sent` is false if there was no way for any message of it.
     Failed { was_sent: bool },
 }
