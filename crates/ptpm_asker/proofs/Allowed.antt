@@ -104,7 +104,7 @@ one x (Asks now tag wanted domain) h =
     goes_if (is_some r) (desk_of x) x.due (idle a) (asks a now tag wanted domain)
     (λ _. idles a x.file x.notes x.heard x.due h)
     (λ (p : is_some r ≡ false).
-        asks_at a.stage a x.file x.notes x.heard x.due now tag wanted domain h h.at (not_busy (is_busy a) (ask_refusal a.settings.ports wanted) p))
+    asks_at a.stage a x.file x.notes x.heard x.due now tag wanted domain h h.at (not_busy (is_busy a) (ask_refusal a.settings.ports wanted) p))
 one x (Settles now tag domain) h =
     let a = x.asker in
     goes_if (can_settle a) (desk_of x) x.due (settles a now tag domain) (idle a)
@@ -116,7 +116,7 @@ one x GivesUp h =
     goes_if (is_some r) (desk_of x) x.due (idle a) (lets_go a)
     (λ _. idles a x.file x.notes x.heard x.due h)
     (λ (p : is_some r ≡ false).
-        lets_go_at a.stage a x.file x.notes x.heard x.due h h.at (can (can_settle a) (give_up_refusal a.session) p))
+    lets_go_at a.stage a x.file x.notes x.heard x.due h h.at (can (can_settle a) (give_up_refusal a.session) p))
 one x (Hears datagram) h = hears_so x.asker.stage x.asker x.file x.notes x.heard x.due datagram h h.at
 one x (Wakes now) h =
     let a = x.asker in

@@ -36,7 +36,7 @@ rests_so f (Some q) e =
     let P : Earlier → Type 0 = λ what. RestsWith what (Some f) (anew f) in
     cond_both (is_question q) earlier.Question (by_action q.action q) P
     (λ (h : is_question q ≡ true).
-        record { under_way = under_way f q e; asks = subst (λ (r : Option RequestValue). asks_question r ≡ true) (sym e) h })
+    record { under_way = under_way f q e; asks = subst (λ (r : Option RequestValue). asks_question r ≡ true) (sym e) h })
     (λ _. by_so q.action f q e)
 
 pub reopens_so : (file : Option SessionValue) (s : SessionValue) (notes : List Note) (heard : Option Heard) (o : Opening)
@@ -82,18 +82,18 @@ ends_so stages.Noting a file notes heard due o here =
     let P : List Move → Type 0 = λ m. EndsDone a file notes heard o m in
     subst P (sym here.due_is)
     (goes_after (desk a.session file notes heard) (Notes note) (Crashes ∷ (reopens file o).moves) [] (reopens file o) tt
-        (reopens_so file a.session (note ∷ notes) heard o))
+    (reopens_so file a.session (note ∷ notes) heard o))
 ends_so stages.Saving a file notes heard due o here =
     let s = a.session in
     let P : List Move → Type 0 = λ m. EndsDone a file notes heard o m in
     subst P (sym here.due_is)
     (goes_after (desk s file notes heard) Saves (Crashes ∷ (reopens (Some s) o).moves) [] (reopens (Some s) o) here.leaves
-        (reopens_so (Some s) s notes heard o))
+    (reopens_so (Some s) s notes heard o))
 ends_so stages.Asking a file notes heard due o here = ends_idle a file notes heard due o here.due_is
 ends_so stages.Telling a file notes heard due o here =
     let note = IsTold a.tag (latest a) here.outcome in
     let P : List Move → Type 0 = λ m. EndsDone a file notes heard o m in
     subst P (sym here.due_is)
     (goes_after (desk a.session file notes heard) (Notes note) (Crashes ∷ (reopens file o).moves) [] (reopens file o) here.is_heard
-        (reopens_so file a.session (note ∷ notes) heard o))
+    (reopens_so file a.session (note ∷ notes) heard o))
 ends_so stages.Over a file notes heard due o here = ends_idle a file notes heard due o here

@@ -71,51 +71,51 @@ asks_so a file notes heard now tag wanted domain w rests unsettled =
     let q = with_question b wanted in
     goes_if (asks_in_session a) d [] _ _
     (λ (h : asks_in_session a ≡ true).
-        let parts = and_parts (not (is_left_question a.earlier)) _ h in
-        let left = not_so (is_left_question a.earlier) parts.0 in
-        let none = not_both a.earlier left unsettled in
-        let at : IsAtRest file a.session = subst (λ (e : Earlier). RestsWith e file a.session) none rests in
-        let inner = and_parts (not a.is_new) _ parts.1 in
-        let known = not_so a.is_new inner.0 in
-        let c = record q { is_testing = true } in
-        let e = desk q.session file notes heard in
-        goes_on_after d (Retunes domain) [] (after_moves (Begins 0 (question a.drawn wanted) ∷ []) (goes_on_asking q now)) tt
-        (goes_on_after (moved d (Retunes domain)) (Begins 0 (question a.drawn wanted)) [] (goes_on_asking q now)
-            (nothing_waits a.session at.nothing, inl (is_one a.drawn wanted w.size))
-            (goes_if (is_left_question a.earlier) e [] _ _
-                (λ (l : is_left_question a.earlier ≡ true). absurd (cc))
-                (λ _. goes_if a.is_new e [] _ _
-                    (λ (n : a.is_new ≡ true). absurd (cc))
-                    (λ _. goes_if a.is_kept e [] (saves c) _
-                        (λ _. saves_so c file notes heard []
-                            (record { size = w.size; first = w.first; unkept = w.unkept })
-                            (free_leaves file c.session notes at.free) (λ t v. is_one a.drawn wanted w.size) none)
-                        (λ (k : a.is_kept ≡ false). absurd (cc)))))))
+    let parts = and_parts (not (is_left_question a.earlier)) _ h in
+    let left = not_so (is_left_question a.earlier) parts.0 in
+    let none = not_both a.earlier left unsettled in
+    let at : IsAtRest file a.session = subst (λ (e : Earlier). RestsWith e file a.session) none rests in
+    let inner = and_parts (not a.is_new) _ parts.1 in
+    let known = not_so a.is_new inner.0 in
+    let c = record q { is_testing = true } in
+    let e = desk q.session file notes heard in
+    goes_on_after d (Retunes domain) [] (after_moves (Begins 0 (question a.drawn wanted) ∷ []) (goes_on_asking q now)) tt
+    (goes_on_after (moved d (Retunes domain)) (Begins 0 (question a.drawn wanted)) [] (goes_on_asking q now)
+    (nothing_waits a.session at.nothing, inl (is_one a.drawn wanted w.size))
+    (goes_if (is_left_question a.earlier) e [] _ _
+    (λ (l : is_left_question a.earlier ≡ true). absurd (cc))
+    (λ _. goes_if a.is_new e [] _ _
+    (λ (n : a.is_new ≡ true). absurd (cc))
+    (λ _. goes_if a.is_kept e [] (saves c) _
+    (λ _. saves_so c file notes heard []
+    (record { size = w.size; first = w.first; unkept = w.unkept })
+    (free_leaves file c.session notes at.free) (λ t v. is_one a.drawn wanted w.size) none)
+    (λ (k : a.is_kept ≡ false). absurd (cc)))))))
     (λ (h : asks_in_session a ≡ false).
-        let e = desk b.session file notes heard in
-        let t = record b { is_testing = true } in
-        goes_on_after d (Retunes domain) [] (goes_on_asking b now) tt
-        (goes_if (is_left_question a.earlier) e [] _ _
-            (λ (l : is_left_question a.earlier ≡ true).
-                let at : IsQuestionLeft file a.session = subst (λ (e : Earlier). RestsWith e file a.session) (left_one a.earlier l) rests in
-                let u : IsUnderWay file t.session = record { waiting = at.under_way.waiting; has = at.under_way.has } in
-                resumes_so t file notes heard [] now (record { size = w.size; first = w.first; unkept = w.unkept }) u (λ x y. at.asks))
-            (λ (l : is_left_question a.earlier ≡ false).
-                let none = not_both a.earlier l unsettled in
-                let at : IsAtRest file a.session = subst (λ (e : Earlier). RestsWith e file a.session) none rests in
-                goes_if a.is_new e [] _ _
-                (λ _. announces_so b file notes heard [] (record { size = w.size; first = w.first; unkept = w.unkept })
-                    (record { nothing = at.nothing; free = at.free }) none)
-                (λ (n : a.is_new ≡ false). goes_if a.is_kept e [] (saves t) (waits b now)
-                    (λ (k : a.is_kept ≡ true). absurd (in_session (is_left_question a.earlier) a.is_new a.is_kept l n k h))
-                    (λ (k : a.is_kept ≡ false). record {
-                      allowed = tt;
-                      live = refl;
-                      stands = record {
-                        well = record { size = w.size; first = w.first; unkept = w.unkept };
-                        at = record { due_is = refl; nothing = at.nothing; unkept = k };
-                      };
-                    })))))
+    let e = desk b.session file notes heard in
+    let t = record b { is_testing = true } in
+    goes_on_after d (Retunes domain) [] (goes_on_asking b now) tt
+    (goes_if (is_left_question a.earlier) e [] _ _
+    (λ (l : is_left_question a.earlier ≡ true).
+    let at : IsQuestionLeft file a.session = subst (λ (e : Earlier). RestsWith e file a.session) (left_one a.earlier l) rests in
+    let u : IsUnderWay file t.session = record { waiting = at.under_way.waiting; has = at.under_way.has } in
+    resumes_so t file notes heard [] now (record { size = w.size; first = w.first; unkept = w.unkept }) u (λ x y. at.asks))
+    (λ (l : is_left_question a.earlier ≡ false).
+    let none = not_both a.earlier l unsettled in
+    let at : IsAtRest file a.session = subst (λ (e : Earlier). RestsWith e file a.session) none rests in
+    goes_if a.is_new e [] _ _
+    (λ _. announces_so b file notes heard [] (record { size = w.size; first = w.first; unkept = w.unkept })
+    (record { nothing = at.nothing; free = at.free }) none)
+    (λ (n : a.is_new ≡ false). goes_if a.is_kept e [] (saves t) (waits b now)
+    (λ (k : a.is_kept ≡ true). absurd (in_session (is_left_question a.earlier) a.is_new a.is_kept l n k h))
+    (λ (k : a.is_kept ≡ false). record {
+      allowed = tt;
+      live = refl;
+      stands = record {
+        well = record { size = w.size; first = w.first; unkept = w.unkept };
+        at = record { due_is = refl; nothing = at.nothing; unkept = k };
+      };
+    })))))
 
 -- ---- settle and let_go
 
@@ -128,7 +128,7 @@ settles_so a file notes heard now tag domain w under =
     let b = record a { session = retuned a.session there; tag = tag; is_testing = false } in
     goes_on_after (desk a.session file notes heard) (Retunes there) [] (resumes b now) tt
     (resumes_so b file notes heard [] now (record { size = w.size; first = w.first; unkept = w.unkept })
-        (record { waiting = under.waiting; has = under.has }) (λ (t : false ≡ true) v. absurd (cc)))
+    (record { waiting = under.waiting; has = under.has }) (λ (t : false ≡ true) v. absurd (cc)))
 
 let_go_leaves : (file : Option SessionValue) (s : SessionValue) (notes : List Note)
     → HasIt file s
@@ -146,10 +146,10 @@ lets_go_so a file notes heard w under =
     let note = IsLetGo (latest a) in
     let same = ap (λ n. number_of n a.session.issued) w.first in
     let leaves : LeavesTold file b.session (note ∷ notes) =
-        subst (λ (n : ℕ). LeavesTold file (given_up a.session) (IsLetGo n ∷ notes)) (sym same) (let_go_leaves file a.session notes under.has) in
+    subst (λ (n : ℕ). LeavesTold file (given_up a.session) (IsLetGo n ∷ notes)) (sym same) (let_go_leaves file a.session notes under.has) in
     goes_on_after d (Notes note) [] (after_moves (LetsGo ∷ []) (saves b)) tt
     (goes_on_after (moved d (Notes note)) LetsGo [] (saves b) same
-        (saves_so b file (note ∷ notes) heard [] (record { size = w.size; first = w.first; unkept = w.unkept }) leaves (λ t (v : false ≡ true). absurd (cc)) refl))
+    (saves_so b file (note ∷ notes) heard [] (record { size = w.size; first = w.first; unkept = w.unkept }) leaves (λ t (v : false ≡ true). absurd (cc)) refl))
 
 -- ---- hear
 
@@ -180,12 +180,12 @@ answered_so a file notes outcome w under tests =
     let same = ap (λ n. number_of n a.session.issued) w.first in
     goes_if a.is_testing d [] (if a.is_kept then announces c else saves c) (turn (record b { stage = stages.Telling }) (outputs.Told a.tag (latest a) outcome) [])
     (λ (t : a.is_testing ≡ true). goes_if a.is_kept d [] (announces c) (saves c)
-        (λ _. announces_so c file notes (Some said) [] (record { size = w.size; first = w.first; unkept = w.unkept })
-            (record { nothing = refl; free = free_by file a.session.unanswered (latest_number a.session) under.has (tests t under.waiting) }) refl)
-        (λ (u : a.is_kept ≡ false). saves_so c file notes (Some said) []
-            (record { size = w.size; first = w.first; unkept = w.unkept })
-            (subst (λ (f : Option SessionValue). LeavesTold f c.session notes) (sym (w.unkept u)) tt)
-            (λ t (v : false ≡ true). absurd (cc)) refl))
+    (λ _. announces_so c file notes (Some said) [] (record { size = w.size; first = w.first; unkept = w.unkept })
+    (record { nothing = refl; free = free_by file a.session.unanswered (latest_number a.session) under.has (tests t under.waiting) }) refl)
+    (λ (u : a.is_kept ≡ false). saves_so c file notes (Some said) []
+    (record { size = w.size; first = w.first; unkept = w.unkept })
+    (subst (λ (f : Option SessionValue). LeavesTold f c.session notes) (sym (w.unkept u)) tt)
+    (λ t (v : false ≡ true). absurd (cc)) refl))
     (λ _. record {
       allowed = tt;
       live = refl;
@@ -227,7 +227,7 @@ hears_so stages.Asking a file notes heard due datagram all here =
     let P : List Move → Type 0 = λ m. GoesOn (desk a.session file notes heard) m (hears_at stages.Asking a datagram) in
     subst P (sym here.due_is)
     (goes_on_after (desk a.session file notes heard) (Hears datagram) [] (heard_as a (received_of a.session datagram)) tt
-        (taken_as (received_of a.session datagram) a file notes heard all.well (asking_due a file due here) all_of))
+    (taken_as (received_of a.session datagram) a file notes heard all.well (asking_due a file due here) all_of))
 hears_so stages.Telling a file notes heard due datagram all here = idles a file notes heard due all
 hears_so stages.Over a file notes heard due datagram all here = idles a file notes heard due all
 
@@ -249,10 +249,10 @@ test_so a (Some wanted) file notes heard first numbers_left now all u =
     let has : HasIt file b.session = subst (λ (f : Option SessionValue). HasIt f b.session) (sym no_file) is_question_ in
     goes_on_after d begins [] (after_moves (ask ∷ []) (sends b now)) no_file
     (goes_on_after (moved d begins) ask [] (sends b now) (refl, inl is_question_)
-        (sends_so b file notes heard [] now
-            (record { size = all.well.size; first = refl; unkept = all.well.unkept })
-            (record { waiting = refl; has = has })
-            (λ t v. is_question_)))
+    (sends_so b file notes heard [] now
+    (record { size = all.well.size; first = refl; unkept = all.well.unkept })
+    (record { waiting = refl; has = has })
+    (λ t v. is_question_)))
 
 has_more : (a : AskerValue) (refused : Bool) → (refused && has_more_numbers a) ≡ true → a.is_kept ≡ false
 has_more a refused h =
@@ -278,9 +278,9 @@ wakes_so stages.Asking a file notes heard due now all here =
     let further = tests_wanted a ((a.first + 16384) % 65536) (a.numbers_left - 1) a.wanted now in
     subst P (sym here.due_is)
     (goes_if (is_some (send_refusal a.session) && has_more_numbers a) (desk a.session file notes heard) [] further (sends a now)
-        (λ (h : (is_some (send_refusal a.session) && has_more_numbers a) ≡ true).
-            test_so a a.wanted file notes heard ((a.first + 16384) % 65536) (a.numbers_left - 1) now all_of (has_more a (is_some (send_refusal a.session)) h))
-        (λ _. sends_so a file notes heard [] now all.well here.under_way here.tests))
+    (λ (h : (is_some (send_refusal a.session) && has_more_numbers a) ≡ true).
+    test_so a a.wanted file notes heard ((a.first + 16384) % 65536) (a.numbers_left - 1) now all_of (has_more a (is_some (send_refusal a.session)) h))
+    (λ _. sends_so a file notes heard [] now all.well here.under_way here.tests))
 wakes_so stages.Telling a file notes heard due now all here = idles a file notes heard due all
 wakes_so stages.Over a file notes heard due now all here = idles a file notes heard due all
 
@@ -324,15 +324,15 @@ unsents_so stages.Asking a file notes heard due all here is =
     goes_if (not a.is_out) d due (idle a) (if a.has_left then turn b outputs.Nothing [] else out)
     (λ _. idles a file notes heard due all)
     (λ _. goes_if a.has_left d due (turn b outputs.Nothing []) out
-        (λ _. record { allowed = tt; live = refl; stands = record { well = v; at = at } })
-        (λ _. record {
-          allowed = tt;
-          live = refl;
-          stands = record {
-            well = record { size = v.size; first = v.first; unkept = v.unkept };
-            at = record { due_is = refl; rests = rests };
-          };
-        }))
+    (λ _. record { allowed = tt; live = refl; stands = record { well = v; at = at } })
+    (λ _. record {
+      allowed = tt;
+      live = refl;
+      stands = record {
+        well = record { size = v.size; first = v.first; unkept = v.unkept };
+        at = record { due_is = refl; rests = rests };
+      };
+    }))
 unsents_so stages.Telling a file notes heard due all here is = idles a file notes heard due all
 unsents_so stages.Over a file notes heard due all here is = idles a file notes heard due all
 
@@ -378,11 +378,11 @@ saved_so a file notes heard due now w here =
     let v : IsWell b (Some s) = record { size = w.size; first = w.first; unkept = λ (e : true ≡ false). absurd (cc) } in
     goes_after (desk s file notes heard) Saves (goes_on_saved a now).moves [] (goes_on_saved a now) here.leaves
     (goes_if (is_waiting s) (desk s (Some s) notes heard) [] (resumes b now) (goes_on a.wanted b)
-        (λ (h : is_waiting s ≡ true). resumes_so b (Some s) notes heard [] now v (record { waiting = h; has = (refl, refl) }) here.tests)
-        (λ (h : is_waiting s ≡ false).
-            let nothing = is_none s.unanswered h in
-            goes_on_so a.wanted b (Some s) notes heard v
-            (record { nothing = nothing; free = free_none s.unanswered nothing }) here.none_left))
+    (λ (h : is_waiting s ≡ true). resumes_so b (Some s) notes heard [] now v (record { waiting = h; has = (refl, refl) }) here.tests)
+    (λ (h : is_waiting s ≡ false).
+    let nothing = is_none s.unanswered h in
+    goes_on_so a.wanted b (Some s) notes heard v
+    (record { nothing = nothing; free = free_none s.unanswered nothing }) here.none_left))
 
 begins_so : (wanted : Option Ask) (a : AskerValue) (file : Option SessionValue) (notes : List Note) (heard : Option Heard) (due : List Move)
     → IsWell a file
@@ -399,8 +399,8 @@ begins_so (Some wanted) a file notes heard due w here =
     let same = ap (λ n. number_of n (a.session.issued + 1)) w.first in
     goes_after (desk a.session file notes heard) (Notes note) (Begins a.tag wanted ∷ []) [] (begins_wanted a (Some wanted)) tt
     (goes_on_after d (Begins a.tag wanted) [] (saves b) (nothing_waits a.session here.rests.nothing, inr (refl, same))
-        (saves_so b file (note ∷ notes) heard [] (record { size = w.size; first = w.first; unkept = w.unkept })
-            (free_leaves file b.session (note ∷ notes) here.rests.free) (λ (t : false ≡ true) v. absurd (cc)) here.none_left))
+    (saves_so b file (note ∷ notes) heard [] (record { size = w.size; first = w.first; unkept = w.unkept })
+    (free_leaves file b.session (note ∷ notes) here.rests.free) (λ (t : false ≡ true) v. absurd (cc)) here.none_left))
 
 told_file : (file : Option SessionValue) (s : SessionValue) (tag n m : ℕ) (outcome : Outcome) (notes : List Note)
     → IsOfLatest file n
@@ -418,9 +418,9 @@ told_so a file notes heard due w here =
     let same = ap (λ n. number_of n a.session.issued) w.first in
     goes_after (desk a.session file notes heard) (Notes note) [] [] (saves a) here.is_heard
     (saves_so a file (note ∷ notes) heard [] w
-        (told_file file a.session a.tag (latest_number a.session) (latest a) here.outcome notes here.of_latest same)
-        (λ t (v : is_waiting a.session ≡ true). let n = nothing_waits a.session here.nothing in absurd (cc))
-        here.none_left)
+    (told_file file a.session a.tag (latest_number a.session) (latest a) here.outcome notes here.of_latest same)
+    (λ t (v : is_waiting a.session ≡ true). let n = nothing_waits a.session here.nothing in absurd (cc))
+    here.none_left)
 
 nothing_due : (a : AskerValue) (file : Option SessionValue) (notes : List Note) (heard : Option Heard) (due : List Move)
     → Stands a file notes heard due

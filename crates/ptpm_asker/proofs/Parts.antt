@@ -85,7 +85,7 @@ resumes_so a file notes heard due now w under tests =
     let v : IsWell b file = record { size = w.size; first = w.first; unkept = w.unkept } in
     goes_if (is_waiting a.session) (desk a.session file notes heard) due _ (fails a)
     (λ _. goes_on_after (desk a.session file notes heard) (Resumes a.settings.attempts) due (sends b now) tt
-        (sends_so b file notes heard due now v u tests))
+    (sends_so b file notes heard due now v u tests))
     (λ _. fails_so a file notes heard due w)
 
 -- ---- what may be saved

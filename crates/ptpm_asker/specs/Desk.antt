@@ -1,6 +1,6 @@
--- A desk is what one asker has: its session as it is, the session as its file has it, and the notebook of its owner. What may happen
--- at it, in these sentences: nothing is sent that the file has not; nothing leaves the file that the notes have not as told; nothing
--- is begun that the notes have not as begun (this project's profile).
+-- A desk is what one asker has: its session as it is, the session as its file has it, and the notebook of its owner. Nothing is sent
+-- that the file has not. Nothing leaves the file that the notes have not as reported. Nothing is begun that the notes have not as
+-- begun (this project's profile).
 use Rattle.std.specs.Prelude.{◌≡◌, ◌⊎◌, ℕ, ◌+◌, true, false, List, [], ◌∷◌, Option, Some, None}
 use Rattle.ptpm_codec.specs.SequenceNumber.{number_of}
 use Rattle.ptpm_data.specs.Request.{RequestValue}
@@ -109,7 +109,7 @@ SaysTold (IsBegun t n ∷ further) number = ⊥
 SaysTold (IsTold t n outcome ∷ further) number = n ≡ number
 SaysTold (IsLetGo n ∷ further) number = n ≡ number
 
--- what is under way in the file stays there, or is a question, or is told
+-- what is under way in the file stays there, or is a question, or is reported
 abbrev pub MayLeave : Option RequestValue → SessionValue → SessionValue → List Note → Type 0
 MayLeave None f s notes = Unit {0}
 MayLeave (Some q) f s notes = HasIt (Some f) s ⊎ ((is_question q ≡ true) ⊎ SaysTold notes (latest_number f))
@@ -118,7 +118,7 @@ abbrev pub LeavesTold : Option SessionValue → SessionValue → List Note → T
 LeavesTold None s notes = Unit {0}
 LeavesTold (Some f) s notes = MayLeave f.unanswered f s notes
 
--- what is noted as told is what the answer says that was heard
+-- what is noted as reported is what the answer says that was heard
 abbrev pub IsHeard : Note → Option Heard → Type 0
 IsHeard (IsBegun tag number) heard = Unit {0}
 IsHeard (IsTold tag number outcome) heard = heard ≡ Some (record { number = number; outcome = outcome })
@@ -137,7 +137,7 @@ IsAllowed d LetsGo = SaysTold d.notes (latest_number d.live)
 IsAllowed d (Starts setup domain) = d.file ≡ None
 IsAllowed d Crashes = Unit {0}
 
--- each of these moves is, where it comes
+-- each of these moves is allowed in its turn
 abbrev pub AreAllowed : Desk → List Move → Type 0
 AreAllowed d [] = Unit {0}
 AreAllowed d (m ∷ ms) = IsAllowed d m × AreAllowed (moved d m) ms

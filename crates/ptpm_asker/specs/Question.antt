@@ -1,5 +1,5 @@
--- The question whether a session's next number is new to the clock: a GET of a data set that each clock has, with random octets in
--- place of its dataField. A clock ignores them, and takes a repeat for one by them. So an answer shows that the number is new.
+-- The question whether a session's next number is new to the clock: a GET with random octets in place of its dataField. It is
+-- of a data set that each clock has. A clock ignores them, and takes a repeat for one by them. So an answer shows that the number is new.
 -- And what an earlier run left under way (this project's profile).
 use Rattle.std.specs.Prelude.{ℕ, ◌==◌, ◌&&◌, ◌||◌, Bool, true, false, if◌then◌else◌, List, length, take, Option, Some, None}
 use Rattle.ptpm_codec.specs.declared.message.Action.{Action}

@@ -84,8 +84,8 @@ sends a now =
 abbrev pub resumes : AskerValue → ℕ → Turn
 resumes a now =
     if is_waiting a.session then
-        after_moves (Resumes a.settings.attempts ∷ [])
-        (sends (record a { session = resumed a.session a.settings.attempts; has_left = false; is_out = false }) now)
+    after_moves (Resumes a.settings.attempts ∷ [])
+    (sends (record a { session = resumed a.session a.settings.attempts; has_left = false; is_out = false }) now)
     else fails a
 
 -- the owner is to note that what it wants is begun
@@ -149,8 +149,8 @@ with_question a wanted = record a { session = begun a.session (request_of (quest
 abbrev pub asks : AskerValue → ℕ → ℕ → Ask → ℕ → Turn
 asks a now tag wanted domain =
     if asks_in_session a then
-        after_moves (Retunes domain ∷ Begins 0 (question a.drawn wanted) ∷ [])
-        (goes_on_asking (with_question (asked_of a tag wanted domain) wanted) now)
+    after_moves (Retunes domain ∷ Begins 0 (question a.drawn wanted) ∷ [])
+    (goes_on_asking (with_question (asked_of a tag wanted domain) wanted) now)
     else after_moves (Retunes domain ∷ []) (goes_on_asking (asked_of a tag wanted domain) now)
 
 -- ---- settle and let_go
@@ -182,11 +182,11 @@ lets_go a =
 
 -- ---- hear
 
--- an answer to the question shows that the number is new; one to a request is told
+-- an answer to the question shows that the number is new; one to a request is reported
 abbrev pub is_answered : AskerValue → Outcome → Turn
 is_answered a outcome =
     if a.is_testing then
-        (if a.is_kept then announces (record a { is_new = true }) else saves (record a { is_new = true }))
+    (if a.is_kept then announces (record a { is_new = true }) else saves (record a { is_new = true }))
     else turn (record a { stage = stages.Telling }) (outputs.Told a.tag (latest a) outcome) []
 
 -- nothing of an earlier run is under way
@@ -234,7 +234,7 @@ has_more_numbers a = a.is_testing && (not a.is_kept && nat_lt 0 a.numbers_left)
 abbrev pub sends_or_tests : AskerValue → ℕ → Turn
 sends_or_tests a now =
     if is_some (send_refusal a.session) && has_more_numbers a then
-        tests_wanted a ((a.first + 16384) % 65536) (a.numbers_left - 1) a.wanted now
+    tests_wanted a ((a.first + 16384) % 65536) (a.numbers_left - 1) a.wanted now
     else sends a now
 
 abbrev pub wakes_at : Stage → AskerValue → ℕ → Turn
@@ -262,8 +262,8 @@ has_no_way a =
     if not a.is_out then idle a
     else if a.has_left then turn (record a { is_out = false }) outputs.Nothing []
     else turn
-        (record a { stage = stages.Resting; earlier = as_earlier a.is_testing a.earlier; is_out = false })
-        (outputs.Failed false) []
+    (record a { stage = stages.Resting; earlier = as_earlier a.is_testing a.earlier; is_out = false })
+    (outputs.Failed false) []
 
 abbrev pub unsents_at : Stage → AskerValue → Turn
 unsents_at stages.Resting a = idle a

@@ -27,7 +27,7 @@ const APART: u16 = 16_384;
 const FURTHER_NUMBERS: u8 = 3;
 
 /// One manager, one clock, one request at a time. It is handed what came in and what was done, and hands out what is to be done next.
-/// After `Begun`, `Save` and `Told` it hands out nothing before that is done. Contracts see its session and where it stands.
+/// After `Begun`, `Save` and `Told` it hands out nothing before that is done. Contracts see its session and its stage.
 #[derive(Debug, Drop)]
 pub struct Asker {
     alloc: Global,
@@ -85,7 +85,16 @@ impl Asker {
         ensures { result ≡ opened_new settings drawn number }
     {
         let session = settings.fresh_session(alloc, number, 0);
-        Asker::at_rest(alloc, settings, drawn, session, number, false, Earlier::NoRequest, FURTHER_NUMBERS)
+        Asker::at_rest(
+            alloc,
+            settings,
+            drawn,
+            session,
+            number,
+            false,
+            Earlier::NoRequest,
+            FURTHER_NUMBERS,
+        )
     }
 
     /// An asker with the session that its file has. The octets are drawn at random. It is refused for the first reason that holds.
@@ -124,7 +133,7 @@ impl Asker {
         Ok(Asker::at_rest(alloc, settings, drawn, session, first, true, earlier, 0))
     }
 
-    /// Where it stands.
+    /// What it does, or what it waits for.
     pub fn stage(&self) -> Stage
         ensures { result ≡ self.now.stage }
     {
@@ -145,8 +154,8 @@ impl Asker {
         &self.session
     }
 
-    /// Asks a request, which the owner names `tag`, in a domain. It is refused as busy if the asker does not rest or a request of an
-    /// earlier run is not settled; and for what a session refuses. Then the asker stays as it was.
+    /// Asks a request, which the owner names `tag`, in a domain. It is refused as busy if the asker does not rest, or if a request of
+    /// an earlier run is not settled. Then it is refused for what a session refuses. The asker is then as it was.
     pub fn ask(
         &mut self,
         buffer: &mut Buffer,
@@ -211,7 +220,7 @@ impl Asker {
         Ok(self.save())
     }
 
-    /// Hears a datagram. If it answers the request under way, that is told. If it answers the question, the number is new. Otherwise
+    /// Hears a datagram. If it answers the request under way, that is reported. If it answers the question, the number is new. Otherwise
     /// nothing changes. Memory is asked for the dataField of an answer alone; if it is refused, the asker stays as it was.
     pub fn hear(&mut self, datagram: &[u8]) -> Result<Output, OutOfMemory>
         ensures asker { OnOk result (self.new ≡ (hears self.old datagram.now).asker) }
@@ -228,7 +237,7 @@ impl Asker {
         }
     }
 
-    /// Time has come. Earlier than it was told, nothing changes. What was heard before is handed in first.
+    /// Time has come. Earlier than the time that was handed out, nothing changes. What was heard before is handed in first.
     pub fn wake(&mut self, buffer: &mut Buffer, now: u64) -> Result<Output, BeginError>
         ensures asker { OnOk result (self.new ≡ (wakes self.old now).asker) }
         ensures output { IfOk result (λ o. o ≡ (wakes self.old now).output) }
@@ -578,5 +587,9 @@ fn number_of(first: u16, k: u64) -> u16
 fn first_in(image: &[u8]) -> u16
     ensures { result ≡ first_in image.now }
 {
-    if image.len() >= 53 { u16_at(image, 31) } else { 0 }
+    if image.len() >= 53 {
+        u16_at(image, 31)
+    } else {
+        0
+    }
 }

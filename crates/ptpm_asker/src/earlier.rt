@@ -31,7 +31,6 @@ const IS_UNDER_WAY: usize = 52;
 
 impl Earlier {
     ghost use Rattle.ptpm_asker.specs.Question.{earlier_of};
-
     ghost use Rattle.ptpm_asker.specs.Turns.{as_earlier, is_left_question, is_unsettled, settling_domain};
 
     /// What a session's image has under way.
@@ -69,7 +68,10 @@ impl Earlier {
     pub fn is_unsettled(self) -> bool
         ensures { result ≡ is_unsettled self }
     {
-        matches!(self, Earlier::Reads | Earlier::MovesTo(_) | Earlier::Changes)
+        matches!(
+            self,
+            Earlier::Reads | Earlier::MovesTo(_) | Earlier::Changes
+        )
     }
 
     /// Whether it is a question, which is sent again.

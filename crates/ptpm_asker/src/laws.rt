@@ -7,12 +7,12 @@ ghost use Rattle.ptpm_asker.specs.Allowed.{Input, IsAllowedAsker, Opening};
 ghost use Rattle.ptpm_asker.specs.Desk.{Note};
 
 /// An asker keeps to its desk. Let its driver do what it hands out to be saved or noted before it says so. Let inputs come in any
-/// order, and let the program end at any moment, before such a deed or after it, and be opened again with what the file has. Then
-/// all that is sent, saved, noted and begun is allowed:
+/// order. Let the program end at any moment, before such a deed or after it, and be opened again with what the file has. Then all
+/// that is sent, saved, noted and begun is allowed:
 /// - nothing is sent that the file has not, but the question whether a number is new, while there is no file;
-/// - nothing leaves the file that the notes have not as told or given up, but a question;
+/// - nothing leaves the file that the notes have not as reported or given up, but a question;
 /// - nothing is begun that the notes have not as begun, but a question;
-/// - what is noted as told is what an answer says that was heard.
+/// - what is noted as reported is what an answer says that was heard.
 pub fn asker_is_allowed()
     ensures { (o : Opening) (file : Option SessionValue) (notes : List Note) (inputs : List Input) →
         IsAllowedAsker o file notes inputs }

@@ -1,7 +1,7 @@
 //! The asker: one manager asks one clock, one request at a time. It does no input or output, and has no clock and no random source
-//! of its own. It is told what came in and what was done, and hands out what is to be done next. Nothing is sent that the file of
-//! its session has not. Nothing leaves the file that its owner has not noted as told. Nothing is begun that its owner has not noted
-//! as begun.
+//! of its own. It is handed what came in and what was done, and hands out what is to be done next. Nothing is sent that the file of
+//! its session has not. Nothing leaves the file that its owner has not noted as reported. Nothing is begun that its owner has not
+//! noted as begun.
 #![tactic(auto)]
 
 mod asker;

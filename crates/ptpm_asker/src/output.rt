@@ -7,13 +7,20 @@ use ptpm_manager::Outcome;
 pub enum Output {
     Nothing,
     /// The owner notes that its request `tag` is begun under this sequence number, and then says `noted`.
-    Begun { tag: u64, number: u16 },
+    Begun {
+        tag: u64,
+        number: u16,
+    },
     /// The session is saved, and then the owner says `saved`.
     Save,
     /// The message in the buffer is sent. At this time the asker is woken, if it is not answered before.
-    Send { wake_at: u64 },
+    Send {
+        wake_at: u64,
+    },
     /// The asker is woken at this time.
-    WakeAt { time: u64 },
+    WakeAt {
+        time: u64,
+    },
     /// The owner notes what the answer to its request says, and then says `noted`.
     Told {
         tag: u64,
@@ -21,5 +28,7 @@ pub enum Output {
         outcome: Outcome,
     },
     /// There is no answer. The request stays in the file. `was_sent` is false if there was no way for any message of it.
-    Failed { was_sent: bool },
+    Failed {
+        was_sent: bool,
+    },
 }

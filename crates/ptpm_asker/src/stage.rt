@@ -1,4 +1,4 @@
-//! Where an asker stands.
+//! The stages of an asker.
 
 /// What an asker does, or what it waits for.
 #[derive(Clone, Copy, Debug, PartialEq, Eq)]

@@ -4,7 +4,8 @@ ghost use Rattle.ptpm_asker.specs.Asker.{AreSettings};
 
 use ptpm_asker::{Asker, Output, Settings, Stage};
 use ptpm_codec::{
-    Action, Buffer, ClockIdentity, Draft, DraftBody, Octets, OutOfMemory, PortIdentity, encode, u16_at,
+    Action, Buffer, ClockIdentity, Draft, DraftBody, Octets, OutOfMemory, PortIdentity, encode,
+    u16_at,
 };
 use ptpm_manager::{Ask, BeginError, Outcome, SESSION_OCTETS};
 use std::alloc::Global;
@@ -83,17 +84,49 @@ fn a_new_session_tests_its_number_first(rt: HostRuntime) -> Result<(), Fail> {
     let mut buffer = Buffer::new();
     let mut asker = Asker::open_new(rt.alloc(), settings(), 1000, DRAWN);
     let wanted = set_priority1(rt.alloc())?;
-    assert!(rt; matches!(asker.ask(&mut buffer, 0, 5, wanted, 0)?, Output::WakeAt { time: 3000 }));
+    assert!(rt;
+        matches!(
+            asker.ask(&mut buffer, 0, 5, wanted, 0)?,
+            Output::WakeAt { time: 3000 }
+        )
+    );
     assert!(rt; matches!(asker.wake(&mut buffer, 2999)?, Output::Nothing));
-    assert!(rt; matches!(asker.wake(&mut buffer, 3000)?, Output::Send { wake_at: 3200 }));
+    assert!(rt;
+        matches!(
+            asker.wake(&mut buffer, 3000)?,
+            Output::Send { wake_at: 3200 }
+        )
+    );
     assert!(rt; is_request(&buffer, 1000, 0, 0x2000));
     assert!(rt; matches!(hear(&rt, &mut asker, 1000, 0x2000)?, Output::Save));
-    assert!(rt; matches!(asker.saved(&mut buffer, 3100), Output::Begun { tag: 5, number: 1001 }));
+    assert!(rt;
+        matches!(
+            asker.saved(&mut buffer, 3100),
+            Output::Begun {
+                tag: 5,
+                number: 1001
+            }
+        )
+    );
     assert!(rt; matches!(asker.noted()?, Output::Save));
-    assert!(rt; matches!(asker.saved(&mut buffer, 3100), Output::Send { wake_at: 3300 }));
+    assert!(rt;
+        matches!(
+            asker.saved(&mut buffer, 3100),
+            Output::Send { wake_at: 3300 }
+        )
+    );
     assert!(rt; is_request(&buffer, 1001, 1, 0x2005));
     let told = hear(&rt, &mut asker, 1001, 0x2005)?;
-    assert!(rt; matches!(told, Output::Told { tag: 5, number: 1001, outcome: Outcome::Value(_) }));
+    assert!(rt;
+        matches!(
+            told,
+            Output::Told {
+                tag: 5,
+                number: 1001,
+                outcome: Outcome::Value(_)
+            }
+        )
+    );
     assert!(rt; matches!(asker.noted()?, Output::Save));
     assert!(rt; matches!(asker.saved(&mut buffer, 3200), Output::Nothing));
     assert!(rt; asker.stage() == Stage::Resting);
@@ -106,7 +139,12 @@ fn a_number_that_is_not_answered_is_left(rt: HostRuntime) -> Result<(), Fail> {
     let mut buffer = Buffer::new();
     let mut asker = Asker::open_new(rt.alloc(), settings(), 60_000, DRAWN);
     let wanted = set_priority1(rt.alloc())?;
-    assert!(rt; matches!(asker.ask(&mut buffer, 0, 5, wanted, 0)?, Output::WakeAt { .. }));
+    assert!(rt;
+        matches!(
+            asker.ask(&mut buffer, 0, 5, wanted, 0)?,
+            Output::WakeAt { .. }
+        )
+    );
     let mut now: u64 = 0;
     for number in [60_000, 10_848, 27_232, 43_616] {
         for _attempt in 0..2 {
@@ -116,7 +154,12 @@ fn a_number_that_is_not_answered_is_left(rt: HostRuntime) -> Result<(), Fail> {
         }
     }
     now = now.saturating_add(3000);
-    assert!(rt; matches!(asker.wake(&mut buffer, now)?, Output::Failed { was_sent: true }));
+    assert!(rt;
+        matches!(
+            asker.wake(&mut buffer, now)?,
+            Output::Failed { was_sent: true }
+        )
+    );
     assert!(rt; asker.stage() == Stage::Over);
     Ok(())
 }
@@ -143,7 +186,12 @@ fn with_a_file_the_question_is_saved_first(rt: HostRuntime) -> Result<(), Fail> 
     let mut asker = asked_with_file(&rt, rt.alloc(), &mut buffer)?;
     assert!(rt; matches!(asker.saved(&mut buffer, 0), Output::Send { wake_at: 200 }));
     assert!(rt; is_request(&buffer, 7, 0, 0x2000));
-    assert!(rt; matches!(hear(&rt, &mut asker, 7, 0x2000)?, Output::Begun { tag: 5, number: 8 }));
+    assert!(rt;
+        matches!(
+            hear(&rt, &mut asker, 7, 0x2000)?,
+            Output::Begun { tag: 5, number: 8 }
+        )
+    );
     assert!(rt; matches!(asker.noted()?, Output::Save));
     let mut next = reopened(&rt, rt.alloc(), &asker)?;
     let busy = next.ask(&mut buffer, 0, 6, set_priority1(rt.alloc())?, 0);
@@ -166,6 +214,11 @@ fn a_question_that_was_left_is_sent_again(rt: HostRuntime) -> Result<(), Fail> {
     let handed = next.ask(&mut buffer, 0, 6, set_priority1(rt.alloc())?, 0)?;
     assert!(rt; matches!(handed, Output::Send { wake_at: 200 }));
     assert!(rt; is_request(&buffer, 7, 0, 0x2000));
-    assert!(rt; matches!(hear(&rt, &mut next, 7, 0x2000)?, Output::Begun { tag: 6, number: 8 }));
+    assert!(rt;
+        matches!(
+            hear(&rt, &mut next, 7, 0x2000)?,
+            Output::Begun { tag: 6, number: 8 }
+        )
+    );
     Ok(())
 }
