@@ -8,14 +8,14 @@ use Rattle.ptpm_manager.specs.declared.error.BeginError.{BeginError}
 use Rattle.ptpm_manager.specs.declared.error.BeginError.TheVariants as begins
 use Rattle.ptpm_manager.specs.declared.error.GiveUpRefusal.{GiveUpRefusal}
 use Rattle.ptpm_manager.specs.declared.error.GiveUpRefusal.TheVariants as give_ups
-use Rattle.ptpm_manager.specs.Ask.{ask_refusal}
 use Rattle.ptpm_manager.specs.Session.{SessionValue, give_up_refusal}
 use Rattle.ptpm_asker.specs.declared.earlier.Earlier.{Earlier}
 use Rattle.ptpm_asker.specs.declared.earlier.Earlier.TheVariants as earlier
 use Rattle.ptpm_asker.specs.declared.stage.Stage.{Stage}
 use Rattle.ptpm_asker.specs.declared.stage.Stage.TheVariants as stages
 use Rattle.ptpm_asker.specs.Asker.{AskerValue}
-use Rattle.ptpm_asker.specs.Desk.{AreAllowed, Crashes, Desk, Heard, Move, Note, moved, moved_by}
+use Rattle.ptpm_asker.specs.Question.{asked_refusal}
+use Rattle.ptpm_asker.specs.Desk.{AreAllowed, Crashes, Desk, Run, Move, Note, moved, moved_by, new_run}
 use Rattle.ptpm_asker.specs.Turns.{Turn, asks, asks_refusal, can_settle, idle, is_busy, is_resting, is_unsettled, lets_go, lets_go_refusal, settles, wakes, wakes_at}
 use Rattle.ptpm_asker.specs.Allowed.{Asks, Driven, Ends, GivesUp, Hears, Input, IsAllowedAsker, IsDone, IsUnsent, Opening, Settles, Wakes, after_input, all_moves, begins_driven, desk_of, driven_by, left_due, moves_of, reopens, turn_of}
 use Rattle.ptpm_asker.proofs.Standing.{Goes, GoesOn, IsUnderWay, RestsWith, Stands, StandsAt, desk, goes_if}
@@ -42,57 +42,57 @@ under_way earlier.Changes file s u h = h
 
 -- ---- at each stage
 
-asks_at : (st : Stage) (a : AskerValue) (file : Option SessionValue) (notes : List Note) (heard : Option Heard) (due : List Move)
+asks_at : (st : Stage) (a : AskerValue) (file : Option SessionValue) (notes : List Note) (run : Run) (due : List Move)
     (now tag : ℕ) (wanted : Ask) (domain : ℕ)
-    → Stands a file notes heard due
-    → StandsAt st a file notes heard due
+    → Stands a file notes run due
+    → StandsAt st a file notes run due
     → (not (is_resting st) || is_unsettled a.earlier) ≡ false
-    → GoesOn (desk a.session file notes heard) due (asks a now tag wanted domain)
-asks_at stages.Resting a file notes heard due now tag wanted domain all here free =
-    let P : List Move → Type 0 = λ m. GoesOn (desk a.session file notes heard) m (asks a now tag wanted domain) in
-    subst P (sym here.due_is) (asks_so a file notes heard now tag wanted domain all.well here.rests free)
-asks_at stages.Waiting a file notes heard due now tag wanted domain all here free = cc
-asks_at stages.Noting a file notes heard due now tag wanted domain all here free = cc
-asks_at stages.Saving a file notes heard due now tag wanted domain all here free = cc
-asks_at stages.Asking a file notes heard due now tag wanted domain all here free = cc
-asks_at stages.Telling a file notes heard due now tag wanted domain all here free = cc
-asks_at stages.Over a file notes heard due now tag wanted domain all here free = cc
+    → GoesOn (desk a.session file notes run) due (asks a now tag wanted domain)
+asks_at stages.Resting a file notes run due now tag wanted domain all here free =
+    let P : List Move → Type 0 = λ m. GoesOn (desk a.session file notes run) m (asks a now tag wanted domain) in
+    subst P (sym here.due_is) (asks_so a file notes run now tag wanted domain all.well here.rests free)
+asks_at stages.Waiting a file notes run due now tag wanted domain all here free = cc
+asks_at stages.Noting a file notes run due now tag wanted domain all here free = cc
+asks_at stages.Saving a file notes run due now tag wanted domain all here free = cc
+asks_at stages.Asking a file notes run due now tag wanted domain all here free = cc
+asks_at stages.Telling a file notes run due now tag wanted domain all here free = cc
+asks_at stages.Over a file notes run due now tag wanted domain all here free = cc
 
-settles_at : (st : Stage) (a : AskerValue) (file : Option SessionValue) (notes : List Note) (heard : Option Heard) (due : List Move)
+settles_at : (st : Stage) (a : AskerValue) (file : Option SessionValue) (notes : List Note) (run : Run) (due : List Move)
     (now tag domain : ℕ)
-    → Stands a file notes heard due
-    → StandsAt st a file notes heard due
+    → Stands a file notes run due
+    → StandsAt st a file notes run due
     → (is_resting st && is_unsettled a.earlier) ≡ true
-    → GoesOn (desk a.session file notes heard) due (settles a now tag domain)
-settles_at stages.Resting a file notes heard due now tag domain all here can_ =
-    let P : List Move → Type 0 = λ m. GoesOn (desk a.session file notes heard) m (settles a now tag domain) in
-    subst P (sym here.due_is) (settles_so a file notes heard now tag domain all.well (under_way a.earlier file a.session can_ here.rests))
-settles_at stages.Waiting a file notes heard due now tag domain all here can_ = cc
-settles_at stages.Noting a file notes heard due now tag domain all here can_ = cc
-settles_at stages.Saving a file notes heard due now tag domain all here can_ = cc
-settles_at stages.Asking a file notes heard due now tag domain all here can_ = cc
-settles_at stages.Telling a file notes heard due now tag domain all here can_ = cc
-settles_at stages.Over a file notes heard due now tag domain all here can_ = cc
+    → GoesOn (desk a.session file notes run) due (settles a now tag domain)
+settles_at stages.Resting a file notes run due now tag domain all here can_ =
+    let P : List Move → Type 0 = λ m. GoesOn (desk a.session file notes run) m (settles a now tag domain) in
+    subst P (sym here.due_is) (settles_so a file notes run now tag domain all.well (under_way a.earlier file a.session can_ here.rests) can_)
+settles_at stages.Waiting a file notes run due now tag domain all here can_ = cc
+settles_at stages.Noting a file notes run due now tag domain all here can_ = cc
+settles_at stages.Saving a file notes run due now tag domain all here can_ = cc
+settles_at stages.Asking a file notes run due now tag domain all here can_ = cc
+settles_at stages.Telling a file notes run due now tag domain all here can_ = cc
+settles_at stages.Over a file notes run due now tag domain all here can_ = cc
 
-lets_go_at : (st : Stage) (a : AskerValue) (file : Option SessionValue) (notes : List Note) (heard : Option Heard) (due : List Move)
-    → Stands a file notes heard due
-    → StandsAt st a file notes heard due
+lets_go_at : (st : Stage) (a : AskerValue) (file : Option SessionValue) (notes : List Note) (run : Run) (due : List Move)
+    → Stands a file notes run due
+    → StandsAt st a file notes run due
     → (is_resting st && is_unsettled a.earlier) ≡ true
-    → GoesOn (desk a.session file notes heard) due (lets_go a)
-lets_go_at stages.Resting a file notes heard due all here can_ =
-    let P : List Move → Type 0 = λ m. GoesOn (desk a.session file notes heard) m (lets_go a) in
-    subst P (sym here.due_is) (lets_go_so a file notes heard all.well (under_way a.earlier file a.session can_ here.rests))
-lets_go_at stages.Waiting a file notes heard due all here can_ = cc
-lets_go_at stages.Noting a file notes heard due all here can_ = cc
-lets_go_at stages.Saving a file notes heard due all here can_ = cc
-lets_go_at stages.Asking a file notes heard due all here can_ = cc
-lets_go_at stages.Telling a file notes heard due all here can_ = cc
-lets_go_at stages.Over a file notes heard due all here can_ = cc
+    → GoesOn (desk a.session file notes run) due (lets_go a)
+lets_go_at stages.Resting a file notes run due all here can_ =
+    let P : List Move → Type 0 = λ m. GoesOn (desk a.session file notes run) m (lets_go a) in
+    subst P (sym here.due_is) (lets_go_so a file notes run all.well (under_way a.earlier file a.session can_ here.rests))
+lets_go_at stages.Waiting a file notes run due all here can_ = cc
+lets_go_at stages.Noting a file notes run due all here can_ = cc
+lets_go_at stages.Saving a file notes run due all here can_ = cc
+lets_go_at stages.Asking a file notes run due all here can_ = cc
+lets_go_at stages.Telling a file notes run due all here can_ = cc
+lets_go_at stages.Over a file notes run due all here can_ = cc
 
 -- ---- one input
 
 abbrev StandsSo : Driven → Type 0
-StandsSo x = Stands x.asker x.file x.notes x.heard x.due
+StandsSo x = Stands x.asker x.file x.notes x.run x.due
 
 abbrev GoesBy : Driven → Input → Type 0
 GoesBy x i = Goes (desk_of x) (moves_of x i) (left_due x i) (turn_of x i)
@@ -102,31 +102,31 @@ one x (Asks now tag wanted domain) h =
     let a = x.asker in
     let r = asks_refusal a wanted in
     goes_if (is_some r) (desk_of x) x.due (idle a) (asks a now tag wanted domain)
-    (λ _. idles a x.file x.notes x.heard x.due h)
+    (λ _. idles a x.file x.notes x.run x.due h)
     (λ (p : is_some r ≡ false).
-    asks_at a.stage a x.file x.notes x.heard x.due now tag wanted domain h h.at (not_busy (is_busy a) (ask_refusal a.settings.ports wanted) p))
+    asks_at a.stage a x.file x.notes x.run x.due now tag wanted domain h h.at (not_busy (is_busy a) (asked_refusal a.settings.ports wanted) p))
 one x (Settles now tag domain) h =
     let a = x.asker in
     goes_if (can_settle a) (desk_of x) x.due (settles a now tag domain) (idle a)
-    (λ (p : can_settle a ≡ true). settles_at a.stage a x.file x.notes x.heard x.due now tag domain h h.at p)
-    (λ _. idles a x.file x.notes x.heard x.due h)
+    (λ (p : can_settle a ≡ true). settles_at a.stage a x.file x.notes x.run x.due now tag domain h h.at p)
+    (λ _. idles a x.file x.notes x.run x.due h)
 one x GivesUp h =
     let a = x.asker in
     let r = lets_go_refusal a in
     goes_if (is_some r) (desk_of x) x.due (idle a) (lets_go a)
-    (λ _. idles a x.file x.notes x.heard x.due h)
+    (λ _. idles a x.file x.notes x.run x.due h)
     (λ (p : is_some r ≡ false).
-    lets_go_at a.stage a x.file x.notes x.heard x.due h h.at (can (can_settle a) (give_up_refusal a.session) p))
-one x (Hears datagram) h = hears_so x.asker.stage x.asker x.file x.notes x.heard x.due datagram h h.at
+    lets_go_at a.stage a x.file x.notes x.run x.due h h.at (can (can_settle a) (give_up_refusal a.session) p))
+one x (Hears datagram) h = hears_so x.asker.stage x.asker x.file x.notes x.run x.due datagram h h.at
 one x (Wakes now) h =
     let a = x.asker in
     goes_if (nat_lt now a.wake_at) (desk_of x) x.due (idle a) (wakes_at a.stage a now)
-    (λ _. idles a x.file x.notes x.heard x.due h)
-    (λ _. wakes_so a.stage a x.file x.notes x.heard x.due now h h.at)
-one x IsUnsent h = unsents_so x.asker.stage x.asker x.file x.notes x.heard x.due h h.at refl
-one x (IsDone now) h = done_so x.asker.stage x.asker x.file x.notes x.heard x.due now h h.at
-one x (Ends true o) h = ends_so x.asker.stage x.asker x.file x.notes x.heard x.due o h.at
-one x (Ends false o) h = reopens_so x.file x.asker.session x.notes x.heard o
+    (λ _. idles a x.file x.notes x.run x.due h)
+    (λ _. wakes_so a.stage a x.file x.notes x.run x.due now h h.at)
+one x IsUnsent h = unsents_so x.asker x.file x.notes x.run x.due h
+one x (IsDone now) h = done_so x.asker.stage x.asker x.file x.notes x.run x.due now h h.at
+one x (Ends true o) h = ends_so x.asker.stage x.asker x.file x.notes x.run x.due o h.at
+one x (Ends false o) h = reopens_so x.file x.asker.session x.notes x.run o
 
 -- ---- a list of inputs
 
@@ -142,11 +142,11 @@ all_so (i ∷ is) x h =
     let y = after_input x i in
     let rest : AreAllowed (desk_of y) (all_moves y is) = all_so is y g.stands in
     both (moves_of x i) (all_moves y is) (desk_of x) g.allowed
-    (subst (λ (s : SessionValue). AreAllowed (desk s d.file d.notes d.heard) (all_moves y is)) (sym g.live) rest)
+    (subst (λ (s : SessionValue). AreAllowed (desk s d.file d.notes d.run) (all_moves y is)) (sym g.live) rest)
 
 pub is_allowed : (o : Opening) (file : Option SessionValue) (notes : List Note) (inputs : List Input)
     → IsAllowedAsker o file notes inputs
 is_allowed o None notes inputs =
-    all_so inputs (begins_driven o None notes) (reopens_so None (begins_driven o None notes).asker.session notes None o).stands
+    all_so inputs (begins_driven o None notes) (reopens_so None (begins_driven o None notes).asker.session notes new_run o).stands
 is_allowed o (Some f) notes inputs =
-    all_so inputs (begins_driven o (Some f) notes) (reopens_so (Some f) f notes None o).stands
+    all_so inputs (begins_driven o (Some f) notes) (reopens_so (Some f) f notes new_run o).stands

@@ -1,15 +1,19 @@
 -- What is restored is long enough to be read, and has the first number that is read in it.
-use Rattle.std.proofs.Common.{◌≡◌, ℕ, Bool, true, false, not, ◌&&◌, nat_le, List, [], ◌∷◌, length, Option, Some, None}
+use Rattle.std.proofs.Common.{◌≡◌, ◌∙◌, ap, ℕ, Bool, true, false, not, ◌&&◌, nat_le, List, [], ◌∷◌, length, Option, Some, None}
 use Rattle.std.proofs.lemmas.Bool.{and_parts, cond-true, not-false}
 use Rattle.std.specs.Option.{option_or}
 use Rattle.ptpm_codec.specs.declared.identity.ClockIdentity.{ClockIdentity}
 use Rattle.ptpm_codec.specs.declared.identity.PortIdentity.{PortIdentity}
 use Rattle.ptpm_codec.specs.Ordered.{first_of}
-use Rattle.ptpm_codec.specs.Layout.{number_at}
+use Rattle.ptpm_codec.specs.Layout.{number_at, octet}
 use Rattle.ptpm_data.proofs.StartLemmas.{passes}
 use Rattle.ptpm_manager.specs.ImageReading.{session_at, setup_at}
 use Rattle.ptpm_manager.specs.Restoring.{head_refusal, is_image, is_long, restore_refusal}
-use Rattle.ptpm_asker.specs.Asker.{first_in}
+use Rattle.ptpm_manager.specs.Session.{SessionValue}
+use Rattle.ptpm_asker.specs.declared.earlier.Earlier.{Earlier}
+use Rattle.ptpm_asker.specs.declared.settings.Settings.{Settings}
+use Rattle.ptpm_asker.specs.Asker.{at_rest, first_in, hops_in, opened}
+use Rattle.ptpm_asker.specs.Question.{earlier_of}
 
 second_none : {A : Type 0} (r s : Option A) → option_or r s ≡ None → s ≡ None
 second_none None s h = h
@@ -30,3 +34,19 @@ pub first-read : (octets : List ℕ) → is_long octets ≡ true → first_in oc
 unfolding setup_at
 first-read octets h =
     cond-true (nat_le 53 (length octets)) (number_at 31 octets) 0 (and_parts (nat_le 53 (length octets)) _ h).0
+
+pub hops-read : (octets : List ℕ) → is_long octets ≡ true → hops_in octets ≡ (session_at octets).setup.hops
+unfolding setup_at
+hops-read octets h = cond-true (nat_le 53 (length octets)) (octet 33 octets) 0 (and_parts (nat_le 53 (length octets)) _ h).0
+
+pub opened-so : (settings : Settings) (drawn : List ℕ) (s t : SessionValue) (first hops : ℕ) (what : Earlier)
+    → s ≡ t
+    → first ≡ t.setup.first
+    → hops ≡ t.setup.hops
+    → what ≡ earlier_of t.unanswered
+    → at_rest settings drawn s first hops true what 0 ≡ opened settings drawn t
+opened-so settings drawn s t first hops what p q r u =
+    ap (λ (x : SessionValue). at_rest settings drawn x first hops true what 0) p
+    ∙ (ap (λ (n : ℕ). at_rest settings drawn t n hops true what 0) q
+    ∙ (ap (λ (n : ℕ). at_rest settings drawn t t.setup.first n true what 0) r
+    ∙ ap (λ (e : Earlier). at_rest settings drawn t t.setup.first t.setup.hops true e 0) u))

@@ -9,7 +9,7 @@ use Rattle.ptpm_asker.specs.declared.settings.Settings.{Settings}
 use Rattle.ptpm_asker.specs.declared.stage.Stage.{Stage}
 use Rattle.ptpm_asker.specs.declared.stage.Stage.TheVariants as stages
 use Rattle.ptpm_asker.specs.Asker.{AskerValue, opened, opened_new, setup_with}
-use Rattle.ptpm_asker.specs.Desk.{AreAllowed, Crashes, Desk, Heard, IsBegun, IsTold, Move, Note, Notes, Saves, Starts, moved_by}
+use Rattle.ptpm_asker.specs.Desk.{AreAllowed, Crashes, Desk, IsBegun, IsTold, Move, Note, Notes, Returns, Run, Saves, Starts, moved_by, new_run}
 use Rattle.ptpm_asker.specs.Turns.{Turn, asks, asks_refusal, can_settle, hears, idle, lets_go, lets_go_refusal, noted_at, saved_at, settles, turn, unsents, wakes}
 
 -- what an asker is opened with, whenever that is
@@ -36,12 +36,12 @@ pub record Driven : Type 0 where
   pub asker : AskerValue
   pub file : Option SessionValue
   pub notes : List Note
-  pub heard : Option Heard
+  pub run : Run
   -- what was handed out to be saved or noted, and is not done yet
   pub due : List Move
 
 abbrev pub desk_of : Driven → Desk
-desk_of x = record { live = x.asker.session; file = x.file; notes = x.notes; heard = x.heard }
+desk_of x = record { live = x.asker.session; file = x.file; notes = x.notes; run = x.run }
 
 -- What is to be saved or noted after an output: what it says, or what was due before it. What is to be sent is sent as it is handed
 -- out.
@@ -89,7 +89,7 @@ first_moves x (Settles now tag domain) = []
 first_moves x GivesUp = []
 first_moves x (Hears datagram) = []
 first_moves x (Wakes now) = []
-first_moves x IsUnsent = []
+first_moves x IsUnsent = Returns ∷ []
 first_moves x (IsDone now) = x.due
 first_moves x (Ends true o) = x.due ++ Crashes ∷ []
 first_moves x (Ends false o) = Crashes ∷ []
@@ -110,7 +110,7 @@ moves_of x i = first_moves x i ++ (turn_of x i).moves
 
 abbrev pub driven_by : Desk → Turn → List Move → Driven
 driven_by d t due =
-    record { asker = t.asker; file = d.file; notes = d.notes; heard = d.heard; due = due_after due t.output }
+    record { asker = t.asker; file = d.file; notes = d.notes; run = d.run; due = due_after due t.output }
 
 abbrev pub after_input : Driven → Input → Driven
 after_input x i = driven_by (moved_by (desk_of x) (moves_of x i)) (turn_of x i) (left_due x i)
@@ -124,7 +124,7 @@ all_moves x (i ∷ is) = moves_of x i ++ all_moves (after_input x i) is
 -- an asker that was opened with what a file has, or without one, whatever its owner has noted
 abbrev pub begins_driven : Opening → Option SessionValue → List Note → Driven
 begins_driven o file notes =
-    record { asker = (reopens file o).asker; file = file; notes = notes; heard = None; due = [] }
+    record { asker = (reopens file o).asker; file = file; notes = notes; run = new_run; due = [] }
 
 -- all that an asker hands out, and that its driver does, is allowed
 abbrev pub IsAllowedAsker : Opening → Option SessionValue → List Note → List Input → Type 0

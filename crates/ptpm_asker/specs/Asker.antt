@@ -1,6 +1,6 @@
 -- What an asker is, and how it begins.
 use Rattle.std.specs.Prelude.{◌≤◌, ℕ, Bool, true, false, List, Option, None, nat_le, length, if◌then◌else◌}
-use Rattle.ptpm_codec.specs.Layout.{number_at}
+use Rattle.ptpm_codec.specs.Layout.{number_at, octet}
 use Rattle.ptpm_manager.specs.declared.ask.Ask.{Ask}
 use Rattle.ptpm_manager.specs.declared.setup.Setup.{Setup}
 use Rattle.ptpm_manager.specs.ImageReading.{session_at}
@@ -21,6 +21,8 @@ pub record AskerValue : Type 0 where
   pub session : SessionValue
   -- the number of the session's first request
   pub first : ℕ
+  -- the hops of its requests
+  pub hops : ℕ
   pub stage : Stage
   -- what its owner asked, until it is begun; and how the owner names its request
   pub wanted : Option Ask
@@ -38,6 +40,8 @@ pub record AskerValue : Type 0 where
   -- whether a message of the request under way left in this run, before the latest; and whether the latest did
   pub has_left : Bool
   pub is_out : Bool
+  -- whether the request under way was taken back, since no message of it left
+  pub is_taken_back : Bool
 
 abbrev pub asker_value : Inside → AskerValue
 asker_value i = record {
@@ -45,6 +49,7 @@ asker_value i = record {
   drawn = i.drawn;
   session = i.session;
   first = i.first;
+  hops = i.hops;
   stage = i.stage;
   wanted = i.wanted;
   tag = i.tag;
@@ -56,6 +61,7 @@ asker_value i = record {
   wake_at = i.wake_at;
   has_left = i.has_left;
   is_out = i.is_out;
+  is_taken_back = i.is_taken_back;
 }
 
 -- what holds of the settings of every asker
@@ -74,12 +80,13 @@ setup_with s first =
 
 -- ---- how it begins
 
-abbrev pub at_rest : Settings → List ℕ → SessionValue → ℕ → Bool → Earlier → ℕ → AskerValue
-at_rest settings drawn session first is_kept what numbers_left = record {
+abbrev pub at_rest : Settings → List ℕ → SessionValue → ℕ → ℕ → Bool → Earlier → ℕ → AskerValue
+at_rest settings drawn session first hops is_kept what numbers_left = record {
   settings = settings;
   drawn = drawn;
   session = session;
   first = first;
+  hops = hops;
   stage = stages.Resting;
   wanted = None;
   tag = 0;
@@ -91,17 +98,22 @@ at_rest settings drawn session first is_kept what numbers_left = record {
   wake_at = 0;
   has_left = false;
   is_out = false;
+  is_taken_back = false;
 }
 
 -- Without a file: a session at a number that was drawn. Of four numbers 16,384 apart one is new, so three may follow.
 abbrev pub opened_new : Settings → List ℕ → ℕ → AskerValue
 opened_new settings drawn number =
-    at_rest settings drawn (fresh (setup_with settings number) 0) number false earlier.NoRequest 3
+    at_rest settings drawn (fresh (setup_with settings number) 0) number settings.hops false earlier.NoRequest 3
 
 -- with the session that a file has
 abbrev pub opened : Settings → List ℕ → SessionValue → AskerValue
-opened settings drawn s = at_rest settings drawn s s.setup.first true (earlier_of s.unanswered) 0
+opened settings drawn s = at_rest settings drawn s s.setup.first s.setup.hops true (earlier_of s.unanswered) 0
 
 -- the first number that an image has; 0 in octets that are too few for one
 abbrev pub first_in : List ℕ → ℕ
 first_in image = if nat_le 53 (length image) then number_at 31 image else 0
+
+-- the hops that it has; 0 in octets that are too few for one
+abbrev pub hops_in : List ℕ → ℕ
+hops_in image = if nat_le 53 (length image) then octet 33 image else 0

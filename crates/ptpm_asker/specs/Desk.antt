@@ -1,15 +1,13 @@
 -- A desk is what one asker has: its session as it is, the session as its file has it, and the notebook of its owner. Nothing is sent
 -- that the file has not. Nothing leaves the file that the notes have not as reported. Nothing is begun that the notes have not as
--- begun (this project's profile).
-use Rattle.std.specs.Prelude.{◌≡◌, ◌⊎◌, ℕ, ◌+◌, true, false, List, [], ◌∷◌, Option, Some, None}
+-- begun, and before the clock has answered a question in this run: so its number is new (this project's profile).
+use Rattle.std.specs.Prelude.{◌≡◌, ◌⊎◌, ℕ, ◌+◌, ◌||◌, Bool, true, false, List, [], ◌∷◌, Option, Some, None, is_some}
 use Rattle.ptpm_codec.specs.SequenceNumber.{number_of}
 use Rattle.ptpm_data.specs.Request.{RequestValue}
-use Rattle.ptpm_manager.specs.declared.ask.Ask.{Ask}
 use Rattle.ptpm_manager.specs.declared.receiving.Received.{Received}
 use Rattle.ptpm_manager.specs.declared.receiving.Received.TheVariants as received
 use Rattle.ptpm_manager.specs.declared.report.Outcome.{Outcome}
 use Rattle.ptpm_manager.specs.declared.setup.Setup.{Setup}
-use Rattle.ptpm_manager.specs.Ask.{request_of}
 use Rattle.ptpm_manager.specs.Receiving.{left_by, received_of}
 use Rattle.ptpm_manager.specs.Session.{SessionValue, anew, begun, fresh, given_up, is_waiting, resumed, retuned, sent}
 use Rattle.ptpm_asker.specs.Question.{asks_question, is_question}
@@ -25,13 +23,28 @@ pub record Heard : Type 0 where
   pub number : ℕ
   pub outcome : Outcome
 
+-- what a program knows since it began, and loses by a crash
+pub record Run : Type 0 where
+  -- the latest answer that was heard
+  pub heard : Option Heard
+  -- whether a message of the latest request left, or may have, before the one that was handed out last; and whether that one left, as far as is known
+  pub has_left : Bool
+  pub is_out : Bool
+
 pub record Desk : Type 0 where
   pub live : SessionValue
   pub file : Option SessionValue
   -- the latest is the first
   pub notes : List Note
-  -- the latest answer that was heard since the last crash
-  pub heard : Option Heard
+  pub run : Run
+
+-- what was under way before may have left
+abbrev pub new_run : Run
+new_run = record { heard = None; has_left = true; is_out = false }
+
+-- no message of the latest request left
+abbrev pub unsent_run : Option Heard → Run
+unsent_run heard = record { heard = heard; has_left = false; is_out = false }
 
 -- the number of the request that was begun last, and that of the next one
 abbrev pub latest_number : SessionValue → ℕ
@@ -43,7 +56,7 @@ next_number s = number_of s.setup.first (s.issued + 1)
 -- ---- moves
 
 pub data Move : Type 0 where
-  Begins : (tag : ℕ) (ask : Ask) → Move
+  Begins : (tag : ℕ) (request : RequestValue) → Move
   Saves : Move
   Sends : Move
   Hears : (datagram : List ℕ) → Move
@@ -51,8 +64,13 @@ pub data Move : Type 0 where
   Resumes : (attempts : ℕ) → Move
   Retunes : (domain : ℕ) → Move
   LetsGo : Move
+  -- there was no way for the message that was handed out last
+  Returns : Move
   -- a session that is in no file begins anew at another number
   Starts : (setup : Setup) (domain : ℕ) → Move
+  -- a session goes on as a new one with its next number, or with that of a request that did not leave
+  Continues : (setup : Setup) → Move
+  TakesBack : (setup : Setup) → Move
   -- what is in no file and in no note is lost
   Crashes : Move
 
@@ -66,19 +84,25 @@ heard_after s before (received.Answered report) = Some (record { number = latest
 heard_after s before (received.Ignored reason) = before
 
 abbrev pub moved : Desk → Move → Desk
-moved d (Begins tag ask) = record d { live = begun d.live (request_of ask) }
+moved d (Begins tag request) = record d { live = begun d.live request; run = unsent_run d.run.heard }
 moved d Saves = record d { file = Some d.live }
-moved d Sends = record d { live = sent d.live }
+moved d Sends = record d {
+  live = sent d.live;
+  run = record { heard = d.run.heard; has_left = d.run.has_left || d.run.is_out; is_out = true };
+}
 moved d (Hears datagram) = record d {
   live = left_by d.live (received_of d.live datagram);
-  heard = heard_after d.live d.heard (received_of d.live datagram);
+  run = record d.run { heard = heard_after d.live d.run.heard (received_of d.live datagram) };
 }
 moved d (Notes note) = record d { notes = note ∷ d.notes }
 moved d (Resumes attempts) = record d { live = resumed d.live attempts }
 moved d (Retunes domain) = record d { live = retuned d.live domain }
 moved d LetsGo = record d { live = given_up d.live }
-moved d (Starts setup domain) = record d { live = fresh setup domain }
-moved d Crashes = record d { live = reopened d.file d.live; heard = None }
+moved d Returns = record d { run = record d.run { is_out = false } }
+moved d (Starts setup domain) = record d { live = fresh setup domain; run = new_run }
+moved d (Continues setup) = record d { live = fresh setup d.live.domain }
+moved d (TakesBack setup) = record d { live = fresh setup d.live.domain }
+moved d Crashes = record d { live = reopened d.file d.live; run = new_run }
 
 abbrev pub moved_by : Desk → List Move → Desk
 moved_by d [] = d
@@ -109,14 +133,27 @@ SaysTold (IsBegun t n ∷ further) number = ⊥
 SaysTold (IsTold t n outcome ∷ further) number = n ≡ number
 SaysTold (IsLetGo n ∷ further) number = n ≡ number
 
--- what is under way in the file stays there, or is a question, or is reported
-abbrev pub MayLeave : Option RequestValue → SessionValue → SessionValue → List Note → Type 0
-MayLeave None f s notes = Unit {0}
-MayLeave (Some q) f s notes = HasIt (Some f) s ⊎ ((is_question q ≡ true) ⊎ SaysTold notes (latest_number f))
+-- no message of the latest request left
+pub record HasNoneOut (r : Run) : Type 0 where
+  pub none_left : r.has_left ≡ false
+  pub none_out : r.is_out ≡ false
 
-abbrev pub LeavesTold : Option SessionValue → SessionValue → List Note → Type 0
-LeavesTold None s notes = Unit {0}
-LeavesTold (Some f) s notes = MayLeave f.unanswered f s notes
+-- the session begins at the number of the file's request, of which no message left
+pub record IsTakenBack (f s : SessionValue) (r : Run) : Type 0 where
+  pub none : HasNoneOut r
+  pub idle : is_waiting s ≡ false
+  pub anew : s.issued ≡ 0
+  pub first : s.setup.first ≡ latest_number f
+
+-- what is under way in the file stays there, or is a question, or is reported, or did not leave
+abbrev pub MayLeave : Option RequestValue → SessionValue → SessionValue → List Note → Run → Type 0
+MayLeave None f s notes r = Unit {0}
+MayLeave (Some q) f s notes r =
+    HasIt (Some f) s ⊎ ((is_question q ≡ true) ⊎ (SaysTold notes (latest_number f) ⊎ IsTakenBack f s r))
+
+abbrev pub LeavesTold : Option SessionValue → SessionValue → List Note → Run → Type 0
+LeavesTold None s notes r = Unit {0}
+LeavesTold (Some f) s notes r = MayLeave f.unanswered f s notes r
 
 -- what is noted as reported is what the answer says that was heard
 abbrev pub IsHeard : Note → Option Heard → Type 0
@@ -124,17 +161,24 @@ IsHeard (IsBegun tag number) heard = Unit {0}
 IsHeard (IsTold tag number outcome) heard = heard ≡ Some (record { number = number; outcome = outcome })
 IsHeard (IsLetGo number) heard = Unit {0}
 
+-- the notes have this as begun under the next number, and an answer of this run says that this number is new
+abbrev pub IsKnownNew : Desk → ℕ → Type 0
+IsKnownNew d tag = SaysBegun d.notes tag (next_number d.live) × (is_some d.run.heard ≡ true)
+
 abbrev pub IsAllowed : Desk → Move → Type 0
-IsAllowed d (Begins tag ask) =
-    (is_waiting d.live ≡ false) × ((is_question (request_of ask) ≡ true) ⊎ SaysBegun d.notes tag (next_number d.live))
-IsAllowed d Saves = LeavesTold d.file d.live d.notes
+IsAllowed d (Begins tag request) =
+    (is_waiting d.live ≡ false) × ((is_question request ≡ true) ⊎ IsKnownNew d tag)
+IsAllowed d Saves = LeavesTold d.file d.live d.notes d.run
 IsAllowed d Sends = (is_waiting d.live ≡ true) × HasIt d.file d.live
 IsAllowed d (Hears datagram) = Unit {0}
-IsAllowed d (Notes note) = IsHeard note d.heard
+IsAllowed d (Notes note) = IsHeard note d.run.heard
 IsAllowed d (Resumes attempts) = Unit {0}
 IsAllowed d (Retunes domain) = Unit {0}
 IsAllowed d LetsGo = SaysTold d.notes (latest_number d.live)
+IsAllowed d Returns = Unit {0}
 IsAllowed d (Starts setup domain) = d.file ≡ None
+IsAllowed d (Continues setup) = (is_waiting d.live ≡ false) × (setup.first ≡ next_number d.live)
+IsAllowed d (TakesBack setup) = HasNoneOut d.run × (setup.first ≡ latest_number d.live)
 IsAllowed d Crashes = Unit {0}
 
 -- each of these moves is allowed in its turn

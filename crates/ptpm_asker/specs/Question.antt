@@ -1,15 +1,25 @@
 -- The question whether a session's next number is new to the clock: a GET with random octets in place of its dataField. It is
 -- of a data set that each clock has. A clock ignores them, and takes a repeat for one by them. So an answer shows that the number is new.
 -- And what an earlier run left under way (this project's profile).
-use Rattle.std.specs.Prelude.{ℕ, ◌==◌, ◌&&◌, ◌||◌, Bool, true, false, if◌then◌else◌, List, length, take, Option, Some, None}
+use Rattle.std.specs.Prelude.{ℕ, ◌==◌, ◌&&◌, ◌||◌, Bool, true, false, if◌then◌else◌, List, length, take, Option, Some, None, is_some}
 use Rattle.ptpm_codec.specs.declared.message.Action.{Action}
 use Rattle.ptpm_codec.specs.declared.message.Action.TheVariants as actions
 use Rattle.ptpm_codec.specs.Layout.{octet}
 use Rattle.ptpm_data.specs.ManagementId.{is_of_port}
 use Rattle.ptpm_data.specs.Request.{RequestValue}
 use Rattle.ptpm_manager.specs.declared.ask.Ask.{Ask}
+use Rattle.ptpm_manager.specs.declared.error.BeginError.{BeginError}
+use Rattle.ptpm_manager.specs.Ask.{ask_refusal, named_ask_refusal, request_at_port, request_of}
 use Rattle.ptpm_asker.specs.declared.earlier.Earlier.{Earlier}
 use Rattle.ptpm_asker.specs.declared.earlier.Earlier.TheVariants as earlier
+
+-- the request that is made of an ask: at the port that is named, for an id of the clock too, since some clocks answer only then
+abbrev pub asked_request : Ask → RequestValue
+asked_request a = if is_some a.port then request_at_port a else request_of a
+
+-- why an ask by itself is refused, at a clock of this many ports
+abbrev pub asked_refusal : ℕ → Ask → Option BeginError
+asked_refusal ports a = if is_some a.port then named_ask_refusal ports a else ask_refusal ports a
 
 -- DEFAULT_DATA_SET; PORT_DATA_SET for an id of a port, since some clocks answer only if the port is named
 abbrev pub question_id : ℕ → ℕ

@@ -1,5 +1,5 @@
 -- What each input makes of an asker: what it is after it, what it hands out, and the moves that its session goes through.
-use Rattle.std.specs.Prelude.{◌≡◌, ℕ, ◌+◌, ◌-◌, ◌^◌, ◌%◌, ◌==◌, ◌&&◌, ◌||◌, not, nat_lt, min, Bool, true, false, if◌then◌else◌, List, [], ◌∷◌, ◌++◌, Option, Some, None, is_some}
+use Rattle.std.specs.Prelude.{◌≡◌, ℕ, ◌+◌, ◌-◌, ◌^◌, ◌%◌, ◌==◌, ◌&&◌, ◌||◌, not, nat_le, nat_lt, min, Bool, true, false, if◌then◌else◌, List, [], ◌∷◌, ◌++◌, Option, Some, None, is_some}
 use Rattle.std.specs.Option.{option_or}
 use Rattle.ptpm_codec.specs.Ordered.{first_of}
 use Rattle.ptpm_codec.specs.SequenceNumber.{number_of}
@@ -13,7 +13,6 @@ use Rattle.ptpm_manager.specs.declared.error.GiveUpRefusal.TheVariants as give_u
 use Rattle.ptpm_manager.specs.declared.receiving.Received.{Received}
 use Rattle.ptpm_manager.specs.declared.receiving.Received.TheVariants as received
 use Rattle.ptpm_manager.specs.declared.report.Outcome.{Outcome}
-use Rattle.ptpm_manager.specs.Ask.{ask_refusal, request_of}
 use Rattle.ptpm_manager.specs.Receiving.{left_by, received_of}
 use Rattle.ptpm_manager.specs.Session.{SessionValue, answered, begun, due_message, fresh, give_up_refusal, given_up, is_waiting, resumed, retuned, send_refusal, sent}
 use Rattle.ptpm_asker.specs.declared.earlier.Earlier.{Earlier}
@@ -23,8 +22,8 @@ use Rattle.ptpm_asker.specs.declared.output.Output.TheVariants as outputs
 use Rattle.ptpm_asker.specs.declared.stage.Stage.{Stage}
 use Rattle.ptpm_asker.specs.declared.stage.Stage.TheVariants as stages
 use Rattle.ptpm_asker.specs.Asker.{AskerValue, setup_with}
-use Rattle.ptpm_asker.specs.Desk.{Move, Begins, Hears, LetsGo, Notes, IsLetGo, Resumes, Retunes, Saves, Sends, Starts}
-use Rattle.ptpm_asker.specs.Question.{question}
+use Rattle.ptpm_asker.specs.Desk.{Move, Begins, Continues, Hears, LetsGo, Notes, IsLetGo, Resumes, Retunes, Saves, Sends, Starts, TakesBack}
+use Rattle.ptpm_asker.specs.Question.{asked_refusal, asked_request, question}
 
 pub record Turn : Type 0 where
   pub asker : AskerValue
@@ -125,33 +124,65 @@ abbrev pub is_busy : AskerValue → Bool
 is_busy a = not (is_resting a.stage) || is_unsettled a.earlier
 
 abbrev pub asks_refusal : AskerValue → Ask → Option BeginError
-asks_refusal a wanted = option_or (first_of ((is_busy a, begins.Busy) ∷ [])) (ask_refusal a.settings.ports wanted)
+asks_refusal a wanted = option_or (first_of ((is_busy a, begins.Busy) ∷ [])) (asked_refusal a.settings.ports wanted)
 
--- whether the question is asked as a request of the session
-abbrev pub asks_in_session : AskerValue → Bool
-asks_in_session a = not (is_left_question a.earlier) && (not a.is_new && a.is_kept)
+-- how many requests a session has begun that begins no further question and request
+abbrev pub used_up : ℕ
+used_up = 999999
 
--- A question that a crash left is sent again. A number that was tested in this run is taken. If there is a file, the question was
--- begun in its session. A new session waits first.
-abbrev pub goes_on_asking : AskerValue → ℕ → Turn
-goes_on_asking a now =
-    if is_left_question a.earlier then resumes (record a { is_testing = true }) now
-    else if a.is_new then announces a
-    else if a.is_kept then saves (record a { is_testing = true })
-    else turn (record a { stage = stages.Waiting; wake_at = later now a.settings.wait }) (outputs.WakeAt (later now a.settings.wait)) []
+-- whether the session has no further numbers for that, or requests of other hops
+abbrev pub is_used_up : AskerValue → Bool
+is_used_up a = nat_le used_up a.session.issued || not (a.hops == a.settings.hops)
+
+-- the session goes on as a new one, with its next number and the hops of this run
+abbrev pub renewed : AskerValue → AskerValue
+renewed a = record a {
+  session = fresh (setup_with a.settings (next a)) a.session.domain;
+  first = next a;
+  hops = a.settings.hops;
+}
 
 abbrev pub asked_of : AskerValue → ℕ → Ask → ℕ → AskerValue
 asked_of a tag wanted domain = record a { session = retuned a.session domain; wanted = Some wanted; tag = tag }
 
-abbrev pub with_question : AskerValue → Ask → AskerValue
-with_question a wanted = record a { session = begun a.session (request_of (question a.drawn wanted)) }
+-- whether the question is asked as a request of the session: there is a file, and it was not asked in this run
+abbrev pub asks_in_session : AskerValue → Bool
+asks_in_session a = not a.is_new && a.is_kept
 
+abbrev pub with_question : AskerValue → Ask → AskerValue
+with_question a wanted = record a { session = begun a.session (asked_request (question a.drawn wanted)) }
+
+-- the same in a session that goes on as a new one
+abbrev pub renewed_for : AskerValue → Ask → AskerValue
+renewed_for a wanted = if asks_in_session a then with_question (renewed a) wanted else renewed a
+
+abbrev pub waits : AskerValue → ℕ → Turn
+waits a now =
+    turn (record a { stage = stages.Waiting; wake_at = later now a.settings.wait })
+    (outputs.WakeAt (later now a.settings.wait)) []
+
+-- A number that was tested in this run is taken. If there is a file, the question was begun in its session. A new session waits first.
+abbrev pub goes_on_begun : AskerValue → ℕ → Turn
+goes_on_begun a now =
+    if a.is_new then announces a
+    else if a.is_kept then saves (record a { is_testing = true })
+    else waits a now
+
+abbrev pub goes_on_asking : AskerValue → ℕ → Ask → Turn
+goes_on_asking a now wanted =
+    if asks_in_session a then
+    after_moves (Begins 0 (asked_request (question a.drawn wanted)) ∷ []) (goes_on_begun (with_question a wanted) now)
+    else goes_on_begun a now
+
+-- a question that a crash left is sent again
 abbrev pub asks : AskerValue → ℕ → ℕ → Ask → ℕ → Turn
 asks a now tag wanted domain =
-    if asks_in_session a then
-    after_moves (Retunes domain ∷ Begins 0 (question a.drawn wanted) ∷ [])
-    (goes_on_asking (with_question (asked_of a tag wanted domain) wanted) now)
-    else after_moves (Retunes domain ∷ []) (goes_on_asking (asked_of a tag wanted domain) now)
+    if is_left_question a.earlier then
+    after_moves (Retunes domain ∷ []) (resumes (record (asked_of a tag wanted domain) { is_testing = true }) now)
+    else if is_used_up a then
+    after_moves (Continues (setup_with a.settings (next a)) ∷ Retunes domain ∷ [])
+    (goes_on_asking (asked_of (renewed a) tag wanted domain) now wanted)
+    else after_moves (Retunes domain ∷ []) (goes_on_asking (asked_of a tag wanted domain) now wanted)
 
 -- ---- settle and let_go
 
@@ -172,13 +203,13 @@ abbrev pub settles : AskerValue → ℕ → ℕ → ℕ → Turn
 settles a now tag domain =
     let there = settling_domain a.earlier a.session.domain domain in
     after_moves (Retunes there ∷ [])
-    (resumes (record a { session = retuned a.session there; tag = tag; is_testing = false }) now)
+    (resumes (record a { session = retuned a.session there; wanted = None; tag = tag; is_testing = false }) now)
 
 -- the owner has noted that it gives the request up
 abbrev pub lets_go : AskerValue → Turn
 lets_go a =
     after_moves (Notes (IsLetGo (latest a)) ∷ LetsGo ∷ [])
-    (saves (record a { session = given_up a.session; earlier = earlier.NoRequest }))
+    (saves (record a { session = given_up a.session; wanted = None; earlier = earlier.NoRequest }))
 
 -- ---- hear
 
@@ -214,10 +245,12 @@ hears a datagram = hears_at a.stage a datagram
 -- a session that begins at this number asks whether it is new
 abbrev pub tested : AskerValue → ℕ → ℕ → Ask → AskerValue
 tested a first numbers_left wanted = record a {
-  session = begun (fresh (setup_with a.settings first) a.session.domain) (request_of (question a.drawn wanted));
+  session = begun (fresh (setup_with a.settings first) a.session.domain) (asked_request (question a.drawn wanted));
   first = first;
+  hops = a.settings.hops;
   numbers_left = numbers_left;
   is_testing = true;
+  is_new = false;
   has_left = false;
   is_out = false;
 }
@@ -225,7 +258,7 @@ tested a first numbers_left wanted = record a {
 abbrev pub tests_wanted : AskerValue → ℕ → ℕ → Option Ask → ℕ → Turn
 tests_wanted a first numbers_left None now = idle a
 tests_wanted a first numbers_left (Some wanted) now =
-    after_moves (Starts (setup_with a.settings first) a.session.domain ∷ Begins 0 (question a.drawn wanted) ∷ [])
+    after_moves (Starts (setup_with a.settings first) a.session.domain ∷ Begins 0 (asked_request (question a.drawn wanted)) ∷ [])
     (sends (tested a first numbers_left wanted) now)
 
 abbrev pub has_more_numbers : AskerValue → Bool
@@ -251,19 +284,32 @@ wakes a now = if nat_lt now a.wake_at then idle a else wakes_at a.stage a now
 
 -- ---- unsent
 
--- what a request of this run is to the next
-abbrev pub as_earlier : Bool → Earlier → Earlier
-as_earlier is_testing what =
-    if is_testing then earlier.Question else if is_unsettled what then what else earlier.Changes
+-- the request is taken back: its number is that of the next one
+abbrev pub taken_back : AskerValue → AskerValue
+taken_back a = record a {
+  session = fresh (setup_with a.settings (latest a)) a.session.domain;
+  first = latest a;
+  hops = a.settings.hops;
+  wanted = None;
+  earlier = earlier.NoRequest;
+  is_taken_back = true;
+}
 
--- There is no way for the message that was handed out. If none of the request left before, it is as one of an earlier run.
+abbrev pub takes_back : AskerValue → Turn
+takes_back a = after_moves (TakesBack (setup_with a.settings (latest a)) ∷ []) (saves (taken_back a))
+
+-- what was not sent stays under way, until it is settled, let go or, if it is a question, sent again
+abbrev pub stays : AskerValue → Earlier → Turn
+stays a what = turn (record a { stage = stages.Resting; earlier = what }) (outputs.Failed false) []
+
+-- There is no way for the message that was handed out. If none of the request left before, a request of this run is taken back.
 abbrev pub has_no_way : AskerValue → Turn
 has_no_way a =
     if not a.is_out then idle a
     else if a.has_left then turn (record a { is_out = false }) outputs.Nothing []
-    else turn
-    (record a { stage = stages.Resting; earlier = as_earlier a.is_testing a.earlier; is_out = false })
-    (outputs.Failed false) []
+    else if a.is_testing then stays (record a { is_out = false }) earlier.Question
+    else if is_unsettled a.earlier then stays (record a { is_out = false }) a.earlier
+    else takes_back (record a { is_out = false })
 
 abbrev pub unsents_at : Stage → AskerValue → Turn
 unsents_at stages.Resting a = idle a
@@ -282,8 +328,14 @@ unsents a = unsents_at a.stage a
 abbrev pub rests : AskerValue → Turn
 rests a = turn (record a { stage = stages.Resting }) outputs.Nothing []
 
+-- after it is taken back, the owner is told that it was not sent
+abbrev pub rests_again : AskerValue → Turn
+rests_again a =
+    if a.is_taken_back then turn (record a { stage = stages.Resting; is_taken_back = false }) (outputs.Failed false) []
+    else rests a
+
 abbrev pub goes_on : Option Ask → AskerValue → Turn
-goes_on None a = rests a
+goes_on None a = rests_again a
 goes_on (Some wanted) a = announces a
 
 -- there is a file now; what is under way is sent; or what is wanted is announced
@@ -308,8 +360,8 @@ saved a now = saved_at a.stage a now
 abbrev pub begins_wanted : AskerValue → Option Ask → Turn
 begins_wanted a None = rests a
 begins_wanted a (Some wanted) =
-    after_moves (Begins a.tag wanted ∷ [])
-    (saves (record a { session = begun a.session (request_of wanted); wanted = None; is_testing = false }))
+    after_moves (Begins a.tag (asked_request wanted) ∷ [])
+    (saves (record a { session = begun a.session (asked_request wanted); wanted = None; is_testing = false }))
 
 abbrev pub noted_at : Stage → AskerValue → Turn
 noted_at stages.Resting a = idle a

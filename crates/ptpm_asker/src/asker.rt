@@ -5,14 +5,14 @@ ghost use Rattle.ptpm_manager.specs.declared.error.BeginError.{BeginError};
 ghost use Rattle.ptpm_manager.specs.declared.error.GiveUpRefusal.{GiveUpRefusal};
 ghost use Rattle.ptpm_manager.specs.declared.error.RestoreError.{RestoreError};
 ghost use Rattle.ptpm_codec.specs.SequenceNumber.{number_of};
-ghost use Rattle.ptpm_asker.specs.Asker.{first_in};
+ghost use Rattle.ptpm_asker.specs.Asker.{first_in, hops_in};
 ghost use Rattle.ptpm_manager.specs.ImageReading.{session_at};
 ghost use Rattle.ptpm_manager.specs.Receiving.{NeedsMemory, received_of};
 ghost use Rattle.ptpm_manager.specs.Restoring.{restore_refusal};
 
 use crate::earlier::Earlier;
 use crate::output::Output;
-use crate::question::{DRAWN_OCTETS, begin_question};
+use crate::question::{DRAWN_OCTETS, begin_asked, begin_question};
 use crate::settings::Settings;
 use crate::stage::Stage;
 use ptpm_codec::{Buffer, OutOfMemory, u16_at};
@@ -26,6 +26,9 @@ const APART: u16 = 16_384;
 /// How many numbers follow the first that a new session tries.
 const FURTHER_NUMBERS: u8 = 3;
 
+/// How many requests a session has begun that begins no further question and request.
+const USED_UP: u64 = 999_999;
+
 /// One manager, one clock, one request at a time. It is handed what came in and what was done, and hands out what is to be done next.
 /// After `Begun`, `Save` and `Told` it hands out nothing before that is done. Contracts see its session and its stage.
 #[derive(Debug, Drop)]
@@ -37,6 +40,8 @@ pub struct Asker {
     session: Session,
     /// The number of the session's first request.
     first: u16,
+    /// The hops of its requests.
+    hops: u8,
     stage: Stage,
     /// What the owner asked, until it is begun.
     wanted: Option<Ask>,
@@ -57,6 +62,8 @@ pub struct Asker {
     has_left: bool,
     /// Whether the latest message left, as far as is known.
     is_out: bool,
+    /// Whether the request under way was taken back, since no message of it left.
+    is_taken_back: bool,
 }
 
 impl Model for Asker {
@@ -71,7 +78,7 @@ impl Model for Asker {
 
 impl Asker {
     ghost use Rattle.ptpm_asker.specs.Asker.{AreSettings, at_rest, opened, opened_new};
-    ghost use Rattle.ptpm_asker.specs.Turns.{IsMessage, announces, asks, asks_refusal, begins_wanted, can_settle, fails, goes_on_asking, goes_on_saved, has_sent, hears, is_answered, is_busy, is_resting, later, latest, lets_go, lets_go_refusal, next, noted, resumes, saved, saves, sends, sends_or_tests, settled, settles, tests_wanted, unsents, wakes};
+    ghost use Rattle.ptpm_asker.specs.Turns.{IsMessage, announces, asks, asks_refusal, asked_of, begins_wanted, can_settle, fails, goes_on, goes_on_begun, goes_on_saved, has_no_way, has_sent, hears, is_answered, is_busy, is_resting, is_used_up, later, latest, lets_go, lets_go_refusal, next, noted, renewed_for, resumes, saved, saves, sends, sends_or_tests, settled, settles, takes_back, tests_wanted, unsents, wakes};
 
     /// An asker whose session has no file yet. Its first number and its octets are drawn at random. Takes no memory: `alloc` is kept
     /// for the octets of requests and answers.
@@ -91,6 +98,7 @@ impl Asker {
             drawn,
             session,
             number,
+            settings.hops,
             false,
             Earlier::NoRequest,
             FURTHER_NUMBERS,
@@ -130,7 +138,8 @@ impl Asker {
             first,
         )?;
         let earlier = Earlier::of_image(image);
-        Ok(Asker::at_rest(alloc, settings, drawn, session, first, true, earlier, 0))
+        let hops = hops_in(image);
+        Ok(Asker::at_rest(alloc, settings, drawn, session, first, hops, true, earlier, 0))
     }
 
     /// What it does, or what it waits for.
@@ -175,13 +184,18 @@ impl Asker {
             return Err(BeginError::Busy);
         }
         self.settings.judge(self.alloc, &wanted)?;
-        if !self.earlier.is_left_question() && !self.is_new && self.is_kept {
+        if self.earlier.is_left_question() {
+            self.want(tag, wanted, domain);
+            self.is_testing = true;
+            return Ok(self.resume(buffer, now));
+        }
+        if self.is_used_up() {
+            self.renew(&wanted)?;
+        } else if !self.is_new && self.is_kept {
             begin_question(&mut self.session, &wanted, &self.drawn)?;
         }
-        self.session.retune(domain);
-        self.tag = tag;
-        self.wanted = Some(wanted);
-        Ok(self.go_on(buffer, now))
+        self.want(tag, wanted, domain);
+        Ok(self.go_on_asking(now))
     }
 
     /// Sends the request of an earlier run again, under its number, with all attempts of this run. A SET or a COMMAND is sent in the
@@ -199,6 +213,7 @@ impl Asker {
         }
         let there = self.earlier.settling_domain(self.session.domain(), domain);
         self.session.retune(there);
+        self.wanted = None;
         self.tag = tag;
         self.is_testing = false;
         Some(self.resume(buffer, now))
@@ -216,6 +231,7 @@ impl Asker {
             return Err(GiveUpRefusal::Idle);
         }
         self.session.give_up()?;
+        self.wanted = None;
         self.earlier = Earlier::NoRequest;
         Ok(self.save())
     }
@@ -258,22 +274,14 @@ impl Asker {
         }
     }
 
-    /// There was no way for the message that was handed out. If none of the request left before, it is as one of an earlier run: it
-    /// can be settled or let go. If it is a question, it is sent again for the next request.
+    /// There was no way for the message that was handed out. If none of the request left before, it is taken back. Its number is that
+    /// of the next one. A question is sent again for the next request, and a request of an earlier run can be settled or let go.
     pub fn unsent(&mut self) -> Output
         ensures asker { self.new ≡ (unsents self.old).asker }
         ensures output { result ≡ (unsents self.old).output }
     {
         match self.stage {
-            Stage::Asking if self.is_out => {
-                self.is_out = false;
-                if self.has_left {
-                    return Output::Nothing;
-                }
-                self.stage = Stage::Resting;
-                self.earlier = self.earlier.of_next_run(self.is_testing);
-                Output::Failed { was_sent: false }
-            }
+            Stage::Asking => self.turn_back(),
             _ => Output::Nothing,
         }
     }
@@ -312,12 +320,13 @@ impl Asker {
         drawn: [u8; DRAWN_OCTETS],
         session: Session,
         first: u16,
+        hops: u8,
         is_kept: bool,
         earlier: Earlier,
         numbers_left: u8,
     ) -> Asker
         requires { AreSettings settings }
-        ensures { result ≡ at_rest settings drawn session first is_kept earlier numbers_left }
+        ensures { result ≡ at_rest settings drawn session first hops is_kept earlier numbers_left }
     {
         Asker {
             alloc,
@@ -325,6 +334,7 @@ impl Asker {
             drawn,
             session,
             first,
+            hops,
             stage: Stage::Resting,
             wanted: None,
             tag: 0,
@@ -336,6 +346,7 @@ impl Asker {
             wake_at: 0,
             has_left: false,
             is_out: false,
+            is_taken_back: false,
         }
     }
 
@@ -371,16 +382,47 @@ impl Asker {
         number_of(self.first, self.session.issued() + 1)
     }
 
-    /// Goes on with what is wanted. If the question is to be asked, it is begun.
-    fn go_on(&mut self, buffer: &mut Buffer, now: u64) -> Output
-        ensures asker { self.new ≡ (goes_on_asking self.old now).asker }
-        ensures output { result ≡ (goes_on_asking self.old now).output }
-        ensures message { IsMessage result self.new.session buffer.new.items }
+    /// Whether the session has no further numbers for a question and a request, or requests of other hops.
+    fn is_used_up(&self) -> bool
+        ensures { result ≡ is_used_up self.now }
     {
-        if self.earlier.is_left_question() {
-            self.is_testing = true;
-            self.resume(buffer, now)
-        } else if self.is_new {
+        self.session.issued() >= USED_UP || self.hops != self.settings.hops
+    }
+
+    /// Has the session go on as a new one, with its next number and the hops of this run. If the question is to be asked in it, it is
+    /// begun.
+    fn renew(&mut self, wanted: &Ask) -> Result<(), BeginError>
+        ensures renewed { OnOk result (self.new ≡ renewed_for self.old wanted.now) }
+        ensures unchanged { OnErr result (self.new ≡ self.old) }
+    {
+        let first = self.next();
+        let mut session = self
+            .settings
+            .fresh_session(self.alloc, first, self.session.domain());
+        if !self.is_new && self.is_kept {
+            begin_question(&mut session, wanted, &self.drawn)?;
+        }
+        self.session = session;
+        self.first = first;
+        self.hops = self.settings.hops;
+        Ok(())
+    }
+
+    /// Keeps what is wanted, and asks in its domain.
+    fn want(&mut self, tag: u64, wanted: Ask, domain: u8)
+        ensures { self.new ≡ asked_of self.old tag wanted domain }
+    {
+        self.session.retune(domain);
+        self.tag = tag;
+        self.wanted = Some(wanted);
+    }
+
+    /// Goes on with what is wanted. If there is a file, the question is begun.
+    fn go_on_asking(&mut self, now: u64) -> Output
+        ensures asker { self.new ≡ (goes_on_begun self.old now).asker }
+        ensures output { result ≡ (goes_on_begun self.old now).output }
+    {
+        if self.is_new {
             self.announce()
         } else if self.is_kept {
             self.is_testing = true;
@@ -391,6 +433,43 @@ impl Asker {
             self.wake_at = time;
             Output::WakeAt { time }
         }
+    }
+
+    /// There was no way for the message that was handed out.
+    fn turn_back(&mut self) -> Output
+        ensures asker { self.new ≡ (has_no_way self.old).asker }
+        ensures output { result ≡ (has_no_way self.old).output }
+    {
+        if !self.is_out {
+            return Output::Nothing;
+        }
+        self.is_out = false;
+        if self.has_left {
+            return Output::Nothing;
+        }
+        if self.is_testing {
+            self.earlier = Earlier::Question;
+        } else if !self.earlier.is_unsettled() {
+            return self.take_back();
+        }
+        self.stage = Stage::Resting;
+        Output::Failed { was_sent: false }
+    }
+
+    /// Takes the request back: its number is that of the next one.
+    fn take_back(&mut self) -> Output
+        ensures asker { self.new ≡ (takes_back self.old).asker }
+        ensures output { result ≡ (takes_back self.old).output }
+    {
+        let first = self.latest();
+        let domain = self.session.domain();
+        self.session = self.settings.fresh_session(self.alloc, first, domain);
+        self.first = first;
+        self.hops = self.settings.hops;
+        self.wanted = None;
+        self.earlier = Earlier::NoRequest;
+        self.is_taken_back = true;
+        self.save()
     }
 
     fn save(&mut self) -> Output
@@ -506,8 +585,10 @@ impl Asker {
         begin_question(&mut session, wanted, &self.drawn)?;
         self.session = session;
         self.first = first;
+        self.hops = self.settings.hops;
         self.numbers_left = numbers_left;
         self.is_testing = true;
+        self.is_new = false;
         self.has_left = false;
         self.is_out = false;
         Ok(self.send(buffer, now))
@@ -548,14 +629,24 @@ impl Asker {
                 self.is_out = false;
                 self.send(buffer, now)
             }
-            Err(_) => match &self.wanted {
-                Some(_) => self.announce(),
-                None => {
-                    self.stage = Stage::Resting;
-                    Output::Nothing
-                }
-            },
+            Err(_) => self.go_on(),
         }
+    }
+
+    /// Announces what is wanted. If nothing is, it rests.
+    fn go_on(&mut self) -> Output
+        ensures asker { self.new ≡ (goes_on self.old.wanted self.old).asker }
+        ensures output { result ≡ (goes_on self.old.wanted self.old).output }
+    {
+        if self.wanted.is_some() {
+            return self.announce();
+        }
+        self.stage = Stage::Resting;
+        if self.is_taken_back {
+            self.is_taken_back = false;
+            return Output::Failed { was_sent: false };
+        }
+        Output::Nothing
     }
 
     /// Begins what is wanted.
@@ -568,7 +659,13 @@ impl Asker {
             self.stage = Stage::Resting;
             return Ok(Output::Nothing);
         };
-        self.session.begin(wanted)?;
+        begin_asked(
+            &mut self.session,
+            wanted.action,
+            wanted.id,
+            wanted.port,
+            wanted.octets.as_slice(),
+        )?;
         self.wanted = None;
         self.is_testing = false;
         Ok(self.save())
@@ -592,4 +689,11 @@ fn first_in(image: &[u8]) -> u16
     } else {
         0
     }
+}
+
+/// The hops that an image has; 0 of octets that are too few for one.
+fn hops_in(image: &[u8]) -> u8
+    ensures { result ≡ hops_in image.now }
+{
+    if image.len() >= 53 { image[33] } else { 0 }
 }

@@ -31,7 +31,7 @@ const IS_UNDER_WAY: usize = 52;
 
 impl Earlier {
     ghost use Rattle.ptpm_asker.specs.Question.{earlier_of};
-    ghost use Rattle.ptpm_asker.specs.Turns.{as_earlier, is_left_question, is_unsettled, settling_domain};
+    ghost use Rattle.ptpm_asker.specs.Turns.{is_left_question, is_unsettled, settling_domain};
 
     /// What a session's image has under way.
     #[tactic(auto, unfolding(ptpm_manager::specs::ImageReading::request_at))]
@@ -79,19 +79,6 @@ impl Earlier {
         ensures { result ≡ is_left_question self }
     {
         matches!(self, Earlier::Question)
-    }
-
-    /// What a request of this run is to the next.
-    pub(crate) fn of_next_run(self, is_testing: bool) -> Earlier
-        ensures { result ≡ as_earlier is_testing self }
-    {
-        if is_testing {
-            Earlier::Question
-        } else if self.is_unsettled() {
-            self
-        } else {
-            Earlier::Changes
-        }
     }
 
     /// The domain in which it is settled, if it was asked in `own` and this run asks in `domain`.

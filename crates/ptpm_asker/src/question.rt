@@ -1,11 +1,10 @@
 //! The question whether a session's next number is new.
 
-ghost use Rattle.std.specs.Prelude.{◌≡◌, ◌≢◌, Some, IfErr, OnErr, OnOk};
+ghost use Rattle.std.specs.Prelude.{◌≡◌, OnErr, OnOk};
 ghost use Rattle.ptpm_data.specs.ManagementId.{is_of_port};
-ghost use Rattle.ptpm_manager.specs.declared.error.BeginError.{BeginError};
-ghost use Rattle.ptpm_manager.specs.Ask.{request_of};
-ghost use Rattle.ptpm_manager.specs.Session.{begin_refusal, begun};
-ghost use Rattle.ptpm_asker.specs.Question.{question};
+ghost use Rattle.ptpm_manager.specs.Ask.{ask_of};
+ghost use Rattle.ptpm_manager.specs.Session.{begun};
+ghost use Rattle.ptpm_asker.specs.Question.{asked_request, question};
 
 use ptpm_codec::Action;
 use ptpm_data::{Scope, row};
@@ -21,17 +20,31 @@ pub(crate) fn begin_question(
     drawn: &[u8; DRAWN_OCTETS],
 ) -> Result<(), BeginError>
     ensures begun { OnOk result
-        (session.new ≡ begun session.old (request_of (question drawn.now wanted.now))) }
-    ensures no_other { IfErr result
-        (λ e.
-        e ≢ BeginError.OutOfMemory
-        → begin_refusal session.old (question drawn.now wanted.now) ≡ Some e) }
+        (session.new ≡ begun session.old (asked_request (question drawn.now wanted.now))) }
     ensures unchanged { OnErr result (session.new ≡ session.old) }
 {
     if is_of_port(wanted.id) {
-        session.begin_with(Action::Get, 0x2004, wanted.port, &drawn[..26])
+        begin_asked(session, Action::Get, 0x2004, wanted.port, &drawn[..26])
     } else {
-        session.begin_with(Action::Get, 0x2000, wanted.port, &drawn[..20])
+        begin_asked(session, Action::Get, 0x2000, wanted.port, &drawn[..20])
+    }
+}
+
+/// Begins a request at the port that is named, for an id of the clock too.
+pub(crate) fn begin_asked(
+    session: &mut Session,
+    action: Action,
+    id: u16,
+    port: Option<u16>,
+    octets: &[u8],
+) -> Result<(), BeginError>
+    ensures begun { OnOk result
+        (session.new ≡ begun session.old (asked_request (ask_of action id port octets.now))) }
+    ensures unchanged { OnErr result (session.new ≡ session.old) }
+{
+    match port {
+        Some(port) => session.begin_at(action, id, port, octets),
+        None => session.begin_with(action, id, None, octets),
     }
 }
 

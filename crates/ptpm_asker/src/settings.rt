@@ -2,8 +2,8 @@
 
 ghost use Rattle.std.specs.Prelude.{◌≡◌, Err, None, Some, OnOk};
 ghost use Rattle.ptpm_manager.specs.declared.error.BeginError.{BeginError};
-ghost use Rattle.ptpm_manager.specs.Ask.{ask_refusal};
 ghost use Rattle.ptpm_manager.specs.Session.{fresh};
+ghost use Rattle.ptpm_asker.specs.Question.{asked_refusal};
 
 use ptpm_codec::{ClockIdentity, PortIdentity};
 use ptpm_manager::{Ask, BeginError, Session};
@@ -48,15 +48,18 @@ impl Settings {
     }
 
     /// Judges what is asked by itself. It is begun in a session that is let go.
-    #[tactic(auto, unfolding(ptpm_manager::specs::Session::begin_refusal))]
+    #[tactic(auto, unfolding(ptpm_manager::specs::Session::begin_refusal, ptpm_manager::specs::Session::begin_at_refusal))]
     pub(crate) fn judge(&self, alloc: Global, wanted: &Ask) -> Result<(), BeginError>
         requires { AreSettings self.now }
-        ensures permitted { OnOk result (ask_refusal self.now.ports wanted.now ≡ None) }
+        ensures permitted { OnOk result (asked_refusal self.now.ports wanted.now ≡ None) }
         ensures refused { (e : BeginError)
-            → ask_refusal self.now.ports wanted.now ≡ Some e
+            → asked_refusal self.now.ports wanted.now ≡ Some e
             → result ≡ Err e }
     {
         let mut session = self.fresh_session(alloc, 0, 0);
-        session.begin(wanted)
+        match wanted.port {
+            Some(port) => session.begin_at(wanted.action, wanted.id, port, wanted.octets.as_slice()),
+            None => session.begin(wanted),
+        }
     }
 }

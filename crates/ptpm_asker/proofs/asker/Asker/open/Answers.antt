@@ -1,5 +1,5 @@
-use Rattle.std.proofs.Common.{ap, sym, ◌∙◌}
-use Rattle.ptpm_asker.proofs.Opening.{first-read, restored-long}
+use Rattle.std.proofs.Common.{◌∙◌}
+use Rattle.ptpm_asker.proofs.Opening.{first-read, hops-read, opened-so, restored-long}
 use Rattle.ptpm_asker.proofs.asker.Asker.open.Goals as goal
 
 pub of_image-earlier-requires : goal.of_image-earlier-requires
@@ -7,5 +7,7 @@ of_image-earlier-requires c = restored-long _ _ _ _ _ c.in_ok-session.ensures.pe
 
 pub returns-clause-opened : goal.returns-clause-opened
 returns-clause-opened c =
-    let first = first-read c.args.image.now (restored-long _ _ _ _ _ c.in_ok-session.ensures.permitted) in
-    cc (first, c.in_ok-session.ensures.restored, c.of_image-earlier.ensures, c.first_in-first.ensures, c.at_rest.ensures)
+    let long = restored-long _ _ _ _ _ c.in_ok-session.ensures.permitted in
+    let first = c.first_in-first.ensures ∙ first-read c.args.image.now long in
+    let hops = c.hops_in-hops.ensures ∙ hops-read c.args.image.now long in
+    c.at_rest.ensures ∙ opened-so _ _ _ _ _ _ _ c.in_ok-session.ensures.restored first hops c.of_image-earlier.ensures
