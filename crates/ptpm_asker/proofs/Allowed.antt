@@ -117,12 +117,12 @@ one x GivesUp h =
     (λ _. idles a x.file x.notes x.run x.due h)
     (λ (p : is_some r ≡ false).
     lets_go_at a.stage a x.file x.notes x.run x.due h h.at (can (can_settle a) (give_up_refusal a.session) p))
-one x (Hears datagram) h = hears_so x.asker.stage x.asker x.file x.notes x.run x.due datagram h h.at
+one x (Hears datagram) h = hears_so x.asker.stage x.asker x.file x.notes x.run x.due datagram h h.at refl
 one x (Wakes now) h =
     let a = x.asker in
     goes_if (nat_lt now a.wake_at) (desk_of x) x.due (idle a) (wakes_at a.stage a now)
     (λ _. idles a x.file x.notes x.run x.due h)
-    (λ _. wakes_so a.stage a x.file x.notes x.run x.due now h h.at)
+    (λ _. wakes_so a.stage a x.file x.notes x.run x.due now h h.at refl)
 one x IsUnsent h = unsents_so x.asker x.file x.notes x.run x.due h
 one x (IsDone now) h = done_so x.asker.stage x.asker x.file x.notes x.run x.due now h h.at
 one x (Ends true o) h = ends_so x.asker.stage x.asker x.file x.notes x.run x.due o h.at

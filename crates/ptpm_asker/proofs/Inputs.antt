@@ -1,5 +1,5 @@
 -- Each input goes on, at each stage.
-use Rattle.std.proofs.Common.{◌≡◌, ◌∙◌, ℕ, ◌+◌, ◌-◌, ◌%◌, Bool, true, false, not, ◌&&◌, ◌||◌, List, [], ◌∷◌, ◌++◌, length, Option, Some, None, inl, inr, refl, sym, ap, subst, is_some, if◌then◌else◌}
+use Rattle.std.proofs.Common.{◌≡◌, ◌∙◌, ℕ, ◌+◌, ◌-◌, ◌%◌, Bool, true, false, not, min, ◌&&◌, ◌||◌, List, [], ◌∷◌, ◌++◌, length, Option, Some, None, inl, inr, refl, sym, ap, subst, is_some, if◌then◌else◌}
 use Rattle.std.proofs.lemmas.Bool.{and_parts, cases_Bool, not-false}
 use Rattle.std.specs.Option.{option_or}
 use Rattle.ptpm_codec.specs.Ordered.{first_of}
@@ -21,10 +21,10 @@ use Rattle.ptpm_asker.specs.declared.stage.Stage.TheVariants as stages
 use Rattle.ptpm_asker.specs.Asker.{AskerValue, setup_with}
 use Rattle.ptpm_asker.specs.Desk.{Begins, Continues, Desk, HasIt, HasNoneOut, HasRequest, Hears, IsBegun, IsLetGo, IsTold, LeavesTold, LetsGo, MayLeave, Move, Note, Notes, Retunes, Returns, Run, Saves, Starts, TakesBack, heard_after, latest_number, moved, unsent_run}
 use Rattle.ptpm_asker.specs.Question.{asked_request, asks_question, question}
-use Rattle.ptpm_asker.specs.Turns.{Turn, after_moves, announces, asked_of, asks, asks_in_session, begins_wanted, goes_on, goes_on_asking, goes_on_begun, goes_on_saved, has_more_numbers, has_no_way, heard_as, hears_at, idle, is_answered, is_left_question, is_unsettled, is_used_up, latest, lets_go, next, renewed, resumes, rests, saves, sends, settled, settles, settling_domain, stays, taken_back, takes_back, tested, tests_wanted, turn, unsents, unsents_at, waits, wakes_at, with_question}
+use Rattle.ptpm_asker.specs.Turns.{Turn, after_moves, announces, asked_of, asks, asks_in_session, begins_wanted, goes_on, goes_on_asking, goes_on_begun, goes_on_saved, fails, has_more_numbers, has_no_way, has_read, heard_as, hears_at, idle, is_answered, is_left_question, is_new_session, is_over, is_unsettled, is_used_up, latest, lets_go, most_readings, next, read_as, reads_wanted, renewed, resumes, rests, saves, sends, settled, settles, settling_domain, stays, taken_back, takes_back, tested, tests_wanted, turn, unsents, unsents_at, waits, wakes_at, with_question}
 use Rattle.ptpm_asker.specs.Allowed.{done_at}
 use Rattle.ptpm_asker.proofs.Standing.{Goes, GoesOn, IsAsking, IsAtRest, IsFree, IsFreeOf, IsKnown, IsNoting, IsOfLatest, IsQuestionLeft, IsResting, IsSaving, IsTelling, IsUnderWay, IsWaiting, IsWell, RestsWith, Stands, StandsAt, TestsQuestion, desk, goes_after, goes_if, goes_on_after}
-use Rattle.ptpm_asker.proofs.Parts.{announces_so, back_leaves, free_leaves, idles, is_one, resumes_so, saves_so, sends_so, told_leaves}
+use Rattle.ptpm_asker.proofs.Parts.{announces_so, back_leaves, fails_so, free_leaves, idles, is_one, resumes_so, saves_so, sends_so, told_leaves}
 
 -- ---- ask
 
@@ -237,13 +237,32 @@ answered_so a file notes run outcome w under tests =
     })
 
 -- a datagram comes in while a request is under way
-taken_as : (r : Received) (a : AskerValue) (file : Option SessionValue) (notes : List Note) (run : Run)
+read_so : (r : Received) (a : AskerValue) (file : Option SessionValue) (notes : List Note) (run : Run)
+    → a.stage ≡ stages.Asking
     → IsWell a file run
     → IsAsking a file run []
-    → Stands a file notes run []
-    → GoesOn (desk (left_by a.session r) file notes (record run { heard = heard_after a.session run.heard r })) [] (heard_as a r)
-taken_as (received.Answered report) a file notes run w here all = answered_so a file notes run report.outcome w here.under_way here.tests
-taken_as (received.Ignored reason) a file notes run w here all = idles a file notes run [] all
+    → GoesOn (desk a.session file notes run) [] (read_as a r)
+read_so (received.Answered report) a file notes run is w here =
+    let b = record a { reader = answered a.reader; readings = min (a.readings + 1) most_readings } in
+    let at : IsAsking b file run [] = record { due_is = refl; under_way = here.under_way; tests = here.tests; out = λ t u. record { left = (here.out t u).left; out = (here.out t u).out } } in
+    record {
+      allowed = tt;
+      live = refl;
+      stands = record {
+        well = record { size = w.size; first = w.first; unkept = w.unkept; known = w.known };
+        at = subst (λ (s : Stage). StandsAt s b file notes run []) (sym is) at;
+      };
+    }
+read_so (received.Ignored reason) a file notes run is w here =
+    idles a file notes run [] (record { well = w; at = subst (λ (s : Stage). StandsAt s a file notes run []) (sym is) here })
+
+taken_as : (r read : Received) (a : AskerValue) (file : Option SessionValue) (notes : List Note) (run : Run)
+    → a.stage ≡ stages.Asking
+    → IsWell a file run
+    → IsAsking a file run []
+    → GoesOn (desk (left_by a.session r) file notes (record run { heard = heard_after a.session run.heard r })) [] (heard_as a r read)
+taken_as (received.Answered report) read a file notes run is w here = answered_so a file notes run report.outcome w here.under_way here.tests
+taken_as (received.Ignored reason) read a file notes run is w here = read_so read a file notes run is w here
 
 asking_due : (a : AskerValue) (file : Option SessionValue) (run : Run) (due : List Move) → IsAsking a file run due → IsAsking a file run []
 asking_due a file run due h = record { due_is = refl; under_way = h.under_way; tests = h.tests; out = h.out }
@@ -251,19 +270,21 @@ asking_due a file run due h = record { due_is = refl; under_way = h.under_way; t
 pub hears_so : (st : Stage) (a : AskerValue) (file : Option SessionValue) (notes : List Note) (run : Run) (due : List Move) (datagram : List ℕ)
     → Stands a file notes run due
     → StandsAt st a file notes run due
+    → a.stage ≡ st
     → GoesOn (desk a.session file notes run) due (hears_at st a datagram)
-hears_so stages.Resting a file notes run due datagram all here = idles a file notes run due all
-hears_so stages.Waiting a file notes run due datagram all here = idles a file notes run due all
-hears_so stages.Noting a file notes run due datagram all here = idles a file notes run due all
-hears_so stages.Saving a file notes run due datagram all here = idles a file notes run due all
-hears_so stages.Asking a file notes run due datagram all here =
-    let all_of : Stands a file notes run [] = subst (λ (m : List Move). Stands a file notes run m) here.due_is all in
+hears_so stages.Resting a file notes run due datagram all here is = idles a file notes run due all
+hears_so stages.Waiting a file notes run due datagram all here is = idles a file notes run due all
+hears_so stages.Noting a file notes run due datagram all here is = idles a file notes run due all
+hears_so stages.Saving a file notes run due datagram all here is = idles a file notes run due all
+hears_so stages.Asking a file notes run due datagram all here is =
+    let r = received_of a.session datagram in
+    let read = received_of a.reader datagram in
     let P : List Move → Type 0 = λ m. GoesOn (desk a.session file notes run) m (hears_at stages.Asking a datagram) in
     subst P (sym here.due_is)
-    (goes_on_after (desk a.session file notes run) (Hears datagram) [] (heard_as a (received_of a.session datagram)) tt
-    (taken_as (received_of a.session datagram) a file notes run all.well (asking_due a file run due here) all_of))
-hears_so stages.Telling a file notes run due datagram all here = idles a file notes run due all
-hears_so stages.Over a file notes run due datagram all here = idles a file notes run due all
+    (goes_on_after (desk a.session file notes run) (Hears datagram) [] (heard_as a r read) tt
+    (taken_as r read a file notes run is all.well (asking_due a file run due here)))
+hears_so stages.Telling a file notes run due datagram all here is = idles a file notes run due all
+hears_so stages.Over a file notes run due datagram all here is = idles a file notes run due all
 
 -- ---- wake
 
@@ -289,35 +310,61 @@ test_so a (Some wanted) file notes run first numbers_left now all u =
     (record { waiting = refl; has = has })
     (λ t v. is_question_) (λ (t : true ≡ false) u. absurd (cc))))
 
-has_more : (a : AskerValue) (refused : Bool) → (refused && has_more_numbers a) ≡ true → a.is_kept ≡ false
-has_more a refused h =
-    let outer = and_parts refused _ h in
-    let inner = and_parts a.is_testing _ outer.1 in
-    let last = and_parts (not a.is_kept) _ inner.1 in
-    not_so a.is_kept last.0
+has_more : (a : AskerValue) → has_more_numbers a ≡ true → a.is_kept ≡ false
+has_more a h =
+    let outer = and_parts (is_new_session a) _ h in
+    let inner = and_parts a.is_testing _ outer.0 in
+    not_so a.is_kept inner.1
+
+reads_so : (wanted : Option Ask) (a : AskerValue) (file : Option SessionValue) (notes : List Note) (run : Run) (now : ℕ)
+    → a.stage ≡ stages.Asking
+    → IsWell a file run
+    → IsAsking a file run []
+    → GoesOn (desk a.session file notes run) [] (reads_wanted a wanted now)
+reads_so None a file notes run now is w here =
+    idles a file notes run [] (record { well = w; at = subst (λ (s : Stage). StandsAt s a file notes run []) (sym is) here })
+reads_so (Some wanted) a file notes run now is w here =
+    let b = has_read a wanted now in
+    let at : IsAsking b file run [] = record { due_is = refl; under_way = here.under_way; tests = here.tests; out = λ t u. record { left = (here.out t u).left; out = (here.out t u).out } } in
+    record {
+      allowed = tt;
+      live = refl;
+      stands = record {
+        well = record { size = w.size; first = w.first; unkept = w.unkept; known = w.known };
+        at = subst (λ (s : Stage). StandsAt s b file notes run []) (sym is) at;
+      };
+    }
 
 pub wakes_so : (st : Stage) (a : AskerValue) (file : Option SessionValue) (notes : List Note) (run : Run) (due : List Move) (now : ℕ)
     → Stands a file notes run due
     → StandsAt st a file notes run due
+    → a.stage ≡ st
     → GoesOn (desk a.session file notes run) due (wakes_at st a now)
-wakes_so stages.Resting a file notes run due now all here = idles a file notes run due all
-wakes_so stages.Waiting a file notes run due now all here =
+wakes_so stages.Resting a file notes run due now all here is = idles a file notes run due all
+wakes_so stages.Waiting a file notes run due now all here is =
     let P : List Move → Type 0 = λ m. GoesOn (desk a.session file notes run) m (wakes_at stages.Waiting a now) in
     let all_of : Stands a file notes run [] = subst (λ (m : List Move). Stands a file notes run m) here.due_is all in
     subst P (sym here.due_is) (test_so a a.wanted file notes run a.first a.numbers_left now all_of here.unkept)
-wakes_so stages.Noting a file notes run due now all here = idles a file notes run due all
-wakes_so stages.Saving a file notes run due now all here = idles a file notes run due all
-wakes_so stages.Asking a file notes run due now all here =
+wakes_so stages.Noting a file notes run due now all here is = idles a file notes run due all
+wakes_so stages.Saving a file notes run due now all here is = idles a file notes run due all
+wakes_so stages.Asking a file notes run due now all here is =
     let P : List Move → Type 0 = λ m. GoesOn (desk a.session file notes run) m (wakes_at stages.Asking a now) in
     let all_of : Stands a file notes run [] = subst (λ (m : List Move). Stands a file notes run m) here.due_is all in
-    let further = tests_wanted a ((a.first + 16384) % 65536) (a.numbers_left - 1) a.wanted now in
+    let asking = asking_due a file run due here in
+    let d = desk a.session file notes run in
+    let number = (a.first + 16384) % 65536 in
+    let further = tests_wanted a number (a.numbers_left - 1) a.wanted now in
+    let over = if has_more_numbers a then further else fails a in
     subst P (sym here.due_is)
-    (goes_if (is_some (send_refusal a.session) && has_more_numbers a) (desk a.session file notes run) [] further (sends a now)
-    (λ (h : (is_some (send_refusal a.session) && has_more_numbers a) ≡ true).
-    test_so a a.wanted file notes run ((a.first + 16384) % 65536) (a.numbers_left - 1) now all_of (has_more a (is_some (send_refusal a.session)) h))
-    (λ _. sends_so a file notes run [] now all.well here.under_way here.tests here.out))
-wakes_so stages.Telling a file notes run due now all here = idles a file notes run due all
-wakes_so stages.Over a file notes run due now all here = idles a file notes run due all
+    (goes_if a.is_read_due d [] (reads_wanted a a.wanted now) (if not (is_over a) then sends a now else over)
+    (λ _. reads_so a.wanted a file notes run now is all.well asking)
+    (λ _. goes_if (not (is_over a)) d [] (sends a now) over
+    (λ _. sends_so a file notes run [] now all.well here.under_way here.tests here.out)
+    (λ _. goes_if (has_more_numbers a) d [] further (fails a)
+    (λ (h : has_more_numbers a ≡ true). test_so a a.wanted file notes run number (a.numbers_left - 1) now all_of (has_more a h))
+    (λ _. fails_so a file notes run [] all.well))))
+wakes_so stages.Telling a file notes run due now all here is = idles a file notes run due all
+wakes_so stages.Over a file notes run due now all here is = idles a file notes run due all
 
 -- ---- unsent
 

@@ -13,7 +13,7 @@ use Rattle.ptpm_asker.specs.declared.output.Output.TheVariants as outputs
 use Rattle.ptpm_asker.specs.Asker.{AskerValue}
 use Rattle.ptpm_asker.specs.Desk.{Desk, HasIt, HasNoneOut, HasRequest, IsTakenBack, Run, LeavesTold, MayLeave, Move, Note, Resumes, SaysTold, Sends, latest_number}
 use Rattle.ptpm_asker.specs.Question.{asked_request, asks_question, is_question, question}
-use Rattle.ptpm_asker.specs.Turns.{Turn, announces, fails, has_sent, idle, is_unsettled, later, resumes, saves, sends, turn}
+use Rattle.ptpm_asker.specs.Turns.{Turn, announces, fails, has_sent, idle, is_unsettled, next_wake, resumes, saves, sends, turn}
 use Rattle.ptpm_asker.proofs.Standing.{Goes, GoesOn, IsAtRest, IsFree, IsFreeOf, IsKnown, IsOut, IsUnderWay, IsUnsent, IsWell, KnowsOut, Stands, TestsQuestion, desk, goes_if, goes_on_after}
 
 pub idles : (a : AskerValue) (file : Option SessionValue) (notes : List Note) (run : Run) (due : List Move)
@@ -70,7 +70,7 @@ pub sends_so : (a : AskerValue) (file : Option SessionValue) (notes : List Note)
     → GoesOn (desk a.session file notes run) due (sends a now)
 sends_so a file notes run due now w under tests out =
     goes_if (is_some (send_refusal a.session)) (desk a.session file notes run) due (fails a)
-    (turn (has_sent (record a { session = sent a.session }) now) (outputs.Send (later now a.settings.timeout)) (Sends ∷ []))
+    (turn (has_sent (record a { session = sent a.session }) now) (outputs.Send (next_wake a now)) (Sends ∷ []))
     (λ _. fails_so a file notes run due w)
     (λ _. record {
       allowed = ((under.waiting, under.has), tt);

@@ -52,7 +52,8 @@ due_after before outputs.Save = Saves ∷ []
 due_after before (outputs.Send wake_at) = []
 due_after before (outputs.WakeAt time) = []
 due_after before (outputs.Told tag number outcome) = Notes (IsTold tag number outcome) ∷ []
-due_after before (outputs.Failed was_sent) = []
+due_after before (outputs.Read wake_at) = []
+due_after before (outputs.Failed was_sent is_read_answered) = []
 
 -- ---- one input
 

@@ -36,6 +36,11 @@ pub record AskerValue : Type 0 where
   pub earlier : Earlier
   -- how many further numbers a new session may try
   pub numbers_left : ℕ
+  -- the latest read by nobody, how many there were, how many of this number were answered, and whether one is due
+  pub reader : SessionValue
+  pub reads : ℕ
+  pub readings : ℕ
+  pub is_read_due : Bool
   pub wake_at : ℕ
   -- whether a message of the request under way left in this run, before the latest; and whether the latest did
   pub has_left : Bool
@@ -58,6 +63,10 @@ asker_value i = record {
   is_kept = i.is_kept;
   earlier = i.earlier;
   numbers_left = i.numbers_left;
+  reader = i.reader;
+  reads = i.reads;
+  readings = i.readings;
+  is_read_due = i.is_read_due;
   wake_at = i.wake_at;
   has_left = i.has_left;
   is_out = i.is_out;
@@ -78,6 +87,17 @@ abbrev pub setup_with : Settings → ℕ → Setup
 setup_with s first =
     record { me = s.me; target = s.target; ports = s.ports; first = first; hops = s.hops; attempts = s.attempts }
 
+-- that of nobody, at the manager's clock, for one message
+abbrev pub reader_setup : Settings → ℕ → Setup
+reader_setup s first = record {
+  me = record { clock = s.me.clock; port = s.nobody };
+  target = s.target;
+  ports = s.ports;
+  first = first;
+  hops = s.hops;
+  attempts = 1;
+}
+
 -- ---- how it begins
 
 abbrev pub at_rest : Settings → List ℕ → SessionValue → ℕ → ℕ → Bool → Earlier → ℕ → AskerValue
@@ -95,6 +115,10 @@ at_rest settings drawn session first hops is_kept what numbers_left = record {
   is_kept = is_kept;
   earlier = what;
   numbers_left = numbers_left;
+  reader = fresh (reader_setup settings 0) 0;
+  reads = 0;
+  readings = 0;
+  is_read_due = false;
   wake_at = 0;
   has_left = false;
   is_out = false;

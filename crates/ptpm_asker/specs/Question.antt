@@ -1,7 +1,7 @@
 -- The question whether a session's next number is new to the clock: a GET with random octets in place of its dataField. It is
 -- of a data set that each clock has. A clock ignores them, and takes a repeat for one by them. So an answer shows that the number is new.
 -- And what an earlier run left under way (this project's profile).
-use Rattle.std.specs.Prelude.{ℕ, ◌==◌, ◌&&◌, ◌||◌, Bool, true, false, if◌then◌else◌, List, length, take, Option, Some, None, is_some}
+use Rattle.std.specs.Prelude.{ℕ, ◌==◌, ◌&&◌, ◌||◌, Bool, true, false, if◌then◌else◌, List, [], length, take, Option, Some, None, is_some}
 use Rattle.ptpm_codec.specs.declared.message.Action.{Action}
 use Rattle.ptpm_codec.specs.declared.message.Action.TheVariants as actions
 use Rattle.ptpm_codec.specs.Layout.{octet}
@@ -32,6 +32,10 @@ question_size id = if is_of_port id then 26 else 20
 -- the question before a request
 abbrev pub question : List ℕ → Ask → Ask
 question drawn a = record { action = actions.Get; id = question_id a.id; port = a.port; octets = take (question_size a.id) drawn }
+
+-- a read of the same, which a clock answers whatever numbers it took
+abbrev pub read_of : Ask → Ask
+read_of a = record { action = actions.Get; id = question_id a.id; port = a.port; octets = [] }
 
 abbrev pub is_get : Action → Bool
 is_get actions.Get = true

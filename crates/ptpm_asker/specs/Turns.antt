@@ -21,9 +21,9 @@ use Rattle.ptpm_asker.specs.declared.output.Output.{Output}
 use Rattle.ptpm_asker.specs.declared.output.Output.TheVariants as outputs
 use Rattle.ptpm_asker.specs.declared.stage.Stage.{Stage}
 use Rattle.ptpm_asker.specs.declared.stage.Stage.TheVariants as stages
-use Rattle.ptpm_asker.specs.Asker.{AskerValue, setup_with}
+use Rattle.ptpm_asker.specs.Asker.{AskerValue, reader_setup, setup_with}
 use Rattle.ptpm_asker.specs.Desk.{Move, Begins, Continues, Hears, LetsGo, Notes, IsLetGo, Resumes, Retunes, Saves, Sends, Starts, TakesBack}
-use Rattle.ptpm_asker.specs.Question.{asked_refusal, asked_request, question}
+use Rattle.ptpm_asker.specs.Question.{asked_refusal, asked_request, question, read_of}
 
 pub record Turn : Type 0 where
   pub asker : AskerValue
@@ -50,25 +50,34 @@ next a = number_of a.first (a.session.issued + 1)
 abbrev pub later : ℕ → ℕ → ℕ
 later now time = min (now + time) (2 ^ 64 - 1)
 
--- what is handed out to be sent is the session's request
-abbrev pub IsMessage : Output → SessionValue → List ℕ → Type 0
-IsMessage outputs.Nothing s octets = Unit {0}
-IsMessage (outputs.Begun tag number) s octets = Unit {0}
-IsMessage outputs.Save s octets = Unit {0}
-IsMessage (outputs.Send wake_at) s octets = (v : Message) → due_message s ≡ Some v → octets ≡ canonical v
-IsMessage (outputs.WakeAt time) s octets = Unit {0}
-IsMessage (outputs.Told tag number outcome) s octets = Unit {0}
-IsMessage (outputs.Failed was_sent) s octets = Unit {0}
+-- what is handed out to be sent is the session's request, or the read
+abbrev pub IsMessage : Output → AskerValue → List ℕ → Type 0
+IsMessage outputs.Nothing a octets = Unit {0}
+IsMessage (outputs.Begun tag number) a octets = Unit {0}
+IsMessage outputs.Save a octets = Unit {0}
+IsMessage (outputs.Send wake_at) a octets = (v : Message) → due_message a.session ≡ Some v → octets ≡ canonical v
+IsMessage (outputs.Read wake_at) a octets = (v : Message) → due_message a.reader ≡ Some v → octets ≡ canonical v
+IsMessage (outputs.WakeAt time) a octets = Unit {0}
+IsMessage (outputs.Told tag number outcome) a octets = Unit {0}
+IsMessage (outputs.Failed was_sent is_read_answered) a octets = Unit {0}
 
 -- ---- parts of turns
 
 abbrev pub fails : AskerValue → Turn
-fails a = turn (record a { stage = stages.Over }) (outputs.Failed (a.has_left || a.is_out)) []
+fails a = turn (record a { stage = stages.Over }) (outputs.Failed (a.has_left || a.is_out) (nat_lt 0 a.readings)) []
+
+-- a read runs with each message of a new session's question, from the second on, and with an only one
+abbrev pub reads_next : AskerValue → Bool
+reads_next a = a.is_testing && (not a.is_kept && ((a.has_left || a.is_out) || a.settings.attempts == 1))
+
+abbrev pub next_wake : AskerValue → ℕ → ℕ
+next_wake a now = if reads_next a then now else later now a.settings.timeout
 
 abbrev pub has_sent : AskerValue → ℕ → AskerValue
 has_sent a now = record a {
   stage = stages.Asking;
-  wake_at = later now a.settings.timeout;
+  wake_at = next_wake a now;
+  is_read_due = reads_next a;
   has_left = a.has_left || a.is_out;
   is_out = true;
 }
@@ -77,7 +86,7 @@ has_sent a now = record a {
 abbrev pub sends : AskerValue → ℕ → Turn
 sends a now =
     if is_some (send_refusal a.session) then fails a
-    else turn (has_sent (record a { session = sent a.session }) now) (outputs.Send (later now a.settings.timeout)) (Sends ∷ [])
+    else turn (has_sent (record a { session = sent a.session }) now) (outputs.Send (next_wake a now)) (Sends ∷ [])
 
 -- it is sent with all attempts of this run
 abbrev pub resumes : AskerValue → ℕ → Turn
@@ -224,16 +233,27 @@ is_answered a outcome =
 abbrev pub settled : AskerValue → AskerValue
 settled a = record a { earlier = earlier.NoRequest }
 
-abbrev pub heard_as : AskerValue → Received → Turn
-heard_as a (received.Answered report) = is_answered (settled (record a { session = answered a.session })) report.outcome
-heard_as a (received.Ignored reason) = idle a
+-- the most answers to reads that are counted
+abbrev pub most_readings : ℕ
+most_readings = 255
+
+-- an answer to a read shows that the clock is there
+abbrev pub read_as : AskerValue → Received → Turn
+read_as a (received.Answered report) =
+    turn (record a { reader = answered a.reader; readings = min (a.readings + 1) most_readings }) outputs.Nothing []
+read_as a (received.Ignored reason) = idle a
+
+abbrev pub heard_as : AskerValue → Received → Received → Turn
+heard_as a (received.Answered report) read = is_answered (settled (record a { session = answered a.session })) report.outcome
+heard_as a (received.Ignored reason) read = read_as a read
 
 abbrev pub hears_at : Stage → AskerValue → List ℕ → Turn
 hears_at stages.Resting a datagram = idle a
 hears_at stages.Waiting a datagram = idle a
 hears_at stages.Noting a datagram = idle a
 hears_at stages.Saving a datagram = idle a
-hears_at stages.Asking a datagram = after_moves (Hears datagram ∷ []) (heard_as a (received_of a.session datagram))
+hears_at stages.Asking a datagram =
+    after_moves (Hears datagram ∷ []) (heard_as a (received_of a.session datagram) (received_of a.reader datagram))
 hears_at stages.Telling a datagram = idle a
 hears_at stages.Over a datagram = idle a
 
@@ -249,6 +269,7 @@ tested a first numbers_left wanted = record a {
   first = first;
   hops = a.settings.hops;
   numbers_left = numbers_left;
+  readings = 0;
   is_testing = true;
   is_new = false;
   has_left = false;
@@ -261,14 +282,46 @@ tests_wanted a first numbers_left (Some wanted) now =
     after_moves (Starts (setup_with a.settings first) a.session.domain ∷ Begins 0 (asked_request (question a.drawn wanted)) ∷ [])
     (sends (tested a first numbers_left wanted) now)
 
+-- this many answers to reads, and none to the question, show that its number is not new
+abbrev pub enough : AskerValue → ℕ
+enough a = min a.settings.attempts 5
+
+-- whether a new session asks whether its number is new
+abbrev pub is_new_session : AskerValue → Bool
+is_new_session a = a.is_testing && not a.is_kept
+
+abbrev pub has_enough : AskerValue → Bool
+has_enough a = is_new_session a && nat_le (enough a) a.readings
+
+-- whether it asks under another number: the clock answers, and drops this one
 abbrev pub has_more_numbers : AskerValue → Bool
-has_more_numbers a = a.is_testing && (not a.is_kept && nat_lt 0 a.numbers_left)
+has_more_numbers a = is_new_session a && (nat_lt 0 a.numbers_left && nat_lt 0 a.readings)
+
+abbrev pub is_over : AskerValue → Bool
+is_over a = has_enough a || is_some (send_refusal a.session)
+
+abbrev pub reader_of : AskerValue → Ask → SessionValue
+reader_of a wanted =
+    begun (fresh (reader_setup a.settings (number_of a.first (a.reads + 1))) a.session.domain) (asked_request (read_of wanted))
+
+abbrev pub has_read : AskerValue → Ask → ℕ → AskerValue
+has_read a wanted now = record a {
+  reader = sent (reader_of a wanted);
+  reads = (a.reads + 1) % 65536;
+  is_read_due = false;
+  wake_at = later now a.settings.timeout;
+}
+
+abbrev pub reads_wanted : AskerValue → Option Ask → ℕ → Turn
+reads_wanted a None now = idle a
+reads_wanted a (Some wanted) now = turn (has_read a wanted now) (outputs.Read (later now a.settings.timeout)) []
 
 abbrev pub sends_or_tests : AskerValue → ℕ → Turn
 sends_or_tests a now =
-    if is_some (send_refusal a.session) && has_more_numbers a then
-    tests_wanted a ((a.first + 16384) % 65536) (a.numbers_left - 1) a.wanted now
-    else sends a now
+    if a.is_read_due then reads_wanted a a.wanted now
+    else if not (is_over a) then sends a now
+    else if has_more_numbers a then tests_wanted a ((a.first + 16384) % 65536) (a.numbers_left - 1) a.wanted now
+    else fails a
 
 abbrev pub wakes_at : Stage → AskerValue → ℕ → Turn
 wakes_at stages.Resting a now = idle a
@@ -300,7 +353,7 @@ takes_back a = after_moves (TakesBack (setup_with a.settings (latest a)) ∷ [])
 
 -- what was not sent stays under way, until it is settled, let go or, if it is a question, sent again
 abbrev pub stays : AskerValue → Earlier → Turn
-stays a what = turn (record a { stage = stages.Resting; earlier = what }) (outputs.Failed false) []
+stays a what = turn (record a { stage = stages.Resting; earlier = what }) (outputs.Failed false false) []
 
 -- There is no way for the message that was handed out. If none of the request left before, a request of this run is taken back.
 abbrev pub has_no_way : AskerValue → Turn
@@ -331,7 +384,7 @@ rests a = turn (record a { stage = stages.Resting }) outputs.Nothing []
 -- after it is taken back, the owner is told that it was not sent
 abbrev pub rests_again : AskerValue → Turn
 rests_again a =
-    if a.is_taken_back then turn (record a { stage = stages.Resting; is_taken_back = false }) (outputs.Failed false) []
+    if a.is_taken_back then turn (record a { stage = stages.Resting; is_taken_back = false }) (outputs.Failed false false) []
     else rests a
 
 abbrev pub goes_on : Option Ask → AskerValue → Turn

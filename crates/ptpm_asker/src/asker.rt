@@ -1,6 +1,6 @@
 //! One manager asks one clock, one request at a time.
 
-ghost use Rattle.std.specs.Prelude.{◌≡◌, ◌≢◌, ◌≤◌, false, true, length, Err, None, Ok, Some, ◌↔◌, IfErr, IfNone, IfOk, IfSome, IsSome, OnErr, OnOk, OnSome, MatchResult};
+ghost use Rattle.std.specs.Prelude.{◌≡◌, ◌≢◌, ◌≤◌, ◌⊎◌, false, true, length, Err, None, Ok, Some, ◌↔◌, IfErr, IfNone, IfOk, IfSome, IsSome, OnErr, OnOk, OnSome, MatchResult};
 ghost use Rattle.ptpm_manager.specs.declared.error.BeginError.{BeginError};
 ghost use Rattle.ptpm_manager.specs.declared.error.GiveUpRefusal.{GiveUpRefusal};
 ghost use Rattle.ptpm_manager.specs.declared.error.RestoreError.{RestoreError};
@@ -12,7 +12,7 @@ ghost use Rattle.ptpm_manager.specs.Restoring.{restore_refusal};
 
 use crate::earlier::Earlier;
 use crate::output::Output;
-use crate::question::{DRAWN_OCTETS, begin_asked, begin_question};
+use crate::question::{DRAWN_OCTETS, begin_asked, begin_question, begin_read};
 use crate::settings::Settings;
 use crate::stage::Stage;
 use ptpm_codec::{Buffer, OutOfMemory, u16_at};
@@ -28,6 +28,9 @@ const FURTHER_NUMBERS: u8 = 3;
 
 /// How many requests a session has begun that begins no further question and request.
 const USED_UP: u64 = 999_999;
+
+/// This many answers to reads, and none to the question that runs with them, show that its number is not new.
+const ENOUGH: u8 = 5;
 
 /// One manager, one clock, one request at a time. It is handed what came in and what was done, and hands out what is to be done next.
 /// After `Begun`, `Save` and `Told` it hands out nothing before that is done. Contracts see its session and its stage.
@@ -57,6 +60,14 @@ pub struct Asker {
     earlier: Earlier,
     /// How many further numbers a new session may try.
     numbers_left: u8,
+    /// The latest read by nobody.
+    reader: Session,
+    /// How many there were.
+    reads: u16,
+    /// How many of them were answered, of those that ran with this number.
+    readings: u8,
+    /// Whether one follows the message that was handed out.
+    is_read_due: bool,
     wake_at: u64,
     /// Whether a message of the request under way left in this run, before the latest.
     has_left: bool,
@@ -78,7 +89,7 @@ impl Model for Asker {
 
 impl Asker {
     ghost use Rattle.ptpm_asker.specs.Asker.{AreSettings, at_rest, opened, opened_new};
-    ghost use Rattle.ptpm_asker.specs.Turns.{IsMessage, announces, asks, asks_refusal, asked_of, begins_wanted, can_settle, fails, goes_on, goes_on_begun, goes_on_saved, has_no_way, has_sent, hears, is_answered, is_busy, is_resting, is_used_up, later, latest, lets_go, lets_go_refusal, next, noted, renewed_for, resumes, saved, saves, sends, sends_or_tests, settled, settles, takes_back, tests_wanted, unsents, wakes};
+    ghost use Rattle.ptpm_asker.specs.Turns.{IsMessage, announces, asks, asks_refusal, asked_of, begins_wanted, can_settle, fails, goes_on, goes_on_begun, goes_on_saved, has_enough, has_no_way, has_sent, hears, is_answered, is_busy, is_new_session, is_resting, is_used_up, later, latest, lets_go, lets_go_refusal, next, next_wake, noted, reads_next, reads_wanted, renewed_for, resumes, saved, saves, sends, sends_or_tests, settled, settles, takes_back, tests_wanted, unsents, wakes};
 
     /// An asker whose session has no file yet. Its first number and its octets are drawn at random. Takes no memory: `alloc` is kept
     /// for the octets of requests and answers.
@@ -175,7 +186,7 @@ impl Asker {
     ) -> Result<Output, BeginError>
         ensures asker { OnOk result (self.new ≡ (asks self.old now tag wanted domain).asker) }
         ensures output { IfOk result (λ o. o ≡ (asks self.old now tag wanted domain).output) }
-        ensures message { IfOk result (λ o. IsMessage o self.new.session buffer.new.items) }
+        ensures message { IfOk result (λ o. IsMessage o self.new buffer.new.items) }
         ensures permitted { OnOk result (asks_refusal self.old wanted ≡ None) }
         ensures refused { (e : BeginError) → asks_refusal self.old wanted ≡ Some e → result ≡ Err e }
         ensures unchanged { OnErr result (self.new ≡ self.old) }
@@ -204,7 +215,7 @@ impl Asker {
     pub fn settle(&mut self, buffer: &mut Buffer, now: u64, tag: u64, domain: u8) -> Option<Output>
         ensures asker { OnSome result (self.new ≡ (settles self.old now tag domain).asker) }
         ensures output { IfSome result (λ o. o ≡ (settles self.old now tag domain).output) }
-        ensures message { IfSome result (λ o. IsMessage o self.new.session buffer.new.items) }
+        ensures message { IfSome result (λ o. IsMessage o self.new buffer.new.items) }
         ensures permitted { IsSome result ↔ (can_settle self.old ≡ true) }
         ensures unchanged { IfNone result (self.new ≡ self.old) }
     {
@@ -241,13 +252,20 @@ impl Asker {
     pub fn hear(&mut self, datagram: &[u8]) -> Result<Output, OutOfMemory>
         ensures asker { OnOk result (self.new ≡ (hears self.old datagram.now).asker) }
         ensures output { IfOk result (λ o. o ≡ (hears self.old datagram.now).output) }
-        ensures memory { OnErr result (NeedsMemory (received_of self.old.session datagram.now)) }
+        ensures memory { OnErr result
+            (NeedsMemory (received_of self.old.session datagram.now)
+            ⊎ NeedsMemory (received_of self.old.reader datagram.now)) }
         ensures unchanged { OnErr result (self.new ≡ self.old) }
     {
         match self.stage {
             Stage::Asking => match self.session.receive(datagram)? {
                 Received::Answered(report) => Ok(self.take(report.outcome)),
-                Received::Ignored(_) => Ok(Output::Nothing),
+                Received::Ignored(_) => {
+                    if let Received::Answered(_) = self.reader.receive(datagram)? {
+                        self.readings = self.readings.saturating_add(1);
+                    }
+                    Ok(Output::Nothing)
+                }
             },
             _ => Ok(Output::Nothing),
         }
@@ -257,7 +275,7 @@ impl Asker {
     pub fn wake(&mut self, buffer: &mut Buffer, now: u64) -> Result<Output, BeginError>
         ensures asker { OnOk result (self.new ≡ (wakes self.old now).asker) }
         ensures output { IfOk result (λ o. o ≡ (wakes self.old now).output) }
-        ensures message { IfOk result (λ o. IsMessage o self.new.session buffer.new.items) }
+        ensures message { IfOk result (λ o. IsMessage o self.new buffer.new.items) }
         ensures unchanged { OnErr result (self.new ≡ self.old) }
     {
         if now < self.wake_at {
@@ -290,7 +308,7 @@ impl Asker {
     pub fn saved(&mut self, buffer: &mut Buffer, now: u64) -> Output
         ensures asker { self.new ≡ (saved self.old now).asker }
         ensures output { result ≡ (saved self.old now).output }
-        ensures message { IsMessage result self.new.session buffer.new.items }
+        ensures message { IsMessage result self.new buffer.new.items }
     {
         match self.stage {
             Stage::Saving => self.go_on_saved(buffer, now),
@@ -343,6 +361,10 @@ impl Asker {
             is_kept,
             earlier,
             numbers_left,
+            reader: settings.reader(alloc, 0, 0),
+            reads: 0,
+            readings: 0,
+            is_read_due: false,
             wake_at: 0,
             has_left: false,
             is_out: false,
@@ -453,7 +475,10 @@ impl Asker {
             return self.take_back();
         }
         self.stage = Stage::Resting;
-        Output::Failed { was_sent: false }
+        Output::Failed {
+            was_sent: false,
+            is_read_answered: false,
+        }
     }
 
     /// Takes the request back: its number is that of the next one.
@@ -499,15 +524,21 @@ impl Asker {
         self.stage = Stage::Over;
         Output::Failed {
             was_sent: self.has_left || self.is_out,
+            is_read_answered: self.readings > 0,
         }
     }
 
     /// What was sent leaves with this message in the buffer.
     fn note_sent(&mut self, now: u64) -> Output
         ensures asker { self.new ≡ has_sent self.old now }
-        ensures output { result ≡ Output.Send (later now self.old.settings.timeout) }
+        ensures output { result ≡ Output.Send (next_wake self.old now) }
     {
-        let wake_at = now.saturating_add(self.settings.timeout);
+        self.is_read_due = self.reads_next();
+        let wake_at = if self.is_read_due {
+            now
+        } else {
+            now.saturating_add(self.settings.timeout)
+        };
         self.stage = Stage::Asking;
         self.wake_at = wake_at;
         self.has_left = self.has_left || self.is_out;
@@ -515,11 +546,20 @@ impl Asker {
         Output::Send { wake_at }
     }
 
+    /// Whether a read runs with the next message.
+    fn reads_next(&self) -> bool
+        ensures { result ≡ reads_next self.now }
+    {
+        self.is_testing
+            && !self.is_kept
+            && (self.has_left || self.is_out || self.settings.attempts == 1)
+    }
+
     /// Sends the request under way, while attempts are left.
     fn send(&mut self, buffer: &mut Buffer, now: u64) -> Output
         ensures asker { self.new ≡ (sends self.old now).asker }
         ensures output { result ≡ (sends self.old now).output }
-        ensures message { IsMessage result self.new.session buffer.new.items }
+        ensures message { IsMessage result self.new buffer.new.items }
     {
         match self.session.send(buffer) {
             Ok(()) => self.note_sent(now),
@@ -531,7 +571,7 @@ impl Asker {
     fn resume(&mut self, buffer: &mut Buffer, now: u64) -> Output
         ensures asker { self.new ≡ (resumes self.old now).asker }
         ensures output { result ≡ (resumes self.old now).output }
-        ensures message { IsMessage result self.new.session buffer.new.items }
+        ensures message { IsMessage result self.new buffer.new.items }
     {
         match self.session.resume(self.settings.attempts) {
             Ok(()) => {
@@ -547,18 +587,63 @@ impl Asker {
     fn send_or_test(&mut self, buffer: &mut Buffer, now: u64) -> Result<Output, BeginError>
         ensures asker { OnOk result (self.new ≡ (sends_or_tests self.old now).asker) }
         ensures output { IfOk result (λ o. o ≡ (sends_or_tests self.old now).output) }
-        ensures message { IfOk result (λ o. IsMessage o self.new.session buffer.new.items) }
+        ensures message { IfOk result (λ o. IsMessage o self.new buffer.new.items) }
         ensures unchanged { OnErr result (self.new ≡ self.old) }
     {
-        match self.session.send(buffer) {
-            Ok(()) => Ok(self.note_sent(now)),
-            Err(_) if self.is_testing && !self.is_kept && self.numbers_left > 0 => {
-                let first = ((self.first as u32 + APART as u32) % 65_536) as u16;
-                let numbers_left = self.numbers_left - 1;
-                self.test(buffer, now, first, numbers_left)
-            }
-            Err(_) => Ok(self.fail()),
+        if self.is_read_due {
+            return self.read(buffer, now);
         }
+        if !self.has_enough() && self.session.send(buffer).is_ok() {
+            return Ok(self.note_sent(now));
+        }
+        if !self.is_new_session() || self.numbers_left == 0 || self.readings == 0 {
+            return Ok(self.fail());
+        }
+        let first = ((self.first as u32 + APART as u32) % 65_536) as u16;
+        let numbers_left = self.numbers_left - 1;
+        self.test(buffer, now, first, numbers_left)
+    }
+
+    /// Whether a new session asks whether its number is new.
+    fn is_new_session(&self) -> bool
+        ensures { result ≡ is_new_session self.now }
+    {
+        self.is_testing && !self.is_kept
+    }
+
+    /// Whether the clock has answered enough reads, and not the question.
+    fn has_enough(&self) -> bool
+        ensures { result ≡ has_enough self.now }
+    {
+        self.is_new_session() && self.readings >= self.settings.attempts.min(ENOUGH)
+    }
+
+    /// Reads by nobody what the question asks.
+    #[tactic(auto, unfolding(ptpm_manager::specs::Session::send_refusal))]
+    fn read(&mut self, buffer: &mut Buffer, now: u64) -> Result<Output, BeginError>
+        ensures asker { OnOk result (self.new ≡ (reads_wanted self.old self.old.wanted now).asker) }
+        ensures output { IfOk result
+            (λ o. o ≡ (reads_wanted self.old self.old.wanted now).output) }
+        ensures message { IfOk result (λ o. IsMessage o self.new buffer.new.items) }
+        ensures unchanged { OnErr result (self.new ≡ self.old) }
+    {
+        let Some(wanted) = &self.wanted else {
+            return Ok(Output::Nothing);
+        };
+        let number = number_of(self.first, self.reads as u64 + 1);
+        let mut reader = self
+            .settings
+            .reader(self.alloc, number, self.session.domain());
+        begin_read(&mut reader, wanted)?;
+        if reader.send(buffer).is_err() {
+            return Ok(Output::Nothing);
+        }
+        let wake_at = now.saturating_add(self.settings.timeout);
+        self.reader = reader;
+        self.reads = self.reads.wrapping_add(1);
+        self.is_read_due = false;
+        self.wake_at = wake_at;
+        Ok(Output::Read { wake_at })
     }
 
     /// Asks in a session at this number whether it is new.
@@ -573,7 +658,7 @@ impl Asker {
             (self.new ≡ (tests_wanted self.old first numbers_left self.old.wanted now).asker) }
         ensures output { IfOk result
             (λ o. o ≡ (tests_wanted self.old first numbers_left self.old.wanted now).output) }
-        ensures message { IfOk result (λ o. IsMessage o self.new.session buffer.new.items) }
+        ensures message { IfOk result (λ o. IsMessage o self.new buffer.new.items) }
         ensures unchanged { OnErr result (self.new ≡ self.old) }
     {
         let Some(wanted) = &self.wanted else {
@@ -587,6 +672,7 @@ impl Asker {
         self.first = first;
         self.hops = self.settings.hops;
         self.numbers_left = numbers_left;
+        self.readings = 0;
         self.is_testing = true;
         self.is_new = false;
         self.has_left = false;
@@ -620,7 +706,7 @@ impl Asker {
     fn go_on_saved(&mut self, buffer: &mut Buffer, now: u64) -> Output
         ensures asker { self.new ≡ (goes_on_saved self.old now).asker }
         ensures output { result ≡ (goes_on_saved self.old now).output }
-        ensures message { IsMessage result self.new.session buffer.new.items }
+        ensures message { IsMessage result self.new buffer.new.items }
     {
         self.is_kept = true;
         match self.session.resume(self.settings.attempts) {
@@ -644,7 +730,10 @@ impl Asker {
         self.stage = Stage::Resting;
         if self.is_taken_back {
             self.is_taken_back = false;
-            return Output::Failed { was_sent: false };
+            return Output::Failed {
+                was_sent: false,
+                is_read_answered: false,
+            };
         }
         Output::Nothing
     }

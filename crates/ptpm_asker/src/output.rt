@@ -13,8 +13,13 @@ pub enum Output {
     },
     /// The session is saved, and then the owner says `saved`.
     Save,
-    /// The message in the buffer is sent. At this time the asker is woken, if it is not answered before.
+    /// The message in the buffer is sent. At this time the asker is woken, if it is not answered before. It is the present time if a
+    /// read by nobody is to follow.
     Send {
+        wake_at: u64,
+    },
+    /// The same of a read by nobody. `unsent` is not said of it.
+    Read {
         wake_at: u64,
     },
     /// The asker is woken at this time.
@@ -27,8 +32,10 @@ pub enum Output {
         number: u16,
         outcome: Outcome,
     },
-    /// There is no answer. The request stays in the file. `was_sent` is false if there was no way for any message of it.
+    /// There is no answer. `was_sent` is false if there was no way for any message: then a request of this run was taken back. Otherwise
+    /// what is under way stays in the file. `is_read_answered` says whether the clock answered a read by nobody meanwhile.
     Failed {
         was_sent: bool,
+        is_read_answered: bool,
     },
 }

@@ -4,7 +4,7 @@ ghost use Rattle.std.specs.Prelude.{◌≡◌, OnErr, OnOk};
 ghost use Rattle.ptpm_data.specs.ManagementId.{is_of_port};
 ghost use Rattle.ptpm_manager.specs.Ask.{ask_of};
 ghost use Rattle.ptpm_manager.specs.Session.{begun};
-ghost use Rattle.ptpm_asker.specs.Question.{asked_request, question};
+ghost use Rattle.ptpm_asker.specs.Question.{asked_request, question, read_of};
 
 use ptpm_codec::Action;
 use ptpm_data::{Scope, row};
@@ -28,6 +28,20 @@ pub(crate) fn begin_question(
     } else {
         begin_asked(session, Action::Get, 0x2000, wanted.port, &drawn[..20])
     }
+}
+
+/// Begins a read of the same.
+pub(crate) fn begin_read(session: &mut Session, wanted: &Ask) -> Result<(), BeginError>
+    ensures begun { OnOk result
+        (session.new ≡ begun session.old (asked_request (read_of wanted.now))) }
+    ensures unchanged { OnErr result (session.new ≡ session.old) }
+{
+    let id = if is_of_port(wanted.id) {
+        0x2004
+    } else {
+        0x2000
+    };
+    begin_asked(session, Action::Get, id, wanted.port, &[])
 }
 
 /// Begins a request at the port that is named, for an id of the clock too.

@@ -19,6 +19,8 @@ pub struct Settings {
     pub ports: u16,
     /// Both hop fields of a request, in a session that begins here.
     pub hops: u8,
+    /// The portNumber of the manager's clock at which nobody manages: no clock keeps an answer to it.
+    pub nobody: u16,
     /// How often a request is sent at most.
     pub attempts: u8,
     /// How long an answer is waited for before the request is sent again.
@@ -28,7 +30,7 @@ pub struct Settings {
 }
 
 impl Settings {
-    ghost use Rattle.ptpm_asker.specs.Asker.{AreSettings, setup_with};
+    ghost use Rattle.ptpm_asker.specs.Asker.{AreSettings, reader_setup, setup_with};
 
     /// A session that begins at this number, in a domain. Takes no memory.
     pub(crate) fn fresh_session(&self, alloc: Global, first: u16, domain: u8) -> Session
@@ -45,6 +47,18 @@ impl Settings {
             self.hops,
             self.attempts,
         )
+    }
+
+    /// A session of nobody that reads once, at this number, in a domain. Takes no memory.
+    pub(crate) fn reader(&self, alloc: Global, first: u16, domain: u8) -> Session
+        requires { AreSettings self.now }
+        ensures { result ≡ fresh (reader_setup self.now first) domain }
+    {
+        let me = PortIdentity {
+            clock: self.me.clock,
+            port: self.nobody,
+        };
+        Session::new(alloc, me, self.target, self.ports, domain, first, self.hops, 1)
     }
 
     /// Judges what is asked by itself. It is begun in a session that is let go.
