@@ -1,6 +1,6 @@
 -- A desk is what one asker has: its session as it is, the session as its file has it, and the notebook of its owner. Nothing is sent
 -- that the file has not. Nothing leaves the file that the notes have not as reported. Nothing is begun that the notes have not as
--- begun, and before the clock has answered a question in this run: so its number is new (this project's profile).
+-- begun, nor before an answer shows that its number is new (this project's profile).
 use Rattle.std.specs.Prelude.{◌≡◌, ◌⊎◌, ℕ, ◌+◌, ◌||◌, Bool, true, false, List, [], ◌∷◌, Option, Some, None, is_some}
 use Rattle.ptpm_codec.specs.SequenceNumber.{number_of}
 use Rattle.ptpm_data.specs.Request.{RequestValue}
@@ -27,8 +27,9 @@ pub record Heard : Type 0 where
 pub record Run : Type 0 where
   -- the latest answer that was heard
   pub heard : Option Heard
-  -- whether a message of the latest request left, or may have, before the one that was handed out last; and whether that one left, as far as is known
+  -- whether a message of the latest request left, or may have, before the one that was handed out last
   pub has_left : Bool
+  -- whether that one left, as far as is known
   pub is_out : Bool
 
 pub record Desk : Type 0 where
@@ -138,7 +139,7 @@ pub record HasNoneOut (r : Run) : Type 0 where
   pub none_left : r.has_left ≡ false
   pub none_out : r.is_out ≡ false
 
--- the session begins at the number of the file's request, of which no message left
+-- no message of the file's request left, and the session begins at its number
 pub record IsTakenBack (f s : SessionValue) (r : Run) : Type 0 where
   pub none : HasNoneOut r
   pub idle : is_waiting s ≡ false

@@ -13,7 +13,7 @@ use Rattle.ptpm_manager.specs.Ask.{ask_refusal, named_ask_refusal, request_at_po
 use Rattle.ptpm_asker.specs.declared.earlier.Earlier.{Earlier}
 use Rattle.ptpm_asker.specs.declared.earlier.Earlier.TheVariants as earlier
 
--- the request that is made of an ask: at the port that is named, for an id of the clock too, since some clocks answer only then
+-- The request that is made of an ask. It names the port that is named, for an id of the clock too: some clocks answer only then.
 abbrev pub asked_request : Ask → RequestValue
 asked_request a = if is_some a.port then request_at_port a else request_of a
 

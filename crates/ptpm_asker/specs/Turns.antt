@@ -381,7 +381,7 @@ unsents a = unsents_at a.stage a
 abbrev pub rests : AskerValue → Turn
 rests a = turn (record a { stage = stages.Resting }) outputs.Nothing []
 
--- after it is taken back, the owner is told that it was not sent
+-- after it is taken back, the owner learns that it was not sent
 abbrev pub rests_again : AskerValue → Turn
 rests_again a =
     if a.is_taken_back then turn (record a { stage = stages.Resting; is_taken_back = false }) (outputs.Failed false false) []

@@ -150,7 +150,9 @@ impl Asker {
         )?;
         let earlier = Earlier::of_image(image);
         let hops = hops_in(image);
-        Ok(Asker::at_rest(alloc, settings, drawn, session, first, hops, true, earlier, 0))
+        Ok(Asker::at_rest(
+            alloc, settings, drawn, session, first, hops, true, earlier, 0,
+        ))
     }
 
     /// What it does, or what it waits for.

@@ -10,8 +10,9 @@ ghost use Rattle.ptpm_asker.specs.Desk.{Note};
 /// order. Let the program end at any moment, before such a deed or after it, and be opened again with what the file has. Then all
 /// that is sent, saved, noted and begun is allowed:
 /// - nothing is sent that the file has not, but the question whether a number is new, while there is no file;
-/// - nothing leaves the file that the notes have not as reported or given up, but a question;
+/// - nothing leaves the file that the notes have not as reported or given up, but a question, and a request that had no way out;
 /// - nothing is begun that the notes have not as begun, but a question;
+/// - nothing but a question is begun before an answer of this run shows that its number is new;
 /// - what is noted as reported is what an answer says that was heard.
 pub fn asker_is_allowed()
     ensures { (o : Opening) (file : Option SessionValue) (notes : List Note) (inputs : List Input) →

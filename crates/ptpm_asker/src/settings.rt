@@ -58,7 +58,16 @@ impl Settings {
             clock: self.me.clock,
             port: self.nobody,
         };
-        Session::new(alloc, me, self.target, self.ports, domain, first, self.hops, 1)
+        Session::new(
+            alloc,
+            me,
+            self.target,
+            self.ports,
+            domain,
+            first,
+            self.hops,
+            1,
+        )
     }
 
     /// Judges what is asked by itself. It is begun in a session that is let go.
@@ -72,7 +81,12 @@ impl Settings {
     {
         let mut session = self.fresh_session(alloc, 0, 0);
         match wanted.port {
-            Some(port) => session.begin_at(wanted.action, wanted.id, port, wanted.octets.as_slice()),
+            Some(port) => session.begin_at(
+                wanted.action,
+                wanted.id,
+                port,
+                wanted.octets.as_slice(),
+            ),
             None => session.begin(wanted),
         }
     }

@@ -32,6 +32,7 @@ fn settings() -> Settings
         target: K,
         ports: 2,
         hops: 1,
+        nobody: 61_440,
         attempts: 2,
         timeout: 200,
         wait: 3000,
@@ -133,34 +134,99 @@ fn a_new_session_tests_its_number_first(rt: HostRuntime) -> Result<(), Fail> {
     Ok(())
 }
 
-/// Two attempts under each of four numbers, 16,384 apart.
+/// A new session that asks under this number, and has waited.
+fn tested(rt: &impl Abort, alloc: Global, buffer: &mut Buffer) -> Result<Asker, Fail> {
+    let mut asker = Asker::open_new(alloc, settings(), 60_000, DRAWN);
+    let waits = asker.ask(buffer, 0, 5, set_priority1(alloc)?, 0)?;
+    assert!(rt; matches!(waits, Output::WakeAt { time: 3000 }));
+    Ok(asker)
+}
+
+/// The asker is woken at this time, and asks under this number. A read by nobody runs with it from the second attempt on.
+fn asks_and_reads(
+    rt: &impl Abort,
+    asker: &mut Asker,
+    buffer: &mut Buffer,
+    now: u64,
+    number: u16,
+) -> Result<(), Fail> {
+    assert!(rt; matches!(asker.wake(buffer, now)?, Output::Send { .. }));
+    assert!(rt; is_request(buffer, number, 0, 0x2000));
+    let later = now.saturating_add(200);
+    assert!(rt; matches!(asker.wake(buffer, later)?, Output::Send { wake_at } if wake_at == later));
+    assert!(rt; is_request(buffer, number, 0, 0x2000));
+    assert!(rt; matches!(asker.wake(buffer, later)?, Output::Read { wake_at } if wake_at > later));
+    let octets = buffer.as_slice();
+    assert!(rt; octets.len() == 54 && u16_at(octets, 28) == 61_440);
+    Ok(())
+}
+
+/// Nobody's read is answered.
+fn hear_read(rt: &impl Abort, asker: &mut Asker, buffer: &Buffer) -> Result<(), Fail> {
+    let reply = Draft {
+        sdo: 0,
+        domain: 0,
+        source: PortIdentity { clock: K, port: 1 },
+        number: u16_at(buffer.as_slice(), 30),
+        target: PortIdentity {
+            clock: M.clock,
+            port: 61_440,
+        },
+        starting_hops: 0,
+        hops: 0,
+        body: DraftBody::Answer {
+            action: Action::Response,
+            id: 0x2000,
+            octets: &[0; 20],
+        },
+    };
+    let mut datagram = Buffer::new();
+    assert!(rt; reply.valid());
+    encode(&reply, &mut datagram);
+    assert!(rt; matches!(asker.hear(datagram.as_slice())?, Output::Nothing));
+    Ok(())
+}
+
+/// Two attempts under each of four numbers, 16,384 apart: the clock answers reads, and drops each.
 #[test]
-fn a_number_that_is_not_answered_is_left(rt: HostRuntime) -> Result<(), Fail> {
+fn a_number_that_is_dropped_is_left(rt: HostRuntime) -> Result<(), Fail> {
     let mut buffer = Buffer::new();
-    let mut asker = Asker::open_new(rt.alloc(), settings(), 60_000, DRAWN);
-    let wanted = set_priority1(rt.alloc())?;
-    assert!(rt;
-        matches!(
-            asker.ask(&mut buffer, 0, 5, wanted, 0)?,
-            Output::WakeAt { .. }
-        )
-    );
+    let mut asker = tested(&rt, rt.alloc(), &mut buffer)?;
     let mut now: u64 = 0;
     for number in [60_000, 10_848, 27_232, 43_616] {
-        for _attempt in 0..2 {
-            now = now.saturating_add(3000);
-            assert!(rt; matches!(asker.wake(&mut buffer, now)?, Output::Send { .. }));
-            assert!(rt; is_request(&buffer, number, 0, 0x2000));
-        }
+        now = now.saturating_add(3000);
+        asks_and_reads(&rt, &mut asker, &mut buffer, now, number)?;
+        hear_read(&rt, &mut asker, &buffer)?;
     }
     now = now.saturating_add(3000);
     assert!(rt;
         matches!(
             asker.wake(&mut buffer, now)?,
-            Output::Failed { was_sent: true }
+            Output::Failed {
+                was_sent: true,
+                is_read_answered: true
+            }
         )
     );
     assert!(rt; asker.stage() == Stage::Over);
+    Ok(())
+}
+
+/// A clock that answers no read is not asked under another number.
+#[test]
+fn silence_ends_it(rt: HostRuntime) -> Result<(), Fail> {
+    let mut buffer = Buffer::new();
+    let mut asker = tested(&rt, rt.alloc(), &mut buffer)?;
+    asks_and_reads(&rt, &mut asker, &mut buffer, 3000, 60_000)?;
+    assert!(rt;
+        matches!(
+            asker.wake(&mut buffer, 3400)?,
+            Output::Failed {
+                was_sent: true,
+                is_read_answered: false
+            }
+        )
+    );
     Ok(())
 }
 
@@ -198,7 +264,15 @@ fn with_a_file_the_question_is_saved_first(rt: HostRuntime) -> Result<(), Fail> 
     assert!(rt; matches!(busy, Err(BeginError::Busy)));
     assert!(rt; matches!(next.settle(&mut buffer, 0, 6, 9), Some(Output::Send { .. })));
     assert!(rt; is_request(&buffer, 8, 1, 0x2005));
-    assert!(rt; matches!(next.unsent(), Output::Failed { was_sent: false }));
+    assert!(rt;
+        matches!(
+            next.unsent(),
+            Output::Failed {
+                was_sent: false,
+                ..
+            }
+        )
+    );
     assert!(rt; matches!(next.let_go()?, Output::Save));
     assert!(rt; matches!(next.saved(&mut buffer, 0), Output::Nothing));
     Ok(())
@@ -220,5 +294,34 @@ fn a_question_that_was_left_is_sent_again(rt: HostRuntime) -> Result<(), Fail> {
             Output::Begun { tag: 6, number: 8 }
         )
     );
+    Ok(())
+}
+
+/// If no message of a request left, it is taken back. Its number is that of the next one.
+#[test]
+fn what_was_not_sent_is_taken_back(rt: HostRuntime) -> Result<(), Fail> {
+    let mut buffer = Buffer::new();
+    let mut asker = asked_with_file(&rt, rt.alloc(), &mut buffer)?;
+    assert!(rt; matches!(asker.saved(&mut buffer, 0), Output::Send { .. }));
+    assert!(rt;
+        matches!(
+            hear(&rt, &mut asker, 7, 0x2000)?,
+            Output::Begun { number: 8, .. }
+        )
+    );
+    assert!(rt; matches!(asker.noted()?, Output::Save));
+    assert!(rt; matches!(asker.saved(&mut buffer, 0), Output::Send { .. }));
+    assert!(rt; matches!(asker.unsent(), Output::Save));
+    assert!(rt;
+        matches!(
+            asker.saved(&mut buffer, 0),
+            Output::Failed {
+                was_sent: false,
+                ..
+            }
+        )
+    );
+    let handed = asker.ask(&mut buffer, 0, 6, set_priority1(rt.alloc())?, 0)?;
+    assert!(rt; matches!(handed, Output::Begun { tag: 6, number: 8 }));
     Ok(())
 }
