@@ -5,6 +5,7 @@ ghost use Rattle.ptpm_manager.specs.declared.error.BeginError.{BeginError};
 ghost use Rattle.ptpm_manager.specs.declared.error.GiveUpRefusal.{GiveUpRefusal};
 ghost use Rattle.ptpm_manager.specs.declared.error.RestoreError.{RestoreError};
 ghost use Rattle.ptpm_codec.specs.SequenceNumber.{number_of};
+ghost use Rattle.ptpm_manager.specs.Ask.{ask_of};
 ghost use Rattle.ptpm_asker.specs.Asker.{first_in, hops_in};
 ghost use Rattle.ptpm_manager.specs.ImageReading.{session_at};
 ghost use Rattle.ptpm_manager.specs.Receiving.{NeedsMemory, received_of};
@@ -15,7 +16,7 @@ use crate::output::Output;
 use crate::question::{DRAWN_OCTETS, begin_asked, begin_question, begin_read};
 use crate::settings::Settings;
 use crate::stage::Stage;
-use ptpm_codec::{Buffer, OutOfMemory, u16_at};
+use ptpm_codec::{Action, Buffer, Octets, OutOfMemory, u16_at};
 use ptpm_manager::{Ask, BeginError, GiveUpRefusal, Outcome, Received, RestoreError, Session};
 use std::alloc::Global;
 use std::marker::Model;
@@ -176,39 +177,51 @@ impl Asker {
         &self.session
     }
 
-    /// Asks a request, which the owner names `tag`, in a domain. It is refused as busy if the asker does not rest, or if a request of
-    /// an earlier run is not settled. Then it is refused for what a session refuses. The asker is then as it was.
+    /// Asks a request, which the owner names `tag`, in a domain, with the dataField lent. It is refused as busy if the asker does not
+    /// rest, or if a request of an earlier run is not settled. Then it is refused for what a session refuses. The asker is then as
+    /// it was. Memory is asked for a copy of the dataField only if nothing else refuses it.
     pub fn ask(
         &mut self,
         buffer: &mut Buffer,
         now: u64,
         tag: u64,
-        wanted: Ask,
+        action: Action,
+        id: u16,
+        port: Option<u16>,
+        octets: &[u8],
         domain: u8,
     ) -> Result<Output, BeginError>
-        ensures asker { OnOk result (self.new ≡ (asks self.old now tag wanted domain).asker) }
-        ensures output { IfOk result (λ o. o ≡ (asks self.old now tag wanted domain).output) }
+        ensures asker { OnOk result
+            (self.new ≡ (asks self.old now tag (ask_of action id port octets.now) domain).asker) }
+        ensures output { IfOk result
+            (λ o. o ≡ (asks self.old now tag (ask_of action id port octets.now) domain).output) }
         ensures message { IfOk result (λ o. IsMessage o self.new buffer.new.items) }
-        ensures permitted { OnOk result (asks_refusal self.old wanted ≡ None) }
-        ensures refused { (e : BeginError) → asks_refusal self.old wanted ≡ Some e → result ≡ Err e }
+        ensures permitted { OnOk result
+            (asks_refusal self.old (ask_of action id port octets.now) ≡ None) }
+        ensures refused { (e : BeginError)
+            → asks_refusal self.old (ask_of action id port octets.now) ≡ Some e
+            → result ≡ Err e }
+        ensures no_other { IfErr result
+            (λ e.
+            e ≢ BeginError.OutOfMemory
+            → asks_refusal self.old (ask_of action id port octets.now) ≡ Some e) }
         ensures unchanged { OnErr result (self.new ≡ self.old) }
     {
-        if self.is_busy() {
-            return Err(BeginError::Busy);
+        self.judge(action, id, port, octets)?;
+        let octets = match Octets::copy_of(self.alloc, octets) {
+            Ok(octets) => octets,
+            Err(_) => return Err(BeginError::OutOfMemory),
+        };
+        let wanted = Ask {
+            action,
+            id,
+            port,
+            octets,
+        };
+        match self.ask_judged(buffer, now, tag, wanted, domain) {
+            Ok(output) => Ok(output),
+            Err(_) => Err(BeginError::OutOfMemory),
         }
-        self.settings.judge(self.alloc, &wanted)?;
-        if self.earlier.is_left_question() {
-            self.want(tag, wanted, domain);
-            self.is_testing = true;
-            return Ok(self.resume(buffer, now));
-        }
-        if self.is_used_up() {
-            self.renew(&wanted)?;
-        } else if !self.is_new && self.is_kept {
-            begin_question(&mut self.session, &wanted, &self.drawn)?;
-        }
-        self.want(tag, wanted, domain);
-        Ok(self.go_on_asking(now))
     }
 
     /// Sends the request of an earlier run again, under its number, with all attempts of this run. A SET or a COMMAND is sent in the
@@ -333,6 +346,63 @@ impl Asker {
     }
 
     // ---- parts of turns
+
+    /// Why a request is not asked, if it is not.
+    fn judge(
+        &self,
+        action: Action,
+        id: u16,
+        port: Option<u16>,
+        octets: &[u8],
+    ) -> Result<(), BeginError>
+        ensures permitted { OnOk result
+            (asks_refusal self.now (ask_of action id port octets.now) ≡ None) }
+        ensures refused { (e : BeginError)
+            → asks_refusal self.now (ask_of action id port octets.now) ≡ Some e
+            → result ≡ Err e }
+        ensures no_other { IfErr result
+            (λ e.
+            e ≢ BeginError.OutOfMemory
+            → asks_refusal self.now (ask_of action id port octets.now) ≡ Some e) }
+    {
+        if self.is_busy() {
+            return Err(BeginError::Busy);
+        }
+        self.settings.judge(self.alloc, action, id, port, octets)
+    }
+
+    /// Asks a request that was judged. A question before it is refused for want of memory alone.
+    fn ask_judged(
+        &mut self,
+        buffer: &mut Buffer,
+        now: u64,
+        tag: u64,
+        wanted: Ask,
+        domain: u8,
+    ) -> Result<Output, OutOfMemory>
+        ensures asker { OnOk result (self.new ≡ (asks self.old now tag wanted domain).asker) }
+        ensures output { IfOk result (λ o. o ≡ (asks self.old now tag wanted domain).output) }
+        ensures message { IfOk result (λ o. IsMessage o self.new buffer.new.items) }
+        ensures unchanged { OnErr result (self.new ≡ self.old) }
+    {
+        if self.earlier.is_left_question() {
+            self.want(tag, wanted, domain);
+            self.is_testing = true;
+            return Ok(self.resume(buffer, now));
+        }
+        let begun = if self.is_used_up() {
+            self.renew(&wanted)
+        } else if !self.is_new && self.is_kept {
+            begin_question(&mut self.session, &wanted, &self.drawn)
+        } else {
+            Ok(())
+        };
+        if begun.is_err() {
+            return Err(OutOfMemory);
+        }
+        self.want(tag, wanted, domain);
+        Ok(self.go_on_asking(now))
+    }
 
     fn at_rest(
         alloc: Global,

@@ -1,12 +1,13 @@
 //! What an asker is set up with.
 
-ghost use Rattle.std.specs.Prelude.{◌≡◌, Err, None, Some, OnOk};
+ghost use Rattle.std.specs.Prelude.{◌≡◌, ◌≢◌, Err, IfErr, None, Some, OnOk};
 ghost use Rattle.ptpm_manager.specs.declared.error.BeginError.{BeginError};
+ghost use Rattle.ptpm_manager.specs.Ask.{ask_of};
 ghost use Rattle.ptpm_manager.specs.Session.{fresh};
 ghost use Rattle.ptpm_asker.specs.Question.{asked_refusal};
 
-use ptpm_codec::{ClockIdentity, PortIdentity};
-use ptpm_manager::{Ask, BeginError, Session};
+use ptpm_codec::{Action, ClockIdentity, PortIdentity};
+use ptpm_manager::{BeginError, Session};
 use std::alloc::Global;
 
 /// The manager, its clock, and how requests are sent. Times are in milliseconds.
@@ -70,24 +71,31 @@ impl Settings {
         )
     }
 
-    /// Judges what is asked by itself. It is begun in a session that is let go.
+    /// Judges what is asked by itself. It is begun in a session that is dropped.
     #[tactic(auto, unfolding(ptpm_manager::specs::Session::begin_refusal, ptpm_manager::specs::Session::begin_at_refusal))]
-    pub(crate) fn judge(&self, alloc: Global, wanted: &Ask) -> Result<(), BeginError>
+    pub(crate) fn judge(
+        &self,
+        alloc: Global,
+        action: Action,
+        id: u16,
+        port: Option<u16>,
+        octets: &[u8],
+    ) -> Result<(), BeginError>
         requires { AreSettings self.now }
-        ensures permitted { OnOk result (asked_refusal self.now.ports wanted.now ≡ None) }
+        ensures permitted { OnOk result
+            (asked_refusal self.now.ports (ask_of action id port octets.now) ≡ None) }
         ensures refused { (e : BeginError)
-            → asked_refusal self.now.ports wanted.now ≡ Some e
+            → asked_refusal self.now.ports (ask_of action id port octets.now) ≡ Some e
             → result ≡ Err e }
+        ensures no_other { IfErr result
+            (λ e.
+            e ≢ BeginError.OutOfMemory
+            → asked_refusal self.now.ports (ask_of action id port octets.now) ≡ Some e) }
     {
         let mut session = self.fresh_session(alloc, 0, 0);
-        match wanted.port {
-            Some(port) => session.begin_at(
-                wanted.action,
-                wanted.id,
-                port,
-                wanted.octets.as_slice(),
-            ),
-            None => session.begin(wanted),
+        match port {
+            Some(port) => session.begin_at(action, id, port, octets),
+            None => session.begin_with(action, id, None, octets),
         }
     }
 }

@@ -3,11 +3,8 @@
 ghost use Rattle.ptpm_asker.specs.Asker.{AreSettings};
 
 use ptpm_asker::{Asker, Output, Settings, Stage};
-use ptpm_codec::{
-    Action, Buffer, ClockIdentity, Draft, DraftBody, Octets, OutOfMemory, PortIdentity, encode,
-    u16_at,
-};
-use ptpm_manager::{Ask, BeginError, Outcome, SESSION_OCTETS};
+use ptpm_codec::{Action, Buffer, ClockIdentity, Draft, DraftBody, PortIdentity, encode, u16_at};
+use ptpm_manager::{BeginError, Outcome, SESSION_OCTETS};
 use std::alloc::Global;
 use std::process::Abort;
 use std::test::Fail;
@@ -39,14 +36,9 @@ fn settings() -> Settings
     }
 }
 
-/// SET PRIORITY1 100.
-fn set_priority1(alloc: Global) -> Result<Ask, OutOfMemory> {
-    Ok(Ask {
-        action: Action::Set,
-        id: 0x2005,
-        port: None,
-        octets: Octets::copy_of(alloc, &[100, 0])?,
-    })
+/// The owner asks SET PRIORITY1 100.
+fn ask(asker: &mut Asker, buffer: &mut Buffer, tag: u64) -> Result<Output, BeginError> {
+    asker.ask(buffer, 0, tag, Action::Set, 0x2005, None, &[100, 0], 0)
 }
 
 /// The asker hears K's RESPONSE under this number.
@@ -84,10 +76,9 @@ fn is_request(message: &Buffer, number: u16, action: u8, id: u16) -> bool {
 fn a_new_session_tests_its_number_first(rt: HostRuntime) -> Result<(), Fail> {
     let mut buffer = Buffer::new();
     let mut asker = Asker::open_new(rt.alloc(), settings(), 1000, DRAWN);
-    let wanted = set_priority1(rt.alloc())?;
     assert!(rt;
         matches!(
-            asker.ask(&mut buffer, 0, 5, wanted, 0)?,
+            ask(&mut asker, &mut buffer, 5)?,
             Output::WakeAt { time: 3000 }
         )
     );
@@ -137,7 +128,7 @@ fn a_new_session_tests_its_number_first(rt: HostRuntime) -> Result<(), Fail> {
 /// A new session that asks under this number, and has waited.
 fn tested(rt: &impl Abort, alloc: Global, buffer: &mut Buffer) -> Result<Asker, Fail> {
     let mut asker = Asker::open_new(alloc, settings(), 60_000, DRAWN);
-    let waits = asker.ask(buffer, 0, 5, set_priority1(alloc)?, 0)?;
+    let waits = ask(&mut asker, buffer, 5)?;
     assert!(rt; matches!(waits, Output::WakeAt { time: 3000 }));
     Ok(asker)
 }
@@ -150,12 +141,12 @@ fn asks_and_reads(
     now: u64,
     number: u16,
 ) -> Result<(), Fail> {
+    let later = now.saturating_add(200);
     assert!(rt; matches!(asker.wake(buffer, now)?, Output::Send { .. }));
     assert!(rt; is_request(buffer, number, 0, 0x2000));
-    let later = now.saturating_add(200);
-    assert!(rt; matches!(asker.wake(buffer, later)?, Output::Send { wake_at } if wake_at == later));
+    assert!(rt; matches!(asker.wake(buffer, later)?, Output::Send { .. }));
     assert!(rt; is_request(buffer, number, 0, 0x2000));
-    assert!(rt; matches!(asker.wake(buffer, later)?, Output::Read { wake_at } if wake_at > later));
+    assert!(rt; matches!(asker.wake(buffer, later)?, Output::Read { .. }));
     let octets = buffer.as_slice();
     assert!(rt; octets.len() == 54 && u16_at(octets, 28) == 61_440);
     Ok(())
@@ -163,11 +154,13 @@ fn asks_and_reads(
 
 /// Nobody's read is answered.
 fn hear_read(rt: &impl Abort, asker: &mut Asker, buffer: &Buffer) -> Result<(), Fail> {
+    let octets = buffer.as_slice();
+    assert!(rt; octets.len() == 54);
     let reply = Draft {
         sdo: 0,
         domain: 0,
         source: PortIdentity { clock: K, port: 1 },
-        number: u16_at(buffer.as_slice(), 30),
+        number: u16_at(octets, 30),
         target: PortIdentity {
             clock: M.clock,
             port: 61_440,
@@ -241,7 +234,7 @@ fn reopened(rt: &impl Abort, alloc: Global, asker: &Asker) -> Result<Asker, Fail
 /// An asker with a file, which was asked once. Its session has begun the question.
 fn asked_with_file(rt: &impl Abort, alloc: Global, buffer: &mut Buffer) -> Result<Asker, Fail> {
     let mut asker = reopened(rt, alloc, &Asker::open_new(alloc, settings(), 7, DRAWN))?;
-    let handed = asker.ask(buffer, 0, 5, set_priority1(alloc)?, 0)?;
+    let handed = ask(&mut asker, buffer, 5)?;
     assert!(rt; matches!(handed, Output::Save));
     Ok(asker)
 }
@@ -260,7 +253,7 @@ fn with_a_file_the_question_is_saved_first(rt: HostRuntime) -> Result<(), Fail> 
     );
     assert!(rt; matches!(asker.noted()?, Output::Save));
     let mut next = reopened(&rt, rt.alloc(), &asker)?;
-    let busy = next.ask(&mut buffer, 0, 6, set_priority1(rt.alloc())?, 0);
+    let busy = ask(&mut next, &mut buffer, 6);
     assert!(rt; matches!(busy, Err(BeginError::Busy)));
     assert!(rt; matches!(next.settle(&mut buffer, 0, 6, 9), Some(Output::Send { .. })));
     assert!(rt; is_request(&buffer, 8, 1, 0x2005));
@@ -285,7 +278,7 @@ fn a_question_that_was_left_is_sent_again(rt: HostRuntime) -> Result<(), Fail> {
     let asker = asked_with_file(&rt, rt.alloc(), &mut buffer)?;
     let mut next = reopened(&rt, rt.alloc(), &asker)?;
     assert!(rt; next.let_go().is_err());
-    let handed = next.ask(&mut buffer, 0, 6, set_priority1(rt.alloc())?, 0)?;
+    let handed = ask(&mut next, &mut buffer, 6)?;
     assert!(rt; matches!(handed, Output::Send { wake_at: 200 }));
     assert!(rt; is_request(&buffer, 7, 0, 0x2000));
     assert!(rt;
@@ -321,7 +314,7 @@ fn what_was_not_sent_is_taken_back(rt: HostRuntime) -> Result<(), Fail> {
             }
         )
     );
-    let handed = asker.ask(&mut buffer, 0, 6, set_priority1(rt.alloc())?, 0)?;
+    let handed = ask(&mut asker, &mut buffer, 6)?;
     assert!(rt; matches!(handed, Output::Begun { tag: 6, number: 8 }));
     Ok(())
 }
