@@ -1,4 +1,4 @@
-pub mod Opening
+pub mod Restored
 pub mod Standing
 pub mod Parts
 pub mod Inputs

@@ -3,29 +3,22 @@
 ghost use Rattle.std.specs.Prelude.{◌≡◌, ◌≢◌, ◌≤◌, ◌⊎◌, false, true, length, Err, None, Ok, Some, ◌↔◌, IfErr, IfNone, IfOk, IfSome, IsSome, OnErr, OnOk, OnSome, MatchResult};
 ghost use Rattle.ptpm_manager.specs.declared.error.BeginError.{BeginError};
 ghost use Rattle.ptpm_manager.specs.declared.error.GiveUpRefusal.{GiveUpRefusal};
-ghost use Rattle.ptpm_manager.specs.declared.error.RestoreError.{RestoreError};
 ghost use Rattle.ptpm_codec.specs.SequenceNumber.{number_of};
 ghost use Rattle.ptpm_manager.specs.Ask.{ask_of};
-ghost use Rattle.ptpm_asker.specs.Asker.{first_in, hops_in};
-ghost use Rattle.ptpm_manager.specs.ImageReading.{session_at};
 ghost use Rattle.ptpm_manager.specs.Receiving.{NeedsMemory, received_of};
-ghost use Rattle.ptpm_manager.specs.Restoring.{restore_refusal};
 
 use crate::earlier::Earlier;
 use crate::output::Output;
 use crate::question::{DRAWN_OCTETS, begin_asked, begin_question, begin_read};
 use crate::settings::Settings;
 use crate::stage::Stage;
-use ptpm_codec::{Action, Buffer, Octets, OutOfMemory, u16_at};
-use ptpm_manager::{Ask, BeginError, GiveUpRefusal, Outcome, Received, RestoreError, Session};
+use ptpm_codec::{Action, Buffer, Octets, OutOfMemory};
+use ptpm_manager::{Ask, BeginError, GiveUpRefusal, Outcome, Received, Session};
 use std::alloc::Global;
 use std::marker::Model;
 
 /// The distance of the numbers that a new session tries: of four so far apart one is new, whatever the latest of this manager is.
 const APART: u16 = 16_384;
-
-/// How many numbers follow the first that a new session tries.
-const FURTHER_NUMBERS: u8 = 3;
 
 /// How many requests a session has begun that begins no further question and request.
 const USED_UP: u64 = 999_999;
@@ -89,72 +82,8 @@ impl Model for Asker {
 }
 
 impl Asker {
-    ghost use Rattle.ptpm_asker.specs.Asker.{AreSettings, at_rest, opened, opened_new};
+    ghost use Rattle.ptpm_asker.specs.Asker.{AreSettings, at_rest};
     ghost use Rattle.ptpm_asker.specs.Turns.{IsMessage, announces, asks, asks_refusal, asked_of, begins_wanted, can_settle, fails, goes_on, goes_on_begun, goes_on_saved, has_enough, has_no_way, has_sent, hears, is_answered, is_busy, is_new_session, is_resting, is_used_up, later, latest, lets_go, lets_go_refusal, next, next_wake, noted, reads_next, reads_wanted, renewed_for, resumes, saved, saves, sends, sends_or_tests, settled, settles, takes_back, tests_wanted, unsents, wakes};
-
-    /// An asker whose session has no file yet. Its first number and its octets are drawn at random. Takes no memory: `alloc` is kept
-    /// for the octets of requests and answers.
-    pub fn open_new(
-        alloc: Global,
-        settings: Settings,
-        number: u16,
-        drawn: [u8; DRAWN_OCTETS],
-    ) -> Asker
-        requires { AreSettings settings }
-        ensures { result ≡ opened_new settings drawn number }
-    {
-        let session = settings.fresh_session(alloc, number, 0);
-        Asker::at_rest(
-            alloc,
-            settings,
-            drawn,
-            session,
-            number,
-            settings.hops,
-            false,
-            Earlier::NoRequest,
-            FURTHER_NUMBERS,
-        )
-    }
-
-    /// An asker with the session that its file has. The octets are drawn at random. It is refused for the first reason that holds.
-    /// Memory is asked for the dataField of the request under way alone.
-    pub fn open(
-        alloc: Global,
-        settings: Settings,
-        drawn: [u8; DRAWN_OCTETS],
-        image: &[u8],
-    ) -> Result<Asker, RestoreError>
-        requires { AreSettings settings }
-        ensures opened { IfOk result (λ a. a ≡ opened settings drawn (session_at image.now)) }
-        ensures permitted { OnOk result
-            (restore_refusal settings.me settings.target settings.ports (first_in image.now) image.now
-            ≡ None) }
-        ensures refused { (e : RestoreError)
-            → restore_refusal settings.me settings.target settings.ports (first_in image.now) image.now
-            ≡ Some e
-            → result ≡ Err e }
-        ensures no_other { IfErr result
-            (λ e.
-            e ≢ RestoreError.OutOfMemory
-            → restore_refusal settings.me settings.target settings.ports (first_in image.now) image.now
-            ≡ Some e) }
-    {
-        let first = first_in(image);
-        let session = Session::restored(
-            alloc,
-            image,
-            settings.me,
-            settings.target,
-            settings.ports,
-            first,
-        )?;
-        let earlier = Earlier::of_image(image);
-        let hops = hops_in(image);
-        Ok(Asker::at_rest(
-            alloc, settings, drawn, session, first, hops, true, earlier, 0,
-        ))
-    }
 
     /// What it does, or what it waits for.
     pub fn stage(&self) -> Stage
@@ -404,7 +333,8 @@ impl Asker {
         Ok(self.go_on_asking(now))
     }
 
-    fn at_rest(
+    /// With this session, and nothing wanted.
+    pub(crate) fn at_rest(
         alloc: Global,
         settings: Settings,
         drawn: [u8; DRAWN_OCTETS],
@@ -839,22 +769,4 @@ fn number_of(first: u16, k: u64) -> u16
     ensures { result ≡ number_of first k }
 {
     ((first as u64 + k.saturating_sub(1)) % 65_536) as u16
-}
-
-/// The number of the first request that an image has; 0 of octets that are too few for one.
-fn first_in(image: &[u8]) -> u16
-    ensures { result ≡ first_in image.now }
-{
-    if image.len() >= 53 {
-        u16_at(image, 31)
-    } else {
-        0
-    }
-}
-
-/// The hops that an image has; 0 of octets that are too few for one.
-fn hops_in(image: &[u8]) -> u8
-    ensures { result ≡ hops_in image.now }
-{
-    if image.len() >= 53 { image[33] } else { 0 }
 }

@@ -7,6 +7,7 @@
 mod asker;
 mod earlier;
 mod laws;
+mod opening;
 mod output;
 mod question;
 mod settings;

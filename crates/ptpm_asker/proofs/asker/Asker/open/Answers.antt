@@ -1,5 +1,5 @@
 use Rattle.std.proofs.Common.{◌∙◌}
-use Rattle.ptpm_asker.proofs.Opening.{first-read, hops-read, opened-so, restored-long}
+use Rattle.ptpm_asker.proofs.Restored.{first-read, hops-read, opened-so, restored-long}
 use Rattle.ptpm_asker.proofs.asker.Asker.open.Goals as goal
 
 pub of_image-earlier-requires : goal.of_image-earlier-requires
