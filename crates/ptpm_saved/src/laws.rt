@@ -11,11 +11,12 @@ ghost use Rattle.ptpm_data.specs.ObservationBack.{Observation};
 ghost use Rattle.ptpm_data.specs.Request.{RequestValue};
 ghost use Rattle.ptpm_table.specs.Managers.{Clock};
 ghost use Rattle.ptpm_saved.specs.NextSession.{IsOver, counted_after, message_with_hops, next_session, with_hops};
-ghost use Rattle.ptpm_saved.specs.Saving.{Event, Happening, IsAsIfPowered, ReportsAsIfPowered, all_messages, all_reports, happen_all, started};
+ghost use Rattle.ptpm_saved.specs.Saving.{Device, Event, Happening, IsAsIfPowered, ReportsAsIfPowered, all_messages, all_reports, happen_all, started};
+ghost use Rattle.ptpm_saved.specs.Withholding.{Withholds, called_each, events_of};
 ghost use Rattle.ptpm_manager.specs.Session.{SessionValue, count_limit};
 ghost use Rattle.ptpm_manager.specs.Setup.{request_message};
-ghost use Rattle.ptpm_saved.specs.SavingSession.{SessionInput, SessionNote, session_process, session_reports};
-ghost use Rattle.ptpm_saved.specs.SavingClock.{Datagram, clock_process};
+ghost use Rattle.ptpm_saved.specs.SavingSession.{SessionInput, SessionNote, held_by_session, session_process, session_reports};
+ghost use Rattle.ptpm_saved.specs.SavingClock.{Datagram, clock_process, held_by_clock};
 ghost use Rattle.ptpm_saved.specs.Image.{AreEntries, IsSaved, clock_image, saved_of};
 
 use ptpm_agent::Agent;

@@ -27,18 +27,26 @@ takes_more : (datagrams : List (List ℕ)) (d : List ℕ) (o : Option Answered) 
     → IsOfDatagrams datagrams old
     → TakesAny old new o
     → IsOfDatagrams (datagrams ++ d ∷ []) new
-takes_more datagrams d None old new is h t =
-    (h.0, (subst (λ s. Keeps s h.0) (sym t) h.1.0,
+takes_more datagrams d None old new is h t = (
+  h.0,
+  (
+    subst (λ s. Keeps s h.0) (sym t) h.1.0,
     h.1.1 ∙ sym (append-nil (filter_map answer_in datagrams))
-    ∙ ap (λ more. filter_map answer_in datagrams ++ cons_option more []) (sym is)
-    ∙ sym (filter_map-append answer_in datagrams (d ∷ []))))
-takes_more datagrams d (Some says) old new is h t =
-    (h.0 ++ t.answer ∷ [], (Keeps-more old new h.0 t.answer t.taken h.1.0,
+        ∙ ap (λ more. filter_map answer_in datagrams ++ cons_option more []) (sym is)
+        ∙ sym (filter_map-append answer_in datagrams (d ∷ [])),
+  ),
+)
+takes_more datagrams d (Some says) old new is h t = (
+  h.0 ++ t.answer ∷ [],
+  (
+    Keeps-more old new h.0 t.answer t.taken h.1.0,
     map-append answered h.0 (t.answer ∷ [])
-    ∙ ap (λ said. said ++ answered t.answer ∷ []) h.1.1
-    ∙ ap (λ one. filter_map answer_in datagrams ++ one ∷ []) t.said
-    ∙ ap (λ more. filter_map answer_in datagrams ++ cons_option more []) (sym is)
-    ∙ sym (filter_map-append answer_in datagrams (d ∷ []))))
+        ∙ ap (λ said. said ++ answered t.answer ∷ []) h.1.1
+        ∙ ap (λ one. filter_map answer_in datagrams ++ one ∷ []) t.said
+        ∙ ap (λ more. filter_map answer_in datagrams ++ cons_option more []) (sym is)
+        ∙ sym (filter_map-append answer_in datagrams (d ∷ [])),
+  ),
+)
 
 -- ---- from the first line on
 

@@ -94,11 +94,7 @@ fn sizes_of(lines: &[Line]) -> Sizes {
 }
 
 /// Draws a picture.
-pub(crate) fn draw<O: Write>(
-    alloc: Global,
-    picture: &Picture<'_>,
-    out: &mut O,
-) -> Result<(), Fault>
+pub(crate) fn draw<O: Write>(alloc: Global, picture: &Picture<'_>, out: &mut O) -> Result<(), Fault>
     ensures { IfErr result (λ e. is_outside e ≡ true) }
 {
     let lines = lines_of(alloc, picture).map_err(|_| Fault::OutOfMemory)?;
