@@ -268,9 +268,10 @@ struct ptpm_survey { void *at; PTPM_TO_EIGHT bool live; uint8_t restored; };
 
 /* One manager, and the GET that it sends to every port of every clock, or of one. A clock answers one that is for every clock
    whatever numbers it took from this manager before. A late answer to an earlier GET with the same number and id is taken for this
-   survey's: use a number with nothing in flight. No session has the same portIdentity. */
+   survey's: use a number with nothing in flight. No session has the same portIdentity. With port 0, which is no port's, a survey has
+   PTPM_SURVEY_PORT, so that is true if no session has that one. */
 struct ptpm_survey_settings {
-    uint16_t port;                      /* portNumber of the manager */
+    uint16_t port;                      /* portNumber of the manager; 0 for PTPM_SURVEY_PORT */
     uint16_t number;                    /* sequenceId */
     uint16_t id;                        /* managementId */
     uint8_t clock[8];                   /* clockIdentity of the manager, not all ones */
@@ -326,8 +327,8 @@ PTPM_HAS_SIZE(ptpm_rate, 24);
 enum { PTPM_MOST_SENT = 15, PTPM_MOST_READ = 130, PTPM_MOST_OCTETS = 1472, PTPM_SESSION_IMAGE_OCTETS = 1478 };
 enum { PTPM_CLOCK_IMAGE_OCTETS = 27185 };
 
-/* The most ports whose answers a survey keeps. */
-enum { PTPM_MOST_ANSWERS = 512 };
+/* The most ports whose answers a survey keeps. The portNumber that a survey has if its host gives none. */
+enum { PTPM_MOST_ANSWERS = 512, PTPM_SURVEY_PORT = 65534 };
 
 /* What calls return. 0 says that the call was done. 1 to 31 say what became of a datagram or of a request. From 32 on the call was
    refused (ptpm_is_refusal). 48 to 63 say why nothing starts, or an observation is refused. 64 to 101 say which member is out of
@@ -883,7 +884,8 @@ enum ptpm_reported ptpm_session_report(const struct ptpm_session *session, uint8
 void ptpm_session_stop(struct ptpm_session *session);
 
 /* Starts a survey without answers instead of what the handle holds, which is freed first. A session of the same manager may treat
-   an answer to its GET as its own. So the manager here has no session: for example, it is another port of the same identity.
+   an answer to its GET as its own. So the manager here has no session. It is another port of the same identity, and with port 0 it
+   is PTPM_SURVEY_PORT.
    Returns: PTPM_STARTED; or why not, and then the handle holds nothing.
    Memory:  the survey, until it is stopped.
    Caller:  stops the survey. */
@@ -899,7 +901,7 @@ static inline enum ptpm_started ptpm_survey_start_sized(struct ptpm_survey *hand
 /* Starts a survey of one clock, without answers, instead of what the handle holds, which is freed first. Every port of the
    clock is asked, and another clock's answer is ignored (PTPM_OTHER_SOURCE). A clock treats such a GET from one of its managers
    as a numbered request, like one of a session. And a session of the same manager may treat an answer as its own. So the manager
-   here is none of them, and has no session: for example, it is another port of the same identity.
+   here is none of them, and has no session. It is another port of the same identity, and with port 0 it is PTPM_SURVEY_PORT.
    Takes:   the identity of the clock: another one than the manager's, and neither all ones nor all zeros.
    Returns: PTPM_STARTED; or why not, and then the handle holds nothing.
    Memory:  the survey, until it is stopped.

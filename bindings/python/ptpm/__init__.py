@@ -33,7 +33,7 @@ from .session_file import DamagedFileError, SessionFile, SessionFileError, usual
 from .settings import ClockSettings, DelayMechanism, Manager, PortSettings, PortState, Rights, time_interval
 from .site import SiteError, site
 from .site_tree import Domain, Finding, Site, SiteClock, read_site
-from .survey import Survey, SurveySettings, survey
+from .survey import SURVEY_PORT, Survey, SurveySettings, survey
 from .transport import Transport, UdpTransport, UnixTransport
 
 __all__ = [
@@ -43,6 +43,6 @@ __all__ = [
     "Manager", "members", "NoAnswer", "ObservedClock", "ObservedGrandmaster", "ObservedPort", "ParentDataSet",
     "PassedOn", "PortDataSet", "PortIdentity", "PortMembers", "PortSettings", "PortState", "Rate", "read_site",
     "Report", "Requests", "Rights", "SavingClock", "Session", "SessionAnswer", "SessionFile", "SessionFileError", "SessionSettings",
-    "Site", "site", "SiteClock", "SiteError", "Survey", "survey", "SurveyAnswer", "SurveySettings", "time_interval",
+    "Site", "site", "SiteClock", "SiteError", "Survey", "survey", "SURVEY_PORT", "SurveyAnswer", "SurveySettings", "time_interval",
     "TimePropertiesDataSet", "Transport", "Turn", "UdpTransport", "UnixTransport", "usual_path",
 ]

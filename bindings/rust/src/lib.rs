@@ -79,7 +79,7 @@ pub use report::{Answer, Report, MOST_DATA, MOST_OCTETS};
 pub use saving_clock::{SavingClock, SavingTurn, Unsaved};
 pub use session::{Action, Session, SessionSettings, SESSION_IMAGE_OCTETS};
 pub use settings::{ClockSettings, DelayMechanism, Manager, PortSettings, PortState, Rights, TimeInterval};
-pub use survey::{Answers, Survey, SurveySettings};
+pub use survey::{Answers, Survey, SurveySettings, SURVEY_PORT};
 
 /// The version of the library that is linked, as a number: 10,000 times its first part, 100 times the second, and the third.
 pub fn version() -> u32 {

@@ -61,6 +61,6 @@ pub use session::{Heard, HostedSession};
 pub use session_settings::SessionSettings;
 pub use settings::{ClockSettings, ManagerSettings, PortSettings};
 pub use survey::{HostedSurvey, Source, SurveyAnswer};
-pub use survey_settings::SurveySettings;
+pub use survey_settings::{SURVEY_PORT, SurveySettings};
 pub use texts::hand_out_lines;
 pub use version::VERSION_NUMBER;

@@ -110,6 +110,7 @@ pub const PTPM_MOST_OCTETS: usize = 1472;
 pub const PTPM_SESSION_IMAGE_OCTETS: usize = 1478;
 pub const PTPM_CLOCK_IMAGE_OCTETS: usize = 27185;
 pub const PTPM_MOST_ANSWERS: usize = 512;
+pub const PTPM_SURVEY_PORT: u16 = 65534;
 
 // Answers that several kinds of calls give.
 pub const PTPM_SAVING: u32 = 0;
