@@ -25,6 +25,7 @@ mod saving_clock;
 mod sent;
 mod session;
 mod session_settings;
+mod session_standing;
 mod settings;
 mod standing;
 mod survey;
