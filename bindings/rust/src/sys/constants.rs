@@ -257,6 +257,7 @@ pub const PTPM_SEND_NO_SESSION: u32 = 37;
 pub const PTPM_SEND_IDLE: u32 = 43;
 pub const PTPM_GAVE_UP: u32 = 44;
 pub const PTPM_SEND_NO_SURVEY: u32 = 46;
+pub const PTPM_SEND_UNSAVED: u32 = 118;
 
 // `enum ptpm_resumed`.
 pub const PTPM_RESUMED: u32 = 0;
