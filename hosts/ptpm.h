@@ -882,8 +882,8 @@ enum ptpm_saved ptpm_session_image_of(const struct ptpm_session *session, uint8_
 /* Takes the caller's word that a restart would find the image of this token. Then requests are handed out again. What else changed in
    between does not matter: a domain, or how many attempts are left.
    Takes:   the token of ptpm_session_image_of.
-   Returns: PTPM_SAVED, also if the session is saved already; or PTPM_NO_SESSION, also for a session that does not save, or
-            PTPM_OTHER_IMAGE, and then nothing changes. */
+   Returns: PTPM_SAVED; or PTPM_NO_SESSION, also for a session that does not save, or PTPM_OTHER_IMAGE, and then nothing changes. With
+            the token of a session that is saved already it returns PTPM_SAVED. */
 enum ptpm_saved ptpm_session_saved(struct ptpm_session *session, uint64_t token);
 
 /* Puts the session of an image in the handle, instead of what it holds, which is then freed. A request that was not answered
