@@ -1,18 +1,22 @@
 -- A session is after each call as the device of the definitions is.
 use Rattle.std.proofs.Common.{◌≡◌, ◌∙◌, ◌&&◌, ◌||◌, ◌++◌, ℕ, Bool, true, false, not, List, [], ◌∷◌, Option, Some, None, ap, refl, sym, append-nil, take}
-use Rattle.std.specs.Prelude.{if◌then◌else◌, is_some}
+use Rattle.std.specs.Prelude.{if◌then◌else◌, is_some, option_map}
 use Rattle.std.proofs.lemmas.Bool.{false≢true}
 use Rattle.ptpm_codec.specs.declared.message.Message.{Message}
 use Rattle.ptpm_codec.specs.Canonical.{canonical}
+use Rattle.ptpm_codec.specs.Ordered.{first_of}
+use Rattle.ptpm_data.specs.Request.{RequestValue}
 use Rattle.ptpm_manager.specs.declared.ask.Ask.{Ask}
 use Rattle.ptpm_manager.specs.declared.error.BeginError.{BeginError}
 use Rattle.ptpm_manager.specs.declared.error.GiveUpRefusal.{GiveUpRefusal}
 use Rattle.ptpm_manager.specs.declared.error.SendError.{SendError}
+use Rattle.ptpm_manager.specs.declared.error.SendError.TheVariants as errors
 use Rattle.ptpm_manager.specs.declared.receiving.Received.{Received}
 use Rattle.ptpm_manager.specs.declared.receiving.Received.TheVariants as received
 use Rattle.ptpm_manager.specs.Ask.{request_of}
 use Rattle.ptpm_manager.specs.Receiving.{left_by, received_of}
-use Rattle.ptpm_manager.specs.Session.{SessionValue, begin_refusal, begun, due_message, give_up_refusal, given_up, send_refusal, sent}
+use Rattle.ptpm_manager.specs.Session.{SessionValue, begin_refusal, begun, due_message, give_up_refusal, given_up, resumed, retuned, send_refusal, sent}
+use Rattle.ptpm_manager.specs.Setup.{request_message}
 use Rattle.ptpm_saved.specs.Saving.{Comes, Device, Process, Saves, took}
 use Rattle.ptpm_saved.specs.SavingSession.{Begins, GivesUp, Hears, IsToSend, SessionInput, begun_unless, datagrams_of, given_up_unless, held_by_session, is_answer, session_changes, session_messages, session_process}
 use Rattle.ptpm_saved.specs.Withholding.{called}
@@ -20,6 +24,7 @@ use Rattle.ptpm_host.specs.declared.session.HostedSession.{HostedSession}
 use Rattle.ptpm_host.specs.declared.session_standing.SessionStanding.{SessionStanding}
 use Rattle.ptpm_host.specs.SavingSession.{AreCalled, IsAsDevice, LeadsTo, note_of}
 use Rattle.ptpm_host.specs.Session.{standing_after}
+use Rattle.ptpm_host.specs.SessionStanding.{is_withheld}
 
 abbrev SessionDevice : Type 0
 SessionDevice = Device SessionValue (List ℕ)
@@ -123,7 +128,7 @@ hears s t datagram is standing =
     (ap (λ (st : SessionStanding). st.is_unsaved) standing ∙ standing_heard s.standing (received_of s.session datagram))
 
 -- a note, for which nothing is saved
-pub notes : (s t : HostedSession)
+notes : (s t : HostedSession)
     → t.session ≡ record s.session { domain = t.session.domain; attempts_left = t.session.attempts_left }
     → t.standing.is_unsaved ≡ s.standing.is_unsaved
     → AreCalled s (note_of t.session ∷ []) [] t
@@ -136,6 +141,22 @@ notes s t is standing d like = record {
   };
   given_out = sym (append-nil d.ready);
 }
+
+pub retunes : (s t : HostedSession) (domain : ℕ)
+    → t.session ≡ retuned s.session domain
+    → t.standing ≡ s.standing
+    → AreCalled s (note_of t.session ∷ []) [] t
+retunes s t domain is standing =
+    notes s t (is ∙ ap (λ (v : SessionValue). record s.session { domain = v.domain; attempts_left = v.attempts_left }) (sym is))
+    (ap (λ (st : SessionStanding). st.is_unsaved) standing)
+
+pub resumes : (s t : HostedSession) (attempts : ℕ)
+    → t.session ≡ resumed s.session attempts
+    → t.standing ≡ s.standing
+    → AreCalled s (note_of t.session ∷ []) [] t
+resumes s t attempts is standing =
+    notes s t (is ∙ ap (λ (v : SessionValue). record s.session { domain = v.domain; attempts_left = v.attempts_left }) (sym is))
+    (ap (λ (st : SessionStanding). st.is_unsaved) standing)
 
 pub saves : (s t : HostedSession) → t.session ≡ s.session → t.standing.is_unsaved ≡ false → AreCalled s (Saves ∷ []) [] t
 saves s t is standing d like = record {
@@ -159,7 +180,22 @@ took_clean : (unsaved : Bool) (d : SessionDevice)
 took_clean true d clean = absurd (false≢true (sym clean))
 took_clean false d clean = refl
 
-pub sends : (s t : HostedSession) (m : Message) (octets : List ℕ)
+-- there is a request if the session may send one
+due_at : (u : Option RequestValue) (f : RequestValue → Message) (reasons : List (Bool × SendError))
+    → first_of ((not (is_some u), errors.Idle) ∷ reasons) ≡ None
+    → (m : Message) × (option_map f u ≡ Some m)
+due_at (Some q) f reasons permitted = (f q, refl)
+due_at None f reasons permitted = absurd (cc)
+
+due : (s : SessionValue) → send_refusal s ≡ None → (m : Message) × (due_message s ≡ Some m)
+unfolding send_refusal
+due s permitted = due_at s.unanswered (request_message s.setup s.domain s.issued) _ permitted
+
+is_clean : (withholds unsaved : Bool) → withholds ≡ true → (withholds && unsaved) ≡ false → unsaved ≡ false
+is_clean true unsaved w free = free
+is_clean false unsaved w free = absurd (cc)
+
+sends_one : (s t : HostedSession) (m : Message) (octets : List ℕ)
     → s.standing.is_unsaved ≡ false
     → send_refusal s.session ≡ None
     → due_message s.session ≡ Some m
@@ -167,7 +203,7 @@ pub sends : (s t : HostedSession) (m : Message) (octets : List ℕ)
     → t.session ≡ sent s.session
     → t.standing.is_unsaved ≡ false
     → AreCalled s (Comes IsToSend ∷ note_of t.session ∷ []) (octets ∷ []) t
-sends s t m octets clean permitted due are is standing d like =
+sends_one s t m octets clean permitted due are is standing d like =
     let here : called session_process held_by_session d (Comes IsToSend) ≡ took session_process false d IsToSend =
     took_clean d.is_unsaved d (like.is_unsaved ∙ clean) in
     let messages : session_messages d.live IsToSend ≡ octets ∷ [] =
@@ -185,3 +221,16 @@ sends s t m octets clean permitted due are is standing d like =
       };
       given_out = ap (λ (e : SessionDevice). e.ready) here ∙ ap (λ ms. d.ready ++ ms) messages;
     }
+
+pub sends : (s t : HostedSession) (octets : List ℕ)
+    → s.standing.withholds ≡ true
+    → is_withheld s.standing ≡ false
+    → send_refusal s.session ≡ None
+    → ((v : Message) → due_message s.session ≡ Some v → octets ≡ canonical v)
+    → t.session ≡ sent s.session
+    → t.standing ≡ s.standing
+    → AreCalled s (Comes IsToSend ∷ note_of t.session ∷ []) (octets ∷ []) t
+sends s t octets withholds free permitted are is standing =
+    let request = due s.session permitted in
+    let clean = is_clean s.standing.withholds s.standing.is_unsaved withholds free in
+    sends_one s t request.0 octets clean permitted request.1 (are request.0 request.1) is (ap (λ (st : SessionStanding). st.is_unsaved) standing ∙ clean)

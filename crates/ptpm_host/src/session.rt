@@ -184,6 +184,7 @@ impl HostedSession {
 
     /// Takes its host's word that a restart would find the image of this token. Then requests are handed out again. If it is
     /// refused, nothing changes. Takes no memory.
+    #[tactic(auto, using(crate::proofs::SessionCalls::saves))]
     pub fn saved(&mut self, token: u64) -> Result<(), SavedRefusal>
         ensures called { OnOk result (AreCalled self.old (Saves ∷ []) [] self.new) }
         ensures saved { OnOk result
@@ -210,6 +211,7 @@ impl HostedSession {
     /// The port matters only for an id of a port. The answer to an earlier request is let go. The first reason that holds
     /// is why it is refused, and then nothing changes. Memory is asked only for the request's own copy of the dataField,
     /// and only if nothing else refuses it.
+    #[tactic(auto, using(crate::proofs::SessionCalls::begins))]
     pub fn begin(&mut self, action: u8, id: u16, port: u16, octets: &[u8]) -> Result<(), BeginError>
         ensures begun { OnOk result
             (HasBegun self.old (request_of (ask_of action id port octets.now)) self.new) }
@@ -255,6 +257,7 @@ impl HostedSession {
     /// Leaves the unanswered request at the head of `octets`, uses one of its attempts, and answers how many octets it has.
     /// Until `retune` they are the same each time. The octets after them stay. If it is refused, nothing changes. So it is while
     /// something is unsaved, if its host says when it was saved. Takes no memory.
+    #[tactic(auto, using(crate::proofs::SessionCalls::sends))]
     pub fn send(&mut self, octets: &mut [u8]) -> Result<usize, SendRefusal>
         ensures refusal { MatchResult result
             (λ _. hand_refusal (length octets.old) self.old.standing self.old.session ≡ None)
@@ -290,11 +293,13 @@ impl HostedSession {
     }
 
     /// Gives the unanswered request this many attempts, whatever was left. Takes no memory.
+    #[tactic(auto, using(crate::proofs::SessionCalls::resumes))]
     pub fn resume(&mut self, attempts: u8) -> Result<(), SendError>
         ensures refusal { MatchResult result (λ _. is_waiting self.old.session ≡ true)
             (λ e. (e ≡ SendError.Idle) × (is_waiting self.old.session ≡ false)) }
         ensures resumed { OnOk result (self.new.session ≡ resumed self.old.session attempts) }
-        ensures called { AreCalled self.old (note_of self.new.session ∷ []) [] self.new }
+        ensures called { OnOk result
+            (AreCalled self.old (note_of self.new.session ∷ []) [] self.new) }
         ensures report { self.new.report ≡ self.old.report }
         ensures standing { self.new.standing ≡ self.old.standing }
         ensures unchanged { OnErr result (self.new ≡ self.old) }
@@ -304,6 +309,7 @@ impl HostedSession {
 
     /// Lets the unanswered request go, so that the next can be begun. No answer to it is taken any more. The clock may have carried
     /// it out, or may still, until it takes a later request of this session. Takes no memory.
+    #[tactic(auto, using(crate::proofs::SessionCalls::gives_up))]
     pub fn give_up(&mut self) -> Result<(), GiveUpRefusal>
         ensures refusal { MatchResult result (λ _. give_up_refusal self.old.session ≡ None)
             (λ e. give_up_refusal self.old.session ≡ Some e) }
@@ -321,6 +327,7 @@ impl HostedSession {
 
     /// From now on requests are sent, and replies expected, in this domain, also of a request that was begun before. Takes
     /// no memory.
+    #[tactic(auto, using(crate::proofs::SessionCalls::retunes))]
     pub fn retune(&mut self, domain: u8)
         ensures session { self.new.session ≡ retuned self.old.session domain }
         ensures called { AreCalled self.old (note_of self.new.session ∷ []) [] self.new }
@@ -332,6 +339,7 @@ impl HostedSession {
 
     /// What the session makes of a datagram: if it answers the unanswered request, that answer is kept, and the next one
     /// can be begun. Memory is asked only for the dataField of a RESPONSE; if it is refused, nothing changes.
+    #[tactic(auto, using(crate::proofs::SessionCalls::hears))]
     pub fn receive(&mut self, datagram: &[u8]) -> Result<Heard, OutOfMemory>
         ensures heard { IfOk result
             (λ h. h ≡ heard_of (received_of self.old.session datagram.now)) }
