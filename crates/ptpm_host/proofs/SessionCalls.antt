@@ -1,6 +1,6 @@
 -- A session is after each call as the device of the definitions is.
 use Rattle.std.proofs.Common.{◌≡◌, ◌∙◌, ◌&&◌, ◌||◌, ◌++◌, ℕ, Bool, true, false, not, List, [], ◌∷◌, Option, Some, None, ap, refl, sym, append-nil, take}
-use Rattle.std.specs.Prelude.{if◌then◌else◌, is_some, option_map}
+use Rattle.std.specs.Prelude.{◌==◌, if◌then◌else◌, is_some, option_map}
 use Rattle.std.proofs.lemmas.Bool.{false≢true}
 use Rattle.ptpm_codec.specs.declared.message.Message.{Message}
 use Rattle.ptpm_codec.specs.Canonical.{canonical}
@@ -189,7 +189,8 @@ due_at None f reasons permitted = absurd (cc)
 
 due : (s : SessionValue) → send_refusal s ≡ None → (m : Message) × (due_message s ≡ Some m)
 unfolding send_refusal
-due s permitted = due_at s.unanswered (request_message s.setup s.domain s.issued) _ permitted
+due s permitted =
+    due_at s.unanswered (request_message s.setup s.domain s.issued) ((s.attempts_left == 0, errors.GaveUp) ∷ []) permitted
 
 is_clean : (withholds unsaved : Bool) → withholds ≡ true → (withholds && unsaved) ≡ false → unsaved ≡ false
 is_clean true unsaved w free = free

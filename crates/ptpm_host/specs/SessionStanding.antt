@@ -12,7 +12,7 @@ restored_standing = record { changes = 0; is_unsaved = false; withholds = false 
 
 -- each change makes another image
 abbrev pub changed_standing : SessionStanding → SessionStanding
-changed_standing st = record st { changes = (st.changes + 1) % 2 ^ 64; is_unsaved = true }
+changed_standing st = record st { changes = (st.changes + 1) % 2 ^ 32; is_unsaved = true }
 
 abbrev pub saved_standing : SessionStanding → SessionStanding
 saved_standing st = record st { is_unsaved = false }

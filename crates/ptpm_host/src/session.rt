@@ -156,7 +156,7 @@ impl HostedSession {
         ensures unchanged { IfNone result (octets.new ≡ octets.old) }
     {
         let size = self.image(octets)?;
-        Some((size, self.standing.changes))
+        Some((size, u64::from(self.standing.changes)))
     }
 
     /// From now on no request is handed out while something is unsaved. A session that was just restored is saved. A session that was
@@ -193,7 +193,7 @@ impl HostedSession {
             (λ e. (e ≡ SavedRefusal.OtherImage) × (token ≢ self.old.standing.changes)) }
         ensures unchanged { OnErr result (self.new ≡ self.old) }
     {
-        if token != self.standing.changes {
+        if token != u64::from(self.standing.changes) {
             return Err(SavedRefusal::OtherImage);
         }
         self.standing.save();

@@ -6,8 +6,8 @@ ghost use Rattle.ptpm_host.specs.SessionStanding.{changed_standing, is_withheld,
 /// Whether a session is saved, and whether it hands requests out before.
 #[derive(Clone, Copy)]
 pub(crate) struct SessionStanding {
-    /// How many changes there were since it was started or restored, modulo 2^64.
-    pub(crate) changes: u64,
+    /// How many changes there were since it was started or restored: two for each request at most, and it begins 1,000,000.
+    pub(crate) changes: u32,
     pub(crate) is_unsaved: bool,
     /// Whether it hands no request out while it is unsaved.
     pub(crate) withholds: bool,
