@@ -257,7 +257,6 @@ impl HostedSession {
     /// Leaves the unanswered request at the head of `octets`, uses one of its attempts, and answers how many octets it has.
     /// Until `retune` they are the same each time. The octets after them stay. If it is refused, nothing changes. So it is while
     /// something is unsaved, if its host says when it was saved. Takes no memory.
-    #[tactic(auto, using(crate::proofs::SessionCalls::sends))]
     pub fn send(&mut self, octets: &mut [u8]) -> Result<usize, SendRefusal>
         ensures refusal { MatchResult result
             (λ _. hand_refusal (length octets.old) self.old.standing self.old.session ≡ None)
