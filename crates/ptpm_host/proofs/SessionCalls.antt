@@ -1,5 +1,5 @@
 -- A session is after each call as the device of the definitions is.
-use Rattle.std.proofs.Common.{◌≡◌, ◌∙◌, ◌&&◌, ◌||◌, ◌++◌, ℕ, Bool, true, false, not, List, [], ◌∷◌, Option, Some, None, ap, refl, sym, append-nil, take}
+use Rattle.std.proofs.Common.{◌≡◌, ◌∙◌, ◌&&◌, ◌||◌, ◌++◌, ℕ, Bool, true, false, not, List, [], ◌∷◌, Option, Some, None, ap, refl, sym, append-nil}
 use Rattle.std.specs.Prelude.{◌==◌, if◌then◌else◌, is_some, option_map}
 use Rattle.std.proofs.lemmas.Bool.{false≢true}
 use Rattle.ptpm_codec.specs.declared.message.Message.{Message}
@@ -22,7 +22,7 @@ use Rattle.ptpm_saved.specs.SavingSession.{Begins, GivesUp, Hears, IsToSend, Ses
 use Rattle.ptpm_saved.specs.Withholding.{called}
 use Rattle.ptpm_host.specs.declared.session.HostedSession.{HostedSession}
 use Rattle.ptpm_host.specs.declared.session_standing.SessionStanding.{SessionStanding}
-use Rattle.ptpm_host.specs.SavingSession.{AreCalled, IsAsDevice, LeadsTo, note_of}
+use Rattle.ptpm_host.specs.SavingSession.{AreCalled, note_of}
 use Rattle.ptpm_host.specs.Session.{standing_after}
 use Rattle.ptpm_host.specs.SessionStanding.{is_withheld}
 

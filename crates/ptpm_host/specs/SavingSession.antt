@@ -1,5 +1,5 @@
 -- A session whose host says when it was saved, as the device that may lose its power.
-use Rattle.std.specs.Prelude.{◌≡◌, ℕ, List, [], ◌∷◌, ◌++◌}
+use Rattle.std.specs.Prelude.{◌≡◌, ℕ, List, [], ◌++◌}
 use Rattle.ptpm_manager.specs.Session.{SessionValue}
 use Rattle.ptpm_saved.specs.Saving.{Device, Event, Notes}
 use Rattle.ptpm_saved.specs.SavingSession.{SessionInput, SessionNote, held_by_session, session_process}

@@ -1,5 +1,5 @@
 -- Whether a restart would find a session as it is, and whether the session hands requests out before.
-use Rattle.std.specs.Prelude.{ℕ, ◌+◌, ◌%◌, ◌^◌, ◌&&◌, Bool, true, false}
+use Rattle.std.specs.Prelude.{◌+◌, ◌%◌, ◌^◌, ◌&&◌, Bool, true, false}
 use Rattle.ptpm_host.specs.declared.session_standing.SessionStanding.{SessionStanding}
 
 -- nothing of a session that was started is saved
