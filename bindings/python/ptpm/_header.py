@@ -643,6 +643,7 @@ class ptpm_asker(Structure):
     _fields_ = [
         ("at", c_void_p),
         ("live", c_bool),
+        ("restored", c_uint8),
     ]
 
 

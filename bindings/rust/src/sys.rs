@@ -239,6 +239,7 @@ pub struct ptpm_rate {
 pub struct ptpm_asker {
     pub at: *mut c_void,
     pub live: bool,
+    pub restored: u8,
 }
 
 #[repr(C)]
