@@ -31,7 +31,7 @@ static void say_sent(const char *what) {
     say("%s, until %llu: ", what, (unsigned long long)handed.time);
     clear_room();
     if (ptpm_asker_message(&asker, room, PTPM_MOST_OCTETS, &size) == PTPM_ASKED && wrote_alone(size)) say_message(room, size);
-    say("\n");
+    else say("\n");
 }
 
 /* What is handed out. */
@@ -192,6 +192,6 @@ static void run_stop(char *words) {
 
 const struct command asker_commands[] = {
     { "asker", run_asker }, { "restore-asker", run_restore }, { "ask-clock", run_ask }, { "settle", run_settle },
-    { "let-go", run_let_go }, { "hear", run_hear }, { "wake", run_wake }, { "unsent", run_unsent }, { "saved", run_saved },
+    { "let-go", run_let_go }, { "hear", run_hear }, { "wake", run_wake }, { "unsent", run_unsent }, { "asker-saved", run_saved },
     { "noted", run_noted }, { "asker-image", run_image }, { "earlier", run_earlier }, { "stop-asker", run_stop }, { NULL, NULL },
 };
