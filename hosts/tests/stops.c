@@ -1,5 +1,5 @@
-/* stops: a clock, a session, a survey and an asker, each started, used, started again in a live handle, refused there, started again and
-   stopped, many times. It shows nothing by itself: in valgrind it shows whether anything was kept. Prints `stops: done`; its
+/* stops: a clock, a session, a survey and an asker, many times. Each is started, used, started again in a live handle, refused there,
+   started again and stopped. It shows nothing by itself: in valgrind it shows whether anything was kept. Prints `stops: done`; its
    status is 1 if a call doesn't answer as it has to. */
 #include "ptpm.h"
 #include <stdio.h>
