@@ -1,23 +1,31 @@
 -- A network in which nobody lowers hops goes on beside one in which hosts do.
-use Rattle.ptpm_network.proofs.Common.{by_test, arith, ◌≡◌, ℕ, ◌≤◌, ◌<◌, ◌==◌, Bool, true, false, not, List, [], ◌∷◌, ◌++◌, map, Option, Some, None, option_map, Result, Ok, Err, result_err, refl, sym, ◌∙◌, ap, subst, length, length-append, length-map, ltb-true, ltb-false, first_of-none, option_or, option_or-none, AllByRecursion, nat_lt, if◌then◌else◌, State, Turned, turn, with_place, AtPort, AtSession, End, Network, peers, Origin, Held, seen, held, strange_frame, turn_frames, SessionValue, received_of, begin_refusal, send_refusal, sent_posted, sent, due_message, Happened, BeginRefused, SendRefused, Refusal, Event, Begin, Send, Resume, Retune, Deliver, Replay, Stranger, frame_at, forged, no_end, no_port, no_room, no_session, nothing_to_resume, unless_refused, delivers, replays, network_event}
+use Rattle.ptpm_network.proofs.Common.{arith, ◌≡◌, ℕ, ◌==◌, Bool, true, false, not, List, [], ◌∷◌, ◌++◌, map, Option, Some, None, option_map, Result, Ok, result_err, refl, sym, ◌∙◌, ap, subst, length-append, option_or, option_or-none, nat_lt, if◌then◌else◌, State, turn, with_place, AtPort, AtSession, End, Network, Held, seen, held, strange_frame, turn_frames, SessionValue, received_of, begin_refusal, send_refusal, Happened, BeginRefused, SendRefused, Refusal, Event, Begin, Send, Resume, Retune, Deliver, Replay, Stranger, frame_at, forged, no_end, no_port, no_room, no_session, nothing_to_resume, unless_refused, replays, network_event, Frame, reaches, sends_in, begun, resumed, retuned, with_session_value}
 use Rattle.ptpm_manager.specs.declared.receiving.Received.{Received}
 use Rattle.ptpm_manager.specs.declared.receiving.Received.TheVariants as received
 use Rattle.ptpm_agent.specs.Observing.{moved_state}
+use Rattle.ptpm_manager.specs.Ask as ask
 use Rattle.ptpm_manager.specs.declared.error.GiveUpRefusal.{GiveUpRefusal}
 use Rattle.ptpm_manager.specs.Session.{give_up_refusal}
 use Rattle.ptpm_network.specs.Lowered.{IsLowered}
+use Rattle.ptpm_network.specs.RunningNetwork as running_network
+use Rattle.ptpm_network.specs.RunningNetwork.{Done}
 use Rattle.ptpm_restarts.specs.ActsAsIfNever.{ActsAsIfNever, IsPossibleAct}
 use Rattle.ptpm_restarts.specs.AsIfNever.{AreTimely, IsTimely, is_late_event, is_late_held, is_late_in}
 use Rattle.ptpm_restarts.specs.HostsLowering.{AsEver, Ended, GoesBeside, HostIncident, IsLoweredHeld, IsLoweredNetwork, IsLoweredWaiting, IsOfHost, IsPossibleOfHost, IsTimelyOfHost, Lowers, StandFor, Stands, host_incident, with_octets}
-use Rattle.ptpm_restarts.specs.Incidents.{CrashClock, CrashSession, GivesUp, Happens, Incident, Observes, SaveClock, SaveSession, comes_in, delivered, happens, incident, lets_go, refused, replayed, unless}
+use Rattle.ptpm_restarts.specs.Incidents.{CrashClock, CrashSession, GivesUp, Happens, Incident, Observes, SaveClock, SaveSession, comes_in, delivered, happens, incident, lets_go, no_room_for, refused, replayed, unless}
 use Rattle.ptpm_restarts.specs.Restarting.{RestartingNetwork, after_verdict, held_frames, hears, initial_restarting, running, sent_or_waiting, sends, takes_turn, turned, waiting_at, waiting_elsewhere}
 use Rattle.ptpm_restarts.specs.Storage.{Stored, noted}
 use Rattle.ptpm_restarts.proofs.HostsLowering.{TurnsAlike, held-lowered, held-self, received-alike, stand-append, stand-at, stand-filter, stand-map, stand-self, turns-alike}
 use Rattle.ptpm_restarts.proofs.Steps.{clear, fewer, passes}
+use Rattle.ptpm_restarts.proofs.Worth.{delivers-to}
 
 -- the same clocks, sessions and reports, with other frames
 abbrev pub with_held : RestartingNetwork → List Held → List (ℕ × Held) → RestartingNetwork
 with_held k fs ws = record k { frames = fs; waiting = ws }
+
+-- a session is another
+abbrev other-session : RestartingNetwork → ℕ → SessionValue → Happened
+other-session k s value = record { deed = Done; network = with_session_value (running k) s value }
 
 refused-alike : (o p : Option Refusal) (x y : Happened) → result_err (unless_refused o (unless_refused p (Ok x))) ≡ result_err (unless_refused o (unless_refused p (Ok y)))
 refused-alike None None x y = refl
@@ -53,6 +61,13 @@ module _ (N : Network) (k : RestartingNetwork) (fs : List Held) (ws : List (ℕ 
       let mh : List Held = map held (turn_frames N st c p (seen h)) in
       subst (λ (x : Stored State). IsLoweredNetwork (turned low c x ml) (turned k c xh mh)) (sym same) (turned-beside c xh ml mh xh.is_unsaved t.made)
 
+  same-beside : (c p : ℕ) (f : Frame) → IsLoweredNetwork (takes_turn N low c p f) (takes_turn N k c p f)
+  same-beside c p f =
+      let t = turn (N.clock c) (k.clock c).live p f.octets in
+      let x : Stored State = after_verdict t.verdict (k.clock c) t.next in
+      let made : List Held = map held (turn_frames N (k.clock c).live c p f) in
+      turned-beside c x made made x.is_unsaved (stand-self IsLoweredHeld held-self made)
+
   hears-beside : (s : ℕ) (x : Received) → IsLoweredNetwork (hears low s x) (hears k s x)
   hears-beside s (received.Answered report) = record { same = refl; frames = hf; waiting = hw }
   hears-beside s (received.Ignored reason) = beside-now
@@ -72,13 +87,6 @@ module _ (N : Network) (k : RestartingNetwork) (fs : List Held) (ws : List (ℕ 
       → GoesBeside N k now possible timely
   goes now possible timely i h p t = record { incidents = i ∷ []; at_most_one = omega arith; beside = h; are_possible = λ x. (p x, tt); are_timely = λ x. (t x, tt) }
 
-  -- what is refused here changes nothing
-  pub unless-refused : (o : Option Refusal) (next : RestartingNetwork) (possible timely : Type 0)
-      → (o ≡ None → GoesBeside N k next possible timely)
-      → GoesBeside N k (unless o low next) possible timely
-  unless-refused None next possible timely f = f refl
-  unless-refused (Some reason) next possible timely f = stays low possible timely beside-now
-
   -- an event happens there that is not refused
   pub event-goes : (now : RestartingNetwork) (possible timely : Type 0) (e : Event) → refused N k e ≡ None → IsLoweredNetwork now (happens N k e)
       → (possible → IsPossibleAct (Happens e)) → (timely → is_late_event k e ≡ false)
@@ -91,11 +99,13 @@ module _ (N : Network) (k : RestartingNetwork) (fs : List Held) (ws : List (ℕ 
   room-sent : no_room (held_frames k) ≡ None → no_room k.frames ≡ None
   room-sent room = fewer k.frames (held_frames k) (omega (arith, length-append k.frames (map (λ (w : ℕ × Held). w.1) k.waiting))) room
 
+  -- it is refused for no other reason than its network's, or for want of room
+  not-refused : (e : Event) (x : Happened) → network_event N (running k) e ≡ Ok x → no_room_for k e ≡ None → refused N k e ≡ None
+  not-refused e x ok room = ap (λ (y : Result Happened Refusal). option_or (result_err y) (no_room_for k e)) ok ∙ room
+
   delivers-there : (m : ℕ) (h : Held) → frame_at k.frames m ≡ Some h → no_room (held_frames k) ≡ None → refused N k (Deliver m) ≡ None
-  unfolding network_event
   delivers-there m h at room =
-      let fits : no_room k.frames ≡ None = room-sent room in
-      ap (λ (o : Option Refusal). option_or o (no_room (held_frames k))) (ap (λ (o : Option Held). result_err (delivers N (running k) o)) at ∙ ap result_err (passes (no_room k.frames) _ fits)) ∙ room
+      not-refused (Deliver m) (reaches N (running k) h h.end) (delivers-to N (running k) m h h.end at refl (room-sent room)) room
 
   -- a frame comes in here, and the one that it stands for there
   pub came : (l h : Held) (m : ℕ) (possible timely : Type 0) → IsLoweredHeld l h → frame_at k.frames m ≡ Some h → no_room (held_frames k) ≡ None
@@ -134,10 +144,10 @@ module _ (N : Network) (k : RestartingNetwork) (fs : List Held) (ws : List (ℕ 
       let r = at.3 in
       let exists : no_end N end ≡ None = (clear (no_end N end) _ none).0 in
       let fits : no_room k.frames ≡ None = room-sent room in
-      let none-there : refused N k (Replay at.0 end) ≡ None =
-      ap (λ (o : Option Refusal). option_or o (no_room (held_frames k)))
-      (ap (λ (o : Option Held). result_err (replays N (running k) o end)) at.2 ∙ ap result_err (passes (no_end N end) _ exists ∙ passes (no_room k.frames) _ fits)) ∙ room in
-      event-goes (replayed low (Some l) end) possible timely (Replay at.0 end) none-there
+      let there : Happened = record { deed = Done; network = record (running k) { frames = k.frames ++ record (at.1) { end = end } ∷ [] } } in
+      let ok : network_event N (running k) (Replay at.0 end) ≡ Ok there =
+      ap (λ (o : Option Held). replays N (running k) o end) at.2 ∙ passes (no_end N end) _ exists ∙ passes (no_room k.frames) _ fits in
+      event-goes (replayed low (Some l) end) possible timely (Replay at.0 end) (not-refused (Replay at.0 end) there ok room)
       (subst (λ (o : Option Held). IsLoweredNetwork (replayed low (Some l) end) (replayed k o end)) (sym at.2)
       (record {
         same = refl;
@@ -157,23 +167,23 @@ module _ (N : Network) (k : RestartingNetwork) (fs : List Held) (ws : List (ℕ 
       → GoesBeside N k (happens N low e) possible timely
   unfolding network_event
   event-beside (Begin s a) possible timely room none p late =
-      event-goes _ possible timely (Begin s a) (ap (λ (o : Option Refusal). option_or o None) (refused-alike (no_session N s) (option_map BeginRefused (begin_refusal (k.session s).live.session a)) _ _) ∙ none)
+      event-goes _ possible timely (Begin s a) (ap (λ (o : Option Refusal). option_or o None) (refused-alike (no_session N s) (option_map BeginRefused (begin_refusal (k.session s).live.session a)) (other-session k s (begun (k.session s).live.session (ask.request_of a))) (other-session low s (begun (k.session s).live.session (ask.request_of a)))) ∙ none)
       (record { same = refl; frames = hf; waiting = hw }) p (λ t. refl)
   event-beside (Resume s attempts) possible timely room none p late =
-      event-goes _ possible timely (Resume s attempts) (ap (λ (o : Option Refusal). option_or o None) (refused-alike (no_session N s) (nothing_to_resume (k.session s).live.session) _ _) ∙ none)
+      event-goes _ possible timely (Resume s attempts) (ap (λ (o : Option Refusal). option_or o None) (refused-alike (no_session N s) (nothing_to_resume (k.session s).live.session) (other-session k s (resumed (k.session s).live.session attempts)) (other-session low s (resumed (k.session s).live.session attempts))) ∙ none)
       (record { same = refl; frames = hf; waiting = hw }) p (λ t. refl)
   event-beside (Retune s domain) possible timely room none p late =
-      event-goes _ possible timely (Retune s domain) (ap (λ (o : Option Refusal). option_or o None) (refused-alike (no_session N s) None _ _) ∙ none)
+      event-goes _ possible timely (Retune s domain) (ap (λ (o : Option Refusal). option_or o None) (refused-alike (no_session N s) None (other-session k s (retuned (k.session s).live.session domain)) (other-session low s (retuned (k.session s).live.session domain))) ∙ none)
       (record { same = refl; frames = hf; waiting = hw }) p (λ t. refl)
   event-beside (Send s) possible timely room none p late =
       let all = option_or-none _ (no_room (held_frames low)) none in
       let one = clear (no_session N s) _ all.0 in
       let two = clear (no_room fs) _ one.1 in
       let three = clear (option_map SendRefused (send_refusal (k.session s).live.session)) _ two.1 in
-      let none-there : refused N k (Send s) ≡ None =
-      ap (λ (o : Option Refusal). option_or o (no_room (held_frames k)))
-      (ap result_err (passes (no_session N s) _ one.0 ∙ passes (no_room k.frames) _ (room-sent room) ∙ passes (option_map SendRefused (send_refusal (k.session s).live.session)) _ three.0)) ∙ room in
-      event-goes _ possible timely (Send s) none-there (sends-beside s (k.session s).is_unsaved) p (λ t. refl)
+      let there : Happened = record { deed = Done; network = sends_in N (running k) s } in
+      let ok : network_event N (running k) (Send s) ≡ Ok there =
+      passes (no_session N s) _ one.0 ∙ passes (no_room k.frames) _ (room-sent room) ∙ passes (option_map SendRefused (send_refusal (k.session s).live.session)) _ three.0 in
+      event-goes _ possible timely (Send s) (not-refused (Send s) there ok room) (sends-beside s (k.session s).is_unsaved) p (λ t. refl)
   event-beside (Deliver n) possible timely room none p late = came-if n (frame_at fs n) possible timely refl room late
   event-beside (Replay n end) possible timely room none p late =
       replays-if n end (frame_at fs n) possible timely refl room (option_or-none _ (no_room (held_frames low)) none).0
@@ -181,11 +191,10 @@ module _ (N : Network) (k : RestartingNetwork) (fs : List Held) (ws : List (ℕ 
       let all = option_or-none _ (no_room (held_frames low)) none in
       let one = clear (no_port N c port) _ all.0 in
       let two = clear (forged N datagram) _ one.1 in
-      let none-there : refused N k (Stranger c port datagram) ≡ None =
-      ap (λ (o : Option Refusal). option_or o (no_room (held_frames k)))
-      (ap result_err (passes (no_port N c port) _ one.0 ∙ passes (forged N datagram) _ two.0 ∙ passes (no_room k.frames) _ (room-sent room))) ∙ room in
-      event-goes _ possible timely (Stranger c port datagram) none-there
-      (turned-beside c _ _ _ _ (stand-self IsLoweredHeld held-self _)) p (λ t. refl)
+      let there : Happened = running_network.takes_turn N (running k) c port (strange_frame c port datagram) in
+      let ok : network_event N (running k) (Stranger c port datagram) ≡ Ok there =
+      passes (no_port N c port) _ one.0 ∙ passes (forged N datagram) _ two.0 ∙ passes (no_room k.frames) _ (room-sent room) in
+      event-goes _ possible timely (Stranger c port datagram) (not-refused (Stranger c port datagram) there ok room) (same-beside c port (strange_frame c port datagram)) p (λ t. refl)
 
   -- ---- any incident
 
