@@ -12,8 +12,9 @@ use Rattle.ptpm_restarts.proofs.Steps.{contains-at, numbered}
 module _ {A : Type 0} (R : A → A → Type 0) where
   pub stand-append : (xs ys us vs : List A) → StandFor R xs ys → StandFor R us vs → StandFor R (xs ++ us) (ys ++ vs)
   stand-append [] [] us vs Ended s = s
-  stand-append (x ∷ xs) (y ∷ ys) us vs (Stands x y xs ys r w) s = Stands x y (xs ++ us) (ys ++ vs) r (stand-append xs ys us vs w s)
-  stand-append xs (y ∷ ys) us vs (Lacks y xs ys w) s = Lacks y (xs ++ us) (ys ++ vs) (stand-append xs ys us vs w s)
+  stand-append (x ∷ xs) [] us vs h s = elim h [ ]
+  stand-append (x ∷ xs) (y ∷ ys) us vs (Stands _ _ _ _ r w) s = Stands x y (xs ++ us) (ys ++ vs) r (stand-append xs ys us vs w s)
+  stand-append xs (y ∷ ys) us vs (Lacks _ _ _ w) s = Lacks y (xs ++ us) (ys ++ vs) (stand-append xs ys us vs w s)
 
   pub stand-none : (ys : List A) → StandFor R [] ys
   stand-none [] = Ended
@@ -26,10 +27,11 @@ module _ {A : Type 0} (R : A → A → Type 0) where
   pub stand-filter : (test : A → Bool) → ((x y : A) → R x y → test x ≡ test y) → (xs ys : List A) → StandFor R xs ys
       → StandFor R (filter test xs) (filter test ys)
   stand-filter test same [] [] Ended = Ended
-  stand-filter test same (x ∷ xs) (y ∷ ys) (Stands x y xs ys r w) = by_test (test x)
+  stand-filter test same (x ∷ xs) [] h = elim h [ ]
+  stand-filter test same (x ∷ xs) (y ∷ ys) (Stands _ _ _ _ r w) = by_test (test x)
       (λ e. rw (e, sym (same x y r) ∙ e) (Stands x y (filter test xs) (filter test ys) r (stand-filter test same xs ys w)))
       (λ n. rw (n, sym (same x y r) ∙ n) (stand-filter test same xs ys w))
-  stand-filter test same xs (y ∷ ys) (Lacks y xs ys w) = by_test (test y)
+  stand-filter test same xs (y ∷ ys) (Lacks _ _ _ w) = by_test (test y)
       (λ e. rw e (Lacks y (filter test xs) (filter test ys) (stand-filter test same xs ys w)))
       (λ n. rw n (stand-filter test same xs ys w))
 
@@ -37,16 +39,18 @@ module _ {A : Type 0} (R : A → A → Type 0) where
   pub stand-get : (xs ys : List A) (i : ℕ) (x : A) → StandFor R xs ys → slice_get xs i ≡ Some x
       → (j : ℕ) × (y : A) × (slice_get ys j ≡ Some y) × R x y
   stand-get [] [] i x Ended e = absurd (cc)
-  stand-get (z ∷ xs) (y ∷ ys) zero x (Stands z y xs ys r w) e = (zero, y, refl, subst (λ u. R u y) (same_Some z x e) r)
-  stand-get (z ∷ xs) (y ∷ ys) (suc i) x (Stands z y xs ys r w) e = let rest = stand-get xs ys i x w e in (suc rest.0, rest.1, rest.2, rest.3)
-  stand-get xs (y ∷ ys) i x (Lacks y xs ys w) e = let rest = stand-get xs ys i x w e in (suc rest.0, rest.1, rest.2, rest.3)
+  stand-get (z ∷ xs) [] i x h e = elim h [ ]
+  stand-get (z ∷ xs) (y ∷ ys) zero x (Stands _ _ _ _ r w) e = (zero, y, refl, subst (λ u. R u y) (same_Some z x e) r)
+  stand-get (z ∷ xs) (y ∷ ys) (suc i) x (Stands _ _ _ _ r w) e = let rest = stand-get xs ys i x w e in (suc rest.0, rest.1, rest.2, rest.3)
+  stand-get xs (y ∷ ys) i x (Lacks _ _ _ w) e = let rest = stand-get xs ys i x w e in (suc rest.0, rest.1, rest.2, rest.3)
 
 pub stand-map : {A B : Type 0} (R : A → A → Type 0) (S : B → B → Type 0) (f : A → B) → ((x y : A) → R x y → S (f x) (f y)) → (xs ys : List A)
     → StandFor R xs ys
     → StandFor S (map f xs) (map f ys)
 stand-map R S f make [] [] Ended = Ended
-stand-map R S f make (x ∷ xs) (y ∷ ys) (Stands x y xs ys r w) = Stands (f x) (f y) (map f xs) (map f ys) (make x y r) (stand-map R S f make xs ys w)
-stand-map R S f make xs (y ∷ ys) (Lacks y xs ys w) = Lacks (f y) (map f xs) (map f ys) (stand-map R S f make xs ys w)
+stand-map R S f make (x ∷ xs) [] h = elim h [ ]
+stand-map R S f make (x ∷ xs) (y ∷ ys) (Stands _ _ _ _ r w) = Stands (f x) (f y) (map f xs) (map f ys) (make x y r) (stand-map R S f make xs ys w)
+stand-map R S f make xs (y ∷ ys) (Lacks _ _ _ w) = Lacks (f y) (map f xs) (map f ys) (stand-map R S f make xs ys w)
 
 stand-both : {A B : Type 0} (S : B → B → Type 0) (f : A → B) (xs ys us vs : List A)
     → StandFor S (map f xs) (map f ys) → StandFor S (map f us) (map f vs)

@@ -251,11 +251,11 @@ first-beside N = record { same = refl; frames = Ended; waiting = Ended }
 
 pub goes-beside : (N : Network) (low k : RestartingNetwork) (i : HostIncident) → IsLoweredNetwork low k → IsOfHost low i → no_room (held_frames k) ≡ None
     → GoesBeside N k (host_incident N low i) (IsPossibleOfHost i) (IsTimelyOfHost N low i)
-goes-beside N low k i h of room =
+goes-beside N l k i h of room =
     subst (λ (x : RestartingNetwork). IsOfHost x i → GoesBeside N k (host_incident N x i) (IsPossibleOfHost i) (IsTimelyOfHost N x i)) (sym h.same)
-    (host-beside N k low.frames low.waiting h.frames h.waiting i room) of
+    (host-beside N k l.frames l.waiting h.frames h.waiting i room) of
 
 pub lowered-among-acts : (N : Network) (is : List Incident) (low k : RestartingNetwork) (a : ActsAsIfNever N is k) → IsLoweredNetwork low k
     → (record (running low) { frames = a.network.frames } ≡ a.network) × (low.told ≡ k.told)
-lowered-among-acts N is low k a h =
+lowered-among-acts N is l k a h =
     (ap (λ (x : RestartingNetwork). record (running x) { frames = a.network.frames }) h.same ∙ a.same, ap (λ (x : RestartingNetwork). x.told) h.same)
