@@ -44,7 +44,7 @@ IsPossibleOfHost (Lowers n octets) = Unit {0}
 
 -- ---- the two networks
 
--- a frame here, and one there: on its way to the same end, of the same request or reply, and the same but for hops
+-- a frame here, and one there: on its way to the same end, of the same request or reply, and the same except for hops
 pub record IsLoweredHeld (here there : Held) : Type 0 where
   pub end : here.end ≡ there.end
   pub origin : here.origin ≡ there.origin
