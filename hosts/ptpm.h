@@ -268,9 +268,10 @@ struct ptpm_survey { void *at; PTPM_TO_EIGHT bool live; uint8_t restored; };
 
 /* One manager, and the GET that it sends to every port of every clock, or of one. A clock answers one that is for every clock
    whatever numbers it took from this manager before. A late answer to an earlier GET with the same number and id is taken for this
-   survey's: use a number with nothing in flight. No session has the same portIdentity. */
+   survey's: use a number with nothing in flight. No session has the same portIdentity. With port 0, which is no port's, a survey has
+   PTPM_SURVEY_PORT, so that is true if no session has that one. */
 struct ptpm_survey_settings {
-    uint16_t port;                      /* portNumber of the manager */
+    uint16_t port;                      /* portNumber of the manager; 0 for PTPM_SURVEY_PORT */
     uint16_t number;                    /* sequenceId */
     uint16_t id;                        /* managementId */
     uint8_t clock[8];                   /* clockIdentity of the manager, not all ones */
@@ -326,8 +327,8 @@ PTPM_HAS_SIZE(ptpm_rate, 24);
 enum { PTPM_MOST_SENT = 15, PTPM_MOST_READ = 130, PTPM_MOST_OCTETS = 1472, PTPM_SESSION_IMAGE_OCTETS = 1478 };
 enum { PTPM_CLOCK_IMAGE_OCTETS = 27185 };
 
-/* The most ports whose answers a survey keeps. */
-enum { PTPM_MOST_ANSWERS = 512 };
+/* The most ports whose answers a survey keeps. The portNumber that a survey has if its host gives none. */
+enum { PTPM_MOST_ANSWERS = 512, PTPM_SURVEY_PORT = 65534 };
 
 /* What calls return. 0 says that the call was done. 1 to 31 say what became of a datagram or of a request. From 32 on the call was
    refused (ptpm_is_refusal). 48 to 63 say why nothing starts, or an observation is refused. 64 to 101 say which member is out of
@@ -339,7 +340,7 @@ enum { PTPM_MOST_ANSWERS = 512 };
    it again with the kind in front, such as PTPM_HANDLE_NO_CLOCK for PTPM_NO_CLOCK, so that -Wswitch and debuggers know it. A
    uint32_t holds any answer. */
 
-/* From now on a clock gives nothing out before it is saved (ptpm_clock_saving). */
+/* From now on a clock, or a session, gives nothing out before it is saved (ptpm_clock_saving, ptpm_session_saving). */
 #define PTPM_SAVING 0
 
 /* A datagram is of another domain. */
@@ -490,14 +491,16 @@ __extension__ enum PTPM_FOUR_OCTETS(ptpm_begun) {
     PTPM_COUNT_AT_MAXIMUM = 42          /* the session has begun 1,000,000 requests */
 };
 
-/* ptpm_session_send and ptpm_survey_send. The latter is never answered PTPM_IDLE or PTPM_GAVE_UP. */
+/* ptpm_session_send, ptpm_survey_send and ptpm_session_saving. The second is never answered PTPM_IDLE, PTPM_GAVE_UP or PTPM_UNSAVED.
+   The last returns only PTPM_SAVING and PTPM_NO_SESSION. */
 __extension__ enum PTPM_FOUR_OCTETS(ptpm_sending) {
     PTPM_SENT = 0,
     PTPM_SEND_NO_ROOM = PTPM_NO_ROOM,   /* for fewer than PTPM_MOST_OCTETS octets */
     PTPM_SEND_NO_SESSION = PTPM_NO_SESSION,
     PTPM_SEND_IDLE = PTPM_IDLE,
     PTPM_GAVE_UP = 44,                  /* no attempts are left */
-    PTPM_SEND_NO_SURVEY = PTPM_NO_SURVEY
+    PTPM_SEND_NO_SURVEY = PTPM_NO_SURVEY,
+    PTPM_SEND_UNSAVED = PTPM_UNSAVED
 };
 
 /* ptpm_session_resume. */
@@ -577,7 +580,7 @@ __extension__ enum PTPM_FOUR_OCTETS(ptpm_reported) {
     PTPM_REPORT_NO_SURVEY = PTPM_NO_SURVEY
 };
 
-/* ptpm_session_image and ptpm_clock_image, ptpm_clock_image_of and ptpm_clock_saved. */
+/* ptpm_session_image, _image_of and _saved, and ptpm_clock_image, _image_of and _saved. */
 __extension__ enum PTPM_FOUR_OCTETS(ptpm_saved) {
     PTPM_SAVED = 0,
     PTPM_SAVE_NO_CLOCK = PTPM_NO_CLOCK,
@@ -821,7 +824,8 @@ enum ptpm_begun ptpm_session_begin_at(struct ptpm_session *session, uint8_t acti
 /* Makes the message of the unanswered request, and uses one of its attempts. The message has the same octets each time, until
    the session is retuned.
    Takes:   room octets, PTPM_MOST_OCTETS or more.
-   Returns: PTPM_SENT; or why not, and then no attempt is used.
+   Returns: PTPM_SENT; or why not, and then no attempt is used. PTPM_UNSAVED comes after PTPM_NO_ROOM, and only of a session that saves
+            (ptpm_session_saving).
    Writes:  *size, and as many octets from octets on: the message. *size is 0 if the call is refused.
    Caller:  sends the message, and passes in what comes in. */
 enum ptpm_sending ptpm_session_send(struct ptpm_session *session, uint8_t *octets, size_t room, size_t *size);
@@ -856,6 +860,32 @@ enum ptpm_session_received ptpm_session_receive(struct ptpm_session *session, co
    Writes:  *size, and that number of octets from octets on: the image. If the call is refused, *size is 0 and no octet is written. */
 enum ptpm_saved ptpm_session_image(const struct ptpm_session *session, uint8_t *octets, size_t room, size_t *size);
 
+/* Has a session hand out no request before it is saved. Without it a host has to see to that itself. With it ptpm_session_send is
+   refused with PTPM_UNSAVED after a request was begun or given up, and after an answer. That holds for a new request and for a repeat,
+   until ptpm_session_saved. Nothing else changes: an answer is heard and reported at once. One save covers all that came before it. So
+   one for each request is enough, between its begin and its first send. A session that was just restored is saved. Any other session
+   is not, before its first save. Call it right after the start or the restore.
+   Returns: PTPM_SAVING, or PTPM_NO_SESSION. If the session saves already, nothing changes.
+   Caller:  saves the session after each begin. */
+enum ptpm_sending ptpm_session_saving(struct ptpm_session *session);
+
+/* Like ptpm_session_image, of a session that saves. It also says which state the image is of.
+   Takes:   what ptpm_session_image takes.
+   Returns: what ptpm_session_image returns; PTPM_NO_SESSION also for a session that does not save.
+   Writes:  what ptpm_session_image writes, and *token: a number that is another one after each request that was begun or given up, and
+            after each answer. It is 0 if the call is refused. It says nothing about another session, or about a session before it was
+            restored.
+   Caller:  stores the image, and calls ptpm_session_saved with the token once a restart would find it, whatever happens to the
+            power. */
+enum ptpm_saved ptpm_session_image_of(const struct ptpm_session *session, uint8_t *octets, size_t room, size_t *size, uint64_t *token);
+
+/* Takes the caller's word that a restart would find the image of this token. Then requests are handed out again. What else changed in
+   between does not matter: a domain, or how many attempts are left.
+   Takes:   the token of ptpm_session_image_of.
+   Returns: PTPM_SAVED; or PTPM_NO_SESSION, also for a session that does not save, or PTPM_OTHER_IMAGE, and then nothing changes. With
+            the token of a session that is saved already it returns PTPM_SAVED. */
+enum ptpm_saved ptpm_session_saved(struct ptpm_session *session, uint64_t token);
+
 /* Puts the session of an image in the handle, instead of what it holds, which is then freed. A request that was not answered
    stays open, with all its attempts: send it again.
    Takes:   size octets, and the settings of the session. Its manager, managed clock, number of ports and first number must be
@@ -883,7 +913,8 @@ enum ptpm_reported ptpm_session_report(const struct ptpm_session *session, uint8
 void ptpm_session_stop(struct ptpm_session *session);
 
 /* Starts a survey without answers instead of what the handle holds, which is freed first. A session of the same manager may treat
-   an answer to its GET as its own. So the manager here has no session: for example, it is another port of the same identity.
+   an answer to its GET as its own. So the manager here has no session. It is another port of the same identity, and with port 0 it
+   is PTPM_SURVEY_PORT.
    Returns: PTPM_STARTED; or why not, and then the handle holds nothing.
    Memory:  the survey, until it is stopped.
    Caller:  stops the survey. */
@@ -899,7 +930,7 @@ static inline enum ptpm_started ptpm_survey_start_sized(struct ptpm_survey *hand
 /* Starts a survey of one clock, without answers, instead of what the handle holds, which is freed first. Every port of the
    clock is asked, and another clock's answer is ignored (PTPM_OTHER_SOURCE). A clock treats such a GET from one of its managers
    as a numbered request, like one of a session. And a session of the same manager may treat an answer as its own. So the manager
-   here is none of them, and has no session: for example, it is another port of the same identity.
+   here is none of them, and has no session. It is another port of the same identity, and with port 0 it is PTPM_SURVEY_PORT.
    Takes:   the identity of the clock: another one than the manager's, and neither all ones nor all zeros.
    Returns: PTPM_STARTED; or why not, and then the handle holds nothing.
    Memory:  the survey, until it is stopped.

@@ -135,6 +135,7 @@ PTPM_MOST_OCTETS = 1472
 PTPM_SESSION_IMAGE_OCTETS = 1478
 PTPM_CLOCK_IMAGE_OCTETS = 27185
 PTPM_MOST_ANSWERS = 512
+PTPM_SURVEY_PORT = 65534
 
 # Answers that several kinds of calls give.
 PTPM_SAVING = 0
@@ -281,6 +282,7 @@ PTPM_SEND_NO_SESSION = 37
 PTPM_SEND_IDLE = 43
 PTPM_GAVE_UP = 44
 PTPM_SEND_NO_SURVEY = 46
+PTPM_SEND_UNSAVED = 118
 
 # enum ptpm_resumed.
 PTPM_RESUMED = 0
@@ -656,6 +658,12 @@ CALLS: Dict[str, Tuple[Any, List[Any]]] = {
     "ptpm_session_retune": (c_uint32, [POINTER(ptpm_session), c_uint8]),
     "ptpm_session_receive": (c_uint32, [POINTER(ptpm_session), c_char_p, c_size_t]),
     "ptpm_session_image": (c_uint32, [POINTER(ptpm_session), POINTER(c_uint8), c_size_t, POINTER(c_size_t)]),
+    "ptpm_session_saving": (c_uint32, [POINTER(ptpm_session)]),
+    "ptpm_session_image_of": (
+        c_uint32,
+        [POINTER(ptpm_session), POINTER(c_uint8), c_size_t, POINTER(c_size_t), POINTER(c_uint64)],
+    ),
+    "ptpm_session_saved": (c_uint32, [POINTER(ptpm_session), c_uint64]),
     "ptpm_session_restore": (c_uint32, [POINTER(ptpm_session), POINTER(ptpm_session_settings), c_char_p, c_size_t]),
     "ptpm_session_issued": (c_uint64, [POINTER(ptpm_session)]),
     "ptpm_session_report": (c_uint32, [POINTER(ptpm_session), POINTER(c_uint8), c_size_t, POINTER(c_size_t), POINTER(c_uint16)]),

@@ -330,6 +330,15 @@ extern "C" {
     pub fn ptpm_session_retune(session: *mut ptpm_session, domain: u8) -> ptpm_retuned;
     pub fn ptpm_session_receive(session: *mut ptpm_session, datagram: *const u8, size: usize) -> ptpm_session_received;
     pub fn ptpm_session_image(session: *const ptpm_session, octets: *mut u8, room: usize, size: *mut usize) -> ptpm_saved;
+    pub fn ptpm_session_saving(session: *mut ptpm_session) -> ptpm_sending;
+    pub fn ptpm_session_image_of(
+        session: *const ptpm_session,
+        octets: *mut u8,
+        room: usize,
+        size: *mut usize,
+        token: *mut u64,
+    ) -> ptpm_saved;
+    pub fn ptpm_session_saved(session: *mut ptpm_session, token: u64) -> ptpm_saved;
     pub fn ptpm_session_restore(
         session: *mut ptpm_session,
         settings: *const ptpm_session_settings,

@@ -34,6 +34,7 @@ mod saving_clock;
 mod session;
 mod survey;
 mod withholding;
+mod withholding_session;
 
 use crate::handle::Handle;
 use crate::kept::{Hosted, Kept};

@@ -25,3 +25,5 @@ pub mod Parsing
 pub mod Blanks
 pub mod Withheld
 pub mod SavingClock
+pub mod SessionStanding
+pub mod SavingSession

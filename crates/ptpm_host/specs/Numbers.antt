@@ -146,7 +146,7 @@ abbrev pub saving_number : SavingRefusal → ℕ
 saving_number (saving.Handle refusal) = handle_number refusal
 saving_number saving.Unsaved = unsaved
 
--- why a clock does not count as saved
+-- why a clock or a session does not count as saved
 abbrev pub saved_number : SavedRefusal → ℕ
 saved_number saves.NoRoom = no_room
 saved_number saves.OtherImage = 119
@@ -174,6 +174,7 @@ give_up_number give_ups.OutOfReach = 112
 
 abbrev pub send_number : SendRefusal → ℕ
 send_number sends.NoRoom = no_room
+send_number sends.Unsaved = unsaved
 send_number (sends.Session refusal) = resume_number refusal
 
 abbrev pub report_number : ReportRefusal → ℕ

@@ -151,7 +151,7 @@ pub fn saving_number(refusal: SavingRefusal) -> u32
     }
 }
 
-/// Why a clock does not count as saved, 34 or 119.
+/// Why a clock or a session does not count as saved, 34 or 119.
 pub fn saved_number(refusal: SavedRefusal) -> u32
     ensures number { result ≡ saved_number refusal }
     ensures some { 1 ≤ result }
@@ -265,12 +265,13 @@ pub fn give_up_number(refusal: GiveUpRefusal) -> u32
     }
 }
 
-/// Why no request is handed out, 34, 43 or 44.
+/// Why no request is handed out, 34, 43, 44 or 118.
 pub fn send_number(refusal: SendRefusal) -> u32
     ensures { result ≡ send_number refusal }
 {
     match refusal {
         SendRefusal::NoRoom => NO_ROOM,
+        SendRefusal::Unsaved => UNSAVED,
         SendRefusal::Session(refusal) => resume_number(refusal),
     }
 }

@@ -46,10 +46,10 @@ pub enum SavingRefusal {
     Unsaved,
 }
 
-/// Why a clock does not count as saved, in the order in which the reasons are judged.
+/// Why a clock or a session does not count as saved, in the order in which the reasons are judged.
 #[derive(Clone, Copy, Debug, PartialEq, Eq)]
 pub enum SavedRefusal {
-    /// There is room for fewer than fifteen messages.
+    /// There is room for fewer than fifteen messages; only of a clock.
     NoRoom,
     /// The image is of another state.
     OtherImage,
@@ -89,6 +89,8 @@ pub enum SessionRefusal {
 pub enum SendRefusal {
     /// There is room for fewer than 1,472 octets.
     NoRoom,
+    /// The session is to be saved first.
+    Unsaved,
     /// The session has none to send.
     Session(SendError),
 }

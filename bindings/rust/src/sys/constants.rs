@@ -110,6 +110,7 @@ pub const PTPM_MOST_OCTETS: usize = 1472;
 pub const PTPM_SESSION_IMAGE_OCTETS: usize = 1478;
 pub const PTPM_CLOCK_IMAGE_OCTETS: usize = 27185;
 pub const PTPM_MOST_ANSWERS: usize = 512;
+pub const PTPM_SURVEY_PORT: u16 = 65534;
 
 // Answers that several kinds of calls give.
 pub const PTPM_SAVING: u32 = 0;
@@ -256,6 +257,7 @@ pub const PTPM_SEND_NO_SESSION: u32 = 37;
 pub const PTPM_SEND_IDLE: u32 = 43;
 pub const PTPM_GAVE_UP: u32 = 44;
 pub const PTPM_SEND_NO_SURVEY: u32 = 46;
+pub const PTPM_SEND_UNSAVED: u32 = 118;
 
 // `enum ptpm_resumed`.
 pub const PTPM_RESUMED: u32 = 0;
