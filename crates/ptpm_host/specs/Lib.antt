@@ -9,6 +9,7 @@ pub mod SessionSettings
 pub mod Session
 pub mod SurveySettings
 pub mod Survey
+pub mod Asker
 pub mod Names
 pub mod Texts
 pub mod TextsLaws

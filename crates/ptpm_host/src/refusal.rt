@@ -66,6 +66,15 @@ pub enum ReadRefusal {
     NoRoom,
 }
 
+/// Why an asker does not go on from an image, in the order in which the reasons are judged.
+#[derive(Clone, Copy, Debug, PartialEq, Eq)]
+pub enum AskerRefusal {
+    /// No session has these settings.
+    Settings(SessionRefusal),
+    /// It is no image of this session.
+    Image(ptpm_manager::RestoreError),
+}
+
 /// Why a session does not start, in the order in which the reasons are judged. A survey of every clock has only the first, and
 /// one of one clock has each except the two about ports.
 #[derive(Clone, Copy, Debug, PartialEq, Eq)]

@@ -24,8 +24,7 @@ use crate::refusal::{ReportRefusal, SavedRefusal, SendRefusal, SessionRefusal};
 use crate::reported_outcome::{ReportedOutcome, report_outcome};
 use crate::session_settings::SessionSettings;
 use crate::session_standing::SessionStanding;
-use crate::settings::NO_IDENTITY;
-use ptpm_codec::{Action, Buffer, ClockIdentity, MESSAGE_OCTETS, OutOfMemory};
+use ptpm_codec::{Action, Buffer, MESSAGE_OCTETS, OutOfMemory};
 use ptpm_manager::{
     BeginError, GiveUpRefusal, Reason, Received, Report, RestoreError, SendError, Session,
 };
@@ -61,33 +60,13 @@ impl HostedSession {
         ensures refusal { MatchResult result (λ _. session_refusal settings.now ≡ None)
             (λ e. session_refusal settings.now ≡ Some e) }
     {
-        let me = settings.manager();
-        let target = settings.target();
-        if me.clock == ClockIdentity::EVERY {
-            return Err(SessionRefusal::ManagerIsEvery);
-        }
-        if target == ClockIdentity::EVERY {
-            return Err(SessionRefusal::TargetIsEvery);
-        }
-        if me.clock == target {
-            return Err(SessionRefusal::SameClock);
-        }
-        let ports = settings.target_ports;
-        if ports < 1 {
-            return Err(SessionRefusal::NoPorts);
-        }
-        if ports > 8 {
-            return Err(SessionRefusal::TooManyPorts);
-        }
-        if target == NO_IDENTITY {
-            return Err(SessionRefusal::TargetIsZero);
-        }
+        settings.judge()?;
         Ok(HostedSession {
             session: Session::new(
                 alloc,
-                me,
-                target,
-                ports,
+                settings.manager(),
+                settings.target(),
+                settings.target_ports,
                 settings.domain,
                 settings.first,
                 settings.hops,
@@ -391,7 +370,7 @@ impl HostedSession {
 }
 
 /// The action of an actionField; every other number counts as RESPONSE, which is no request's.
-fn asked_action(action: u8) -> Action
+pub(crate) fn asked_action(action: u8) -> Action
     ensures { result ≡ asked_action action }
 {
     match action {
