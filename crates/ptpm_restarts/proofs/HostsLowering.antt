@@ -1,5 +1,5 @@
 -- What a network in which nobody lowers hops does beside one in which hosts do: nothing, or the same.
-use Rattle.ptpm_network.proofs.Common.{by_test, arith, suc, zero, ◌≡◌, ℕ, ◌+◌, ◌-◌, ◌≤◌, ◌==◌, ◌⊎◌, inl, inr, ⊎_elim, Bool, true, false, if◌then◌else◌, List, [], ◌∷◌, ◌++◌, map, filter, length, Option, Some, None, refl, sym, ◌∙◌, ap, subst, map-append, slice_get, cond-true, cond-false, same_Some, Message, State, turn, copy_by, copy_from, copy_of, delivery, is_copy, RequestCopy, answer_origin, reply_origin, frames_to, forwarded_frames, reply_frames, AtPort, End, Network, peers, Origin, Neither, Held, held, seen, Frame, turn_frames, SessionValue, received_of, answer_by, answer_to, reason_of, frame_at}
+use Rattle.ptpm_network.proofs.Common.{by_test, arith, suc, zero, ◌≡◌, ℕ, ◌+◌, ◌-◌, ◌≤◌, ◌==◌, inl, inr, ⊎_elim, Bool, true, false, if◌then◌else◌, List, [], ◌∷◌, ◌++◌, map, filter, length, Option, Some, None, refl, sym, ◌∙◌, ap, subst, map-append, slice_get, cond-true, cond-false, same_Some, Message, State, turn, copy_by, copy_from, copy_of, delivery, is_copy, RequestCopy, answer_origin, reply_origin, frames_to, forwarded_frames, reply_frames, AtPort, End, Network, peers, Origin, Neither, Held, held, seen, Frame, turn_frames, SessionValue, received_of, answer_by, answer_to, reason_of, frame_at}
 use Rattle.ptpm_agent.proofs.Turns.{reading-message_of}
 use Rattle.ptpm_manager.specs.declared.receiving.Reason.{Reason}
 use Rattle.ptpm_network.specs.Lowered.{AreLowered, IsLowered, with_fewer_hops}

@@ -10,7 +10,7 @@ use Rattle.ptpm_network.specs.Lowered.{IsLowered}
 use Rattle.ptpm_network.specs.RunningNetwork as running_network
 use Rattle.ptpm_network.specs.RunningNetwork.{Done}
 use Rattle.ptpm_restarts.specs.ActsAsIfNever.{ActsAsIfNever, IsPossibleAct}
-use Rattle.ptpm_restarts.specs.AsIfNever.{AreTimely, IsTimely, is_late_event, is_late_held, is_late_in}
+use Rattle.ptpm_restarts.specs.AsIfNever.{IsTimely, is_late_event, is_late_held, is_late_in}
 use Rattle.ptpm_restarts.specs.HostsLowering.{AsEver, Ended, GoesBeside, HostIncident, IsLoweredHeld, IsLoweredNetwork, IsLoweredWaiting, IsOfHost, IsPossibleOfHost, IsTimelyOfHost, Lowers, StandFor, Stands, host_incident, with_octets}
 use Rattle.ptpm_restarts.specs.Incidents.{CrashClock, CrashSession, GivesUp, Happens, Incident, Observes, SaveClock, SaveSession, comes_in, delivered, happens, incident, lets_go, no_room_for, refused, replayed, unless}
 use Rattle.ptpm_restarts.specs.Restarting.{RestartingNetwork, after_verdict, held_frames, hears, initial_restarting, running, sent_or_waiting, sends, takes_turn, turned, waiting_at, waiting_elsewhere}

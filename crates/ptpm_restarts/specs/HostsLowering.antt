@@ -28,7 +28,7 @@ abbrev pub host_incident : Network → RestartingNetwork → HostIncident → Re
 host_incident N k (AsEver i) = incident N k i
 host_incident N k (Lowers n octets) = unless (refused N k (Deliver n)) k (delivered N k (with_octets octets (frame_at k.frames n)))
 
--- these octets are the frame's with fewer hops, and startingBoundaryHops lowered by as much
+-- these octets are the frame's with boundaryHops lowered or left, and startingBoundaryHops lowered by as much
 abbrev pub IsOfHost : RestartingNetwork → HostIncident → Type 0
 IsOfHost k (AsEver i) = Unit {0}
 IsOfHost k (Lowers n octets) = (h : Held) → frame_at k.frames n ≡ Some h → (most : ℕ) × IsLowered most h.octets octets

@@ -12,8 +12,9 @@ ghost use Rattle.ptpm_restarts.specs.Restarting.{RestartingNetwork, held_frames,
 /// Hosts that lower boundaryHops of messages as these come in do nothing but lose messages. Beside such a network goes one in which
 /// nobody does. It has the same clocks, sessions and reports, and of each frame one with as many hops or more:
 /// - so it is when both start;
-/// - at each event, save, crash, give-up, observation and message whose hops are lowered here, the other one goes on by one incident
-///   or none. If that is in time here, it is there. The premise is that the other one has room for frames;
+/// - whatever happens here, the other one goes on beside it, by one incident or none. It may be an event, a save, a crash, a give-up,
+///   an observation, or a message that comes in with lowered hops. If that is in time here, it is there. The premise is that the other
+///   one has room for frames;
 /// - so what `restarts_among_acts` says of the other one, after its incidents, it says of this one: of the same clocks, sessions and
 ///   reports.
 pub fn lowered_hops_lose_messages_alone()
