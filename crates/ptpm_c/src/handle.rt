@@ -65,6 +65,18 @@ impl Handle {
         handle
     }
 
+    /// Holds this, in this box, after it was taken out and not changed. `restored` says what `is_restored` said.
+    pub fn of_unchanged(kept: Box<Kept>, hosted: Hosted, restored: bool) -> Handle
+        ensures holds { held result.keeping ≡ hosted }
+        ensures restored { (result.restored == 1) ≡ restored }
+    {
+        if restored {
+            Handle::of_restored(kept, hosted)
+        } else {
+            Handle::of(kept, hosted)
+        }
+    }
+
     /// Whether what it holds was restored, and is as it was then.
     pub fn is_restored(&self) -> bool
         ensures { result ≡ (self.now.restored == 1) }

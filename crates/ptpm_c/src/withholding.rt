@@ -38,7 +38,9 @@ pub extern "C" fn ptpm_clock_saving(alloc: Global, handle: &mut Handle) -> u32
     ensures refused { (c : HostedClock)
         → clock_held handle.old.keeping ≡ Some c
         → result ≢ 0
-        → (result ≡ no_memory) × (clock_held handle.new.keeping ≡ Some c) }
+        → (result ≡ no_memory)
+        × ((clock_held handle.new.keeping ≡ Some c)
+        × ((handle.new.restored == 1) ≡ (handle.old.restored == 1))) }
     ensures empty { any_clock_held handle.old.keeping ≡ None
         → (result ≡ no_clock) × (held handle.new.keeping ≡ held handle.old.keeping) }
 {
@@ -52,7 +54,8 @@ pub extern "C" fn ptpm_clock_saving(alloc: Global, handle: &mut Handle) -> u32
             0
         }
         Err(refused) => {
-            *handle = Handle::of(kept, Hosted::Clock(refused.value.into_clock()));
+            let clock = Hosted::Clock(refused.value.into_clock());
+            *handle = Handle::of_unchanged(kept, clock, saved);
             NO_MEMORY
         }
     }
