@@ -57,7 +57,8 @@ static uint32_t handle(uint16_t port, const char *text) {
 
 /* The library is of this header's version, and has its structs. */
 static void header(void) {
-    size_t sizes[] = { 16, 216, 16, 88, 16, 12, 1476, 12, 16, 26, 16, 16, 10, 196616, 24, 0 }, all = sizeof sizes / sizeof *sizes - 1;
+    size_t sizes[] = { 16, 216, 16, 88, 16, 12, 1476, 12, 16, 26, 16, 16, 10, 196616, 24, 16, 36, 24, 0 },
+           all = sizeof sizes / sizeof *sizes - 1;
     check(ptpm_version() == PTPM_VERSION_NUMBER, "the version of the library");
     check(ptpm_header_agrees() == PTPM_STARTED && ptpm_sizes_agree(sizes, all) == PTPM_STARTED, "the sizes of the structs");
     check(ptpm_sizes_agree(sizes, all - 1) == PTPM_OTHER_SIZES && ptpm_sizes_agree(sizes, all + 1) == PTPM_OTHER_SIZES,
@@ -641,6 +642,7 @@ static const struct answer refused[] = {
     ANSWER(NOT_AN_IMAGE), ANSWER(OTHER_VERSION), ANSWER(OTHER_KIND), ANSWER(DAMAGED), ANSWER(OTHER_CLOCK),
     ANSWER(OTHER_PORTS), ANSWER(OTHER_SESSION), ANSWER(OUT_OF_REACH),
     ANSWER(NOT_WORDS), ANSWER(UNKNOWN_ID), ANSWER(WORD_COUNT), ANSWER(OTHER_NAME), ANSWER(NO_VALUE), ANSWER(UNSAVED), ANSWER(OTHER_IMAGE),
+    ANSWER(NO_ASKER),
 };
 #undef ANSWER
 
