@@ -27,7 +27,7 @@ class SavingSession:
     >>> from ptpm import Action, SessionSettings
     >>> session = SavingSession(Requests(SessionSettings("0011223344556677/1", "aabbccfffeddee01", first=7)))
     >>> stored = []
-    >>> with session.begin(Action.SET, "PRIORITY1", b"d\0") as image:
+    >>> with session.begin(Action.SET, "PRIORITY1", bytes([100, 0])) as image:
     ...     stored.append(image)
     >>> len(stored[0]), session.send()[-4:].hex()
     (62, '20056400')

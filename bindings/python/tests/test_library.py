@@ -27,7 +27,7 @@ PORT = ptpm.PortSettings(0x0A0B0C0D0E0F1A1B, ptpm.PortState.PRE_MASTER, -11, 3, 
 
 def load_tests(_loader: unittest.TestLoader, tests: unittest.TestSuite, _pattern: object) -> unittest.TestSuite:
     """The examples of the module too."""
-    for name in ("ptpm.identity", "ptpm.members", "ptpm.clock"):
+    for name in ("ptpm.identity", "ptpm.members", "ptpm.clock", "ptpm.saving_clock", "ptpm.saving_session"):
         tests.addTests(doctest.DocTestSuite(name))
     return tests
 
