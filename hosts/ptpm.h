@@ -196,7 +196,9 @@ struct ptpm_observed_port {
 
 enum { PTPM_CLOCK_SET = 1, PTPM_PORT_SET = 2, PTPM_PORT_COMMAND = 4 };
 
-/* Who may change the clock, and what. */
+/* Who may change the clock, and what. The library takes any value here. A manager with the identity of the clock itself is never
+   heard: what it sends is a PTPM_OWN_MESSAGE. One without rights may read: its requests are numbered, and saved. Other bits of the
+   rights than these three do not count. So a host whose settings come from people refuses such values itself, as ptpm-clock does. */
 struct ptpm_manager_settings {
     uint8_t clock[8];
     uint16_t port;
