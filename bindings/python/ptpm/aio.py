@@ -11,7 +11,7 @@
     asyncio.run(main())
 
 A request waits in a thread of the loop's executor, so other tasks go on meanwhile. A task that is cancelled ends within a twentieth
-of a second: it sends nothing more, and the request stays as it is, as it would after NoAnswer. Tasks that ask in one session, or
+of a second. It sends nothing more, and the request stays as it is, as it would after NoAnswer. Tasks that ask in one session, or
 over one transport, take turns."""
 
 from __future__ import annotations
@@ -71,7 +71,7 @@ class _Asked(Transport):
         raise _Ended
 
     def close(self) -> None:
-        """Whoever made the transport closes it."""
+        """The one who made the transport closes it."""
 
 
 _turns: MutableMapping[Any, Tuple[asyncio.AbstractEventLoop, asyncio.Lock]] = weakref.WeakKeyDictionary()
