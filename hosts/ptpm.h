@@ -675,8 +675,8 @@ void ptpm_clock_defaults(struct ptpm_clock_settings *settings);
 void ptpm_port_defaults(struct ptpm_port_settings *settings);
 
 /* Starts a clock instead of what the handle holds, which is freed first.
-   Takes:   one to eight ports, and at most sixteen managers. The first port is port 1. All port_count settings are read, even
-            if they are too many.
+   Takes:   one to eight ports, and at most sixteen managers. Eight is the library's limit, and no setting (docs/embedding.md, "Eight
+            ports"). The first port is port 1. All port_count settings are read, even if they are too many.
    Returns: PTPM_STARTED; or why not, and then the handle holds nothing.
    Memory:  the clock, 472 octets and 2,136 for each manager, until it is stopped, and a copy of the ports until the call returns.
    Caller:  stops the clock. */
