@@ -1,7 +1,7 @@
 /* An agent for a device without malloc: its clock lives in a static block. It has a port at each of two interfaces (UDP over
    IPv4, annex C). What a manager changes is not acted on here, and nothing is kept across a restart. Its table of what was
    forwarded has 196,616 octets. A device that has no room for it forwards nothing: it sends only what answers. It is C, and C++ too:
-       cc block_host.c -Wl,-Bstatic -lptpm_memory -Wl,-Bdynamic && sudo ./a.out eth0 eth1 */
+       cc block_host.c $(pkg-config --cflags --libs ptpm_memory) && sudo ./a.out eth0 eth1 */
 #define _DEFAULT_SOURCE
 #include <arpa/inet.h>
 #include <net/if.h>
