@@ -39,7 +39,7 @@ impl Servo {
         self.offset.0 /= 2;
         ObservedClock {
             offset_from_master: Some(self.offset),
-            mean_path_delay: Some(TimeInterval::of_nanoseconds(420)),
+            mean_path_delay: Some(TimeInterval::from_nanoseconds(420)),
             ..ObservedClock::default()
         }
     }
@@ -124,14 +124,14 @@ impl Agent {
         for interface in interfaces {
             sockets.push(port::open(interface).map_err(|error| format!("{interface}: {error}"))?);
         }
-        let servo = Servo { offset: TimeInterval::of_nanoseconds(1 << 20) };
+        let servo = Servo { offset: TimeInterval::from_nanoseconds(1 << 20) };
         let forwarding = Forwarding::new(sockets.len())?;
         Ok(Self { clock, sockets, forwarding, servo, outbox: Outbox::boxed(), room: Box::new([0; CLOCK_IMAGE_OCTETS]) })
     }
 
     /// Tells the clock what was found since.
     fn observe(&mut self) -> Result<(), ptpm::Error> {
-        let ports = [ObservedPort { peer_delay: Some(TimeInterval::of_nanoseconds(210)), ..ObservedPort::default() }; 2];
+        let ports = [ObservedPort { peer_delay: Some(TimeInterval::from_nanoseconds(210)), ..ObservedPort::default() }; 2];
         self.clock.observe(&self.servo.steer(), &ports[..self.sockets.len()])?;
         Ok(())
     }
