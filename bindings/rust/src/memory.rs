@@ -1,4 +1,4 @@
-//! Where the library has its memory from: `malloc`, `realloc` and `free` of the program, or with the feature `memory` a block.
+//! The memory of the library: `malloc`, `realloc` and `free` of the program, or with the feature `memory` a block.
 
 /// Makes a call that takes memory or gives it back. The block has no lock of its own, so one such call at a time is made.
 #[cfg(feature = "memory")]
