@@ -196,7 +196,9 @@ struct ptpm_observed_port {
 
 enum { PTPM_CLOCK_SET = 1, PTPM_PORT_SET = 2, PTPM_PORT_COMMAND = 4 };
 
-/* Who may change the clock, and what. */
+/* Who may change the clock, and what. The library takes any value here. A manager with the identity of the clock itself is never
+   heard: what it sends is a PTPM_OWN_MESSAGE. One without rights may read: its requests are numbered, and saved. Other bits of the
+   rights than these three do not count. So a host whose settings come from people refuses such values itself, as ptpm-clock does. */
 struct ptpm_manager_settings {
     uint8_t clock[8];
     uint16_t port;
@@ -751,8 +753,8 @@ void ptpm_clock_defaults(struct ptpm_clock_settings *settings);
 void ptpm_port_defaults(struct ptpm_port_settings *settings);
 
 /* Starts a clock instead of what the handle holds, which is freed first.
-   Takes:   one to eight ports, and at most sixteen managers. The first port is port 1. All port_count settings are read, even
-            if they are too many.
+   Takes:   one to eight ports, and at most sixteen managers. Eight is the library's limit, and no setting (docs/embedding.md, "Eight
+            ports"). The first port is port 1. All port_count settings are read, even if they are too many.
    Returns: PTPM_STARTED; or why not, and then the handle holds nothing.
    Memory:  the clock, 472 octets and 2,136 for each manager, until it is stopped, and a copy of the ports until the call returns.
    Caller:  stops the clock. */

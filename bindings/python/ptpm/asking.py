@@ -7,12 +7,13 @@ from typing import Callable, Optional, Sequence
 
 from . import _header as header
 from .answers import Error, SessionAnswer
+from .errors import PtpmError
 from .report import Report
 from .requests import Requests
 from .transport import Transport
 
 
-class NoAnswer(Exception):
+class NoAnswer(PtpmError, TimeoutError):
     """A clock did not answer. `was_sent` says whether the request itself was sent: a SET or a COMMAND may then have been carried
     out, once."""
 

@@ -5,7 +5,7 @@ from __future__ import annotations
 import ctypes
 import time
 from dataclasses import dataclass
-from typing import Iterator, Optional
+from typing import Generator, Iterator, Optional
 
 from . import _header as header
 from ._library import Handle, library
@@ -110,7 +110,7 @@ def survey(
     hops: int = 1,
     attempts: int = 30,
     timeout: float = 0.2,
-) -> Iterator[Report]:
+) -> Generator[Report, None, None]:
     """Asks every clock, and yields the answers as they come. It asks again until two rounds bring no new answer, or five if nobody
     has answered, and `attempts` times at most. `manager` is who asks, and has no session: a session of the same portIdentity may
     treat an answer as its own. By default it is a port of this process that no session has."""

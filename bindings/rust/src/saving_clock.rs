@@ -6,6 +6,7 @@ use crate::clock::{Clock, Ports, Turn, CLOCK_IMAGE_OCTETS, MOST_READ};
 use crate::error::{done, Error};
 use crate::id::ManagementId;
 use crate::identity::Identity;
+use crate::memory::alone;
 use crate::observation::{ObservedClock, ObservedPort};
 use crate::outbox::{Messages, Outbox};
 use crate::sys;
@@ -87,7 +88,7 @@ impl SavingClock {
     /// [`Error::NoMemory`]; the clock is dropped then.
     pub fn new(mut clock: Clock) -> Result<Self, Error> {
         // SAFETY: the handle holds a clock.
-        done(unsafe { sys::ptpm_clock_saving(clock.handle_mut()) })?;
+        done(alone(|| unsafe { sys::ptpm_clock_saving(clock.handle_mut()) }))?;
         Ok(Self { clock })
     }
 

@@ -67,7 +67,7 @@ fn a_command_changes_the_ports_that_it_names() {
     let disable = request(1, "aabbccfffeddee010002", 0, 3, "200e");
     let (_, changed) = clock.handle_changed(1, &disable, &mut outbox).expect("it is judged");
     assert_eq!(changed.ports_with(PortMembers::STATE).collect::<Vec<_>>(), [2]);
-    let observed = [ObservedPort { state: Some(PortState::Slave), peer_delay: Some(TimeInterval::of_nanoseconds(3)) }; 2];
+    let observed = [ObservedPort { state: Some(PortState::Slave), peer_delay: Some(TimeInterval::from_nanoseconds(3)) }; 2];
     let left = clock.observe(&ObservedClock::default(), &observed).expect("it is observed");
     assert_eq!(left.iter().collect::<Vec<_>>(), [2]);
     reads(&mut clock, ManagementId::PORT_DATA_SET, 1, "aabbccfffeddee01000109000000000000030000010300010002");
@@ -144,7 +144,7 @@ fn observations_have_their_places() {
     let observed = ObservedClock {
         steps_removed: Some(2),
         offset_from_master: Some(TimeInterval(-2)),
-        mean_path_delay: Some(TimeInterval::of_nanoseconds(1)),
+        mean_path_delay: Some(TimeInterval::from_nanoseconds(1)),
         parent_stats: Some(true),
         observed_variance: Some(0x5152),
         observed_rate: Some(0x2122_2324),
