@@ -99,8 +99,8 @@ fn hand_in(
     }
 }
 
-/// The members that have another value in a clock than in these data sets, if this is the number of a new request's verdict; else
-/// none.
+/// The members that have another value in a clock than in these data sets. There are none unless this is the number of a new
+/// request's verdict.
 fn changed_if_new(number: u32, clock: &SavingClock, before: &DataSets) -> ChangedMembers
     ensures new { number ≡ verdict_number Verdict.AnsweredNew
         → result ≡ changed before.now clock.now.clock.value.agent.sets }
