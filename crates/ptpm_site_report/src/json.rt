@@ -1,8 +1,5 @@
 //! A site as one JSON object, by the standard's names.
 
-ghost use Rattle.std.specs.Prelude.{◌≡◌, IfErr, true};
-ghost use Rattle.ptpm_commands.specs.Faults.{is_outside};
-
 use crate::finding_json::finding_value;
 use ptpm_codec::{ClockIdentity, PortIdentity};
 use ptpm_commands::Fault;
@@ -21,9 +18,7 @@ pub(crate) struct Object<'a>(pub(crate) &'a Picture<'a>);
 
 impl Object<'_> {
     /// Prints one object: the domains with their clocks, the findings, and how much was left out.
-    pub(crate) fn print<O: Write>(&self, alloc: Global, out: &mut O) -> Result<(), Fault>
-        ensures { IfErr result (λ e. is_outside e ≡ true) }
-    {
+    pub(crate) fn print<O: Write>(&self, alloc: Global, out: &mut O) -> Result<(), Fault> {
         write!(out, "{{\"domains\":[")?;
         let mut domain = None;
         for (source, clock) in self.0.site.clocks.iter() {
@@ -59,9 +54,7 @@ fn print_value<O: Write>(
     alloc: Global,
     value: Result<Value, AllocError>,
     out: &mut O,
-) -> Result<(), Fault>
-    ensures { IfErr result (λ e. is_outside e ≡ true) }
-{
+) -> Result<(), Fault> {
     let text = match value {
         Ok(value) => value.to_string(alloc),
         Err(error) => Err(error),
