@@ -281,7 +281,7 @@ struct ptpm_survey_settings {
     uint8_t hops;                       /* startingBoundaryHops */
 };
 
-/* An asker: a session, and what is to be sent, saved and noted next, about 4,000 octets at one pointer. All zeros hold no asker. */
+/* An asker: a session, and what is to be sent, saved and noted next, about 1,900 octets at one pointer. All zeros hold no asker. */
 struct ptpm_asker { void *at; PTPM_TO_EIGHT bool live; uint8_t restored; };
 
 /* The session of an asker, and how long it waits. Times are in milliseconds, from any moment on, and never go back. */
