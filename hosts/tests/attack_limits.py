@@ -5,7 +5,7 @@ import signal
 import time
 
 from attack_wire import STATION, STRANGER, Wire, frame_four, message
-from attacking import MANAGER, ME, OTHER, Clock, Peer, check, path, run, wait_until, work
+from attacking import MANAGER, ME, OTHER, Clock, Peer, check, path, run, wait_until, work, write
 
 TOOL = "0a0b0c0d0e0f10aa"
 # The latest addresses that have tokens of their own: of those who ask, and of those who claim to be a manager.
@@ -80,23 +80,23 @@ def rates():
 def at_neighbours(wire, *ends):
     """Addresses of further neighbours."""
     found = [f"10.7.{wire.number}.{end}" for end in ends]
-    for address in found:
-        run("ip", "neigh", "replace", address, "lladdr", STATION.hex(":"), "dev", wire.name)
+    station = STATION.hex(":")
+    run("ip", "-batch", write("neighbours", "".join(f"neigh replace {address} lladdr {station} dev {wire.name}\n" for address in found)))
     return found
 
 
 def answered_beside(wire, flood, ask, at_once, count=8):
-    """Of this many requests that are asked beside a flood, those that are answered, how many others are, and how long it took. At most so
-    many of the flood come in 10 ms, and at most four requests in a second: a slow machine makes it longer."""
+    """Of this many requests that are asked beside a flood, those that are answered, how many others are, and how long it took. A request
+    comes in each 250 ms, however slow the machine is, and so many of the flood in 10 ms at most."""
     found, number, watch = [], 0, Watch()
-    for step in range(25 * count):
-        ends = watch.seconds() + 0.01
-        for _ in range(at_once):
-            flood(number)
-            number += 1
-        if step % 25 == 24:
-            ask(step // 25)
-        found += wire.sent(max(ends - watch.seconds(), 0.001))
+    for asked in range(count):
+        ends = watch.seconds() + 0.25
+        while (step := watch.seconds()) < ends:
+            for _ in range(at_once):
+                flood(number)
+                number += 1
+            found += wire.sent(max(step + 0.01 - watch.seconds(), 0.001))
+        ask(asked)
     found += wire.sent(0.3)
     own = [one for one in found if one[34:42].hex() in (TOOL, OTHER)]
     return {one[30:32] for one in own}, len(found) - len(own), watch.seconds()
@@ -129,10 +129,11 @@ def strangers_beside_each_other():
 
 
 def addresses_without_end():
-    """An address of its own for each GET: a tool that asked before keeps its place, and the answers have an end."""
+    """An address of its own for each GET: a tool that asked before keeps its place, with the four answers a second that it asks for, and
+    the answers have an end."""
     wire = Wire("clk0", 10)
     (address,) = at_neighbours(wire, 20)
-    clock, ends = Clock("--rate", "640", ME, wire.name), at_neighbours(wire, *range(30, 230))
+    clock, ends = Clock("--rate", "256", ME, wire.name), at_neighbours(wire, *range(30, 230))
 
     def flood(number):
         wire.put(frame_four(message(number, target=ME), ends[number % len(ends)]))
@@ -140,7 +141,7 @@ def addresses_without_end():
     wire.sent(0.1)
     answered, others, seconds = answered_beside(wire, flood, lambda number: wire.come_in(message(number, TOOL, ME), address), 20)
     check(f"200 addresses leave one that came before its answers: {len(answered)} of 8, and {others} in {seconds:.1f} s",
-          len(answered) == 8 and others <= most_in(seconds, 640, ASKERS))
+          len(answered) == 8 and others <= most_in(seconds, 256, ASKERS))
     clock.end()
     wire.remove()
 
