@@ -19,10 +19,8 @@ def _path() -> str:
     if named:
         return named
     here = Path(__file__).resolve()
-    for path in (here.parent / _SONAME, *(folder / "hosts" / _SONAME for folder in here.parents[3:4])):
-        if path.exists():
-            return str(path)
-    return _SONAME
+    places = [here.parent / _SONAME, *(folder / "hosts" / _SONAME for folder in list(here.parents)[3:4])]
+    return next((str(path) for path in places if path.exists()), _SONAME)
 
 
 def _load() -> ctypes.CDLL:
