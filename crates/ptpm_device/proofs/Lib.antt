@@ -1,0 +1,3 @@
+pub mod New
+pub mod Steps
+pub mod Decisions
