@@ -1,3 +1,4 @@
 pub mod New
+pub mod Asked
 pub mod Steps
 pub mod Decisions

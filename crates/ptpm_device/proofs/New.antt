@@ -1,5 +1,6 @@
 -- A copy in time is a new request to the clock exactly if it joins its history.
-use Rattle.std.proofs.Common.{arith, ◌≡◌, ℕ, ◌<◌, ◌%◌, ◌||◌, Option, Some, None, Bool, true, false, length, refl, sym, ◌∙◌, ap, subst, ⊎_elim}
+use Rattle.std.proofs.lemmas.Slice.Eq.{bytes_eq-Decides}
+use Rattle.std.proofs.Common.{arith, bytes_eq, ◌≡◌, ℕ, ◌<◌, ◌%◌, ◌||◌, Option, Some, None, Bool, true, false, length, refl, sym, ◌∙◌, ap, subst, ⊎_elim}
 use Rattle.std.proofs.lemmas.Bool.{cases_Bool, or_cases, true≢false, false≢true, cond-true}
 use Rattle.std.specs.FinMap.{get}
 use Rattle.ptpm_codec.specs.declared.identity.PortIdentity.{PortIdentity}
@@ -35,7 +36,8 @@ unfolding serial_of
 serial_of-self n h = grind arith
 
 same_request-refl : (q : RequestValue) → same_request q q ≡ true
-same_request-refl q = grind arith
+same_request-refl q =
+    let octets : bytes_eq q.octets q.octets ≡ true = (bytes_eq-Decides q.octets q.octets).1 refl in grind arith
 
 look_at-kept : (e : Entry) (n : ℕ) (q : RequestValue)
     → n < 65536
@@ -128,9 +130,9 @@ is_new-true verdicts.AnsweredNew e = refl
 is_new-true _ e = absurd (false≢true e)
 
 by_joins : (a b : Bool) → (b ≡ true → a ≡ true) → (b ≡ false → a ≡ true → ⊥) → a ≡ b
-by_joins a true yes no = yes refl
-by_joins true false yes no = absurd (no refl refl)
-by_joins false false yes no = refl
+by_joins a true joined left = joined refl
+by_joins true false joined left = absurd (left refl refl)
+by_joins false false joined left = refl
 
 pub is_new-joins : (first : PortIdentity → ℕ) (c : Clock) (s : State) (h : History) (x : Delivery) (v : Message)
     → StandsAt first s h

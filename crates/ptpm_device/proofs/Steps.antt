@@ -83,7 +83,8 @@ IsKept-other : (first : PortIdentity → ℕ) (h : History) (k : RequestCopy) (e
     → same_identity m k.heard.source ≡ false
     → IsKept first h m o
     → IsKept first (refused_copy h k error) m o
-IsKept-other first h k error m None other kept = greatest_other m _ h.accepted other ∙ kept
+IsKept-other first h k error m None other kept =
+    greatest_other m (record { manager = k.heard.source; index = k.index; request = k.request; reply = reply_of k.request (Some error) h.sets }) h.accepted other ∙ kept
 IsKept-other first h k error m (Some e) other kept = grind arith
 
 StandsAt-refused : (first : PortIdentity → ℕ) (s : State) (h : History) (x : Delivery) (v : Message) (error : ErrorId)
@@ -209,9 +210,9 @@ not_asked-no_copy : (c : Clock) (s : State) (v : Message)
     → is_copy c (length s.sets.ports) v ≡ false
     → is_asked c s v ≡ false
 unfolding is_asked
-not_asked-no_copy c s v no =
+not_asked-no_copy c s v other =
     ⊎_elim
-    (λ (y : is_new (judged c s v) ≡ true). absurd (true≢false (sym (is_copy-new c s v (is_new-true (judged c s v) y)) ∙ no)))
+    (λ (y : is_new (judged c s v) ≡ true). absurd (true≢false (sym (is_copy-new c s v (is_new-true (judged c s v) y)) ∙ other)))
     (λ (n : is_new (judged c s v) ≡ false). and_left _ _ n)
     (cases_Bool (is_new (judged c s v)))
 

@@ -48,4 +48,4 @@ asked c s datagram = asked_by c s (message_of datagram)
 
 -- a change as code, against the definitions
 abbrev pub change_value : Inside → NumberedRequest
-change_value x = record { manager = x.manager; number = x.number; request = x.request.now }
+change_value x = record { manager = x.manager; number = x.number; request = x.request }

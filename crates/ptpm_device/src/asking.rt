@@ -35,6 +35,7 @@ impl<'a> Model for Change<'a> {
 
 /// What a datagram would have the clock's device do, if it came in now at a port of the clock. None if it is anything but a new
 /// SET or COMMAND of a manager, or if the clock itself refuses it. Changes nothing, and takes no memory.
+#[tactic(auto, unfolding(crate::specs::Asking::asked))]
 pub fn ask<'a, T: ReplyTable + Drop>(agent: &Agent<T>, datagram: &'a [u8]) -> Option<Change<'a>>
     ensures { result ≡ asked
         (clock_of T.owner agent.now) (state_of T.entries agent.now) datagram.now }
@@ -53,6 +54,7 @@ pub fn ask<'a, T: ReplyTable + Drop>(agent: &Agent<T>, datagram: &'a [u8]) -> Op
 }
 
 /// Whether the device is asked about a message.
+#[tactic(auto, unfolding(crate::specs::Asking::is_asked))]
 fn is_asked<T: ReplyTable + Drop>(agent: &Agent<T>, message: &View<'_>) -> bool
     requires valid { IsValid message.now }
     ensures { result ≡ is_asked
@@ -74,6 +76,7 @@ fn is_change(action: Action) -> bool
 }
 
 /// Whether a request is for exactly this clock at a port that it has, in its domain, and of another clock.
+#[tactic(auto, unfolding(crate::specs::Asking::is_here))]
 fn is_here<T: ReplyTable + Drop>(agent: &Agent<T>, message: &View<'_>) -> bool
     ensures { result ≡ is_here
         (clock_of T.owner agent.now) (state_of T.entries agent.now) message.now }
