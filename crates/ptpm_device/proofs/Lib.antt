@@ -2,3 +2,5 @@ pub mod New
 pub mod Asked
 pub mod Steps
 pub mod Decisions
+pub mod Judged
+pub mod Refused

@@ -1,6 +1,6 @@
 //! What a datagram would have a clock's device do.
 
-ghost use Rattle.std.specs.Prelude.{◌≡◌, is_none};
+ghost use Rattle.std.specs.Prelude.{◌≡◌, ◌<◌, ◌^◌, IfSome, is_none};
 ghost use Rattle.ptpm_codec.specs.Message.{IsDataField, IsRequestAction, IsValid};
 ghost use Rattle.ptpm_data.specs.Changes.{IsTargetPort};
 ghost use Rattle.ptpm_data.specs.Refusals.{refusal_of};
@@ -35,10 +35,11 @@ impl<'a> Model for Change<'a> {
 
 /// What a datagram would have the clock's device do, if it came in now at a port of the clock. None if it is anything but a new
 /// SET or COMMAND of a manager, or if the clock itself refuses it. Changes nothing, and takes no memory.
-#[tactic(auto, unfolding(crate::specs::Asking::asked))]
 pub fn ask<'a, T: ReplyTable + Drop>(agent: &Agent<T>, datagram: &'a [u8]) -> Option<Change<'a>>
-    ensures { result ≡ asked
+    ensures asked { result ≡ asked
         (clock_of T.owner agent.now) (state_of T.entries agent.now) datagram.now }
+    ensures number { IfSome result (λ change. change.number < 2 ^ 16) }
+    ensures octets { IfSome result (λ change. IsDataField change.request.octets) }
 {
     let Ok(message) = view(datagram) else {
         return None;
@@ -54,19 +55,24 @@ pub fn ask<'a, T: ReplyTable + Drop>(agent: &Agent<T>, datagram: &'a [u8]) -> Op
 }
 
 /// Whether the device is asked about a message.
-#[tactic(auto, unfolding(crate::specs::Asking::is_asked))]
 fn is_asked<T: ReplyTable + Drop>(agent: &Agent<T>, message: &View<'_>) -> bool
     requires valid { IsValid message.now }
     ensures { result ≡ is_asked
         (clock_of T.owner agent.now) (state_of T.entries agent.now) message.now }
 {
     let request = request_of(message);
-    if !is_change(request.action) || !is_here(agent, message) {
+    if !is_change(request.action) {
         return false;
     }
-    let (look, rights) =
-        agent.table().look_with_rights(&message.source(), message.number(), &request);
-    look == Look::New && is_permitted(agent.sets(), &request, rights)
+    if !is_here(agent, message) {
+        return false;
+    }
+    let source = message.source();
+    let (look, rights) = agent.table().look_with_rights(&source, message.number(), &request);
+    match look {
+        Look::New => is_permitted(agent.sets(), &request, rights),
+        _ => false,
+    }
 }
 
 fn is_change(action: Action) -> bool

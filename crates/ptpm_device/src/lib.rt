@@ -4,6 +4,7 @@
 
 mod asking;
 mod laws;
+mod refusing;
 mod saying;
 
 pub use asking::{Change, ask};

@@ -1,6 +1,6 @@
 //! One turn of a clock with what its device says.
 
-ghost use Rattle.std.specs.Prelude.{◌≡◌, [], Some, IsTrue, map};
+ghost use Rattle.std.specs.Prelude.{◌≡◌, ◌<◌, ◌^◌, [], Some, IsTrue};
 ghost use Rattle.std.specs.FinMap as fin;
 ghost use Rattle.ptpm_codec.specs.Message.{IsDataField, IsRequestAction};
 ghost use Rattle.ptpm_data.specs.Changes.{IsTargetPort};
@@ -14,7 +14,8 @@ ghost use Rattle.ptpm_device.specs.Saying.{after_objection, turn_said};
 use crate::asking::{Change, ask};
 use ptpm_agent::{Agent, Verdict};
 use ptpm_codec::ErrorId;
-use ptpm_data::{DataSets, Reply, Request, Rights, What, data_sets_law};
+use crate::refusing::Refusing;
+use ptpm_data::{DataSets, Reply, Request, data_sets_law};
 use ptpm_table::{Outgoing, SureTable};
 
 /// What becomes of a datagram that comes in at a port of the clock, with the error with which its device objects, if it does. An
@@ -55,6 +56,7 @@ fn refuse<T: SureTable + Drop>(agent: &mut Agent<T>, change: &Change<'_>, error:
         ≡ after_objection (state_of T.entries agent.old) change.now error }
     ensures clock { clock_of T.owner agent.new ≡ clock_of T.owner agent.old }
 {
+    data_sets_law(agent.sets());
     let reply = refusal(agent.sets(), &change.request, error);
     agent.keep_again(&change.manager, change.number, &change.request, &reply);
 }
@@ -66,11 +68,10 @@ fn refusal(sets: &DataSets, request: &Request<'_>, error: ErrorId) -> Reply
     requires octets { IsDataField request.now.octets }
     ensures { result ≡ reply_of request.now (Some error) sets.now }
 {
-    data_sets_law(sets);
-    let mut copy = sets.copy();
-    let mut reply = copy.decide(request, Rights::NONE);
-    for place in 0..reply.answers.len() {
-        reply.answers[place].what = What::Refused(error);
-    }
-    reply
+    let mut refusing = Refusing {
+        reply: Reply::to(request),
+        error,
+    };
+    sets.read_into(request, &mut refusing);
+    refusing.reply
 }
