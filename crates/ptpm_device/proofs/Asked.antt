@@ -1,6 +1,7 @@
 -- When a device is asked: what the code tests, against the verdict.
 use Rattle.std.proofs.Common.{arith, ◌≡◌, ℕ, ◌==◌, ◌&&◌, ◌||◌, not, is_none, if◌then◌else◌, List, Option, Some, None, Result, Ok, Err, Bool, true, false, length, refl, sym, ◌∙◌, ap, ⊎_elim}
 use Rattle.std.proofs.lemmas.Bool.{and_from, and_left, and_parts, and_right, cases_Bool, or_cases, or_left, not-true, true≢false, false≢true, cond-true}
+use Rattle.std.proofs.lemmas.Option.{cond_some, none-some}
 use Rattle.std.specs.FinMap.{get}
 use Rattle.ptpm_codec.specs.declared.message.Action.{Action}
 use Rattle.ptpm_codec.specs.declared.message.Action.TheVariants as actions
@@ -63,6 +64,10 @@ abbrev pub is_new_look : Look → Bool
 is_new_look looks.New = true
 is_new_look _ = false
 
+pub is_new_look-other : (l : Look) → (l ≡ looks.New → ⊥) → is_new_look l ≡ false
+is_new_look-other looks.New other = absurd (other refl)
+is_new_look-other _ other = refl
+
 permitted_at : (l : Look) (change permitted : Bool)
     → change ≡ true
     → (is_new (verdict_at l) && (change && permitted)) ≡ (is_new_look l && permitted)
@@ -117,20 +122,14 @@ pub record AskedParts (c : Clock) (s : State) (datagram : List ℕ) (r : Numbere
   pub asked : is_asked c s message ≡ true
   pub same : r ≡ numbered_from message
 
-asked_at : (c : Clock) (s : State) (datagram : List ℕ) (v : Message) (r : NumberedRequest) (b : Bool)
-    → message_of datagram ≡ Some v
-    → is_asked c s v ≡ b
-    → (if b then Some (numbered_from v) else None) ≡ Some r
-    → AskedParts c s datagram r
-asked_at c s datagram v r true read y e = record { message = v; read = read; asked = y; same = cc }
-asked_at c s datagram v r false read y e = absurd (cc)
-
 asked_from : (c : Clock) (s : State) (datagram : List ℕ) (r : NumberedRequest) (o : Option Message)
     → message_of datagram ≡ o
     → asked_by c s o ≡ Some r
     → AskedParts c s datagram r
-asked_from c s datagram r None read e = absurd (cc)
-asked_from c s datagram r (Some v) read e = asked_at c s datagram v r (is_asked c s v) read refl e
+asked_from c s datagram r None read e = absurd (none-some r e)
+asked_from c s datagram r (Some v) read e =
+    let p = cond_some (is_asked c s v) (numbered_from v) r e in
+    record { message = v; read = read; asked = p.0; same = sym p.1 }
 
 pub asked_parts : (c : Clock) (s : State) (datagram : List ℕ) (r : NumberedRequest)
     → asked c s datagram ≡ Some r

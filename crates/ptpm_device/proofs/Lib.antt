@@ -4,3 +4,4 @@ pub mod Steps
 pub mod Decisions
 pub mod Judged
 pub mod Refused
+pub mod Objected

@@ -39,7 +39,7 @@ same_request-refl : (q : RequestValue) → same_request q q ≡ true
 same_request-refl q =
     let octets : bytes_eq q.octets q.octets ≡ true = (bytes_eq-Decides q.octets q.octets).1 refl in grind arith
 
-look_at-kept : (e : Entry) (n : ℕ) (q : RequestValue)
+pub look_at-kept : (e : Entry) (n : ℕ) (q : RequestValue)
     → n < 65536
     → e.number ≡ n
     → e.request ≡ q

@@ -1,10 +1,14 @@
--- A reply whose every answer is one refusal.
-use Rattle.std.specs.Prelude.{◌≡◌, ◌+◌, List, [], ◌++◌, length, map}
+-- Answers that are refusals, and a reply whose every answer is one.
+use Rattle.std.specs.Prelude.{◌≡◌, ◌+◌, Bool, true, false, List, [], ◌++◌, length, map}
 use Rattle.std.proofs.Common.{◌∙◌, ap, refl, sym}
 use Rattle.std.proofs.lemmas.List.{length-map, map-append}
 use Rattle.ptpm_codec.specs.declared.error.ErrorId.{ErrorId}
 use Rattle.ptpm_data.specs.AnswerLaws.{answered_count, answered_more, answered_none, answered_twice}
-use Rattle.ptpm_data.specs.Reply.{Answer, Refused, ReplyValue}
+use Rattle.ptpm_data.specs.Reply.{Answer, Outcome, Refused, ReplyValue}
+
+abbrev pub is_refused : Outcome → Bool
+is_refused (Refused error) = true
+is_refused _ = false
 
 -- the answer of the same port, or of the clock, with this error
 abbrev pub refused_answer : ErrorId → Answer → Answer
@@ -35,4 +39,4 @@ pub refused_count : (e f : ErrorId) (a b : ReplyValue) (xs : List Answer)
     → length b.answers ≡ length a.answers + length xs
 refused_count e f a b xs taken =
     answered_count a b (map (refused_answer e) xs) taken.reply_is
-    ∙ ap (λ n. length a.answers + n) (length-map (refused_answer e) xs)
+    ∙ ap (λ n. length a.answers + n) (length-map xs (refused_answer e))

@@ -4,9 +4,11 @@ ghost use Rattle.std.specs.Prelude.{◌≡◌, ◌<◌, ◌^◌, IfSome, is_none
 ghost use Rattle.ptpm_codec.specs.Message.{IsDataField, IsRequestAction, IsValid};
 ghost use Rattle.ptpm_data.specs.Changes.{IsTargetPort};
 ghost use Rattle.ptpm_data.specs.Refusals.{refusal_of};
+ghost use Rattle.ptpm_data.specs.Reply.{outcome_of};
 ghost use Rattle.ptpm_agent.specs.Addressing.{request_of};
 ghost use Rattle.ptpm_agent.specs.Agent.{clock_of, state_of};
 ghost use Rattle.ptpm_device.specs.Asking.{asked, is_asked, is_change, is_here};
+ghost use Rattle.ptpm_device.specs.Refusing.{is_refused};
 
 use ptpm_agent::Agent;
 use ptpm_codec::{Action, PortIdentity, View, view};
@@ -41,8 +43,9 @@ pub fn ask<'a, T: ReplyTable + Drop>(agent: &Agent<T>, datagram: &'a [u8]) -> Op
     ensures number { IfSome result (λ change. change.number < 2 ^ 16) }
     ensures octets { IfSome result (λ change. IsDataField change.request.octets) }
 {
-    let Ok(message) = view(datagram) else {
-        return None;
+    let message = match view(datagram) {
+        Ok(message) => message,
+        Err(_) => return None,
     };
     if !is_asked(agent, &message) {
         return None;
@@ -107,9 +110,15 @@ fn is_permitted(sets: &DataSets, request: &Request<'_>, rights: Rights) -> bool
     let mut copy = sets.copy();
     let reply = copy.decide(request, rights);
     match reply.answers.first() {
-        Some(answer) => !matches!(answer.what, What::Refused(_)),
+        Some(answer) => !is_refused(&answer.what),
         None => false,
     }
+}
+
+fn is_refused(what: &What) -> bool
+    ensures { result ≡ is_refused (outcome_of what.now) }
+{
+    matches!(what, What::Refused(_))
 }
 
 /// What a request asks.

@@ -36,14 +36,36 @@ pub fn handle_said<T: SureTable + Drop, O: Outgoing>(
     ensures grown { O.grown out.old out.new }
     ensures clock { clock_of T.owner agent.new ≡ clock_of T.owner agent.old }
 {
-    if let Some(error) = say {
-        if let Some(change) = ask(agent, datagram) {
+    match say {
+        Some(error) => handle_objected(agent, ingress, datagram, error, out),
+        None => agent.handle_into(ingress, datagram, out),
+    }
+}
+
+/// The same of a datagram to which the device objects. What is kept by the refusal is sent as to a repeat.
+fn handle_objected<T: SureTable + Drop, O: Outgoing>(
+    agent: &mut Agent<T>,
+    ingress: u16,
+    datagram: &[u8],
+    error: ErrorId,
+    out: &mut O,
+) -> Verdict
+    requires port { HasPort ingress agent.old.sets }
+    requires empty { O.sent out.old ≡ [] }
+    ensures turned { IsTurned (turn_said
+        (clock_of T.owner agent.old) (state_of T.entries agent.old) (Some error) ingress datagram.now)
+        result (O.sent out.new) (state_of T.entries agent.new) }
+    ensures grown { O.grown out.old out.new }
+    ensures clock { clock_of T.owner agent.new ≡ clock_of T.owner agent.old }
+{
+    match ask(agent, datagram) {
+        Some(change) => {
             refuse(agent, &change, error);
             agent.handle_into(ingress, datagram, out);
-            return Verdict::AnsweredNew;
+            Verdict::AnsweredNew
         }
+        None => agent.handle_into(ingress, datagram, out),
     }
-    agent.handle_into(ingress, datagram, out)
 }
 
 /// Keeps a request with the device's error as its reply. From then on a copy of it is a repeat, and is sent that reply.
