@@ -4,8 +4,9 @@
    as ptpm.h says.
 
    Only one thread at a time may be in a call that allocates or frees memory, even if the handles differ. The library has no lock.
-   These calls are the starts, the restores, the stops, ptpm_session_begin, ptpm_session_receive, ptpm_survey_receive and the
-   three below. All others allocate none, and may run in parallel with handles of their own, including ptpm_clock_handle. */
+   These calls are the starts, the restores, the stops, ptpm_clock_saving, ptpm_session_begin and _begin_at, ptpm_session_receive,
+   ptpm_survey_receive and the three below. All others allocate none, and may run in parallel with handles of their own, including
+   ptpm_clock_handle. */
 #ifndef PTPM_MEMORY_H
 #define PTPM_MEMORY_H
 

@@ -28,12 +28,13 @@ from .passing import PassedOn, Rate
 from .report import Report
 from .requests import Requests, SessionSettings
 from .saving_clock import SavingClock, Turn
+from .saving_session import SavingSession
 from .session import Session
 from .session_file import DamagedFileError, SessionFile, SessionFileError, usual_path
 from .settings import ClockSettings, DelayMechanism, Manager, PortSettings, PortState, Rights, time_interval
 from .site import SiteError, site
 from .site_tree import Domain, Finding, Site, SiteClock, read_site
-from .survey import Survey, SurveySettings, survey
+from .survey import SURVEY_PORT, Survey, SurveySettings, survey
 from .transport import Transport, UdpTransport, UnixTransport
 
 __all__ = [
@@ -42,7 +43,8 @@ __all__ = [
     "Error", "error_name", "Finding", "get", "HandleAnswer", "Handled", "id_name", "id_of", "Identity", "ManagementId",
     "Manager", "members", "NoAnswer", "ObservedClock", "ObservedGrandmaster", "ObservedPort", "ParentDataSet",
     "PassedOn", "PortDataSet", "PortIdentity", "PortMembers", "PortSettings", "PortState", "Rate", "read_site",
-    "Report", "Requests", "Rights", "SavingClock", "Session", "SessionAnswer", "SessionFile", "SessionFileError", "SessionSettings",
-    "Site", "site", "SiteClock", "SiteError", "Survey", "survey", "SurveyAnswer", "SurveySettings", "time_interval",
+    "Report", "Requests", "Rights", "SavingClock", "SavingSession", "Session", "SessionAnswer", "SessionFile", "SessionFileError",
+    "SessionSettings",
+    "Site", "site", "SiteClock", "SiteError", "Survey", "survey", "SURVEY_PORT", "SurveyAnswer", "SurveySettings", "time_interval",
     "TimePropertiesDataSet", "Transport", "Turn", "UdpTransport", "UnixTransport", "usual_path",
 ]

@@ -18,6 +18,7 @@ from .report import MOST_DATA, Report, told
 from .settings import write_number, write_octets
 from .transport import Transport
 
+SURVEY_PORT: int = header.PTPM_SURVEY_PORT
 # Rounds without a new answer that end a survey: if somebody answered, and if nobody did.
 _QUIET = 2
 _QUIET_AT_FIRST = 5
@@ -26,7 +27,7 @@ _QUIET_AT_FIRST = 5
 @dataclass(frozen=True)
 class SurveySettings:
     """One manager, and the GET that it sends to every port of every clock, or of one. Each survey gets a number that is not on its
-    way any more."""
+    way any more. With port 0 the manager asks from SURVEY_PORT, which no session has."""
 
     manager: PortIdentityLike
     number: int
@@ -48,8 +49,8 @@ class SurveySettings:
 class Survey(Handle):
     """What a survey asks, and its answers: the first of each port, of 512 ports at most.
 
-    A session of the same portIdentity may treat an answer as its own. So the manager here has no session: for example, it is
-    another port number of the same clockIdentity.
+    A session of the same portIdentity may treat an answer as its own. So the manager here has no session: it is another port number
+    of the same clockIdentity, and with port 0 it is SURVEY_PORT.
 
     With a target every port of that clock is asked, and no other clock answers. A clock treats such a GET from one of its
     managers as a numbered request, like one of a session. So the manager must not be one of them then either. """

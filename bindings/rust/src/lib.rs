@@ -60,6 +60,7 @@ mod outbox;
 mod passing;
 mod report;
 mod saving_clock;
+mod saving_session;
 mod session;
 mod settings;
 mod survey;
@@ -77,9 +78,10 @@ pub use outbox::{Messages, Outbox};
 pub use passing::{PassedOn, Rate};
 pub use report::{Answer, Report, MOST_DATA, MOST_OCTETS};
 pub use saving_clock::{SavingClock, SavingTurn, Unsaved};
+pub use saving_session::{SavingSession, UnsavedSession};
 pub use session::{Action, Session, SessionSettings, SESSION_IMAGE_OCTETS};
 pub use settings::{ClockSettings, DelayMechanism, Manager, PortSettings, PortState, Rights, TimeInterval};
-pub use survey::{Answers, Survey, SurveySettings};
+pub use survey::{Answers, Survey, SurveySettings, SURVEY_PORT};
 
 /// The version of the library that is linked, as a number: 10,000 times its first part, 100 times the second, and the third.
 pub fn version() -> u32 {

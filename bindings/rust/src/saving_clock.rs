@@ -163,9 +163,7 @@ impl Unsaved<'_> {
         let mut count = MaybeUninit::uninit();
         let (sent, room) = outbox.room();
         // SAFETY: the places and the count may be written; the places are borrowed mutably, so they lie apart from the rest.
-        done(unsafe {
-            sys::ptpm_clock_saved(self.clock.clock.handle_mut(), self.token, sent, room, count.as_mut_ptr())
-        })?;
+        done(unsafe { sys::ptpm_clock_saved(self.clock.clock.handle_mut(), self.token, sent, room, count.as_mut_ptr()) })?;
         // SAFETY: the call has written the count, and as many places.
         Ok(unsafe { outbox.messages(count.assume_init()) })
     }

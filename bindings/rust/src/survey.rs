@@ -9,9 +9,12 @@ use crate::sys;
 use core::fmt;
 use core::ptr::null_mut;
 
+/// The portNumber of a survey whose manager has port 0. No session has it.
+pub const SURVEY_PORT: u16 = sys::PTPM_SURVEY_PORT;
+
 /// One manager, and the GET that it sends to every port of every clock, or of one. Each survey gets a number that is not on its way
-/// any more. A session of the same manager may treat an answer as its own. So the manager here has no session: for example, it is
-/// another port number of the same clockIdentity.
+/// any more. A session of the same manager may treat an answer as its own. So the manager here has no session: it is another port number
+/// of the same clockIdentity. With port 0 it is [`SURVEY_PORT`].
 #[derive(Clone, Copy, Debug, PartialEq, Eq)]
 pub struct SurveySettings {
     /// The manager; its clock is not all ones.

@@ -4,8 +4,8 @@
 use ptpm::{
     Action, Clock, ClockMembers, ClockSettings, DelayMechanism, Error, Handled, Identity, ManagementErrorId, ManagementId,
     Manager, ObservedClock, ObservedGrandmaster, ObservedPort, Outbox, PortIdentity, PortMembers, PortSettings, PortState,
-    Received, Report, Rights, Session, SessionSettings, Survey, SurveySettings, Surveyed, TimeInterval, MOST_DATA, MOST_OCTETS,
-    MOST_READ,
+    Received, Report, Rights, SavingSession, Session, SessionSettings, Survey, SurveySettings, Surveyed, TimeInterval, MOST_DATA,
+    MOST_OCTETS, MOST_READ, SESSION_IMAGE_OCTETS,
 };
 
 const CLOCK: &str = "aabbccfffeddee01";
@@ -235,6 +235,21 @@ fn a_session_is_answered() {
     assert_eq!(exchanged(&mut session, &mut clock), Ok(Received::Answered));
     assert_eq!(session.report(&mut room), Ok(Report::Done));
     assert_eq!(session.receive(b"\x0d\x12"), Ok(Received::TooShort));
+}
+
+#[test]
+fn a_saving_session_sends_nothing_unsaved() {
+    let settings = SessionSettings::new(port_identity("0011223344556677/1"), identity(CLOCK), 7);
+    let mut session = SavingSession::new(Session::start(&settings).expect("it starts")).expect("it saves");
+    let (mut room, mut image) = ([0; MOST_OCTETS], [0; SESSION_IMAGE_OCTETS]);
+    drop(session.begin(Action::Get, ManagementId::PRIORITY1, 0, &[], &mut image).expect("it begins"));
+    assert_eq!(session.send(&mut room), Err(Error::Unsaved));
+    let unsaved = session.unsaved(&mut image).expect("it has an image");
+    assert_eq!(unsaved.image().len(), 60);
+    assert_eq!(unsaved.saved(), Ok(()));
+    assert_eq!(session.send(&mut room).map(<[u8]>::len), Ok(54));
+    assert_eq!(session.give_up(), Ok(()));
+    assert_eq!(session.send(&mut room), Err(Error::Unsaved));
 }
 
 #[test]
