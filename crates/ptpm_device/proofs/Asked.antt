@@ -35,9 +35,9 @@ here-new c s v new =
     let p = new_parts c s v new in
     let l = look_at (get s.entries v.source) v.number (request_of v) in
     let domain : is_new (judged c s v) ≡ true → v.domain == s.sets.default.domain ≡ true =
-        judged-copy (λ (w : Verdict). is_new w ≡ true → v.domain == s.sets.default.domain ≡ true) c s v l p refl
-        (λ numbered e. ⊎_elim (λ d. d) (λ r. absurd (false≢true (sym (repeat_not_new l r) ∙ e))) (or_cases _ _ numbered))
-        (λ d r e. absurd (false≢true e)) in
+    judged-copy (λ (w : Verdict). is_new w ≡ true → v.domain == s.sets.default.domain ≡ true) c s v l p refl
+    (λ numbered e. ⊎_elim (λ d. d) (λ r. absurd (false≢true (sym (repeat_not_new l r) ∙ e))) (or_cases _ _ numbered))
+    (λ d r e. absurd (false≢true e)) in
     grind arith
 
 pub away-not_asked : (c : Clock) (s : State) (v : Message)

@@ -85,3 +85,12 @@ turn_said-forwards c s say ingress datagram =
     ap (λ (t : Turned). t.forwards) (turn_said-asked c s error ingress datagram v read y)
     ∙ (sym (forwarded-copy c ingress s.sets datagram v read (new_parts c s v (judged-asked c s v y)).target)
     ∙ sym (ap (λ (t : Turned). t.forwards) (turn-message c s ingress datagram v read))))
+
+-- a turn that is not that of a new request is the clock's own
+pub turn_said-other : (c : Clock) (s : State) (say : Option ErrorId) (ingress : ℕ) (datagram : List ℕ)
+    → ((turn_said c s say ingress datagram).verdict ≡ verdicts.AnsweredNew → ⊥)
+    → turn_said c s say ingress datagram ≡ turn c s ingress datagram
+turn_said-other c s say ingress datagram =
+    turn_said-each (λ (t : Turned). (t.verdict ≡ verdicts.AnsweredNew → ⊥) → t ≡ turn c s ingress datagram) c s say ingress datagram
+    (message_of datagram) refl (λ other. refl)
+    (λ v error read y other. absurd (other (ap (λ (t : Turned). t.verdict) (turn_said-asked c s error ingress datagram v read y))))

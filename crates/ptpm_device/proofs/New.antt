@@ -56,9 +56,9 @@ is_new-kept : (c : Clock) (s : State) (v : Message) (e : Entry)
     → ⊥
 is_new-kept c s v e g number request small new =
     let look : look_at (get s.entries v.source) v.number (request_of v) ≡ looks.Repeat =
-        ap (λ (o : Option Entry). look_at o v.number (request_of v)) g ∙ look_at-kept e v.number (request_of v) small number request in
+    ap (λ (o : Option Entry). look_at o v.number (request_of v)) g ∙ look_at-kept e v.number (request_of v) small number request in
     let old : is_new (judged c s v) ≡ false = judged-copy (λ (w : Verdict). is_new w ≡ false) c s v looks.Repeat (new_parts c s v new) look
-        (λ d. refl) (λ d r. refl) in
+    (λ d. refl) (λ d r. refl) in
     false≢true (sym old ∙ ap is_new new)
 
 -- ---- a copy in time
@@ -98,8 +98,8 @@ number-joined first c h k (Some e) j time before after =
     let one : e.number ≡ number_of (first k.heard.source) (greatest k.heard.source h.accepted) = before.number in
     let two : e.number ≡ number_of (first k.heard.source) k.index = after.number ∙ ap (number_of (first k.heard.source)) there in
     let newer : serial_of e.number e.number ≡ Newer =
-        (λ i. serial_of (one i) (two i)) ∙ (serial_of-number_of (first k.heard.source) (greatest k.heard.source h.accepted) k.index before.some time.numbered.positive (time.window before.some)
-        ∙ order_of-newer _ _ above) in
+    (λ i. serial_of (one i) (two i)) ∙ (serial_of-number_of (first k.heard.source) (greatest k.heard.source h.accepted) k.index before.some time.numbered.positive (time.window before.some)
+    ∙ order_of-newer _ _ above) in
     let small : e.number < 65536 = grind arith in
     same≢newer (sym (serial_of-self e.number small) ∙ newer)
 

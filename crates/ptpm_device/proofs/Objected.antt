@@ -64,8 +64,8 @@ repeat_kept : (c : Clock) (s : State) (v : Message) (error : ErrorId)
 repeat_kept c s v error parts small =
     let kept = after_objection s (numbered_from v) error in
     let look : look_at (get kept.entries v.source) v.number (request_of v) ≡ looks.Repeat =
-        ap (λ (o : Option Entry). look_at o v.number (request_of v)) (get-insert_same s.entries v.source (error_entry s v error))
-        ∙ look_at-kept (error_entry s v error) v.number (request_of v) small refl refl in
+    ap (λ (o : Option Entry). look_at o v.number (request_of v)) (get-insert_same s.entries v.source (error_entry s v error))
+    ∙ look_at-kept (error_entry s v error) v.number (request_of v) small refl refl in
     judged-copy (λ (w : Verdict). w ≡ verdicts.AnsweredRepeat) c kept v looks.Repeat parts look
     (λ d. refl) (λ d r. absurd (true≢false r))
 
@@ -90,7 +90,7 @@ turn-kept c s ingress datagram v error none repeat =
       replies = reply_messages c ingress (heard_of v) (kept_reply_of (get kept.entries v.source));
       next = kept;
     } =
-        λ i. record {
+    λ i. record {
       verdict = repeat i;
       forwards = none i;
       replies = reply_messages c ingress (heard_of v) (reply_by (repeat i) c kept v);
@@ -127,7 +127,7 @@ pub turned_objected : (c : Clock) (s : State) (error : ErrorId) (ingress : ℕ) 
 turned_objected c s error ingress datagram r after kept w out next e small clock is turned =
     let p : AskedParts c s datagram r = asked_parts c s datagram r e in
     let own : turn after kept ingress datagram ≡ again c s ingress p.message error =
-        (λ i. turn (clock i) (is i) ingress datagram) ∙ own_turn c s ingress datagram r error p small in
+    (λ i. turn (clock i) (is i) ingress datagram) ∙ own_turn c s ingress datagram r error p small in
     let t : IsTurned (again c s ingress p.message error) w out next = subst (λ (u : Turned). IsTurned u w out next) own turned in
     subst (λ (u : Turned). IsTurned u verdicts.AnsweredNew out next) (sym (turn_said-asked c s error ingress datagram p.message p.read p.asked))
     (record {

@@ -48,7 +48,7 @@ unfolding reply_to
 permitted_first q rights d answers a first e =
     let values : List Answer = (reply_to q rights d).answers in
     let get : slice_get values 0 ≡ Some (answer_of a) =
-        sym (ap (λ (xs : List Answer). slice_get xs 0) e) ∙ (slice_get-map answer_of answers 0 ∙ ap (option_map answer_of) first) in
+    sym (ap (λ (xs : List Answer). slice_get xs 0) e) ∙ (slice_get-map answer_of answers 0 ∙ ap (option_map answer_of) first) in
     subst (λ (x : Answer). not (is_refused x.outcome) ≡ is_none (refusal_of q rights)) (get_or_from_slice_get values 0 (answer_of a) (answer_of a) get)
     (All-get_or (λ x. not (is_refused x.outcome) ≡ is_none (refusal_of q rights)) values 0 (answer_of a)
     (slice_get_within values 0 (answer_of a) get) (reply_of-refused q (refusal_of q rights) (changed_by q rights d)))

@@ -166,7 +166,7 @@ is_asked-decided : (first : PortIdentity → ℕ) (c : Clock) (s : State) (h : H
 unfolding is_asked
 is_asked-decided first c s h x v at time read turns =
     let t : (turn c s x.ingress x.datagram).next ≡ next_by (judged c s v) c s v =
-        ap (λ (u : Turned). u.next) (turn-message c s x.ingress x.datagram v read) in
+    ap (λ (u : Turned). u.next) (turn-message c s x.ingress x.datagram v read) in
     ap (λ (b : Bool). b && is_permitted c v.source (request_of v))
     (is_new-joins first c s h x v at time
     (subst (λ (u : State). StandsAt first u (after_copy c h (copy_from x v))) t turns.stands)

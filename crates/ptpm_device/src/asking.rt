@@ -71,7 +71,9 @@ fn is_asked<T: ReplyTable + Drop>(agent: &Agent<T>, message: &View<'_>) -> bool
         return false;
     }
     let source = message.source();
-    let (look, rights) = agent.table().look_with_rights(&source, message.number(), &request);
+    let (look, rights) = agent
+        .table()
+        .look_with_rights(&source, message.number(), &request);
     match look {
         Look::New => is_permitted(agent.sets(), &request, rights),
         _ => false,

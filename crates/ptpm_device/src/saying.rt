@@ -12,9 +12,9 @@ ghost use Rattle.ptpm_device.specs.Asking.{asked};
 ghost use Rattle.ptpm_device.specs.Saying.{after_objection, turn_said};
 
 use crate::asking::{Change, ask};
+use crate::refusing::Refusing;
 use ptpm_agent::{Agent, Verdict};
 use ptpm_codec::ErrorId;
-use crate::refusing::Refusing;
 use ptpm_data::{DataSets, Reply, Request, data_sets_law};
 use ptpm_table::{Outgoing, SureTable};
 

@@ -27,5 +27,5 @@ returns-clause-asked g c =
     let v = c.in-Ok.message in
     let yes : is_asked clock state v ≡ true = cc in
     let e : asked clock state c.args.datagram.now ≡ Some (numbered_from v) =
-        asked-read clock state c.args.datagram.now v (sym c.view.ensures.exact ∙ c.in-Ok.is) ∙ cond-true _ _ _ yes in
+    asked-read clock state c.args.datagram.now v (sym c.view.ensures.exact ∙ c.in-Ok.is) ∙ cond-true _ _ _ yes in
     grind arith

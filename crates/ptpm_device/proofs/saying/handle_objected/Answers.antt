@@ -8,7 +8,7 @@ use Rattle.ptpm_device.proofs.saying.handle_objected.Goals as goal
 pub refuse-requires-clause-known : goal.refuse-requires-clause-known
 refuse-requires-clause-known g c =
     let p = change_parts (clock_of g.T.ReplyTable.owner c.args.agent.now) (state_of g.T.ReplyTable.entries c.args.agent.now)
-        c.args.datagram.now c.in-Some.change (sym c.in-Some.ensures.asked) in
+    c.args.datagram.now c.in-Some.change (sym c.in-Some.ensures.asked) in
     grind arith
 
 pub refuse-requires-clause-action : goal.refuse-requires-clause-action
@@ -30,5 +30,5 @@ returns-in-Some-clause-turned g c =
 pub returns-in-None-clause-turned : goal.returns-in-None-clause-turned
 returns-in-None-clause-turned g c =
     let e = turn_said-none (clock_of g.T.ReplyTable.owner c.args.agent.now) (state_of g.T.ReplyTable.entries c.args.agent.now)
-        (Some c.args.error) c.args.ingress c.args.datagram.now (sym c.in-None.ensures.asked) in
+    (Some c.args.error) c.args.ingress c.args.datagram.now (sym c.in-None.ensures.asked) in
     rw e (search rules)
