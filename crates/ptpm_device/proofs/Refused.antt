@@ -1,0 +1,137 @@
+-- The reply to a refused request, answer by answer.
+use Rattle.std.proofs.Common.{arith, ◌≡◌, ℕ, ◌<◌, ◌≤◌, is_none, not, map, List, [], ◌∷◌, Option, Some, None, Bool, true, false, length, refl, sym, ◌∙◌, ap, subst}
+use Rattle.std.proofs.lemmas.List.Elements.{All-cons, All-get_or, All-map, All-nil}
+use Rattle.std.proofs.lemmas.Option.{get_or_from_slice_get, none-some, slice_get-map, slice_get_within}
+use Rattle.std.specs.List.{All, slice_get}
+use Rattle.std.specs.Option.{option_map}
+use Rattle.ptpm_codec.specs.declared.error.ErrorId.{ErrorId}
+use Rattle.ptpm_codec.specs.declared.message.Action.{Action}
+use Rattle.ptpm_codec.specs.declared.message.Action.TheVariants as actions
+use Rattle.ptpm_codec.specs.Message.{reply_action}
+use Rattle.ptpm_data.specs.declared.reply.PortAnswer.{PortAnswer}
+use Rattle.ptpm_data.specs.declared.rights.Rights.{Rights}
+use Rattle.ptpm_data.specs.AnswerLaws.{answered_more}
+use Rattle.ptpm_data.specs.Changes.{IsTargetPort, changed_by}
+use Rattle.ptpm_data.specs.ManagementId.{is_of_port}
+use Rattle.ptpm_data.specs.Members.{DataSetsValue}
+use Rattle.ptpm_data.specs.Refusals.{refusal_of}
+use Rattle.ptpm_data.specs.Replies.{answer, answerers, named_ports, outcome, read_refusal, read_reply_to, reply_of, reply_to}
+use Rattle.ptpm_data.specs.Reply.{Answer, ReplyValue, answer_of, outcome_of}
+use Rattle.ptpm_data.specs.Request.{RequestValue}
+use Rattle.ptpm_data.specs.RequestLaws.{IsSized}
+use Rattle.ptpm_data.proofs.Keeping.{changed_by-ports, changed_by-sized}
+use Rattle.ptpm_data.proofs.ReplyLemmas.{answers_of, reply_of-all, reply_of-count}
+use Rattle.ptpm_table.specs.Entries.{FitsAnswer, FitsCount, FitsRequest}
+use Rattle.ptpm_device.specs.Refusing.{is_refused, refused_answer}
+
+-- ---- each answer of a refusal is one
+
+outcome-refused : (refusal : Option ErrorId) (action : Action) (octets : List ℕ)
+    → not (is_refused (outcome refusal action octets)) ≡ is_none refusal
+outcome-refused (Some error) action octets = refl
+outcome-refused None actions.Command octets = refl
+outcome-refused None _ octets = refl
+
+pub reply_of-refused : (q : RequestValue) (refusal : Option ErrorId) (d : DataSetsValue)
+    → All (λ a. not (is_refused a.outcome) ≡ is_none refusal) (reply_of q refusal d).answers
+unfolding answer
+reply_of-refused q refusal d =
+    reply_of-all (λ a. not (is_refused a.outcome) ≡ is_none refusal) q refusal d
+    (λ port. outcome-refused refusal q.action _)
+
+-- the first answer tells whether the request is refused
+pub permitted_first : (q : RequestValue) (rights : Rights) (d : DataSetsValue) (answers : List PortAnswer) (a : PortAnswer)
+    → slice_get answers 0 ≡ Some a
+    → map answer_of answers ≡ (reply_to q rights d).answers
+    → not (is_refused (outcome_of a.what)) ≡ is_none (refusal_of q rights)
+unfolding reply_to
+permitted_first q rights d answers a first e =
+    let values : List Answer = (reply_to q rights d).answers in
+    let get : slice_get values 0 ≡ Some (answer_of a) =
+    sym (ap (λ (xs : List Answer). slice_get xs 0) e) ∙ (slice_get-map answer_of answers 0 ∙ ap (option_map answer_of) first) in
+    subst (λ (x : Answer). not (is_refused x.outcome) ≡ is_none (refusal_of q rights)) (get_or_from_slice_get values 0 (answer_of a) (answer_of a) get)
+    (All-get_or (λ x. not (is_refused x.outcome) ≡ is_none (refusal_of q rights)) values 0 (answer_of a)
+    (slice_get_within values 0 (answer_of a) get) (reply_of-refused q (refusal_of q rights) (changed_by q rights d)))
+
+reply_to-some : (q : RequestValue) (rights : Rights) (d : DataSetsValue)
+    → IsTargetPort q.port d
+    → IsSized d
+    → 1 ≤ length (reply_to q rights d).answers
+unfolding reply_to
+reply_to-some q rights d port sized =
+    (reply_of-count q (refusal_of q rights) (changed_by q rights d) (grind (arith, changed_by-ports)) (changed_by-sized q rights d sized)).0
+
+-- and there is one
+pub some_first : (q : RequestValue) (rights : Rights) (d : DataSetsValue) (answers : List PortAnswer)
+    → IsTargetPort q.port d
+    → IsSized d
+    → slice_get answers 0 ≡ None
+    → map answer_of answers ≡ (reply_to q rights d).answers
+    → ⊥
+some_first q rights d [] port sized none e =
+    let some : 1 ≤ length (reply_to q rights d).answers = reply_to-some q rights d port sized in
+    let empty : 0 ≡ length (reply_to q rights d).answers = ap length e in
+    omega arith
+some_first q rights d (a ∷ answers) port sized none e = none-some a (sym none)
+
+-- ---- its answers, made of those of another reply
+
+refused_each : (q : RequestValue) (refusal : Option ErrorId) (error : ErrorId) (d : DataSetsValue) (ports : List (Option ℕ))
+    → map (refused_answer error) (map (answer q refusal d) ports) ≡ map (answer q (Some error) d) ports
+unfolding answer
+refused_each q refusal error d [] = refl
+refused_each q refusal error d (port ∷ ports) =
+    ap (λ (rest : List Answer). answer q (Some error) d port ∷ rest) (refused_each q refusal error d ports)
+
+pub refused_answers : (q : RequestValue) (error : ErrorId) (d : DataSetsValue)
+    → map (refused_answer error) (read_reply_to q d).answers ≡ (reply_of q (Some error) d).answers
+unfolding read_reply_to reply_of
+refused_answers q error d = refused_each q (read_refusal q) error d (answerers q d)
+
+-- as code makes it
+pub refused_reply : (q : RequestValue) (error : ErrorId) (d : DataSetsValue) (empty after : ReplyValue)
+    → empty ≡ record { action = reply_action q.action; id = q.id; answers = [] }
+    → after ≡ answered_more empty (map (refused_answer error) (read_reply_to q d).answers)
+    → after ≡ reply_of q (Some error) d
+unfolding reply_of
+refused_reply q error d empty after e taken =
+    taken ∙ (ap (λ (r : ReplyValue). answered_more r (map (refused_answer error) (read_reply_to q d).answers)) e
+    ∙ ap (λ (xs : List Answer). record { action = reply_action q.action; id = q.id; answers = xs }) (refused_answers q error d))
+
+-- ---- it may be kept
+
+answer_fits : (q : RequestValue) (error : ErrorId) (d : DataSetsValue) (port : ℕ)
+    → FitsAnswer true q.action (answer q (Some error) d (Some port))
+unfolding answer
+answer_fits q error d port = ((port, refl), tt)
+
+answers_fit : (b : Bool) (q : RequestValue) (error : ErrorId) (d : DataSetsValue)
+    → All (FitsAnswer b q.action) (answers_of b q (Some error) d)
+unfolding answer
+answers_fit true q error d =
+    let ports = named_ports q.port (length d.ports) in
+    All-map (FitsAnswer true q.action) (answer q (Some error) d) (map Some ports)
+    (All-map (λ own. FitsAnswer true q.action (answer q (Some error) d own)) (λ n. Some n) ports (λ k x below. answer_fits q error d _))
+answers_fit false q error d =
+    All-cons (FitsAnswer false q.action) (answer q (Some error) d None) [] (refl, tt) (All-nil (FitsAnswer false q.action))
+
+count_fits : (b : Bool) (q : RequestValue) (error : ErrorId) (d : DataSetsValue)
+    → (1 ≤ length (answers_of b q (Some error) d)) × (length (answers_of b q (Some error) d) ≤ 8)
+    → FitsCount b (length (answers_of b q (Some error) d))
+count_fits true q error d count = count
+count_fits false q error d count = refl
+
+pub refusal_fits : (q : RequestValue) (error : ErrorId) (d : DataSetsValue) (reply : ReplyValue)
+    → IsTargetPort q.port d
+    → IsSized d
+    → reply ≡ reply_of q (Some error) d
+    → FitsRequest q reply
+unfolding reply_of
+refusal_fits q error d reply port sized is =
+    subst (λ (r : ReplyValue). FitsRequest q r) (sym is)
+    (record {
+      action = refl;
+      id = refl;
+      count = count_fits (is_of_port q.id) q error d (reply_of-count q (Some error) d port sized);
+      answers = answers_fit (is_of_port q.id) q error d;
+    })

@@ -1,0 +1,14 @@
+use Rattle.ptpm_device.proofs.Judged as law
+use Rattle.ptpm_device.proofs.laws.device_judged_last.Goals as goal
+
+pub returns-clause-asked : goal.returns-clause-asked
+returns-clause-asked c = law.asked-parts
+
+pub returns-clause-not_asked : goal.returns-clause-not_asked
+returns-clause-not_asked c = law.turn_said-none
+
+pub returns-clause-verdict : goal.returns-clause-verdict
+returns-clause-verdict c = law.turn_said-verdict
+
+pub returns-clause-forwards : goal.returns-clause-forwards
+returns-clause-forwards c = law.turn_said-forwards

@@ -1,0 +1,7 @@
+use Rattle.ptpm_device.proofs.Refused.{refused_reply}
+use Rattle.ptpm_device.proofs.saying.refusal.Goals as goal
+
+pub returns : goal.returns
+returns c =
+    refused_reply c.args.request.now c.args.error c.args.sets.now c.to.result c.read_into.new.answers.reply
+    c.to.ensures c.read_into.ensures.reply_is

@@ -1,0 +1,51 @@
+-- What a datagram would have a clock's device do (this project's profile).
+use Rattle.std.specs.Prelude.{ℕ, ◌==◌, ◌&&◌, not, Bool, true, false, if◌then◌else◌, List, length, Option, Some, None, is_none}
+use Rattle.ptpm_codec.specs.declared.identity.PortIdentity.{PortIdentity}
+use Rattle.ptpm_codec.specs.declared.message.Action.{Action}
+use Rattle.ptpm_codec.specs.declared.message.Action.TheVariants as actions
+use Rattle.ptpm_codec.specs.declared.message.Message.{Message}
+use Rattle.ptpm_codec.specs.Reading.{message_of}
+use Rattle.ptpm_data.specs.Refusals.{refusal_of}
+use Rattle.ptpm_data.specs.Request.{RequestValue}
+use Rattle.ptpm_agent.specs.declared.verdict.Verdict.{Verdict}
+use Rattle.ptpm_agent.specs.declared.verdict.Verdict.TheVariants as verdicts
+use Rattle.ptpm_agent.specs.Addressing.{is_for_this_clock, is_own, names_port, request_of}
+use Rattle.ptpm_agent.specs.Turn.{Clock, NumberedRequest, State, judged, numbered_from}
+use Rattle.ptpm_device.specs.declared.asking.Change.TheInside.{Inside}
+
+-- a SET or a COMMAND
+abbrev pub is_change : Action → Bool
+is_change actions.Set = true
+is_change actions.Command = true
+is_change _ = false
+
+-- a SET or COMMAND of this manager that the clock itself does not refuse
+abbrev pub is_permitted : Clock → PortIdentity → RequestValue → Bool
+is_permitted c who q = is_change q.action && is_none (refusal_of q (c.rights who))
+
+abbrev pub is_new : Verdict → Bool
+is_new verdicts.AnsweredNew = true
+is_new _ = false
+
+-- for exactly this clock, at a port that it has, in its domain, and of another clock
+unfoldable pub is_here : Clock → State → Message → Bool
+is_here c s v =
+    v.sdo == 0
+    && (v.domain == s.sets.default.domain
+    && (not (is_own c v) && (is_for_this_clock c v && names_port (length s.sets.ports) v.target.port)))
+
+-- The device is asked about a new one. A repeat has its answer, and what the clock refuses is refused whatever the device says.
+unfoldable pub is_asked : Clock → State → Message → Bool
+is_asked c s v = is_new (judged c s v) && is_permitted c v.source (request_of v)
+
+abbrev pub asked_by : Clock → State → Option Message → Option NumberedRequest
+asked_by c s None = None
+asked_by c s (Some v) = if is_asked c s v then Some (numbered_from v) else None
+
+-- what a clock's device is asked about a datagram, if it is asked
+unfoldable pub asked : Clock → State → List ℕ → Option NumberedRequest
+asked c s datagram = asked_by c s (message_of datagram)
+
+-- a change as code, against the definitions
+abbrev pub change_value : Inside → NumberedRequest
+change_value x = record { manager = x.manager; number = x.number; request = x.request }

@@ -1,0 +1,89 @@
+-- At-most-once execution at a clock whose device may object. Each accepted request is applied once, or refused once by the
+-- device with an error of its choice, and each copy of it gets that one reply (this project's profile).
+use Rattle.std.specs.Prelude.{◌≡◌, ℕ, ◌&&◌, Bool, if◌then◌else◌, List, [], ◌∷◌, Option, Some, None}
+use Rattle.ptpm_codec.specs.declared.error.ErrorId.{ErrorId}
+use Rattle.ptpm_codec.specs.declared.identity.PortIdentity.{PortIdentity}
+use Rattle.ptpm_data.specs.declared.observation.ClockObservation.{ClockObservation}
+use Rattle.ptpm_data.specs.declared.observation.PortObservation.{PortObservation}
+use Rattle.ptpm_data.specs.Replies.{reply_of}
+use Rattle.ptpm_data.specs.Reply.{ReplyValue}
+use Rattle.ptpm_agent.specs.Observing.{moved_history, moved_state}
+use Rattle.ptpm_agent.specs.Once.{Delivery, History, RequestCopy, after_copy, copy_of, due_reply, joins}
+use Rattle.ptpm_agent.specs.Turn.{Clock, State}
+use Rattle.ptpm_agent.specs.Window.{IsInTime}
+use Rattle.ptpm_device.specs.Asking.{is_permitted}
+use Rattle.ptpm_device.specs.Saying.{turn_said}
+
+-- ---- what happens at a clock
+
+pub data Happening : Type 0 where
+  -- a datagram comes in at a port, and this is what the device says of it
+  Delivered : (delivery : Delivery) → (say : Option ErrorId) → Happening
+  -- the host reports what it observes; if this is refused, nothing moves
+  Observed : (clock : ClockObservation) → (ports : List PortObservation) → Happening
+
+abbrev pub after_happening : Clock → State → Happening → State
+after_happening c s (Delivered x say) = (turn_said c s say x.ingress x.datagram).next
+after_happening c s (Observed o ports) = moved_state o ports s
+
+-- a clock after all of these, in their order
+abbrev pub after_happenings : Clock → State → List Happening → State
+after_happenings c s [] = s
+after_happenings c s (x ∷ xs) = after_happenings c (after_happening c s x) xs
+
+-- ---- what was accepted
+
+-- the device refuses a request: it is accepted with the error as its reply, and changes nothing
+abbrev pub refused_copy : History → RequestCopy → ErrorId → History
+refused_copy h k error = record {
+  sets = h.sets;
+  accepted = record {
+    manager = k.heard.source;
+    index = k.index;
+    request = k.request;
+    reply = reply_of k.request (Some error) h.sets;
+  } ∷ h.accepted;
+}
+
+-- the device is asked about a copy that joins, if the clock permits its request
+abbrev pub is_decided : Clock → History → RequestCopy → Bool
+is_decided c h k = joins h k && is_permitted c k.heard.source k.request
+
+abbrev pub after_decision : Clock → History → RequestCopy → Option ErrorId → History
+after_decision c h k None = after_copy c h k
+after_decision c h k (Some error) = if is_decided c h k then refused_copy h k error else after_copy c h k
+
+-- the reply that is due to a copy
+abbrev pub due_decided : Clock → History → RequestCopy → Option ErrorId → Option ReplyValue
+due_decided c h k None = due_reply c h k
+due_decided c h k (Some error) =
+    if is_decided c h k then Some (reply_of k.request (Some error) h.sets) else due_reply c h k
+
+abbrev pub after_arrival : Clock → History → Option RequestCopy → Option ErrorId → History
+after_arrival c h None say = h
+after_arrival c h (Some k) say = after_decision c h k say
+
+-- at a clock of this many ports
+abbrev pub history_after : Clock → ℕ → History → Happening → History
+history_after c ports h (Delivered x say) = after_arrival c h (copy_of c ports x) say
+history_after c ports h (Observed o seen) = moved_history o seen h
+
+-- of happenings in their order, each accepted request applied once or refused once, in order of first acceptance, and each
+-- observation in its place among them
+abbrev pub decided_in_place : Clock → ℕ → History → List Happening → History
+decided_in_place c ports h [] = h
+decided_in_place c ports h (x ∷ xs) = decided_in_place c ports (history_after c ports h x) xs
+
+-- ---- in time
+
+-- a copy that comes in has the sequenceId of its index, and lies in the window; of an observation nothing is asked
+abbrev pub ComesInTime : (PortIdentity → ℕ) → Clock → ℕ → History → Happening → Type 0
+ComesInTime first c ports h (Delivered x say) =
+    (k : RequestCopy) → copy_of c ports x ≡ Some k → IsInTime first h k
+ComesInTime first c ports h (Observed o seen) = Unit {0}
+
+-- each of a list, as it comes
+abbrev pub ComeInTime : (PortIdentity → ℕ) → Clock → ℕ → History → List Happening → Type 0
+ComeInTime first c ports h [] = Unit {0}
+ComeInTime first c ports h (x ∷ xs) =
+    ComesInTime first c ports h x × ComeInTime first c ports (history_after c ports h x) xs

@@ -1,0 +1,4 @@
+pub mod Asking
+pub mod Refusing
+pub mod Saying
+pub mod Decided

@@ -1,0 +1,75 @@
+//! What a clock promises whose device may object. Each law is the contract of a function that does nothing, and speaks only of
+//! the definitions.
+
+ghost use Rattle.std.specs.Prelude.{◌≡◌, ◌∷◌, [], ◌++◌, ℕ, Bool, true, false, length, List, None, Option, Some, is_none};
+ghost use Rattle.ptpm_codec.specs.declared.error.ErrorId.{ErrorId};
+ghost use Rattle.ptpm_codec.specs.declared.identity.PortIdentity.{PortIdentity};
+ghost use Rattle.ptpm_codec.specs.declared.message.Message.{Message};
+ghost use Rattle.ptpm_codec.specs.Reading.{message_of};
+ghost use Rattle.ptpm_data.specs.Members.{DataSetsValue};
+ghost use Rattle.ptpm_data.specs.Refusals.{refusal_of};
+ghost use Rattle.ptpm_agent.specs.declared.verdict.Verdict.TheVariants as verdicts;
+ghost use Rattle.ptpm_agent.specs.Addressing.{request_of};
+ghost use Rattle.ptpm_agent.specs.Laws.{StandsAt, due_messages, initial_clock_state};
+ghost use Rattle.ptpm_agent.specs.Once.{Delivery, History, RequestCopy, copy_of, initial_history, joins};
+ghost use Rattle.ptpm_agent.specs.Turn.{Clock, State, judged, outbox_of, turn};
+ghost use Rattle.ptpm_device.specs.Asking.{asked, is_asked, is_change};
+ghost use Rattle.ptpm_device.specs.Decided.{ComeInTime, Delivered, Happening, after_happenings, decided_in_place, due_decided};
+ghost use Rattle.ptpm_device.specs.Saying.{turn_said};
+
+/// At-most-once execution at a clock whose device may object. Let any list of datagrams come in at a fresh clock, with whatever
+/// the device says of each, and observations between them. Let each copy of a manager's request come in time. Then:
+/// - the data sets are those after the accepted requests, in order of first acceptance, with each observation in its place. Each
+///   request is applied once, or refused once by the device, and then it changes nothing;
+/// - each copy is sent the reply that is due to it, and nothing else is sent for it. That is the error of the device if it
+///   refused the request, whatever it says of a later copy;
+/// - a copy of a request that is not newly accepted changes neither data sets nor entries.
+pub fn at_most_once_decided()
+    ensures sets { (c : Clock) (first : PortIdentity → ℕ) (d : DataSetsValue)
+        (xs : List Happening) →
+        ComeInTime first c (length d.ports) (initial_history d) xs →
+        (after_happenings c (initial_clock_state d) xs).sets
+        ≡ (decided_in_place c (length d.ports) (initial_history d) xs).sets }
+    ensures outbox { (c : Clock) (first : PortIdentity → ℕ) (d : DataSetsValue)
+        (xs : List Happening) (x : Delivery) (say : Option ErrorId) (k : RequestCopy) →
+        copy_of c (length d.ports) x ≡ Some k →
+        ComeInTime first c (length d.ports) (initial_history d) (xs ++ Delivered x say ∷ []) →
+        outbox_of (turn_said c (after_happenings c (initial_clock_state d) xs) say x.ingress x.datagram)
+        ≡ due_messages c k
+        (due_decided c (decided_in_place c (length d.ports) (initial_history d) xs) k say) }
+    ensures repeats { (c : Clock) (first : PortIdentity → ℕ) (d : DataSetsValue)
+        (xs : List Happening) (x : Delivery) (say : Option ErrorId) (k : RequestCopy) →
+        copy_of c (length d.ports) x ≡ Some k →
+        ComeInTime first c (length d.ports) (initial_history d) (xs ++ Delivered x say ∷ []) →
+        joins (decided_in_place c (length d.ports) (initial_history d) xs) k ≡ false →
+        after_happenings c (initial_clock_state d) (xs ++ Delivered x say ∷ [])
+        ≡ after_happenings c (initial_clock_state d) xs }
+    ensures stands { (c : Clock) (first : PortIdentity → ℕ) (s : State) (h : History)
+        (xs : List Happening) →
+        StandsAt first s h → ComeInTime first c (length h.sets.ports) h xs →
+        StandsAt first (after_happenings c s xs)
+        (decided_in_place c (length h.sets.ports) h xs) }
+{}
+
+/// The device is asked about nothing but a new SET or COMMAND that the clock itself does not refuse. Where it is not asked,
+/// what it says doesn't count.
+pub fn device_judged_last()
+    ensures asked { (c : Clock) (s : State) (v : Message) → is_asked c s v ≡ true →
+        (judged c s v ≡ verdicts.AnsweredNew) × ((is_change (request_of v).action ≡ true)
+        × (refusal_of (request_of v) (c.rights v.source) ≡ None)) }
+    ensures not_asked { (c : Clock) (s : State) (say : Option ErrorId) (ingress : ℕ)
+        (datagram : List ℕ) → asked c s datagram ≡ None →
+        turn_said c s say ingress datagram ≡ turn c s ingress datagram }
+    ensures verdict { (c : Clock) (s : State) (say : Option ErrorId) (ingress : ℕ)
+        (datagram : List ℕ) →
+        (turn_said c s say ingress datagram).verdict ≡ (turn c s ingress datagram).verdict }
+    ensures forwards { (c : Clock) (s : State) (say : Option ErrorId) (ingress : ℕ)
+        (datagram : List ℕ) →
+        (turn_said c s say ingress datagram).forwards ≡ (turn c s ingress datagram).forwards }
+{}
+
+/// A clock whose device says nothing is as one that asks no device.
+pub fn silent_device()
+    ensures { (c : Clock) (s : State) (ingress : ℕ) (datagram : List ℕ)
+        → turn_said c s None ingress datagram ≡ turn c s ingress datagram }
+{}
