@@ -1,5 +1,5 @@
--- At-most-once execution at a clock whose device may object. Each accepted request is applied once, or refused once by the
--- device with an error of its choice, and each copy of it gets that one reply (this project's profile).
+-- At-most-once execution at a clock whose device may object (this project's profile). Each accepted request is applied once,
+-- or refused once by the device with an error of its choice. Each copy of it gets that one reply.
 use Rattle.std.specs.Prelude.{◌≡◌, ℕ, ◌&&◌, Bool, if◌then◌else◌, List, [], ◌∷◌, Option, Some, None}
 use Rattle.ptpm_codec.specs.declared.error.ErrorId.{ErrorId}
 use Rattle.ptpm_codec.specs.declared.identity.PortIdentity.{PortIdentity}
@@ -68,8 +68,8 @@ abbrev pub history_after : Clock → ℕ → History → Happening → History
 history_after c ports h (Delivered x say) = after_arrival c h (copy_of c ports x) say
 history_after c ports h (Observed o seen) = moved_history o seen h
 
--- of happenings in their order, each accepted request applied once or refused once, in order of first acceptance, and each
--- observation in its place among them
+-- of happenings in their order, each accepted request applied or refused once, in order of first acceptance, and each
+-- observation in its place
 abbrev pub decided_in_place : Clock → ℕ → History → List Happening → History
 decided_in_place c ports h [] = h
 decided_in_place c ports h (x ∷ xs) = decided_in_place c ports (history_after c ports h x) xs

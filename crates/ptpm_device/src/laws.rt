@@ -51,8 +51,8 @@ pub fn at_most_once_decided()
         (decided_in_place c (length h.sets.ports) h xs) }
 {}
 
-/// The device is asked about nothing but a new SET or COMMAND that the clock itself does not refuse. Where it is not asked,
-/// what it says doesn't count.
+/// The device is asked about nothing but a new SET or COMMAND that the clock itself does not refuse. If it is not asked, what it
+/// says doesn't count.
 pub fn device_judged_last()
     ensures asked { (c : Clock) (s : State) (v : Message) → is_asked c s v ≡ true →
         (judged c s v ≡ verdicts.AnsweredNew) × ((is_change (request_of v).action ≡ true)

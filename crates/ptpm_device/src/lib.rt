@@ -1,5 +1,5 @@
-//! A clock whose device has a say: what a datagram would have the device do, a turn with what it says, and what this promises
-//! (this project's profile). A device that never objects leaves the clock as it is without this crate.
+//! A clock whose device has a say (this project's profile): what a datagram would have the device do, and a turn with what it
+//! says. A device that never objects leaves the clock as it is without this crate.
 #![tactic(auto)]
 
 mod asking;
