@@ -4,6 +4,13 @@
 #include <stddef.h>
 
 u64 portable_ptpm_answer_name(u32 a0, address a1, u64 a2);
+u32 portable_ptpm_asker_earlier(address a0, u8 a1, address a2);
+u32 portable_ptpm_asker_image(address a0, address a1, u64 a2, address a3);
+u32 portable_ptpm_asker_message(address a0, address a1, u64 a2, address a3);
+u32 portable_ptpm_asker_report(address a0, address a1, u64 a2, address a3, address a4);
+u32 portable_ptpm_asker_restore(address a0, address a1, address a2, address a3, u64 a4);
+u32 portable_ptpm_asker_start(address a0, address a1, address a2);
+void portable_ptpm_asker_stop(address a0);
 void portable_ptpm_clock_defaults(address a0);
 u32 portable_ptpm_clock_image(address a0, address a1, u64 a2, address a3);
 u32 portable_ptpm_clock_read(address a0, u16 a1, u16 a2, address a3, u64 a4, address a5);
@@ -28,21 +35,35 @@ void portable_ptpm_survey_stop(address a0);
 u32 portable_ptpm_version(void);
 u32 portable_ptpm_survey_start(address a0, address a1);
 u32 portable_ptpm_survey_start_at(address a0, address a1, address a2);
+u32 portable_ptpm_clock_image_of(address a0, address a1, u64 a2, address a3, address a4);
 u32 portable_ptpm_session_image(address a0, address a1, u64 a2, address a3);
+u32 portable_ptpm_session_image_of(address a0, address a1, u64 a2, address a3, address a4);
 u64 portable_ptpm_session_issued(address a0);
 u32 portable_ptpm_session_report(address a0, address a1, u64 a2, address a3, address a4);
 u32 portable_ptpm_survey_answer(address a0, u64 a1, address a2, address a3, u64 a4, address a5, address a6);
 u64 portable_ptpm_survey_count(address a0);
 u32 portable_ptpm_survey_send(address a0, address a1, u64 a2, address a3);
+u32 portable_ptpm_asker_ask(address a0, u64 a1, u64 a2, u8 a3, u16 a4, u16 a5, address a6, u64 a7, u8 a8, address a9);
+u32 portable_ptpm_asker_hear(address a0, address a1, u64 a2, address a3);
+u32 portable_ptpm_asker_let_go(address a0, address a1);
+u32 portable_ptpm_asker_noted(address a0, address a1);
+u32 portable_ptpm_asker_saved(address a0, u64 a1, address a2);
+u32 portable_ptpm_asker_settle(address a0, u64 a1, u64 a2, u8 a3, address a4);
+u32 portable_ptpm_asker_unsent(address a0, address a1);
+u32 portable_ptpm_asker_wake(address a0, u64 a1, address a2);
 u32 portable_ptpm_clock_handle(address a0, u16 a1, address a2, u64 a3, address a4, u64 a5, address a6);
 u32 portable_ptpm_clock_handle_changed(address a0, u16 a1, address a2, u64 a3, address a4, u64 a5, address a6, address a7);
 u32 portable_ptpm_clock_observe(address a0, address a1, address a2, u64 a3, address a4);
+u32 portable_ptpm_clock_saved(address a0, u64 a1, address a2, u64 a3, address a4);
+u32 portable_ptpm_clock_saving(address a0);
 u32 portable_ptpm_session_begin(address a0, u8 a1, u16 a2, u16 a3, address a4, u64 a5);
 u32 portable_ptpm_session_begin_at(address a0, u8 a1, u16 a2, u16 a3, address a4, u64 a5);
 u32 portable_ptpm_session_give_up(address a0);
 u32 portable_ptpm_session_receive(address a0, address a1, u64 a2);
 u32 portable_ptpm_session_resume(address a0, u8 a1);
 u32 portable_ptpm_session_retune(address a0, u8 a1);
+u32 portable_ptpm_session_saved(address a0, u64 a1);
+u32 portable_ptpm_session_saving(address a0);
 u32 portable_ptpm_session_send(address a0, address a1, u64 a2, address a3);
 u32 portable_ptpm_survey_receive(address a0, address a1, u64 a2);
 
@@ -74,6 +95,8 @@ static void fill(void) {
 #define swap_ptpm_changed(at) ((void)0)
 #define swap_ptpm_session_settings(at) ((void)0)
 #define swap_ptpm_survey_settings(at) ((void)0)
+#define swap_ptpm_asker_settings(at) ((void)0)
+#define swap_ptpm_handed(at) ((void)0)
 #define swap_ptpm_source(at) ((void)0)
 #define swap_ptpm_rate(at) ((void)0)
 #else
@@ -124,6 +147,17 @@ static void swap_ptpm_survey_settings(struct ptpm_survey_settings *at) {
     at->port = (uint16_t)swap16((u16)at->port);
     at->number = (uint16_t)swap16((u16)at->number);
     at->id = (uint16_t)swap16((u16)at->id);
+}
+static void swap_ptpm_asker_settings(struct ptpm_asker_settings *at) {
+    at->nobody = (uint16_t)swap16((u16)at->nobody);
+    at->timeout = (uint32_t)swap32((u32)at->timeout);
+    at->wait = (uint32_t)swap32((u32)at->wait);
+}
+static void swap_ptpm_handed(struct ptpm_handed *at) {
+    at->tag = (uint64_t)swap64((u64)at->tag);
+    at->time = (uint64_t)swap64((u64)at->time);
+    at->what = (uint32_t)swap32((u32)at->what);
+    at->number = (uint16_t)swap16((u16)at->number);
 }
 static void swap_ptpm_source(struct ptpm_source *at) {
     at->port = (uint16_t)swap16((u16)at->port);
@@ -239,6 +273,28 @@ enum ptpm_saved ptpm_clock_image(const struct ptpm_clock *clock, uint8_t *octets
     return answer;
 }
 
+enum ptpm_handled ptpm_clock_saving(struct ptpm_clock *clock) {
+    fill();
+    return (enum ptpm_handled)portable_ptpm_clock_saving(ADDRESS(clock));
+}
+
+enum ptpm_saved ptpm_clock_image_of(const struct ptpm_clock *clock, uint8_t *octets, size_t room, size_t *size, uint64_t *token) {
+    fill();
+    u64 size_out = 0;
+    enum ptpm_saved answer = (enum ptpm_saved)portable_ptpm_clock_image_of(ADDRESS(clock), ADDRESS(octets), room, ADDRESS(&size_out), ADDRESS(token));
+    *size = (size_t)load64(ADDRESS(&size_out));
+    return answer;
+}
+
+enum ptpm_saved ptpm_clock_saved(struct ptpm_clock *clock, uint64_t token, struct ptpm_sent *sent, size_t room, size_t *count) {
+    fill();
+    u64 count_out = 0;
+    enum ptpm_saved answer = (enum ptpm_saved)portable_ptpm_clock_saved(ADDRESS(clock), token, ADDRESS(sent), room, ADDRESS(&count_out));
+    *count = (size_t)load64(ADDRESS(&count_out));
+    for (size_t i = 0; i < *count; i++) swap_ptpm_sent(&sent[i]);
+    return answer;
+}
+
 enum ptpm_restored ptpm_clock_restore(struct ptpm_clock *clock, const uint8_t identity[8], size_t port_count, const struct ptpm_manager_settings *managers, size_t manager_count, const uint8_t *image, size_t size, size_t *gone) {
     fill();
 #if !IS_LITTLE_ENDIAN
@@ -315,6 +371,24 @@ enum ptpm_saved ptpm_session_image(const struct ptpm_session *session, uint8_t *
     enum ptpm_saved answer = (enum ptpm_saved)portable_ptpm_session_image(ADDRESS(session), ADDRESS(octets), room, ADDRESS(&size_out));
     *size = (size_t)load64(ADDRESS(&size_out));
     return answer;
+}
+
+enum ptpm_sending ptpm_session_saving(struct ptpm_session *session) {
+    fill();
+    return (enum ptpm_sending)portable_ptpm_session_saving(ADDRESS(session));
+}
+
+enum ptpm_saved ptpm_session_image_of(const struct ptpm_session *session, uint8_t *octets, size_t room, size_t *size, uint64_t *token) {
+    fill();
+    u64 size_out = 0;
+    enum ptpm_saved answer = (enum ptpm_saved)portable_ptpm_session_image_of(ADDRESS(session), ADDRESS(octets), room, ADDRESS(&size_out), ADDRESS(token));
+    *size = (size_t)load64(ADDRESS(&size_out));
+    return answer;
+}
+
+enum ptpm_saved ptpm_session_saved(struct ptpm_session *session, uint64_t token) {
+    fill();
+    return (enum ptpm_saved)portable_ptpm_session_saved(ADDRESS(session), token);
 }
 
 enum ptpm_restored ptpm_session_restore(struct ptpm_session *session, const struct ptpm_session_settings *settings, const uint8_t *image, size_t size) {
@@ -400,6 +474,126 @@ enum ptpm_reported ptpm_survey_answer(const struct ptpm_survey *survey, size_t p
 void ptpm_survey_stop(struct ptpm_survey *survey) {
     fill();
     portable_ptpm_survey_stop(ADDRESS(survey));
+}
+
+enum ptpm_started ptpm_asker_start(struct ptpm_asker *asker, const struct ptpm_asker_settings *settings, const uint8_t drawn[26]) {
+    fill();
+#if !IS_LITTLE_ENDIAN
+    struct ptpm_asker_settings settings_in = *settings;
+    swap_ptpm_asker_settings(&settings_in);
+    settings = &settings_in;
+#endif
+    return (enum ptpm_started)portable_ptpm_asker_start(ADDRESS(asker), ADDRESS(settings), ADDRESS(drawn));
+}
+
+enum ptpm_asker_restored ptpm_asker_restore(struct ptpm_asker *asker, const struct ptpm_asker_settings *settings, const uint8_t drawn[26], const uint8_t *image, size_t size) {
+    fill();
+#if !IS_LITTLE_ENDIAN
+    struct ptpm_asker_settings settings_in = *settings;
+    swap_ptpm_asker_settings(&settings_in);
+    settings = &settings_in;
+#endif
+    return (enum ptpm_asker_restored)portable_ptpm_asker_restore(ADDRESS(asker), ADDRESS(settings), ADDRESS(drawn), ADDRESS(image), size);
+}
+
+enum ptpm_asked ptpm_asker_ask(struct ptpm_asker *asker, uint64_t now, uint64_t tag, uint8_t action, uint16_t id, uint16_t port, const uint8_t *octets, size_t size, uint8_t domain, struct ptpm_handed *handed) {
+    fill();
+    swap_ptpm_handed(handed);
+    enum ptpm_asked answer = (enum ptpm_asked)portable_ptpm_asker_ask(ADDRESS(asker), now, tag, action, id, port, ADDRESS(octets), size, domain, ADDRESS(handed));
+    swap_ptpm_handed(handed);
+    return answer;
+}
+
+enum ptpm_asked ptpm_asker_settle(struct ptpm_asker *asker, uint64_t now, uint64_t tag, uint8_t domain, struct ptpm_handed *handed) {
+    fill();
+    swap_ptpm_handed(handed);
+    enum ptpm_asked answer = (enum ptpm_asked)portable_ptpm_asker_settle(ADDRESS(asker), now, tag, domain, ADDRESS(handed));
+    swap_ptpm_handed(handed);
+    return answer;
+}
+
+enum ptpm_asked ptpm_asker_let_go(struct ptpm_asker *asker, struct ptpm_handed *handed) {
+    fill();
+    swap_ptpm_handed(handed);
+    enum ptpm_asked answer = (enum ptpm_asked)portable_ptpm_asker_let_go(ADDRESS(asker), ADDRESS(handed));
+    swap_ptpm_handed(handed);
+    return answer;
+}
+
+enum ptpm_asked ptpm_asker_hear(struct ptpm_asker *asker, const uint8_t *datagram, size_t size, struct ptpm_handed *handed) {
+    fill();
+    swap_ptpm_handed(handed);
+    enum ptpm_asked answer = (enum ptpm_asked)portable_ptpm_asker_hear(ADDRESS(asker), ADDRESS(datagram), size, ADDRESS(handed));
+    swap_ptpm_handed(handed);
+    return answer;
+}
+
+enum ptpm_asked ptpm_asker_wake(struct ptpm_asker *asker, uint64_t now, struct ptpm_handed *handed) {
+    fill();
+    swap_ptpm_handed(handed);
+    enum ptpm_asked answer = (enum ptpm_asked)portable_ptpm_asker_wake(ADDRESS(asker), now, ADDRESS(handed));
+    swap_ptpm_handed(handed);
+    return answer;
+}
+
+enum ptpm_asked ptpm_asker_unsent(struct ptpm_asker *asker, struct ptpm_handed *handed) {
+    fill();
+    swap_ptpm_handed(handed);
+    enum ptpm_asked answer = (enum ptpm_asked)portable_ptpm_asker_unsent(ADDRESS(asker), ADDRESS(handed));
+    swap_ptpm_handed(handed);
+    return answer;
+}
+
+enum ptpm_asked ptpm_asker_saved(struct ptpm_asker *asker, uint64_t now, struct ptpm_handed *handed) {
+    fill();
+    swap_ptpm_handed(handed);
+    enum ptpm_asked answer = (enum ptpm_asked)portable_ptpm_asker_saved(ADDRESS(asker), now, ADDRESS(handed));
+    swap_ptpm_handed(handed);
+    return answer;
+}
+
+enum ptpm_asked ptpm_asker_noted(struct ptpm_asker *asker, struct ptpm_handed *handed) {
+    fill();
+    swap_ptpm_handed(handed);
+    enum ptpm_asked answer = (enum ptpm_asked)portable_ptpm_asker_noted(ADDRESS(asker), ADDRESS(handed));
+    swap_ptpm_handed(handed);
+    return answer;
+}
+
+enum ptpm_asked ptpm_asker_message(const struct ptpm_asker *asker, uint8_t *octets, size_t room, size_t *size) {
+    fill();
+    u64 size_out = 0;
+    enum ptpm_asked answer = (enum ptpm_asked)portable_ptpm_asker_message(ADDRESS(asker), ADDRESS(octets), room, ADDRESS(&size_out));
+    *size = (size_t)load64(ADDRESS(&size_out));
+    return answer;
+}
+
+enum ptpm_asked ptpm_asker_image(const struct ptpm_asker *asker, uint8_t *octets, size_t room, size_t *size) {
+    fill();
+    u64 size_out = 0;
+    enum ptpm_asked answer = (enum ptpm_asked)portable_ptpm_asker_image(ADDRESS(asker), ADDRESS(octets), room, ADDRESS(&size_out));
+    *size = (size_t)load64(ADDRESS(&size_out));
+    return answer;
+}
+
+uint32_t ptpm_asker_earlier(const struct ptpm_asker *asker, uint8_t domain, uint8_t *there) {
+    fill();
+    return (uint32_t)portable_ptpm_asker_earlier(ADDRESS(asker), domain, ADDRESS(there));
+}
+
+enum ptpm_reported ptpm_asker_report(const struct ptpm_asker *asker, uint8_t *octets, size_t room, size_t *size, uint16_t *error) {
+    fill();
+    u64 size_out = 0;
+    u16 error_out = 0;
+    enum ptpm_reported answer = (enum ptpm_reported)portable_ptpm_asker_report(ADDRESS(asker), ADDRESS(octets), room, ADDRESS(&size_out), ADDRESS(&error_out));
+    *size = (size_t)load64(ADDRESS(&size_out));
+    *error = load16(ADDRESS(&error_out));
+    return answer;
+}
+
+void ptpm_asker_stop(struct ptpm_asker *asker) {
+    fill();
+    portable_ptpm_asker_stop(ADDRESS(asker));
 }
 
 bool ptpm_passed_on_is_first(struct ptpm_passed_on *table, const uint8_t *message, size_t size, uint64_t now, uint64_t time) {
