@@ -125,6 +125,7 @@ def askers_without_end_during_a_save():
     wire = Wire("clk0", 10)
     clock = Clock(*WORDS, ME, wire.name, env=TRACED)
     disk, peer = Disk(clock, SLOWLY), Peer("peer")
+    peer.socket.settimeout(30)          # it waits for its turn in saves, as long as they take
     wire.come_in(set_of(1, 50))
     asked(wire, 1)
     for number in range(2, 202):
