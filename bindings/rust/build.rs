@@ -1,9 +1,9 @@
 //! The library that the crate links: `libptpm.a`, or with the feature `memory` `libptpm_memory.a`. If PTPM_LIB_DIR names a folder, it is
-//! the one there, as `make -C hosts install` puts it. Else it is put together from the assembly in `library/`, or from the C there if
+//! the one there, as `make -C hosts install` puts it. Else it is put together from the assembly in `dist/`, or from the C there if
 //! the target has no assembly or `PORTABLE=1` asks for it. The C compiler of the target does that: `CC` with the target's name after it
 //! (`CC_aarch64_unknown_linux_gnu`), `CC`, or the usual one.
 //!
-//! `library/` has links to files of the repository. Where the crate is packed or vendored, it has the files themselves.
+//! These are files of the repository. A crate that is packed or vendored has them in `library/`, where the script `pack` puts them.
 
 use std::env;
 use std::path::{Path, PathBuf};
@@ -38,9 +38,10 @@ fn named(folder: PathBuf) -> PathBuf {
 
 /// Makes the library of the assembly for the target, or of the C. The folder that it is in.
 fn assembled() -> PathBuf {
-    let top = Path::new(&variable("CARGO_MANIFEST_DIR")).join("library");
-    let is_whole = top.join("hosts/ptpm.h").exists();
-    assert!(is_whole, "{}: its links lead nowhere. Copy the crate with the files (cp -rL), not with the links", top.display());
+    let own = PathBuf::from(variable("CARGO_MANIFEST_DIR"));
+    let is_in_repository = own.join("../../bindings/rust/pack").exists();
+    let top = own.join(if is_in_repository { "../.." } else { "library" });
+    assert!(top.join("hosts/ptpm.h").exists(), "{}: the library is not there. Run bindings/rust/pack before the crate is copied", own.display());
     let folder = PathBuf::from(variable("OUT_DIR"));
     let compiler = Compiler::of_target();
     let machine = compiler.machine();

@@ -1,1 +1,0 @@
-../../../../../dist/aarch64/libptpm.s

@@ -1,1 +1,0 @@
-../../../../../dist/portable/portable.h

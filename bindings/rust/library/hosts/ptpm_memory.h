@@ -1,1 +1,0 @@
-../../../../hosts/ptpm_memory.h
