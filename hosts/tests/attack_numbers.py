@@ -116,7 +116,7 @@ def sessions():
     for content, words, after in [
             (image(7, 2), (), image(7, 4)),
             (image(100, 2, set_of(77)), (), image(100, 4)),
-            (image(200, 999999), (), image((200 + 1000000) % 65536, 1, attempts=3)),
+            (image(200, 999999), (), image((200 + 999999) % 65536, 2, attempts=3)),
             (image(20000, 2, hops=4, attempts=1), (), image(20002, 2, attempts=3)),
             (image(20100, 2, domain=5), (), image(20100, 4)),
             (image(20200, 2, set_of(78)), ("--give-up",), image(20200, 4))]:
@@ -224,7 +224,7 @@ def losses_of_power():
     kept = ["fsync", "rename", "fsync"]
     words = [PROGRAM, "-m", MANAGER + "/1", "-w", "0", "-u", path, "-k", os.path.join(work, "number"), "get", "PRIORITY1",
              "--target", ME]
-    for what, wanted in [("a new session", ["fsync", "sendmsg", *kept, "sendmsg", "write", *kept]),
+    for what, wanted in [("a new session", ["fsync", "sendmsg", *kept, *kept, "sendmsg", "write", *kept]),
                          ("a session", [*kept, "sendmsg", *kept, "sendmsg", "write", *kept])]:
         traced = run("strace", "-e", "trace=fsync,renameat,renameat2,sendmsg,write", *words)
         calls = [line.split("(")[0] for line in traced.stdout.splitlines() if "(" in line and not re.match(r"write\([^1]", line)]
