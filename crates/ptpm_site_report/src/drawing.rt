@@ -5,6 +5,7 @@ ghost use Rattle.ptpm_commands.specs.Faults.{is_outside};
 
 use crate::escaped::Escaped;
 use crate::lines::{Frame, Line, lines_of};
+use crate::names::Names;
 use ptpm_commands::Fault;
 use ptpm_site::picture::Picture;
 use std::alloc::Global;
@@ -94,10 +95,15 @@ fn sizes_of(lines: &[Line]) -> Sizes {
 }
 
 /// Draws a picture.
-pub(crate) fn draw<O: Write>(alloc: Global, picture: &Picture<'_>, out: &mut O) -> Result<(), Fault>
+pub(crate) fn draw<O: Write>(
+    alloc: Global,
+    picture: &Picture<'_>,
+    names: &Names,
+    out: &mut O,
+) -> Result<(), Fault>
     ensures { IfErr result (λ e. is_outside e ≡ true) }
 {
-    let lines = lines_of(alloc, picture).map_err(|_| Fault::OutOfMemory)?;
+    let lines = lines_of(alloc, picture, names).map_err(|_| Fault::OutOfMemory)?;
     write_drawing(alloc, lines.as_slice(), out)
 }
 

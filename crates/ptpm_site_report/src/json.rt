@@ -4,6 +4,7 @@ ghost use Rattle.std.specs.Prelude.{◌≡◌, IfErr, true};
 ghost use Rattle.ptpm_commands.specs.Faults.{is_outside};
 
 use crate::finding_json::finding_value;
+use crate::names::Names;
 use ptpm_codec::{ClockIdentity, PortIdentity};
 use ptpm_commands::Fault;
 use ptpm_site::clock::{Clock, Received};
@@ -15,9 +16,9 @@ use serde_json::{Map, Value, json, put};
 use std::alloc::{AllocError, Global};
 use std::io::Write;
 
-/// A picture as JSON.
+/// A picture as JSON, with the names of its clocks.
 #[derive(Clone, Copy)]
-pub(crate) struct Object<'a>(pub(crate) &'a Picture<'a>);
+pub(crate) struct Object<'a>(pub(crate) &'a Picture<'a>, pub(crate) &'a Names);
 
 impl Object<'_> {
     /// Prints one object: the domains with their clocks, the findings, and how much was left out.
@@ -35,7 +36,7 @@ impl Object<'_> {
                 writeln!(out, "{between}\n{{\"domainNumber\":{number},\"clocks\":[")?;
                 domain = Some(source.domain);
             }
-            print_value(alloc, clock_value(alloc, *source, clock), out)?;
+            print_value(alloc, clock_value(alloc, *source, clock, self.1), out)?;
         }
         writeln!(out, "{}],", if domain.is_some() { "]}" } else { "" })?;
         write!(out, "\"findings\":[")?;
@@ -73,8 +74,13 @@ fn print_value<O: Write>(
     Ok(())
 }
 
-/// A clock: its identity, and what it answered, under the name of each id.
-fn clock_value(alloc: Global, source: Source, clock: &Clock) -> Result<Value, AllocError> {
+/// A clock: its identity, the name that an operator gave it, and what it answered, under the name of each id.
+fn clock_value(
+    alloc: Global,
+    source: Source,
+    clock: &Clock,
+    names: &Names,
+) -> Result<Value, AllocError> {
     let mut map = Map::new(alloc);
     put(
         &mut map,
@@ -82,6 +88,9 @@ fn clock_value(alloc: Global, source: Source, clock: &Clock) -> Result<Value, Al
         "clockIdentity",
         identity_value(alloc, source.clock)?,
     )?;
+    if let Some(name) = names.get(source.clock) {
+        put(&mut map, alloc, "name", text_value(alloc, name)?)?;
+    }
     put_last(
         alloc,
         &mut map,

@@ -2,6 +2,7 @@
 
 use crate::columns::Columns;
 use crate::finding_text::Said;
+use crate::names::Names;
 use crate::ports_text::PortsText;
 use crate::rows::{Rows, notes_of};
 use ptpm_site::clock::Clock;
@@ -39,8 +40,12 @@ pub(crate) struct Line {
 }
 
 /// The rows of a drawing.
-pub(crate) fn lines_of(alloc: Global, picture: &Picture<'_>) -> Result<Vec<Line>, AllocError> {
-    let all = Rows(picture);
+pub(crate) fn lines_of(
+    alloc: Global,
+    picture: &Picture<'_>,
+    names: &Names,
+) -> Result<Vec<Line>, AllocError> {
+    let all = Rows(picture, names);
     let mut lines = Vec::new(alloc);
     let mut rest = picture.rows.as_slice();
     for _ in 0..picture.rows.len() {
@@ -80,7 +85,7 @@ fn line_of(alloc: Global, all: Rows<'_>, row: &TreeRow) -> Result<Option<Line>, 
         TreeRow::NotSeen { parent, .. } => Ok(Some(Line {
             frame: Frame::Dashed,
             depth: 0,
-            name: format!(in alloc; "not seen: {parent}")?,
+            name: format!(in alloc; "not seen: {parent}{}", all.1.quoted(parent.clock))?,
             follows: String::new(alloc),
             facts: String::new(alloc),
             findings: Vec::new(alloc),
@@ -103,7 +108,7 @@ fn clock_line(
     depth: u32,
     cut: &str,
 ) -> Result<Line, AllocError> {
-    let columns = Columns::of(alloc, clock)?;
+    let columns = Columns::of(alloc, all.name_of(source, clock), clock)?;
     let leads = all.0.site.leads(source);
     Ok(Line {
         frame: if leads { Frame::Thick } else { Frame::Thin },

@@ -9,6 +9,10 @@ ghost use Rattle.ptpm_site_report.specs.Reporting.{HasFault, IsReported, outcome
 
 use crate::drawing::draw;
 use crate::json::Object;
+use crate::nagios::{Plugin, Standing};
+use crate::names::Names;
+use crate::openmetrics::Metrics;
+use crate::page::print_page;
 use crate::site_lines::read_site;
 use crate::text::Sheet;
 use ptpm_commands::Fault;
@@ -28,6 +32,10 @@ pub enum Form {
     Json,
     /// The tree as a picture in SVG, with the findings.
     Drawing,
+    /// The tree as a page in HTML, with the findings.
+    Page,
+    /// Numbers for a monitoring system.
+    OpenMetrics,
 }
 
 /// What an operator asks for.
@@ -49,6 +57,14 @@ pub enum Conclusion {
 }
 
 impl Conclusion {
+    /// The exit status of a form whose numbers have the findings: these change no status.
+    pub fn status_of_numbers(self) -> u8 {
+        match self {
+            Conclusion::Sound | Conclusion::Findings => 0,
+            Conclusion::NoClock => 3,
+        }
+    }
+
     /// The exit status.
     pub fn status(self) -> u8
         ensures { result ≡ status self }
@@ -76,15 +92,77 @@ pub fn report<R: Read + Drop, O: Write>(
         (λ e.
         IfSome (R.remaining reader) (λ octets. HasNumbers octets → HasFault octets e)) }
 {
+    report_named(alloc, options, &Names::new(alloc), reader, out)
+}
+
+/// The same, with names of clocks.
+pub fn report_named<R: Read + Drop, O: Write>(
+    alloc: Global,
+    options: Options,
+    names: &Names,
+    reader: R,
+    out: &mut O,
+) -> Result<Conclusion, Fault>
+    ensures conclusion { IfOk result
+        (λ came.
+        IfSome (R.remaining reader)
+        (λ octets. HasNumbers octets → IsReported octets options.limits came)) }
+    ensures fault { IfErr result
+        (λ e.
+        IfSome (R.remaining reader) (λ octets. HasNumbers octets → HasFault octets e)) }
+{
     let mut site = read_site(alloc, reader)?;
     let left_out = site.keep_first();
-    report_of(alloc, options, &site, left_out, out)
+    report_of(alloc, options, names, &site, left_out, out)
+}
+
+/// Prints the site of a reader's lines as a plugin of Nagios does, and answers how it is.
+pub fn report_standing<R: Read + Drop, O: Write>(
+    alloc: Global,
+    limits: Limits,
+    names: &Names,
+    reader: R,
+    out: &mut O,
+) -> Result<Standing, Fault>
+    ensures { IfErr result
+        (λ e.
+        IfSome (R.remaining reader) (λ octets. HasNumbers octets → HasFault octets e)) }
+{
+    let mut site = read_site(alloc, reader)?;
+    let left_out = site.keep_first();
+    standing_of(alloc, limits, names, &site, left_out, out)
+}
+
+/// Prints a site as a plugin does.
+fn standing_of<O: Write>(
+    alloc: Global,
+    limits: Limits,
+    names: &Names,
+    site: &Site,
+    left_out: LeftOut,
+    out: &mut O,
+) -> Result<Standing, Fault>
+    ensures { IfErr result (λ e. is_outside e ≡ true) }
+{
+    match Picture::of(alloc, site, left_out, limits) {
+        Ok(picture) => {
+            let plugin = Plugin {
+                picture: &picture,
+                names,
+                limits,
+            };
+            plugin.print(alloc, out)?;
+            Ok(Standing::of(&picture))
+        }
+        Err(_) => Err(Fault::OutOfMemory),
+    }
 }
 
 /// Prints a site. `left_out` says how much of it is not shown.
 fn report_of<O: Write>(
     alloc: Global,
     options: Options,
+    names: &Names,
     site: &Site,
     left_out: LeftOut,
     out: &mut O,
@@ -94,7 +172,7 @@ fn report_of<O: Write>(
 {
     match Picture::of(alloc, site, left_out, options.limits) {
         Ok(picture) => {
-            print_picture(alloc, options.form, &picture, out)?;
+            print_picture(alloc, options.form, &picture, names, out)?;
             Ok(outcome_of(&picture))
         }
         Err(_) => Err(Fault::OutOfMemory),
@@ -105,14 +183,17 @@ fn print_picture<O: Write>(
     alloc: Global,
     form: Form,
     picture: &Picture<'_>,
+    names: &Names,
     out: &mut O,
 ) -> Result<(), Fault>
     ensures { IfErr result (λ e. is_outside e ≡ true) }
 {
     match form {
-        Form::Text => Sheet(picture).print(alloc, out),
-        Form::Json => Object(picture).print(alloc, out),
-        Form::Drawing => draw(alloc, picture, out),
+        Form::Text => Sheet(picture, names).print(alloc, out),
+        Form::Json => Object(picture, names).print(alloc, out),
+        Form::Drawing => draw(alloc, picture, names, out),
+        Form::Page => print_page(alloc, picture, names, out),
+        Form::OpenMetrics => Metrics { picture, names }.print(out),
     }
 }
 

@@ -2,6 +2,7 @@
 
 ghost use Rattle.std.specs.Prelude.{◌≤◌, length};
 
+use crate::names::Names;
 use ptpm_site::clock::Clock;
 use ptpm_site::left_out::{CLOCKS, PORTS};
 use ptpm_site::picture::Picture;
@@ -9,9 +10,9 @@ use ptpm_site::source::Source;
 use ptpm_site::tree::TreeRow;
 use std::alloc::{AllocError, Global};
 
-/// The rows of a picture.
+/// The rows of a picture, whose clocks may have names.
 #[derive(Clone, Copy)]
-pub(crate) struct Rows<'a>(pub(crate) &'a Picture<'a>);
+pub(crate) struct Rows<'a>(pub(crate) &'a Picture<'a>, pub(crate) &'a Names);
 
 impl<'a> Rows<'a> {
     pub(crate) fn domain_of(&self, row: &TreeRow) -> u8 {
@@ -41,6 +42,14 @@ impl<'a> Rows<'a> {
                 Some((*source, self.0.site.clocks.get(source)?))
             }
             TreeRow::NotSeen { .. } => None,
+        }
+    }
+
+    /// What a person calls a clock: the name that an operator gave it, or else its description.
+    pub(crate) fn name_of<'b>(&'b self, source: Source, clock: &'b Clock) -> Option<&'b str> {
+        match self.1.get(source.clock) {
+            Some(name) => Some(name),
+            None => clock.description(),
         }
     }
 
