@@ -15,7 +15,7 @@ impl fmt::Display for Label<'_> {
                 '"' => f.write_str("\\\"")?,
                 '\n' => f.write_str("\\n")?,
                 '\'' => f.write_str("'")?,
-                other => write_other(other, f)?,
+                other => write_escape(other, f)?,
             }
         }
         Ok(())
@@ -23,7 +23,7 @@ impl fmt::Display for Label<'_> {
 }
 
 /// Writes a character that is no escape itself. Its own escape, if it has one, begins with a backslash, which is doubled.
-fn write_other<W: fmt::Write>(other: char, f: &mut fmt::Formatter<W>) -> fmt::Result {
+fn write_escape<W: fmt::Write>(other: char, f: &mut fmt::Formatter<W>) -> fmt::Result {
     for character in other.escape_debug() {
         if character == '\\' {
             f.write_str("\\")?;

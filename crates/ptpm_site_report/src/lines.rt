@@ -4,7 +4,7 @@ use crate::columns::Columns;
 use crate::finding_text::Said;
 use crate::names::Names;
 use crate::ports_text::PortsText;
-use crate::rows::{Rows, notes_of};
+use crate::rows::{Rows, found_at, notes_of};
 use ptpm_site::clock::Clock;
 use ptpm_site::picture::Picture;
 use ptpm_site::source::Source;
@@ -134,11 +134,8 @@ fn findings_of(
     picture: &Picture<'_>,
     source: Source,
 ) -> Result<Vec<String>, AllocError> {
-    let findings = picture.findings.as_slice();
-    let from = findings.partition_point(|finding| finding.source < source);
-    let to = findings.partition_point(|finding| finding.source <= source);
     let mut texts = Vec::new(alloc);
-    for finding in findings.get(from..to).unwrap_or(&[]) {
+    for finding in found_at(picture, source) {
         texts.push(format!(in alloc; "{}", Said(&finding.what))?)?;
     }
     Ok(texts)

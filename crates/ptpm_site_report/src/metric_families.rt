@@ -4,9 +4,8 @@ use crate::seconds::IntervalSeconds;
 use ptpm_site::clock::Clock;
 use ptpm_site::data_sets::{PortDataSet, TimePropertiesDataSet};
 use ptpm_site::port_groups::PortGroup;
-use std::fmt;
-use std::io;
 use std::io::Write;
+use std::{fmt, io};
 
 /// A family of numbers of one kind. The type of each is a gauge: that of an info is refused by programs that read the older text
 /// format of Prometheus, and a gauge whose name ends with `_info` is what these read in its place.
@@ -153,10 +152,7 @@ impl OfGrandmaster {
                 "currentUtcOffsetValid.",
             ),
             OfGrandmaster::TimeTraceable => ("ptp_grandmaster_time_traceable", "timeTraceable."),
-            OfGrandmaster::Leap => (
-                "ptp_grandmaster_leap",
-                "1 if leap61, -1 if leap59, else 0.",
-            ),
+            OfGrandmaster::Leap => ("ptp_grandmaster_leap", "1 if leap61, -1 if leap59, else 0."),
             OfGrandmaster::UtcOffset => (
                 "ptp_grandmaster_utc_offset_seconds",
                 "currentUtcOffset: TAI minus UTC.",

@@ -13,9 +13,8 @@ use ptpm_site::clock::{Clock, last_of};
 use ptpm_site::finding::Finding;
 use ptpm_site::picture::Picture;
 use ptpm_site::source::Source;
-use std::fmt;
-use std::io;
 use std::io::Write;
+use std::{fmt, io};
 
 const CLOCKS: Family = Family {
     name: "ptp_clocks",
@@ -207,7 +206,7 @@ impl fmt::Display for GrandmasterLabels {
 }
 
 /// The findings of a domain.
-fn found_in<'a>(picture: &'a Picture<'a>, domain: u8) -> &'a [Finding<'a>] {
+fn found_in<'a>(picture: &'a Picture<'_>, domain: u8) -> &'a [Finding<'a>] {
     let findings = picture.findings.as_slice();
     let from = findings.partition_point(|finding| finding.source.domain < domain);
     let to = findings.partition_point(|finding| finding.source.domain <= domain);
@@ -217,7 +216,12 @@ fn found_in<'a>(picture: &'a Picture<'a>, domain: u8) -> &'a [Finding<'a>] {
 /// Prints how many findings of each name there are among those of a domain, also if there is none.
 fn print_counts<O: Write>(domain: u8, findings: &[Finding<'_>], out: &mut O) -> io::Result<()> {
     for name in &NAMES {
-        write!(out, "ptp_findings{{{},finding=\"{}\",", OfDomain(domain), name.name)?;
+        write!(
+            out,
+            "ptp_findings{{{},finding=\"{}\",",
+            OfDomain(domain),
+            name.name
+        )?;
         let (severity, count) = (name.severity(), name.count_in(findings));
         writeln!(out, "severity=\"{severity}\"}} {count}")?;
     }

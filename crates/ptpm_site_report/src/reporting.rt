@@ -124,7 +124,7 @@ pub fn report_standing<R: Read + Drop, O: Write>(
     reader: R,
     out: &mut O,
 ) -> Result<Standing, Fault>
-    ensures { IfErr result
+    ensures fault { IfErr result
         (λ e.
         IfSome (R.remaining reader) (λ octets. HasNumbers octets → HasFault octets e)) }
 {
@@ -142,7 +142,7 @@ fn standing_of<O: Write>(
     left_out: LeftOut,
     out: &mut O,
 ) -> Result<Standing, Fault>
-    ensures { IfErr result (λ e. is_outside e ≡ true) }
+    ensures fault { IfErr result (λ e. is_outside e ≡ true) }
 {
     match Picture::of(alloc, site, left_out, limits) {
         Ok(picture) => {

@@ -148,8 +148,7 @@ fn print_rows<O: Write>(
             TreeRow::Clock { place, depth } => {
                 if let Some((source, clock)) = all.clock_of(row) {
                     let name = all.name_of(source, clock);
-                    let columns =
-                        Columns::of(alloc, name, clock).map_err(|_| Fault::OutOfMemory)?;
+                    let columns = Columns::of(alloc, name, clock).map_err(|_| Fault::OutOfMemory)?;
                     print_clock(source, indent(*depth), &columns, &widths, out)?;
                     let cut = all.cut(*place, *depth);
                     writeln!(out, "  {}{cut}", PortsText(clock))?;

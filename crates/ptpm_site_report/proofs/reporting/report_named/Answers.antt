@@ -3,7 +3,7 @@ use Rattle.std.proofs.Common.{IfSome}
 use Rattle.std.proofs.lemmas.Result.{IfErr-weaker, IfOk-weaker}
 use Rattle.ptpm_commands.specs.Faults.{is_outside}
 use Rattle.ptpm_site_report.proofs.SiteLines.{failed-outside, reported}
-use Rattle.ptpm_site_report.proofs.reporting.report.Goals as goal
+use Rattle.ptpm_site_report.proofs.reporting.report_named.Goals as goal
 
 pub returns-clause-conclusion : goal.returns-clause-conclusion
 returns-clause-conclusion g c =
