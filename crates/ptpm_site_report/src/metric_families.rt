@@ -7,8 +7,8 @@ use ptpm_site::port_groups::PortGroup;
 use std::io::Write;
 use std::{fmt, io};
 
-/// A family of numbers of one kind. The type of each is a gauge: that of an info is refused by programs that read the older text
-/// format of Prometheus, and a gauge whose name ends with `_info` is what these read in its place.
+/// A family of numbers of one kind. Each is a gauge. The older text format of Prometheus has no type `info`, and what reads it
+/// refuses that. A gauge whose name ends with `_info` is taken by all.
 #[derive(Clone, Copy)]
 pub(crate) struct Family {
     pub(crate) name: &'static str,

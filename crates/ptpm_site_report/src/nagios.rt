@@ -90,7 +90,7 @@ impl Plugin<'_> {
         Ok(())
     }
 
-    /// Prints the first line: how the site is, and behind a bar the numbers that are drawn over time.
+    /// Prints the first line: how the site is, and after a bar the numbers that are drawn over time.
     fn print_head<O: Write>(&self, findings: usize, out: &mut O) -> io::Result<()> {
         let standing = Standing::of(self.picture);
         write!(out, "PTP {} - ", standing.word())?;
@@ -172,7 +172,7 @@ fn print_counts<O: Write>(picture: &Picture<'_>, out: &mut O) -> io::Result<()> 
     Ok(())
 }
 
-/// Prints how many findings have a name, if one has it. Answers what is to stand before the next.
+/// Prints how many findings have a name, if one has it. Answers what comes before the next.
 fn print_count<O: Write>(
     name: &FindingName,
     picture: &Picture<'_>,
@@ -187,7 +187,7 @@ fn print_count<O: Write>(
     Ok(", ")
 }
 
-/// Prints lines, with an escape for each bar: what is behind one would be read as numbers.
+/// Prints lines, with an escape for each bar: what follows one would be read as numbers.
 fn print_without_bars<O: Write>(lines: &[u8], out: &mut O) -> io::Result<()> {
     let mut is_first = true;
     for piece in lines.split(|octet| *octet == b'|') {
