@@ -13,7 +13,7 @@ pub(crate) struct FindingName {
 }
 
 /// All names, in the order in which the findings of a clock are reported.
-pub(crate) const NAMES: [FindingName; 26] = [
+pub(crate) const ALL: [FindingName; 26] = [
     FindingName {
         name: "two_grandmasters",
         meaning: "Two clocks or more of the domain give time as grandmasters.",
@@ -148,7 +148,7 @@ pub(crate) const NAMES: [FindingName; 26] = [
 
 /// What is wrong with a clock that has a finding of this name, in words.
 pub(crate) fn meaning_of(name: &str) -> &'static str {
-    for one in &NAMES {
+    for one in &ALL {
         if one.name == name {
             return one.meaning;
         }

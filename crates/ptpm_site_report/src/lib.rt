@@ -19,6 +19,7 @@ pub mod names;
 mod openmetrics;
 mod page;
 mod page_style;
+mod plugin_report;
 mod ports_text;
 mod printable;
 mod reporting;
@@ -28,4 +29,5 @@ mod site_lines;
 mod text;
 
 pub use nagios::Standing;
-pub use reporting::{Conclusion, Form, Options, report, report_named, report_standing};
+pub use plugin_report::report_standing;
+pub use reporting::{Conclusion, Form, Options, report, report_named};

@@ -3,7 +3,7 @@
 ghost use Rattle.std.specs.Prelude.{◌≡◌, IfErr, true};
 ghost use Rattle.ptpm_commands.specs.Faults.{is_outside};
 
-use crate::finding_names::{FindingName, NAMES};
+use crate::finding_names::{ALL, FindingName};
 use crate::names::Names;
 use crate::seconds::{IntervalSeconds, NanosecondSeconds};
 use crate::text::{Sheet, lines_of};
@@ -163,7 +163,7 @@ fn greatest_offset(picture: &Picture<'_>) -> Option<i64> {
 fn print_counts<O: Write>(picture: &Picture<'_>, out: &mut O) -> io::Result<()> {
     let mut between = "";
     for is_critical in [true, false] {
-        for name in &NAMES {
+        for name in &ALL {
             if name.is_critical == is_critical {
                 between = print_count(name, picture, between, out)?;
             }

@@ -3,7 +3,7 @@
 ghost use Rattle.std.specs.Prelude.{◌≡◌, IfErr, true};
 ghost use Rattle.ptpm_commands.specs.Faults.{is_outside};
 
-use crate::finding_names::NAMES;
+use crate::finding_names::ALL;
 use crate::grandmaster_line::source_name;
 use crate::label::Label;
 use crate::metric_families::{Family, OfClock, OfGrandmaster, OfPort};
@@ -215,7 +215,7 @@ fn found_in<'a>(picture: &'a Picture<'_>, domain: u8) -> &'a [Finding<'a>] {
 
 /// Prints how many findings of each name there are among those of a domain, also if there is none.
 fn print_counts<O: Write>(domain: u8, findings: &[Finding<'_>], out: &mut O) -> io::Result<()> {
-    for name in &NAMES {
+    for name in &ALL {
         write!(
             out,
             "ptp_findings{{{},finding=\"{}\",",

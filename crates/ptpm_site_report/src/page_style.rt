@@ -20,7 +20,7 @@ th, td { padding: .3rem .6rem; vertical-align: top; } td { border-top: 1px solid
 .unseen td { color: var(--faint); font-style: italic; } .faint { color: var(--faint); }
 .found td { border-top: 0; padding-top: 0; } .found p { border-left: 3px solid; padding: .2rem .6rem; margin: .15rem 0; overflow-wrap: anywhere; }
 .found .critical { background: var(--bad-ground); } .found .warning { background: var(--warn-ground); }
-.found span { color: var(--ink); }
+.found span { color: var(--ink); } .found .faint { color: var(--faint); background: none; }
 :target td { background: var(--band); }
 @media print { :root { --ground: #fff; --ink: #000; --faint: #444; --line: #bbb; --bad: #8b0000; --bad-ground: #fff; --warn: #5c3a00; --warn-ground: #fff; --good: #064e1c; }
 body { max-width: none; padding: 0; font-size: 10pt; } tr { break-inside: avoid; } thead { display: table-header-group; } .clock { break-after: avoid; } .wide { overflow: visible; } a { text-decoration: none; } }

@@ -9,7 +9,6 @@ ghost use Rattle.ptpm_site_report.specs.Reporting.{HasFault, IsReported, outcome
 
 use crate::drawing::draw;
 use crate::json::Object;
-use crate::nagios::{Plugin, Standing};
 use crate::names::Names;
 use crate::openmetrics::Metrics;
 use crate::page::print_page;
@@ -61,7 +60,7 @@ impl Conclusion {
     pub fn status_of_numbers(self) -> u8 {
         match self {
             Conclusion::Sound | Conclusion::Findings => 0,
-            Conclusion::NoClock => 3,
+            Conclusion::NoClock => self.status(),
         }
     }
 
@@ -114,48 +113,6 @@ pub fn report_named<R: Read + Drop, O: Write>(
     let mut site = read_site(alloc, reader)?;
     let left_out = site.keep_first();
     report_of(alloc, options, names, &site, left_out, out)
-}
-
-/// Prints the site of a reader's lines as a plugin of Nagios does, and answers how it is.
-pub fn report_standing<R: Read + Drop, O: Write>(
-    alloc: Global,
-    limits: Limits,
-    names: &Names,
-    reader: R,
-    out: &mut O,
-) -> Result<Standing, Fault>
-    ensures fault { IfErr result
-        (λ e.
-        IfSome (R.remaining reader) (λ octets. HasNumbers octets → HasFault octets e)) }
-{
-    let mut site = read_site(alloc, reader)?;
-    let left_out = site.keep_first();
-    standing_of(alloc, limits, names, &site, left_out, out)
-}
-
-/// Prints a site as a plugin does.
-fn standing_of<O: Write>(
-    alloc: Global,
-    limits: Limits,
-    names: &Names,
-    site: &Site,
-    left_out: LeftOut,
-    out: &mut O,
-) -> Result<Standing, Fault>
-    ensures fault { IfErr result (λ e. is_outside e ≡ true) }
-{
-    match Picture::of(alloc, site, left_out, limits) {
-        Ok(picture) => {
-            let plugin = Plugin {
-                picture: &picture,
-                names,
-                limits,
-            };
-            plugin.print(alloc, out)?;
-            Ok(Standing::of(&picture))
-        }
-        Err(_) => Err(Fault::OutOfMemory),
-    }
 }
 
 /// Prints a site. `left_out` says how much of it is not shown.

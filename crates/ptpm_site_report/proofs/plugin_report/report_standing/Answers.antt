@@ -2,7 +2,7 @@
 use Rattle.std.proofs.Common.{IfSome}
 use Rattle.std.proofs.lemmas.Result.{IfErr-weaker}
 use Rattle.ptpm_site_report.proofs.SiteLines.{failed-outside}
-use Rattle.ptpm_site_report.proofs.reporting.report_standing.Goals as goal
+use Rattle.ptpm_site_report.proofs.plugin_report.report_standing.Goals as goal
 
 pub returns-clause-fault : goal.returns-clause-fault
 returns-clause-fault g c =

@@ -1,0 +1,59 @@
+//! `ptpm site --nagios`: a site as a plugin shows it, by the answers among lines of datagrams.
+
+ghost use Rattle.std.specs.Prelude.{◌≡◌, IfErr, IfSome, true};
+ghost use Rattle.ptpm_commands.specs.Faults.{is_outside};
+ghost use Rattle.ptpm_commands.specs.Taken.{HasNumbers};
+ghost use Rattle.ptpm_site_report.specs.Reporting.{HasFault};
+
+use crate::nagios::{Plugin, Standing};
+use crate::names::Names;
+use crate::site_lines::read_site;
+use ptpm_commands::Fault;
+use ptpm_site::left_out::LeftOut;
+use ptpm_site::limits::Limits;
+use ptpm_site::picture::Picture;
+use ptpm_site::site::Site;
+use std::alloc::Global;
+use std::io::{Read, Write};
+
+/// Prints the site of a reader's lines as a plugin of Nagios does, and answers how it is.
+pub fn report_standing<R: Read + Drop, O: Write>(
+    alloc: Global,
+    limits: Limits,
+    names: &Names,
+    reader: R,
+    out: &mut O,
+) -> Result<Standing, Fault>
+    ensures fault { IfErr result
+        (λ e.
+        IfSome (R.remaining reader) (λ octets. HasNumbers octets → HasFault octets e)) }
+{
+    let mut site = read_site(alloc, reader)?;
+    let left_out = site.keep_first();
+    standing_of(alloc, limits, names, &site, left_out, out)
+}
+
+/// Prints a site as a plugin does.
+fn standing_of<O: Write>(
+    alloc: Global,
+    limits: Limits,
+    names: &Names,
+    site: &Site,
+    left_out: LeftOut,
+    out: &mut O,
+) -> Result<Standing, Fault>
+    ensures fault { IfErr result (λ e. is_outside e ≡ true) }
+{
+    match Picture::of(alloc, site, left_out, limits) {
+        Ok(picture) => {
+            let plugin = Plugin {
+                picture: &picture,
+                names,
+                limits,
+            };
+            plugin.print(alloc, out)?;
+            Ok(Standing::of(&picture))
+        }
+        Err(_) => Err(Fault::OutOfMemory),
+    }
+}
