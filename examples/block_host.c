@@ -1,6 +1,7 @@
 /* An agent for a device without malloc: its clock lives in a static block. It has a port at each of two interfaces (UDP over
-   IPv4, annex C). What a manager changes is not acted on here, and nothing is kept across a restart. It is C, and C++ too:
-       cc block_host.c -Wl,-Bstatic -lptpm_memory -Wl,-Bdynamic && sudo ./a.out eth0 eth1 */
+   IPv4, annex C). What a manager changes is not acted on here, and nothing is kept across a restart. Its table of what was
+   forwarded has 196,616 octets. A device that has no room for it forwards nothing: it sends only what answers. It is C, and C++ too:
+       cc block_host.c $(pkg-config --cflags --libs ptpm_memory) && sudo ./a.out eth0 eth1 */
 #define _DEFAULT_SOURCE
 #include <arpa/inet.h>
 #include <net/if.h>
@@ -8,10 +9,12 @@
 #include <ptpm.h>
 #include <ptpm_memory.h>
 #include <string.h>
+#include <sys/random.h>
 #include <sys/socket.h>
+#include <time.h>
 #include <unistd.h>
 
-enum { PORTS = 2 };
+enum { PORTS = 2, NOTED = 1000, RATE = 100 };   /* milliseconds in which a message is forwarded once, and messages a second */
 
 static const uint8_t identity[8] = { 0xaa, 0xbb, 0xcc, 0xff, 0xfe, 0xdd, 0xee, 0x01 };
 static const struct ptpm_manager_settings manager = {
@@ -20,6 +23,8 @@ static const struct ptpm_manager_settings manager = {
 static __attribute__((aligned(16))) unsigned char block[PTPM_CLOCK_MEMORY_OF(1)];
 static struct ptpm_clock device;                /* all zeros: no clock is held yet */
 static struct ptpm_sent sent[PTPM_MOST_SENT];
+static struct ptpm_passed_on passed_on;         /* what was forwarded last */
+static struct ptpm_rate rates[PORTS];           /* what each port still forwards */
 static uint8_t datagram[65536];
 static struct sockaddr_in group;
 static struct pollfd sockets[PORTS];
@@ -58,13 +63,35 @@ static enum ptpm_started start(void) {
     return ptpm_clock_start(&device, &settings, ports, PORTS, &manager, 1);
 }
 
+/* Milliseconds, of a clock that nobody sets. */
+static uint64_t time_now(void) {
+    struct timespec now;
+    clock_gettime(CLOCK_MONOTONIC, &now);
+    return (uint64_t)now.tv_sec * 1000 + (uint64_t)now.tv_nsec / 1000000;
+}
+
+/* Sends what the clock made of a datagram. What is for the port that it came in at answers it, and all else forwards it: once in a
+   while, and not too much. */
+static void send_messages(int port, size_t size, size_t count) {
+    bool is_asked = false, is_first = false;
+    uint64_t now = time_now();
+    for (size_t i = 0; i < count; i++) {
+        int at = sent[i].port - 1;
+        if (sent[i].port != port) {
+            if (!is_asked) is_first = ptpm_passed_on_is_first(&passed_on, datagram, size, now, NOTED);
+            is_asked = true;
+            if (!is_first || !ptpm_rate_take(&rates[at], now)) continue;
+        }
+        sendto(sockets[at].fd, sent[i].octets, sent[i].size, MSG_DONTWAIT, (const struct sockaddr *)&group, sizeof group);
+    }
+}
+
 static void come_in(int port) {
     size_t count;
     ssize_t size = recv(sockets[port - 1].fd, datagram, sizeof datagram, MSG_DONTWAIT);
     if (size < 0) return;
     ptpm_clock_handle(&device, (uint16_t)port, datagram, (size_t)size, sent, PTPM_MOST_SENT, &count);
-    for (size_t i = 0; i < count; i++)
-        sendto(sockets[sent[i].port - 1].fd, sent[i].octets, sent[i].size, MSG_DONTWAIT, (const struct sockaddr *)&group, sizeof group);
+    send_messages(port, (size_t)size, count);
 }
 
 int main(int count_of_words, char **words) {
@@ -74,7 +101,9 @@ int main(int count_of_words, char **words) {
     group.sin_family = AF_INET;
     group.sin_port = htons(320);
     group.sin_addr.s_addr = inet_addr("224.0.1.129");
+    if (getrandom(&passed_on.seed, sizeof passed_on.seed, 0) != sizeof passed_on.seed) return 1;
     for (int i = 0; i < PORTS; i++) {
+        ptpm_rate_start(&rates[i], RATE, time_now());
         sockets[i].fd = open_port(words[i + 1]);
         sockets[i].events = POLLIN;
         if (sockets[i].fd < 0) return 1;

@@ -196,7 +196,9 @@ struct ptpm_observed_port {
 
 enum { PTPM_CLOCK_SET = 1, PTPM_PORT_SET = 2, PTPM_PORT_COMMAND = 4 };
 
-/* Who may change the clock, and what. */
+/* Who may change the clock, and what. The library takes any value here. A manager with the identity of the clock itself is never
+   heard: what it sends is a PTPM_OWN_MESSAGE. One without rights may read: its requests are numbered, and saved. Other bits of the
+   rights than these three do not count. So a host whose settings come from people refuses such values itself, as ptpm-clock does. */
 struct ptpm_manager_settings {
     uint8_t clock[8];
     uint16_t port;
@@ -268,15 +270,52 @@ struct ptpm_survey { void *at; PTPM_TO_EIGHT bool live; uint8_t restored; };
 
 /* One manager, and the GET that it sends to every port of every clock, or of one. A clock answers one that is for every clock
    whatever numbers it took from this manager before. A late answer to an earlier GET with the same number and id is taken for this
-   survey's: use a number with nothing in flight. No session has the same portIdentity. */
+   survey's: use a number with nothing in flight. No session has the same portIdentity. With port 0, which is no port's, a survey has
+   PTPM_SURVEY_PORT, so that is true if no session has that one. */
 struct ptpm_survey_settings {
-    uint16_t port;                      /* portNumber of the manager */
+    uint16_t port;                      /* portNumber of the manager; 0 for PTPM_SURVEY_PORT */
     uint16_t number;                    /* sequenceId */
     uint16_t id;                        /* managementId */
     uint8_t clock[8];                   /* clockIdentity of the manager, not all ones */
     uint8_t domain;
     uint8_t hops;                       /* startingBoundaryHops */
 };
+
+/* An asker: a session, and what is to be sent, saved and noted next, about 4,000 octets at one pointer. All zeros hold no asker. */
+struct ptpm_asker { void *at; PTPM_TO_EIGHT bool live; uint8_t restored; };
+
+/* The session of an asker, and how long it waits. Times are in milliseconds, from any moment on, and never go back. */
+struct ptpm_asker_settings {
+    struct ptpm_session_settings session;   /* `first` is drawn, for a session without a file. `domain` is not read */
+    uint16_t nobody;                    /* a portNumber of the manager's clock at which nobody manages, from 61440 on */
+    uint32_t timeout;                   /* how long an answer is waited for before a request is sent again */
+    uint32_t wait;                      /* how long a new session waits: longer than any copy of a message is on its way */
+};
+
+/* What an asker hands out: what its host does next, and then says. */
+struct ptpm_handed {
+    uint64_t tag;                       /* as the host named its request: after PTPM_NOTE_BEGUN and PTPM_NOTE_ANSWER */
+    uint64_t time;                      /* when to wake the asker: after PTPM_SEND_IT, PTPM_SEND_READ and PTPM_WAIT */
+    uint32_t what;                      /* one of the names below */
+    uint16_t number;                    /* the sequenceId of the request: after PTPM_NOTE_BEGUN and PTPM_NOTE_ANSWER */
+    bool was_sent;                      /* after PTPM_FAILED: whether a message of the request left */
+    bool is_read_answered;              /* after PTPM_FAILED: whether the clock answered a read by nobody */
+};
+
+/* What an asker hands out. After PTPM_NOTE_BEGUN, PTPM_SAVE_IT and PTPM_NOTE_ANSWER it hands out nothing else before the host has done it. */
+enum {
+    PTPM_NOTHING = 0,
+    PTPM_NOTE_BEGUN = 1,                /* note that this request is begun, and then call ptpm_asker_noted */
+    PTPM_SAVE_IT = 2,                   /* save the session's image, and then call ptpm_asker_saved */
+    PTPM_SEND_IT = 3,                   /* send the message */
+    PTPM_SEND_READ = 4,                 /* send the message; it is a read by nobody */
+    PTPM_WAIT = 5,
+    PTPM_NOTE_ANSWER = 6,               /* note what the report says, and then call ptpm_asker_noted */
+    PTPM_FAILED = 7                     /* there is no answer */
+};
+
+/* What an earlier run left under way. */
+enum { PTPM_NOTHING_LEFT = 0, PTPM_QUESTION_LEFT = 1, PTPM_GET_LEFT = 2, PTPM_CHANGE_LEFT = 3 };
 
 #undef PTPM_TO_EIGHT
 
@@ -319,6 +358,9 @@ PTPM_HAS_SIZE(ptpm_survey_settings, 16);
 PTPM_HAS_SIZE(ptpm_source, 10);
 PTPM_HAS_SIZE(ptpm_passed_on, 196616);
 PTPM_HAS_SIZE(ptpm_rate, 24);
+PTPM_HAS_SIZE(ptpm_asker, 16);
+PTPM_HAS_SIZE(ptpm_asker_settings, 36);
+PTPM_HAS_SIZE(ptpm_handed, 24);
 #undef PTPM_HAS_SIZE
 
 /* The most messages that a clock sends for a datagram. The most octets of a dataField of its own. The most octets of a message, its
@@ -326,20 +368,20 @@ PTPM_HAS_SIZE(ptpm_rate, 24);
 enum { PTPM_MOST_SENT = 15, PTPM_MOST_READ = 130, PTPM_MOST_OCTETS = 1472, PTPM_SESSION_IMAGE_OCTETS = 1478 };
 enum { PTPM_CLOCK_IMAGE_OCTETS = 27185 };
 
-/* The most ports whose answers a survey keeps. */
-enum { PTPM_MOST_ANSWERS = 512 };
+/* The most ports whose answers a survey keeps. The portNumber that a survey has if its host gives none. */
+enum { PTPM_MOST_ANSWERS = 512, PTPM_SURVEY_PORT = 65534 };
 
 /* What calls return. 0 says that the call was done. 1 to 31 say what became of a datagram or of a request. From 32 on the call was
    refused (ptpm_is_refusal). 48 to 63 say why nothing starts, or an observation is refused. 64 to 101 say which member is out of
    its range. 104 to 110 say why a restore is refused. 112 says that a request can't be given up. 113 to 117 say why words are no
-   dataField. 118 and 119 say that something is not saved.
+   dataField. 118 and 119 say that something is not saved. 120 says that a handle holds no asker.
 
    Each kind of call has a type for its answers. With -Wenum-compare gcc, g++ and clang++ warn if an answer is compared with a
    name of another kind. A name that several kinds of calls return is a plain number, and compares with each type. Each type has
    it again with the kind in front, such as PTPM_HANDLE_NO_CLOCK for PTPM_NO_CLOCK, so that -Wswitch and debuggers know it. A
    uint32_t holds any answer. */
 
-/* From now on a clock gives nothing out before it is saved (ptpm_clock_saving). */
+/* From now on a clock, or a session, gives nothing out before it is saved (ptpm_clock_saving, ptpm_session_saving). */
 #define PTPM_SAVING 0
 
 /* A datagram is of another domain. */
@@ -370,6 +412,7 @@ enum { PTPM_MOST_ANSWERS = 512 };
 #define PTPM_NO_SESSION 37              /* the handle holds none */
 #define PTPM_IDLE 43                    /* no request is unanswered */
 #define PTPM_NO_SURVEY 46               /* the handle holds none */
+#define PTPM_NO_ASKER 120               /* the handle holds none */
 #define PTPM_OTHER_SIZES 47             /* a struct of the caller has another size than the library's */
 #define PTPM_GRANDMASTER_DIFFERS 50     /* a clock is its own grandmaster, with another priority or quality */
 #define PTPM_TOO_MANY_MANAGERS 51       /* over sixteen */
@@ -490,14 +533,16 @@ __extension__ enum PTPM_FOUR_OCTETS(ptpm_begun) {
     PTPM_COUNT_AT_MAXIMUM = 42          /* the session has begun 1,000,000 requests */
 };
 
-/* ptpm_session_send and ptpm_survey_send. The latter is never answered PTPM_IDLE or PTPM_GAVE_UP. */
+/* ptpm_session_send, ptpm_survey_send and ptpm_session_saving. The second is never answered PTPM_IDLE, PTPM_GAVE_UP or PTPM_UNSAVED.
+   The last returns only PTPM_SAVING and PTPM_NO_SESSION. */
 __extension__ enum PTPM_FOUR_OCTETS(ptpm_sending) {
     PTPM_SENT = 0,
     PTPM_SEND_NO_ROOM = PTPM_NO_ROOM,   /* for fewer than PTPM_MOST_OCTETS octets */
     PTPM_SEND_NO_SESSION = PTPM_NO_SESSION,
     PTPM_SEND_IDLE = PTPM_IDLE,
     PTPM_GAVE_UP = 44,                  /* no attempts are left */
-    PTPM_SEND_NO_SURVEY = PTPM_NO_SURVEY
+    PTPM_SEND_NO_SURVEY = PTPM_NO_SURVEY,
+    PTPM_SEND_UNSAVED = PTPM_UNSAVED
 };
 
 /* ptpm_session_resume. */
@@ -566,7 +611,7 @@ __extension__ enum PTPM_FOUR_OCTETS(ptpm_survey_received) {
     PTPM_SURVEY_NO_SURVEY = PTPM_NO_SURVEY
 };
 
-/* ptpm_session_report and ptpm_survey_answer. */
+/* ptpm_session_report, ptpm_survey_answer and ptpm_asker_report. */
 __extension__ enum PTPM_FOUR_OCTETS(ptpm_reported) {
     PTPM_VALUE = 0,                     /* the clock answered a dataField */
     PTPM_DONE = 25,                     /* it carried a COMMAND out */
@@ -574,10 +619,11 @@ __extension__ enum PTPM_FOUR_OCTETS(ptpm_reported) {
     PTPM_REPORT_NO_ROOM = PTPM_NO_ROOM, /* for fewer octets than the dataField has */
     PTPM_REPORT_NO_SESSION = PTPM_NO_SESSION,
     PTPM_NO_REPORT = 45,                /* no request was begun, or the latest is not answered; the survey has no such answer */
-    PTPM_REPORT_NO_SURVEY = PTPM_NO_SURVEY
+    PTPM_REPORT_NO_SURVEY = PTPM_NO_SURVEY,
+    PTPM_REPORT_NO_ASKER = PTPM_NO_ASKER
 };
 
-/* ptpm_session_image and ptpm_clock_image, ptpm_clock_image_of and ptpm_clock_saved. */
+/* ptpm_session_image, _image_of and _saved, and ptpm_clock_image, _image_of and _saved. */
 __extension__ enum PTPM_FOUR_OCTETS(ptpm_saved) {
     PTPM_SAVED = 0,
     PTPM_SAVE_NO_CLOCK = PTPM_NO_CLOCK,
@@ -613,6 +659,38 @@ __extension__ enum PTPM_FOUR_OCTETS(ptpm_parsed) {
     PTPM_NO_VALUE = 117                 /* a word is no value of the member, or no SET has the member */
 };
 
+/* ptpm_asker_restore. */
+__extension__ enum PTPM_FOUR_OCTETS(ptpm_asker_restored) {
+    PTPM_ASKER_RESTORED = 0,
+    PTPM_ASKER_RESTORE_NO_MEMORY = PTPM_NO_MEMORY,
+    PTPM_ASKER_RESTORE_NO_PORTS = PTPM_NO_PORTS,
+    PTPM_ASKER_RESTORE_TOO_MANY_PORTS = PTPM_TOO_MANY_PORTS,
+    PTPM_ASKER_RESTORE_MANAGER_IS_EVERY = PTPM_MANAGER_IS_EVERY,
+    PTPM_ASKER_RESTORE_TARGET_IS_EVERY = PTPM_TARGET_IS_EVERY,
+    PTPM_ASKER_RESTORE_SAME_CLOCK = PTPM_SAME_CLOCK,
+    PTPM_ASKER_RESTORE_TARGET_IS_ZERO = PTPM_TARGET_IS_ZERO,
+    PTPM_ASKER_RESTORE_NOT_AN_IMAGE = PTPM_NOT_AN_IMAGE,
+    PTPM_ASKER_RESTORE_OTHER_VERSION = PTPM_OTHER_VERSION,
+    PTPM_ASKER_RESTORE_OTHER_KIND = PTPM_OTHER_KIND,
+    PTPM_ASKER_RESTORE_DAMAGED = PTPM_DAMAGED,
+    PTPM_ASKER_RESTORE_OTHER_SESSION = PTPM_OTHER_SESSION
+};
+
+/* The other calls of an asker. Only ptpm_asker_ask is answered PTPM_BUSY to PTPM_BAD_VALUE. */
+__extension__ enum PTPM_FOUR_OCTETS(ptpm_asked) {
+    PTPM_ASKED = 0,
+    PTPM_ASK_NO_ROOM = PTPM_NO_ROOM,    /* for fewer octets than there are: ptpm_asker_message and ptpm_asker_image */
+    PTPM_ASK_NO_MEMORY = PTPM_NO_MEMORY,
+    PTPM_ASK_BUSY = PTPM_BUSY,          /* the asker does not rest, or a request of an earlier run is not settled */
+    PTPM_ASK_NEEDS_PORT = PTPM_NEEDS_PORT,
+    PTPM_ASK_NOT_PERMITTED = PTPM_NOT_PERMITTED,
+    PTPM_ASK_BAD_VALUE = PTPM_BAD_VALUE,
+    PTPM_ASK_COUNT_AT_MAXIMUM = PTPM_COUNT_AT_MAXIMUM, /* the file has 1,000,000 requests, and the latest is a question */
+    PTPM_ASK_IDLE = PTPM_IDLE,          /* ptpm_asker_settle and ptpm_asker_let_go: an earlier run left nothing */
+    PTPM_ASK_OUT_OF_REACH = PTPM_OUT_OF_REACH,  /* ptpm_asker_let_go */
+    PTPM_ASK_NO_ASKER = PTPM_NO_ASKER
+};
+
 /* So the header refuses a compiler that does not take these forms. */
 #define PTPM_IS_WIDE(name) typedef char name##_has_not_four_octets[sizeof(enum name) == 4 ? 1 : -1]
 PTPM_IS_WIDE(ptpm_started);
@@ -630,6 +708,8 @@ PTPM_IS_WIDE(ptpm_reported);
 PTPM_IS_WIDE(ptpm_saved);
 PTPM_IS_WIDE(ptpm_restored);
 PTPM_IS_WIDE(ptpm_parsed);
+PTPM_IS_WIDE(ptpm_asker_restored);
+PTPM_IS_WIDE(ptpm_asked);
 #undef PTPM_IS_WIDE
 #undef PTPM_FOUR_OCTETS
 
@@ -657,7 +737,7 @@ static inline enum ptpm_started ptpm_header_agrees(void) {
         sizeof(struct ptpm_observed_clock), sizeof(struct ptpm_observed_port), sizeof(struct ptpm_manager_settings),
         sizeof(struct ptpm_sent), sizeof(struct ptpm_changed), sizeof(struct ptpm_session), sizeof(struct ptpm_session_settings),
         sizeof(struct ptpm_survey), sizeof(struct ptpm_survey_settings), sizeof(struct ptpm_source), sizeof(struct ptpm_passed_on),
-        sizeof(struct ptpm_rate)
+        sizeof(struct ptpm_rate), sizeof(struct ptpm_asker), sizeof(struct ptpm_asker_settings), sizeof(struct ptpm_handed)
     };
     return ptpm_sizes_agree(sizes, sizeof sizes / sizeof *sizes);
 }
@@ -673,8 +753,8 @@ void ptpm_clock_defaults(struct ptpm_clock_settings *settings);
 void ptpm_port_defaults(struct ptpm_port_settings *settings);
 
 /* Starts a clock instead of what the handle holds, which is freed first.
-   Takes:   one to eight ports, and at most sixteen managers. The first port is port 1. All port_count settings are read, even
-            if they are too many.
+   Takes:   one to eight ports, and at most sixteen managers. Eight is the library's limit, and no setting (docs/embedding.md, "Eight
+            ports"). The first port is port 1. All port_count settings are read, even if they are too many.
    Returns: PTPM_STARTED; or why not, and then the handle holds nothing.
    Memory:  the clock, 472 octets and 2,136 for each manager, until it is stopped, and a copy of the ports until the call returns.
    Caller:  stops the clock. */
@@ -821,7 +901,8 @@ enum ptpm_begun ptpm_session_begin_at(struct ptpm_session *session, uint8_t acti
 /* Makes the message of the unanswered request, and uses one of its attempts. The message has the same octets each time, until
    the session is retuned.
    Takes:   room octets, PTPM_MOST_OCTETS or more.
-   Returns: PTPM_SENT; or why not, and then no attempt is used.
+   Returns: PTPM_SENT; or why not, and then no attempt is used. PTPM_UNSAVED comes after PTPM_NO_ROOM, and only of a session that saves
+            (ptpm_session_saving).
    Writes:  *size, and as many octets from octets on: the message. *size is 0 if the call is refused.
    Caller:  sends the message, and passes in what comes in. */
 enum ptpm_sending ptpm_session_send(struct ptpm_session *session, uint8_t *octets, size_t room, size_t *size);
@@ -856,6 +937,32 @@ enum ptpm_session_received ptpm_session_receive(struct ptpm_session *session, co
    Writes:  *size, and that number of octets from octets on: the image. If the call is refused, *size is 0 and no octet is written. */
 enum ptpm_saved ptpm_session_image(const struct ptpm_session *session, uint8_t *octets, size_t room, size_t *size);
 
+/* Has a session hand out no request before it is saved. Without it a host has to see to that itself. With it ptpm_session_send is
+   refused with PTPM_UNSAVED after a request was begun or given up, and after an answer. That holds for a new request and for a repeat,
+   until ptpm_session_saved. Nothing else changes: an answer is heard and reported at once. One save covers all that came before it. So
+   one for each request is enough, between its begin and its first send. A session that was just restored is saved. Any other session
+   is not, before its first save. Call it right after the start or the restore.
+   Returns: PTPM_SAVING, or PTPM_NO_SESSION. If the session saves already, nothing changes.
+   Caller:  saves the session after each begin. */
+enum ptpm_sending ptpm_session_saving(struct ptpm_session *session);
+
+/* Like ptpm_session_image, of a session that saves. It also says which state the image is of.
+   Takes:   what ptpm_session_image takes.
+   Returns: what ptpm_session_image returns; PTPM_NO_SESSION also for a session that does not save.
+   Writes:  what ptpm_session_image writes, and *token: a number that is another one after each request that was begun or given up, and
+            after each answer. It is 0 if the call is refused. It says nothing about another session, or about a session before it was
+            restored.
+   Caller:  stores the image, and calls ptpm_session_saved with the token once a restart would find it, whatever happens to the
+            power. */
+enum ptpm_saved ptpm_session_image_of(const struct ptpm_session *session, uint8_t *octets, size_t room, size_t *size, uint64_t *token);
+
+/* Takes the caller's word that a restart would find the image of this token. Then requests are handed out again. What else changed in
+   between does not matter: a domain, or how many attempts are left.
+   Takes:   the token of ptpm_session_image_of.
+   Returns: PTPM_SAVED; or PTPM_NO_SESSION, also for a session that does not save, or PTPM_OTHER_IMAGE, and then nothing changes. With
+            the token of a session that is saved already it returns PTPM_SAVED. */
+enum ptpm_saved ptpm_session_saved(struct ptpm_session *session, uint64_t token);
+
 /* Puts the session of an image in the handle, instead of what it holds, which is then freed. A request that was not answered
    stays open, with all its attempts: send it again.
    Takes:   size octets, and the settings of the session. Its manager, managed clock, number of ports and first number must be
@@ -883,7 +990,8 @@ enum ptpm_reported ptpm_session_report(const struct ptpm_session *session, uint8
 void ptpm_session_stop(struct ptpm_session *session);
 
 /* Starts a survey without answers instead of what the handle holds, which is freed first. A session of the same manager may treat
-   an answer to its GET as its own. So the manager here has no session: for example, it is another port of the same identity.
+   an answer to its GET as its own. So the manager here has no session. It is another port of the same identity, and with port 0 it
+   is PTPM_SURVEY_PORT.
    Returns: PTPM_STARTED; or why not, and then the handle holds nothing.
    Memory:  the survey, until it is stopped.
    Caller:  stops the survey. */
@@ -899,7 +1007,7 @@ static inline enum ptpm_started ptpm_survey_start_sized(struct ptpm_survey *hand
 /* Starts a survey of one clock, without answers, instead of what the handle holds, which is freed first. Every port of the
    clock is asked, and another clock's answer is ignored (PTPM_OTHER_SOURCE). A clock treats such a GET from one of its managers
    as a numbered request, like one of a session. And a session of the same manager may treat an answer as its own. So the manager
-   here is none of them, and has no session: for example, it is another port of the same identity.
+   here is none of them, and has no session. It is another port of the same identity, and with port 0 it is PTPM_SURVEY_PORT.
    Takes:   the identity of the clock: another one than the manager's, and neither all ones nor all zeros.
    Returns: PTPM_STARTED; or why not, and then the handle holds nothing.
    Memory:  the survey, until it is stopped.
@@ -944,6 +1052,116 @@ enum ptpm_reported ptpm_survey_answer(const struct ptpm_survey *survey, size_t p
 
 /* Ends what the handle holds, if it holds anything. The handle then holds nothing, and may be started again. */
 void ptpm_survey_stop(struct ptpm_survey *survey);
+
+/* Starts an asker whose session has no file yet, instead of what the handle holds, which is freed first. An asker is handed what came
+   in and what was done, and hands out what is to be done next. It sends nothing before the host has saved it, and nothing leaves the
+   file before the host has noted its answer. So what an earlier run asked is settled, and no request is carried out twice.
+   Takes:   26 octets that are drawn at random. They are the dataField of the question whether a number is new.
+   Returns: PTPM_STARTED; or why not, and then the handle holds nothing.
+   Memory:  the asker, until it is stopped.
+   Caller:  stops the asker. */
+enum ptpm_started ptpm_asker_start(struct ptpm_asker *asker, const struct ptpm_asker_settings *settings, const uint8_t drawn[26]);
+
+/* Does what ptpm_asker_start does if this file is that of the library.
+   Returns: what ptpm_asker_start returns; or PTPM_OTHER_SIZES, and then the handle holds what it held. */
+static inline enum ptpm_started ptpm_asker_start_sized(struct ptpm_asker *handle, const struct ptpm_asker_settings *settings,
+                                                       const uint8_t drawn[26]) {
+    enum ptpm_started answer = ptpm_header_agrees();
+    return answer != PTPM_STARTED ? answer : ptpm_asker_start(handle, settings, drawn);
+}
+
+/* Puts an asker with the session of an image in the handle, instead of what it holds, which is then freed.
+   Takes:   26 octets that are drawn at random, and size octets: what the file of the session has. Its first number is that of the
+            image. If a request has other hops than the settings say, the next one continues as a new session.
+   Returns: PTPM_ASKER_RESTORED; or why not, and then the handle holds what it held.
+   Memory:  the asker, until it is stopped, and a copy of the dataField of its request.
+   Caller:  looks at what ptpm_asker_earlier returns, and stops the asker. */
+enum ptpm_asker_restored ptpm_asker_restore(struct ptpm_asker *asker, const struct ptpm_asker_settings *settings,
+                                            const uint8_t drawn[26], const uint8_t *image, size_t size);
+
+/* Asks a request.
+   Takes:   the time, and a number by which the host names the request. Then PTPM_GET, PTPM_SET or PTPM_COMMAND, the id, and a
+            port of the managed clock, or 0. Then the dataField, of size octets, and the domain. If a port is given, the request
+            names it, for an id of the clock too.
+   Returns: PTPM_ASKED; or why not, and then nothing changes.
+   Writes:  all of *handed: what is handed out, and PTPM_NOTHING if the call is refused. So do the calls below.
+   Memory:  a copy of the dataField, until the request is answered. */
+enum ptpm_asked ptpm_asker_ask(struct ptpm_asker *asker, uint64_t now, uint64_t tag, uint8_t action, uint16_t id, uint16_t port,
+                               const uint8_t *octets, size_t size, uint8_t domain, struct ptpm_handed *handed);
+
+/* Sends the request of an earlier run again, with its number, until it is answered. A SET or a COMMAND is sent in the domain in which
+   it was asked, whichever is given. A GET is sent in the one that is given, and so is a SET of DOMAIN to it.
+   Takes:   the time, a number by which the host names the request, and a domain.
+   Returns: PTPM_ASKED; or PTPM_IDLE if there is none or the asker does not rest, and then nothing changes.
+   Writes:  all of *handed. */
+enum ptpm_asked ptpm_asker_settle(struct ptpm_asker *asker, uint64_t now, uint64_t tag, uint8_t domain, struct ptpm_handed *handed);
+
+/* Gives up the request of an earlier run. The clock may have carried it out, or may still, until it accepts a later one.
+   Returns: PTPM_ASKED; or PTPM_IDLE or PTPM_OUT_OF_REACH, and then nothing changes.
+   Writes:  all of *handed: PTPM_SAVE_IT.
+   Caller:  notes that it gives the request up, before it saves. */
+enum ptpm_asked ptpm_asker_let_go(struct ptpm_asker *asker, struct ptpm_handed *handed);
+
+/* Hands in a datagram that came in. A host hands in what has come before it wakes the asker.
+   Takes:   size octets.
+   Returns: PTPM_ASKED; or PTPM_NO_MEMORY, and then nothing changes.
+   Writes:  all of *handed: PTPM_NOTHING if the datagram answers nothing.
+   Memory:  a copy of the dataField of the answer, until the next one. */
+enum ptpm_asked ptpm_asker_hear(struct ptpm_asker *asker, const uint8_t *datagram, size_t size, struct ptpm_handed *handed);
+
+/* Says what time it is. Before the time that was handed out last, nothing is handed out.
+   Takes:   the time.
+   Returns: PTPM_ASKED; or PTPM_NO_MEMORY, and then nothing changes.
+   Writes:  all of *handed.
+   Memory:  a copy of the dataField of a question, until it is answered. */
+enum ptpm_asked ptpm_asker_wake(struct ptpm_asker *asker, uint64_t now, struct ptpm_handed *handed);
+
+/* Says that there was no way for the message of the latest PTPM_SEND_IT. If none of the request left before, a request of this run is
+   taken back. Its number is that of the next one, and PTPM_FAILED follows its save.
+   Returns: PTPM_ASKED.
+   Writes:  all of *handed. */
+enum ptpm_asked ptpm_asker_unsent(struct ptpm_asker *asker, struct ptpm_handed *handed);
+
+/* Says that the session is in its file, on the disk, after PTPM_SAVE_IT.
+   Takes:   the time.
+   Returns: PTPM_ASKED.
+   Writes:  all of *handed. */
+enum ptpm_asked ptpm_asker_saved(struct ptpm_asker *asker, uint64_t now, struct ptpm_handed *handed);
+
+/* Says that what was handed out to be noted is noted, after PTPM_NOTE_BEGUN and PTPM_NOTE_ANSWER.
+   Returns: PTPM_ASKED; or PTPM_NO_MEMORY, and then nothing changes.
+   Writes:  all of *handed.
+   Memory:  a copy of the dataField of the request, until it is answered. */
+enum ptpm_asked ptpm_asker_noted(struct ptpm_asker *asker, struct ptpm_handed *handed);
+
+/* Gives the message that was handed out last, after PTPM_SEND_IT and PTPM_SEND_READ.
+   Takes:   room octets: PTPM_MOST_OCTETS are enough for every message.
+   Returns: PTPM_ASKED, or why not.
+   Writes:  *size, and that number of octets from octets on: the message. *size is 0 if the call is refused, or nothing was to be sent. */
+enum ptpm_asked ptpm_asker_message(const struct ptpm_asker *asker, uint8_t *octets, size_t room, size_t *size);
+
+/* Makes the image of the asker's session, for its file.
+   Takes:   room octets; PTPM_SESSION_IMAGE_OCTETS are enough for every session.
+   Returns: PTPM_ASKED, or why not.
+   Writes:  *size, and that number of octets from octets on: the image. If the call is refused, *size is 0 and no octet is written. */
+enum ptpm_asked ptpm_asker_image(const struct ptpm_asker *asker, uint8_t *octets, size_t room, size_t *size);
+
+/* Says what an earlier run left under way.
+   Takes:   the domain in which this run asks.
+   Returns: PTPM_NOTHING_LEFT; PTPM_QUESTION_LEFT, which ptpm_asker_ask sends again; PTPM_GET_LEFT or PTPM_CHANGE_LEFT, which are
+            settled or given up before anything is asked. PTPM_NOTHING_LEFT too if the handle holds no asker.
+   Writes:  *there: the domain in which a GET or a change that was left is settled (ptpm_asker_settle). */
+uint32_t ptpm_asker_earlier(const struct ptpm_asker *asker, uint8_t domain, uint8_t *there);
+
+/* Gives what the answer says that was handed out last with PTPM_NOTE_ANSWER.
+   Takes:   room octets, as many as the dataField has or more: 1,418 are always enough.
+   Returns: PTPM_VALUE, PTPM_DONE or PTPM_REFUSED; or why nothing is given.
+   Writes:  *size, and as many octets from octets on: the dataField, after PTPM_VALUE. *size is 0 after every other answer.
+            *error: the managementErrorId after PTPM_REFUSED, and 0 after every other answer. */
+enum ptpm_reported ptpm_asker_report(const struct ptpm_asker *asker, uint8_t *octets, size_t room, size_t *size, uint16_t *error);
+
+/* Ends what the handle holds, if it holds anything. The handle then holds nothing, and may be started again. */
+void ptpm_asker_stop(struct ptpm_asker *asker);
 
 /* Says whether a message is to be forwarded, and if it is, records it. It is if none is recorded that has its
    sourcePortIdentity, sequenceId, targetPortIdentity, actionField and managementId, and there is a place to record it. So a

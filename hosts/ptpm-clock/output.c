@@ -28,8 +28,7 @@ struct stream {
 
 static char output[ROOM], notices[ROOM];
 
-#define STREAM(number, room) { .file = number, .octets = room, .lock = PTHREAD_MUTEX_INITIALIZER, .has_more = PTHREAD_COND_INITIALIZER, \
-                         .is_empty = PTHREAD_COND_INITIALIZER }
+#define STREAM(number, room) { .file = number, .octets = room, .lock = PTHREAD_MUTEX_INITIALIZER, .has_more = PTHREAD_COND_INITIALIZER }
 
 static struct stream standard_output = STREAM(STDOUT_FILENO, output);
 static struct stream standard_error = STREAM(STDERR_FILENO, notices);
@@ -56,8 +55,17 @@ static void *write_all(void *given) {
     return NULL;
 }
 
+/* The end of what is queued is waited for by a clock that nobody sets. */
+static int start_is_empty(struct stream *stream) {
+    pthread_condattr_t monotonic;
+    int failure = pthread_condattr_init(&monotonic);
+    if (failure == 0) failure = pthread_condattr_setclock(&monotonic, CLOCK_MONOTONIC);
+    return failure != 0 ? failure : pthread_cond_init(&stream->is_empty, &monotonic);
+}
+
 static void start_stream(struct stream *stream) {
-    errno = pthread_create(&stream->thread, NULL, write_all, stream);
+    errno = start_is_empty(stream);
+    if (errno == 0) errno = pthread_create(&stream->thread, NULL, write_all, stream);
     if (errno != 0) give_up("a thread that writes");
     stream->is_started = true;
 }
@@ -130,7 +138,7 @@ unsigned long lines_lost(void) { return standard_output.lost + standard_error.lo
 static void end_stream(struct stream *stream, const struct timespec *end) {
     if (!stream->is_started) return;
     pthread_mutex_lock(&stream->lock);
-    while (stream->size > 0 && pthread_cond_clockwait(&stream->is_empty, &stream->lock, CLOCK_MONOTONIC, end) == 0) continue;
+    while (stream->size > 0 && pthread_cond_timedwait(&stream->is_empty, &stream->lock, end) == 0) continue;
     bool is_written = stream->size == 0;
     stream->is_ended = true;
     pthread_cond_signal(&stream->has_more);

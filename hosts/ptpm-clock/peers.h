@@ -5,6 +5,7 @@
 
 #include "rounds.h"
 #include <stdbool.h>
+#include <sys/types.h>
 
 /* The path that the socket is to have, its mode, and its group; with -1 that is the program's. */
 struct meeting { const char *path; mode_t mode; gid_t group; };

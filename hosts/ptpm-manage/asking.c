@@ -1,12 +1,11 @@
 #include "asking.h"
 #include "answer.h"
-#include "as_asked.h"
 #include "exchange.h"
 #include "monotonic.h"
 #include "names.h"
 #include "notices.h"
-#include "session_file.h"
 #include "stopping.h"
+#include "telling.h"
 #include "transport.h"
 #include "unanswered.h"
 #include "words.h"
@@ -15,7 +14,6 @@
 #include <stdio.h>
 #include <string.h>
 
-enum { NOT_SUPPORTED = 6 };         /* a managementErrorId (15.5.4.3) */
 enum { QUIET = 2, QUIET_AT_FIRST = 5 };     /* rounds without a new answer that end a survey; QUIET_AT_FIRST if nobody answered */
 
 static struct ptpm_survey survey;
@@ -47,66 +45,27 @@ static bool count_sending(enum sending sending, long *sent) {
     return false;
 }
 
-int send_until_answered(struct session *session, const struct task *task, long *sent) {
+/* Sends the session's request until it is answered, its attempts are used, or a signal comes in. Counts what went out. */
+static int send_until_answered(struct ptpm_session *session, const struct task *task, long *sent) {
     for (int attempt = 1;; attempt++) {
-        enum sending sending = stopped ? NONE_LEFT : send_again(&session->handle);
+        enum sending sending = stopped ? NONE_LEFT : send_again(session);
         if (sending == NONE_LEFT) return NOT_ANSWERED;
         if (attempt > 1) show_progress("no answer yet: attempt %d of %d", attempt, task->settings.attempts);
         if (!count_sending(sending, sent)) return NOT_ASKED;
-        if (first_answered(&session->handle, NULL, milliseconds() + task->timeout) == 0) return ANSWERED;
+        if (is_answered_before(session, milliseconds() + task->timeout)) return ANSWERED;
     }
 }
 
-/* Prints the answer of the clock that is asked. If no port of it is named, any of them may have answered. */
-static void print_own_answer(const struct task *task) {
-    struct ptpm_source source = { .port = task->port };
-    memcpy(source.clock, task->settings.target, sizeof source.clock);
-    if (task->is_json) print_answer_as_json(stdout, task, &source, &answer);
-    else print_answer(stdout, task, "", &answer);
-}
-
-/* Names the manager in the form with which a clock is started. Without a session its port is another one in each run. */
-static void say_not_supported(const struct session *session) {
-    char identity[IDENTITY_TEXT], manager[IDENTITY_TEXT + 16] = "whoever gives no --manager";
-    write_identity(identity, session->settings.clock);
-    if (session->is_kept) snprintf(manager, sizeof manager, "manager %s/%u", identity, session->settings.port);
-    complain("the clock lacks that id, or takes no change of it from %s: a ptp4l takes some at its Unix socket alone", manager);
-}
-
-/* Prints what the answer says, before the session is kept without the request. */
-static int print_report(struct session *session, const struct task *task) {
-    take_report(&session->handle, &answer);
-    print_own_answer(task);
-    if (fflush(stdout)) return NOT_WRITTEN;
-    if (is_other(task, &answer)) {
-        say_other(task, &answer);
-        return NOT_AS_ASKED;
-    }
-    if (answer.outcome == PTPM_REFUSED && answer.error == NOT_SUPPORTED && task->action != PTPM_GET) say_not_supported(session);
-    return answer.outcome == PTPM_REFUSED ? REFUSED : ANSWERED;
-}
-
-/* Keeps the session without the latest request: its answer was reported, or nothing of it was sent. */
-static void keep_at_rest(struct session *session) {
-    if (!session->is_kept || save_session(session)) return;
-    complain("%s: %s: the next run asks this again", session_path(), strerror(errno));
-}
-
-/* Takes a request back if nothing of it was sent: its number is that of the next one. */
-static void take_back(struct session *session, const struct task *task) {
-    start_session(session, task, latest_number(session));
-    keep_at_rest(session);
-}
-
-static int carry_out(struct session *session, const struct task *task, long *all_sent) {
+static int ask_once(struct ptpm_session *session, const struct task *task, long *all_sent) {
     long sent = 0;
-    begin_request(session, task);
-    uint16_t number = latest_number(session);
+    enum ptpm_begun refusal = begin_of_task(session, task);
+    if (refusal != PTPM_BEGUN) refuse("nothing was asked: %s", answer_name(refusal));
     int status = send_until_answered(session, task, &sent);
     *all_sent += sent;
-    if (sent == 0 && status != ANSWERED) take_back(session, task);
-    if (status == NOT_ANSWERED) return no_answer(task, REQUEST, number, sent);
-    return status == ANSWERED ? print_report(session, task) : status;
+    if (status == NOT_ANSWERED) return no_answer(task, REQUEST, 0, sent);
+    if (status != ANSWERED) return status;
+    take_report(session, &answer);
+    return print_report(task, &answer);
 }
 
 int judge_request(const struct task *task) {
@@ -117,15 +76,15 @@ int judge_request(const struct task *task) {
     return refusal == PTPM_BEGUN ? ANSWERED : not_asked(refusal);
 }
 
-int ask_clock(struct session *session, const struct task *task) {
+int ask_without_file(const struct task *task) {
+    struct ptpm_session session = { 0 };
     int status = ANSWERED;
     long requests = 0, sent = 0;
-    for (; requests < task->times && (status == ANSWERED || status == REFUSED); requests++) {
-        status = carry_out(session, task, &sent);
-    }
-    if (task->times > 1) printf("requests %ld, datagrams %ld\n", requests, sent);
-    if (status == ANSWERED || status == REFUSED || status == NOT_AS_ASKED) keep_at_rest(session);
-    ptpm_session_stop(&session->handle);
+    uint32_t refusal = ptpm_session_start(&session, &task->settings);
+    if (refusal != PTPM_STARTED) refuse("nothing was asked: %s", answer_name(refusal));
+    for (; requests < task->times && (status == ANSWERED || status == REFUSED); requests++) status = ask_once(&session, task, &sent);
+    if (task->times > 1) print_count(requests, sent);
+    ptpm_session_stop(&session);
     return status;
 }
 

@@ -27,41 +27,48 @@ static void swap_port(uint8_t *at) {
     at[1] = (uint8_t)port;
 }
 
+void name_target(uint8_t *message) {
+    memcpy(target, message + TARGET_AT, sizeof target);
+    swap_port(message + TARGET_AT + CLOCK);
+}
+
 enum sending send_again(struct ptpm_session *session) {
     static uint8_t message[PTPM_MOST_OCTETS];
     size_t size;
     if (ptpm_session_send(session, message, sizeof message, &size) != PTPM_SENT) return NONE_LEFT;
-    memcpy(target, message + TARGET_AT, sizeof target);
-    swap_port(message + TARGET_AT + CLOCK);
+    name_target(message);
     return send_message(message, size);
 }
 
-/* Whether a datagram is an error of the clock that was asked. */
-static bool is_error_of_clock(const uint8_t *datagram, size_t size) {
-    return size >= LEAST_MESSAGE && datagram[TLV_AT] == 0 && datagram[TLV_AT + 1] == ERROR_TLV
-           && memcmp(datagram + SOURCE_AT, target, CLOCK) == 0;
-}
-
-/* Whether a datagram answers the session's request. The sourcePortIdentity of an answer is that of the port which made it
-   (13.3.2.8). A clock of this project has the port that was named make it. A `ptp4l` refuses at the port where the request came in,
-   before it looks at the port that was named. So an error of that clock is judged as one of the named port; the library judges all
-   else of it, its number among that. */
-static bool is_answered(struct ptpm_session *session, const uint8_t *datagram, size_t size) {
-    static uint8_t copy[PTPM_MOST_OCTETS];
-    if (size > sizeof copy) size = sizeof copy;         /* octets that follow the message */
+size_t copy_datagram(uint8_t copy[PTPM_MOST_OCTETS], const uint8_t *datagram, size_t size) {
+    if (size > PTPM_MOST_OCTETS) size = PTPM_MOST_OCTETS;       /* octets that follow the message */
     memcpy(copy, datagram, size);
     if (size >= LEAST_MESSAGE) swap_port(copy + SOURCE_PORT_AT);
-    if (ptpm_session_receive(session, copy, size) == PTPM_ANSWERED) return true;
-    if (!is_error_of_clock(copy, size)) return false;
-    memcpy(copy + SOURCE_AT, target, sizeof target);
-    return ptpm_session_receive(session, copy, size) == PTPM_ANSWERED;
+    return size;
 }
 
-int first_answered(struct ptpm_session *first, struct ptpm_session *second, int64_t end) {
+/* The sourcePortIdentity of an answer is that of the port which made it (13.3.2.8). A clock of this project has the port that was named
+   make it. A `ptp4l` refuses at the port where the request came in, before it looks at the port that was named. So an error of that clock
+   is judged as one of the named port; the library judges all else of it, its number among that. */
+bool is_error_of_clock(uint8_t *copy, size_t size) {
+    bool is_error = size >= LEAST_MESSAGE && copy[TLV_AT] == 0 && copy[TLV_AT + 1] == ERROR_TLV
+                    && memcmp(copy + SOURCE_AT, target, CLOCK) == 0;
+    if (is_error) memcpy(copy + SOURCE_AT, target, sizeof target);
+    return is_error;
+}
+
+/* Whether a datagram answers the session's request. */
+static bool is_answered(struct ptpm_session *session, const uint8_t *datagram, size_t size) {
+    static uint8_t copy[PTPM_MOST_OCTETS];
+    size = copy_datagram(copy, datagram, size);
+    if (ptpm_session_receive(session, copy, size) == PTPM_ANSWERED) return true;
+    return is_error_of_clock(copy, size) && ptpm_session_receive(session, copy, size) == PTPM_ANSWERED;
+}
+
+bool is_answered_before(struct ptpm_session *session, int64_t end) {
     size_t size;
     for (const uint8_t *datagram; (datagram = receive_message(&size, end)) != NULL;) {
-        if (is_answered(first, datagram, size)) return 0;
-        if (second != NULL && is_answered(second, datagram, size)) return 1;
+        if (is_answered(session, datagram, size)) return true;
     }
-    return -1;
+    return false;
 }

@@ -22,8 +22,16 @@ enum ptpm_begun begin_of_task(struct ptpm_session *session, const struct task *t
 /* Sends the session's request once more, which uses one of its attempts: NONE_LEFT if there is none. */
 enum sending send_again(struct ptpm_session *session);
 
-/* Which of two sessions a datagram answers first, before a time: 0 or 1. -1 if none does, or a signal asks the program to end.
-   The second may be NULL. */
-int first_answered(struct ptpm_session *first, struct ptpm_session *second, int64_t end);
+/* Whether an answer to the session's request comes in before a time, and before a signal asks the program to end. */
+bool is_answered_before(struct ptpm_session *session, int64_t end);
+
+/* Notes whom a message asks, and puts the port that the task names in it. */
+void name_target(uint8_t *message);
+
+/* Copies a datagram as the session of the latest message is to hear it; how many octets it has then. */
+size_t copy_datagram(uint8_t copy[PTPM_MOST_OCTETS], const uint8_t *datagram, size_t size);
+
+/* Whether a copy is an error of the clock that was asked. It is one of the port that was asked from now on. */
+bool is_error_of_clock(uint8_t *copy, size_t size);
 
 #endif

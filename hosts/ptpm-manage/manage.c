@@ -6,12 +6,10 @@
    and which findings are printed. docs/architecture.md has more of that ("What the hosts decide"). */
 #include "asking.h"
 #include "collect.h"
-#include "earlier.h"
-#include "fresh_number.h"
+#include "in_session.h"
 #include "notices.h"
 #include "program.h"
 #include "random.h"
-#include "session.h"
 #include "status.h"
 #include "stopping.h"
 #include "transport.h"
@@ -23,36 +21,16 @@ const char program[] = "ptpm-manage";
 
 _Noreturn void usage(void) { refuse("see ptpm-manage --help"); }
 
-/* Asks in the manager's session, which continues from run to run. It has its turn before its socket, so nothing of another run
-   comes in there. */
-static int ask_in_session(struct session *session, const struct task *task) {
-    static struct task earlier;
-    int status = ANSWERED;
-    enum kept kept = open_session(session, task, &earlier);
-    open_transport(task);
-    if (kept == NO_FILE) {
-        status = begin_session(session, task);
-    } else {
-        if (kept == UNDER_WAY) status = settle_earlier(session, &earlier, task);
-        if (status == ANSWERED) see_to_hops(session, task);
-        if (status == ANSWERED) status = ask_whether_new(session, task);
-    }
-    return status == ANSWERED ? ask_clock(session, task) : status;
-}
-
 /* Asks it. */
 static int ask(struct task *task) {
-    static struct session session;
     find_transport(task);
     int status = task->is_survey ? ANSWERED : judge_request(task);
     if (status != ANSWERED) return status;
-    if (task->is_kept) return ask_in_session(&session, task);
+    if (task->is_kept) return ask_in_session(task);
     task->settings.first = draw_number();
     open_transport(task);
     if (task->site.is_collected) return task->site.is_shown ? show_status(task) : collect(task);
-    if (task->is_survey) return ask_every_port(task);
-    start_session(&session, task, task->settings.first);
-    return ask_clock(&session, task);
+    return task->is_survey ? ask_every_port(task) : ask_without_file(task);
 }
 
 int main(int argc, char **argv) {

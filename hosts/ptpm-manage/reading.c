@@ -28,7 +28,7 @@ bool finish_reading(struct ptpm_session *session, const struct task *task) {
     for (int attempt = 0; attempt < MOST_READINGS && !stopped; attempt++) {
         enum sending sending = send_again(session);
         if (sending == NONE_LEFT) return false;
-        if (sending != NO_TRANSPORT && first_answered(session, NULL, milliseconds() + task->timeout) == 0) return true;
+        if (sending != NO_TRANSPORT && is_answered_before(session, milliseconds() + task->timeout)) return true;
     }
     return false;
 }

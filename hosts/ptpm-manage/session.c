@@ -2,18 +2,19 @@
 #include "exchange.h"
 #include "names.h"
 #include "notices.h"
+#include "random.h"
+#include "reading.h"
 #include "session_file.h"
 #include "session_image.h"
 #include "words.h"
-#include <stdbool.h>
 #include <stdio.h>
 #include <string.h>
 
 /* A manager and a clock in a notice. */
 enum { OWNER = 2 * IDENTITY_TEXT + 32 };
 
-/* The octets of DOMAIN: the domainNumber, and a reserved one (IEEE 1588-2019, 15.5.3). */
-enum { SIZE_OF_DOMAIN = 2 };
+/* How many octets are drawn for the question whether a number is new. */
+enum { DRAWN = 26 };
 
 static void write_owner(char text[OWNER], const uint8_t manager[8], uint16_t port, const uint8_t target[8]) {
     char own[IDENTITY_TEXT], clock[IDENTITY_TEXT];
@@ -39,7 +40,7 @@ _Noreturn static void refuse_image(const struct session_image *image, const stru
 }
 
 /* The file has no session that this program can continue. */
-_Noreturn static void refuse_octets(enum ptpm_restored refusal) {
+_Noreturn static void refuse_octets(uint32_t refusal) {
     const char *why = "no memory is left";
     switch (refusal) {
     case PTPM_NOT_AN_IMAGE: why = "it has neither a session nor a number; without it a new session begins"; break;
@@ -51,98 +52,111 @@ _Noreturn static void refuse_octets(enum ptpm_restored refusal) {
     refuse("nothing was asked: %s: %s: %s", answer_name(refusal), session_path(), why);
 }
 
-/* The file has no image: then a number in its place. */
-static void start_at_number(struct session *session, const struct task *task, const uint8_t *octets, size_t size) {
-    uint16_t number = 0;
-    switch (read_number_line(octets, size, &task->settings, &number)) {
-    case NUMBER_LINE: start_session(session, task, number); break;
-    case OTHER_LINE: refuse_other("another manager or another clock", &task->settings);
-    case NO_LINE: refuse_octets(PTPM_NOT_AN_IMAGE);
-    }
+/* What the asker of the task's session is set up with; octets are drawn too. */
+static struct ptpm_asker_settings settings_of(const struct task *task, uint8_t drawn[DRAWN]) {
+    struct ptpm_asker_settings settings = {
+        .session = task->settings, .nobody = port_of_nobody(PTPM_GET), .timeout = (uint32_t)task->timeout, .wait = (uint32_t)task->wait,
+    };
+    settings.session.first = draw_number();
+    draw_octets(drawn, DRAWN);
+    return settings;
 }
 
-/* The domain in which the request under way is sent again: the one in which it was asked. PTP instances of other domains may have
-   the same clockIdentity, and nobody asked them to change anything. A GET changes nothing, so it is sent in this run's domain. So
-   is a SET of DOMAIN to that one: the clock may be there by now. */
-static uint8_t domain_of_earlier(const struct session_image *image, uint8_t domain) {
-    bool has_moved_here = image->action == PTPM_SET && image->id == PTPM_ID_DOMAIN && image->size == SIZE_OF_DOMAIN
-                          && image->octets[0] == domain;
-    return image->action == PTPM_GET || has_moved_here ? domain : image->domain;
-}
-
-/* Makes the request that is under way a task of this run. It is sent by this run's transport, as often as this run's own. */
-static void read_earlier(struct task *earlier, const struct task *task, const struct session_image *image) {
-    *earlier = *task;
-    earlier->settings.domain = domain_of_earlier(image, task->settings.domain);
-    earlier->action = image->action;
-    earlier->id = image->id;
-    earlier->port = image->port;
-    earlier->size = image->size;
-    memcpy(earlier->octets, image->octets, image->size);
-}
-
-enum kept open_session(struct session *session, const struct task *task, struct task *earlier) {
-    static uint8_t octets[MOST_SESSION_OCTETS];
-    size_t size;
-    bool is_named = task->numbers != NULL;
-    session->is_kept = true;
-    switch (open_session_file(is_named ? task->numbers : usual_file(&task->settings), is_named, octets, &size)) {
-    case NO_SESSION_FILE: return NO_FILE;
-    case BROKEN_SESSION_FILE: refuse_octets(PTPM_DAMAGED);
-    case SESSION_FILE: break;
-    }
-    struct session_image image = read_image(octets, size);
-    session->settings = task->settings;
-    session->settings.first = image.first;
-    session->settings.hops = image.hops;
-    enum ptpm_restored answer = ptpm_session_restore(&session->handle, &session->settings, octets, size);
-    if (answer == PTPM_NOT_AN_IMAGE) {
-        start_at_number(session, task, octets, size);
-        return AT_REST;
-    }
-    if (answer == PTPM_OTHER_SESSION) refuse_image(&image, &task->settings);
-    if (answer != PTPM_RESTORED) refuse_octets(answer);
-    if (image.is_under_way) read_earlier(earlier, task, &image);
-    see_to_domain(session, image.is_under_way ? earlier : task);
-    return image.is_under_way ? UNDER_WAY : AT_REST;
-}
-
-void start_session(struct session *session, const struct task *task, uint16_t first) {
-    session->settings = task->settings;
-    session->settings.first = first;
-    uint32_t refusal = ptpm_session_start(&session->handle, &session->settings);
+static void start(struct ptpm_asker *asker, const struct task *task) {
+    uint8_t drawn[DRAWN];
+    struct ptpm_asker_settings settings = settings_of(task, drawn);
+    enum ptpm_started refusal = ptpm_asker_start(asker, &settings, drawn);
     if (refusal != PTPM_STARTED) refuse("nothing was asked: %s", answer_name(refusal));
 }
 
-uint16_t latest_number(struct session *session) {
-    return (uint16_t)(session->settings.first + ptpm_session_issued(&session->handle) - 1);
+static enum ptpm_asker_restored restore(struct ptpm_asker *asker, const struct task *task, const uint8_t *octets, size_t size) {
+    uint8_t drawn[DRAWN];
+    struct ptpm_asker_settings settings = settings_of(task, drawn);
+    return ptpm_asker_restore(asker, &settings, drawn, octets, size);
 }
 
-void see_to_domain(struct session *session, const struct task *task) {
-    ptpm_session_retune(&session->handle, task->settings.domain);
-}
-
-/* A session has the hops of its messages from its start. */
-void see_to_hops(struct session *session, const struct task *task) {
-    if (session->settings.hops != task->settings.hops) start_session(session, task, (uint16_t)(latest_number(session) + 1));
-}
-
-/* A session that has begun as many requests as it can continues as a new one, with its next number. */
-void begin_request(struct session *session, const struct task *task) {
-    uint32_t refusal = begin_of_task(&session->handle, task);
-    if (refusal == PTPM_COUNT_AT_MAXIMUM) {
-        start_session(session, task, (uint16_t)(latest_number(session) + 1));
-        refusal = begin_of_task(&session->handle, task);
+/* The file has no image: then a number in its place. The image of a session that starts there takes the place of the octets; how many
+   octets it has. */
+static size_t image_at_number(const struct task *task, uint8_t octets[MOST_SESSION_OCTETS], size_t size) {
+    struct ptpm_session session = { 0 };
+    struct ptpm_session_settings settings = task->settings;
+    switch (read_number_line(octets, size, &settings, &settings.first)) {
+    case NUMBER_LINE: break;
+    case OTHER_LINE: refuse_other("another manager or another clock", &settings);
+    case NO_LINE: refuse_octets(PTPM_NOT_AN_IMAGE);
     }
-    if (refusal != PTPM_BEGUN) refuse("nothing was asked: %s", answer_name(refusal));
-    ptpm_session_resume(&session->handle, task->settings.attempts);
-    if (session->is_kept && !save_session(session)) refuse_place();
+    if (ptpm_session_start(&session, &settings) != PTPM_STARTED) refuse_octets(PTPM_NO_MEMORY);
+    ptpm_session_image(&session, octets, PTPM_SESSION_IMAGE_OCTETS, &size);
+    ptpm_session_stop(&session);
+    return size;
 }
 
-bool save_session(struct session *session) {
+/* A clock that lacks the port that a question names never answers it. So if this run names another port, the question is given up, unless
+   the library refuses to. The image without it takes the place of the octets; how many octets it has. */
+static size_t give_up_question(const struct task *task, uint16_t first, uint8_t octets[MOST_SESSION_OCTETS], size_t size) {
+    struct ptpm_session session = { 0 };
+    struct ptpm_session_settings settings = task->settings;
+    settings.first = first;
+    if (ptpm_session_restore(&session, &settings, octets, size) == PTPM_RESTORED && ptpm_session_give_up(&session) == PTPM_GIVEN_UP) {
+        ptpm_session_image(&session, octets, PTPM_SESSION_IMAGE_OCTETS, &size);
+    }
+    ptpm_session_stop(&session);
+    return size;
+}
+
+/* Makes the request that was left a task of this run. It is sent by this run's transport, as often as this run's own. */
+static void read_earlier(const struct ptpm_asker *asker, const struct task *task, const struct session_image *image,
+                         struct earlier *earlier) {
+    struct task *left = &earlier->task;
+    *left = *task;
+    uint32_t what = ptpm_asker_earlier(asker, task->settings.domain, &left->settings.domain);
+    earlier->is_left = what == PTPM_GET_LEFT || what == PTPM_CHANGE_LEFT;
+    if (!earlier->is_left) return;
+    earlier->number = image->number;
+    left->action = image->action;
+    left->id = image->id;
+    left->port = image->port;
+    left->size = image->size;
+    memcpy(left->octets, image->octets, image->size);
+}
+
+/* The asker gets the session of the octets. */
+static void open_octets(struct ptpm_asker *asker, const struct task *task, uint8_t octets[MOST_SESSION_OCTETS], size_t size,
+                        struct earlier *earlier) {
+    uint16_t port = task->port == EVERY_PORT ? 0 : task->port;
+    uint8_t there;
+    enum ptpm_asker_restored answer = restore(asker, task, octets, size);
+    if (answer == PTPM_ASKER_RESTORE_NOT_AN_IMAGE) {
+        size = image_at_number(task, octets, size);
+        answer = restore(asker, task, octets, size);
+    }
+    struct session_image image = read_image(octets, size);
+    if (answer == PTPM_ASKER_RESTORE_OTHER_SESSION) refuse_image(&image, &task->settings);
+    if (answer == PTPM_ASKER_RESTORED && ptpm_asker_earlier(asker, 0, &there) == PTPM_QUESTION_LEFT && image.port != port) {
+        size = give_up_question(task, image.first, octets, size);
+        answer = restore(asker, task, octets, size);
+    }
+    if (answer != PTPM_ASKER_RESTORED) refuse_octets(answer);
+    read_earlier(asker, task, &image, earlier);
+}
+
+bool open_session(struct ptpm_asker *asker, const struct task *task, struct earlier *earlier) {
     static uint8_t octets[MOST_SESSION_OCTETS];
     size_t size;
-    enum ptpm_saved answer = ptpm_session_image(&session->handle, octets, PTPM_SESSION_IMAGE_OCTETS, &size);
-    if (answer != PTPM_SAVED) refuse("nothing was asked: %s", answer_name(answer));
+    bool is_named = task->numbers != NULL;
+    earlier->is_left = false;
+    switch (open_session_file(is_named ? task->numbers : usual_file(&task->settings), is_named, octets, &size)) {
+    case NO_SESSION_FILE: start(asker, task); return false;
+    case BROKEN_SESSION_FILE: refuse_octets(PTPM_DAMAGED);
+    case SESSION_FILE: open_octets(asker, task, octets, size, earlier);
+    }
+    return true;
+}
+
+bool save_session(const struct ptpm_asker *asker) {
+    static uint8_t octets[MOST_SESSION_OCTETS];
+    size_t size;
+    enum ptpm_asked answer = ptpm_asker_image(asker, octets, PTPM_SESSION_IMAGE_OCTETS, &size);
+    if (answer != PTPM_ASKED) refuse("nothing was asked: %s", answer_name(answer));
     return write_session_file(octets, size);
 }

@@ -8,6 +8,25 @@ from attack_wire import STATION, STRANGER, Wire, frame_four, message
 from attacking import MANAGER, ME, OTHER, Clock, Peer, check, path, run, wait_until, work
 
 TOOL = "0a0b0c0d0e0f10aa"
+# The latest addresses that have tokens of their own: of those who ask, and of those who claim to be a manager.
+ASKERS, MANAGERS = 32, 8
+
+
+def most_in(seconds, rate, addresses, places=ASKERS):
+    """What a rate lets through in a time, however slow the machine is: what a second brings at once, and then what the time brings. All
+    have the rate together, and each of the latest addresses a 64th besides, or a 16th of a manager's rate, but one a second at least."""
+    own = max(rate // (2 * places), 1)
+    return (rate + own * addresses) * (1 + seconds)
+
+
+class Watch:
+    """How long ago it was begun, in seconds."""
+
+    def __init__(self):
+        self.began = time.monotonic()
+
+    def seconds(self):
+        return time.monotonic() - self.began
 
 
 def set_of(number, value, source=MANAGER):
@@ -21,9 +40,11 @@ def rates():
     """How much a stranger has sent by how little, and what a manager is still answered."""
     first, second = Wire("clk0", 10), Wire("clk1", 11)
     clock = Clock("-u", path, "--rate", "20", "-m", MANAGER + "/1", ME, first.name, second.name)
+    watch = Watch()
     for number in range(200):
         first.come_in(message(number, target=ME))
-    check("a stranger's answers have a rate", 20 <= len(first.sent(0.5)) <= 40)
+    answered = len(first.sent(0.5))
+    check("a stranger's answers have a rate", 20 <= answered <= most_in(watch.seconds(), 20, 1))
     for number in range(100):
         first.come_in(message(number, source=MANAGER, target=ME))
     answers = []
@@ -31,12 +52,15 @@ def rates():
     check("a manager's requests have another one", len(answers) == 100)
     peer = Peer("peer")
     check("nor those of programs of this host", all(peer.is_answered(number) for number in range(100, 200)))
+    watch = Watch()
     for number in range(200):
         first.come_in(message(number, target=OTHER))
-    check("what is passed on has a rate", 20 <= len(second.sent(0.5)) <= 40)
+    passed = len(second.sent(0.5))
+    check("what is passed on has a rate", 20 <= passed <= most_in(watch.seconds(), 20, 1))
     clock.end()
     text = clock.text()
-    check("what is held back is counted", "not answered over the rate: 1" in text and "not passed on over the rate: 1" in text)
+    check("what is held back is counted", f"not answered over the rate: {200 - answered}\n" in text
+          and f"not passed on over the rate: {200 - passed}\n" in text)
     clock = Clock("-u", path, ME, first.name, second.name)
     for _ in range(3):
         first.come_in(message(1, target=OTHER))
@@ -62,18 +86,20 @@ def at_neighbours(wire, *ends):
 
 
 def answered_beside(wire, flood, ask, at_once, count=8):
-    """Of this many requests that are asked beside a flood, so many of it each 10 ms, those that are answered, and how many others are."""
-    found, number, begin = [], 0, time.monotonic()
+    """Of this many requests that are asked beside a flood, those that are answered, how many others are, and how long it took. At most so
+    many of the flood come in 10 ms, and at most four requests in a second: a slow machine makes it longer."""
+    found, number, watch = [], 0, Watch()
     for step in range(25 * count):
+        ends = watch.seconds() + 0.01
         for _ in range(at_once):
             flood(number)
             number += 1
         if step % 25 == 24:
             ask(step // 25)
-        found += wire.sent(max(begin + step / 100 - time.monotonic(), 0.001))
+        found += wire.sent(max(ends - watch.seconds(), 0.001))
     found += wire.sent(0.3)
     own = [one for one in found if one[34:42].hex() in (TOOL, OTHER)]
-    return {one[30:32] for one in own}, len(found) - len(own)
+    return {one[30:32] for one in own}, len(found) - len(own), watch.seconds()
 
 
 def strangers_beside_each_other():
@@ -81,21 +107,22 @@ def strangers_beside_each_other():
     wire = Wire("clk0", 10)
     (address,) = at_neighbours(wire, 20)
     clock = Clock("--rate", "40", ME, wire.name)
-    answered, others = answered_beside(wire, lambda number: wire.come_in(message(number, target=ME)),
-                                       lambda number: wire.come_in(message(number, TOOL, ME), address), 4)
-    check(f"a stranger that sends without end leaves another its answers: {len(answered)} of 8, and {others}", len(answered) >= 2 and others < 180)
+    answered, others, seconds = answered_beside(wire, lambda number: wire.come_in(message(number, target=ME)),
+                                                lambda number: wire.come_in(message(number, TOOL, ME), address), 4)
+    check(f"a stranger that sends without end leaves another its answers: {len(answered)} of 8, and {others} in {seconds:.1f} s",
+          len(answered) >= 2 and others <= most_in(seconds, 40, 1))
     clock.end()
     clock = Clock("--rate", "640", ME, wire.name)
-    answered, others = answered_beside(wire, lambda number: wire.come_in(message(number, target=ME)),
-                                       lambda number: wire.come_in(message(number, TOOL, ME), address), 20)
+    answered, _, _ = answered_beside(wire, lambda number: wire.come_in(message(number, target=ME)),
+                                     lambda number: wire.come_in(message(number, TOOL, ME), address), 20)
     check(f"and each of them at a higher rate: {len(answered)} of 8", len(answered) == 8)
     clock.end()
     clock = Clock("-2", "--rate", "640", ME, wire.name)
 
     def frame(station, octets):
         wire.put(bytes.fromhex("011b19000000") + station + b"\x88\xf7" + octets)
-    answered, _ = answered_beside(wire, lambda number: frame(STATION, message(number, target=ME)),
-                                  lambda number: frame(bytes.fromhex("020000000077"), message(number, TOOL, ME)), 20)
+    answered, _, _ = answered_beside(wire, lambda number: frame(STATION, message(number, target=ME)),
+                                     lambda number: frame(bytes.fromhex("020000000077"), message(number, TOOL, ME)), 20)
     check(f"also over Ethernet: {len(answered)} of 8", len(answered) == 8)
     clock.end()
     wire.remove()
@@ -111,8 +138,9 @@ def addresses_without_end():
         wire.put(frame_four(message(number, target=ME), ends[number % len(ends)]))
     wire.come_in(message(99, TOOL, ME), address)
     wire.sent(0.1)
-    answered, others = answered_beside(wire, flood, lambda number: wire.come_in(message(number, TOOL, ME), address), 20)
-    check(f"200 addresses leave one that came before its answers: {len(answered)} of 8, and {others}", len(answered) == 8 and others < 3300)
+    answered, others, seconds = answered_beside(wire, flood, lambda number: wire.come_in(message(number, TOOL, ME), address), 20)
+    check(f"200 addresses leave one that came before its answers: {len(answered)} of 8, and {others} in {seconds:.1f} s",
+          len(answered) == 8 and others <= most_in(seconds, 640, ASKERS))
     clock.end()
     wire.remove()
 
@@ -122,15 +150,17 @@ def forged_managers():
     wire = Wire("clk0", 10)
     (address,) = at_neighbours(wire, 20)
     clock = Clock("-u", path, "-m", MANAGER + "/1", "-m", OTHER + "/1", ME, wire.name)
-    taken = 0
+    taken, watch = 0, Watch()
     for number in range(500):
         wire.come_in(message(number, MANAGER, ME))
         taken += len(wire.sent(0.02)) if number % 100 == 99 else 0
     taken += len(wire.sent(0.5))
-    check(f"of 500 requests under a manager's identity {taken} are answered", 100 <= taken <= 200)
-    answered, others = answered_beside(wire, lambda number: wire.come_in(message(1000 + number, MANAGER, ME)),
-                                       lambda number: wire.come_in(message(number, OTHER, ME), address), 4)
-    check(f"a manager at another address is answered {len(answered)} of 8 times, and {others} others", len(answered) == 8 and others < 400)
+    check(f"of 500 requests under a manager's identity {taken} are answered in {watch.seconds():.1f} s",
+          100 <= taken <= most_in(watch.seconds(), 100, 1, MANAGERS))
+    answered, others, seconds = answered_beside(wire, lambda number: wire.come_in(message(1000 + number, MANAGER, ME)),
+                                                lambda number: wire.come_in(message(number, OTHER, ME), address), 4)
+    check(f"a manager at another address is answered {len(answered)} of 8 times, and {others} others in {seconds:.1f} s",
+          len(answered) == 8 and others <= most_in(seconds, 100, 1, MANAGERS))
     peer = Peer("peer")
     check("a program of this host may ask as it likes", all(peer.is_answered(number) for number in range(2000, 2200)))
     clock.end()
@@ -151,15 +181,15 @@ def forged_managers():
 def saves_without_end():
     """1,200 requests under a manager's identity in three seconds, each of which is to be saved: so many saves there are not."""
     wire, state = Wire("clk0", 10), os.path.join(work, "limited")
-    clock, begin = Clock("-s", state, "-m", MANAGER + "/1", ME, wire.name), time.monotonic()
+    clock, watch = Clock("-s", state, "-m", MANAGER + "/1", ME, wire.name), Watch()
     for number in range(1200):
         wire.come_in(message(number, MANAGER, ME))
-        time.sleep(max(begin + number / 400 - time.monotonic(), 0))
-    answered = len(wire.sent(0.5))
-    most = 21 + 20 * (time.monotonic() - begin)
+        time.sleep(max(number / 400 - watch.seconds(), 0))
+    answered, seconds = len(wire.sent(0.5)), watch.seconds()
     clock.end()
     saves = int(re.search(r"^saved: (\d+)", clock.text(), re.M)[1])
-    check(f"they are saved by {saves} saves, and {answered} are answered", saves <= most and 150 < answered <= 600)
+    check(f"they are saved by {saves} saves, and {answered} are answered in {seconds:.1f} s",
+          saves <= 21 + 20 * seconds and 150 < answered <= most_in(seconds, 100, 1, MANAGERS))
     wire.remove()
 
 

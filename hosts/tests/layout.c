@@ -57,7 +57,8 @@ static uint32_t handle(uint16_t port, const char *text) {
 
 /* The library is of this header's version, and has its structs. */
 static void header(void) {
-    size_t sizes[] = { 16, 216, 16, 88, 16, 12, 1476, 12, 16, 26, 16, 16, 10, 196616, 24, 0 }, all = sizeof sizes / sizeof *sizes - 1;
+    size_t sizes[] = { 16, 216, 16, 88, 16, 12, 1476, 12, 16, 26, 16, 16, 10, 196616, 24, 16, 36, 24, 0 },
+           all = sizeof sizes / sizeof *sizes - 1;
     check(ptpm_version() == PTPM_VERSION_NUMBER, "the version of the library");
     check(ptpm_header_agrees() == PTPM_STARTED && ptpm_sizes_agree(sizes, all) == PTPM_STARTED, "the sizes of the structs");
     check(ptpm_sizes_agree(sizes, all - 1) == PTPM_OTHER_SIZES && ptpm_sizes_agree(sizes, all + 1) == PTPM_OTHER_SIZES,
@@ -640,7 +641,8 @@ static const struct answer refused[] = {
     ANSWER(BAD_RECEIPT_TIMEOUT), ANSWER(BAD_LOG_SYNC), ANSWER(BAD_DELAY_MECHANISM), ANSWER(BAD_LOG_MIN_PDELAY),
     ANSWER(NOT_AN_IMAGE), ANSWER(OTHER_VERSION), ANSWER(OTHER_KIND), ANSWER(DAMAGED), ANSWER(OTHER_CLOCK),
     ANSWER(OTHER_PORTS), ANSWER(OTHER_SESSION), ANSWER(OUT_OF_REACH),
-    ANSWER(NOT_WORDS), ANSWER(UNKNOWN_ID), ANSWER(WORD_COUNT), ANSWER(OTHER_NAME), ANSWER(NO_VALUE),
+    ANSWER(NOT_WORDS), ANSWER(UNKNOWN_ID), ANSWER(WORD_COUNT), ANSWER(OTHER_NAME), ANSWER(NO_VALUE), ANSWER(UNSAVED), ANSWER(OTHER_IMAGE),
+    ANSWER(NO_ASKER),
 };
 #undef ANSWER
 
@@ -665,7 +667,7 @@ static void names_in_types(void) {
 #define IGNORED(kind) OF(kind, NOT_A_REPLY) OF(kind, OTHER_TARGET) OF(kind, OTHER_NUMBER) OF(kind, OTHER_CONTENT)
     OF(START, NO_MEMORY) OF(START, OTHER_SIZES) OF(START, GRANDMASTER_DIFFERS) OF(START, BAD_CLOCK_ACCURACY) OF(START, BAD_LEAP59) OF(START, BAD_STATE)
     OF(START, TOO_MANY_MANAGERS) OF(START, MANAGER_TWICE) OF(START, IDENTITY_IS_ZERO)
-    NO_MESSAGE(HANDLE) OF(HANDLE, NO_CLOCK) OF(HANDLE, NO_PORT) OF(HANDLE, NO_ROOM)
+    NO_MESSAGE(HANDLE) OF(HANDLE, NO_CLOCK) OF(HANDLE, NO_PORT) OF(HANDLE, NO_ROOM) OF(HANDLE, NO_MEMORY) OF(HANDLE, UNSAVED)
     OF(OBSERVE, NO_CLOCK) OF(OBSERVE, NO_PORT) OF(OBSERVE, GRANDMASTER_DIFFERS) OF(OBSERVE, BAD_CLOCK_ACCURACY)
     OF(OBSERVE, BAD_LEAP59) OF(OBSERVE, BAD_STATE)
     OF(READ, NO_CLOCK) OF(READ, NO_PORT) OF(READ, NO_ROOM)

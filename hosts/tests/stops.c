@@ -1,5 +1,5 @@
-/* stops: a clock, a session and a survey, each started, used, started again in a live handle, refused there, started again and
-   stopped, many times. It shows nothing by itself: in valgrind it shows whether anything was kept. Prints `stops: done`; its
+/* stops: a clock, a session, a survey and an asker, many times. Each is started, used, started again in a live handle, refused there,
+   started again and stopped. It shows nothing by itself: in valgrind it shows whether anything was kept. Prints `stops: done`; its
    status is 1 if a call doesn't answer as it has to. */
 #include "ptpm.h"
 #include <stdio.h>
@@ -133,10 +133,57 @@ static void surveys(struct ptpm_survey *survey) {
     ptpm_survey_stop(survey);
 }
 
+/* A request of an earlier run that is settled, one that is refused, and one that is not begun yet. */
+static void use_asker(struct ptpm_asker *asker) {
+    static const uint8_t text[128] = { 127 };
+    struct ptpm_handed handed;
+    uint8_t octets[PTPM_MOST_OCTETS];
+    size_t size;
+    uint16_t error;
+    expect(ptpm_asker_settle(asker, 0, 1, 0, &handed), PTPM_ASKED, "asker_settle");
+    expect(ptpm_asker_message(asker, octets, sizeof octets, &size), PTPM_ASKED, "asker_message");
+    size = answer_of(7, 0x01, octets);
+    expect(ptpm_asker_hear(asker, octets, size, &handed), PTPM_ASKED, "asker_hear");
+    expect(handed.what, PTPM_NOTE_ANSWER, "asker_hear hands out and");
+    expect(ptpm_asker_report(asker, octets, sizeof octets, &size, &error), PTPM_VALUE, "asker_report");
+    expect(ptpm_asker_noted(asker, &handed), PTPM_ASKED, "asker_noted");
+    expect(ptpm_asker_saved(asker, 0, &handed), PTPM_ASKED, "asker_saved");
+    expect(ptpm_asker_ask(asker, 0, 2, PTPM_SET, PTPM_ID_USER_DESCRIPTION, 0, text, 3, 0, &handed), PTPM_BAD_VALUE,
+           "asker_ask that is refused");
+    expect(ptpm_asker_ask(asker, 0, 2, PTPM_SET, PTPM_ID_USER_DESCRIPTION, 0, text, sizeof text, 0, &handed), PTPM_ASKED, "asker_ask");
+    expect(handed.what, PTPM_SAVE_IT, "asker_ask hands out and");
+}
+
+static void askers(struct ptpm_asker *asker, struct ptpm_session *session) {
+    static const uint8_t drawn[26];
+    struct ptpm_asker_settings settings = {
+        .session = { .port = 1, .target_ports = 1, .first = 7, .hops = 1, .attempts = 2 }, .nobody = 61440, .timeout = 200,
+    };
+    uint8_t image[PTPM_SESSION_IMAGE_OCTETS];
+    size_t size;
+    memcpy(settings.session.clock, manager, 8);
+    memcpy(settings.session.target, target, 8);
+    expect(ptpm_session_start(session, &settings.session), PTPM_STARTED, "session_start");
+    expect(ptpm_session_begin(session, PTPM_GET, PTPM_ID_PRIORITY1, 0, image, 0), PTPM_BEGUN, "session_begin");
+    expect(ptpm_session_image(session, image, sizeof image, &size), PTPM_SAVED, "session_image");
+    ptpm_session_stop(session);
+    expect(ptpm_asker_start(asker, &settings, drawn), PTPM_STARTED, "asker_start");
+    expect(ptpm_asker_restore(asker, &settings, drawn, image, size), PTPM_ASKER_RESTORED, "asker_restore in a live handle");
+    use_asker(asker);
+    expect(ptpm_asker_restore(asker, &settings, drawn, image, size - 1), PTPM_DAMAGED, "asker_restore that is refused");
+    expect(ptpm_asker_restore(asker, &settings, drawn, image, size), PTPM_ASKER_RESTORED, "asker_restore after it");
+    use_asker(asker);
+    settings.session.target_ports = 0;
+    expect(ptpm_asker_start(asker, &settings, drawn), PTPM_NO_PORTS, "asker_start that is refused");
+    ptpm_asker_stop(asker);
+    ptpm_asker_stop(asker);
+}
+
 int main(void) {
     static struct ptpm_clock clock;
     static struct ptpm_session session;
     static struct ptpm_survey survey;
+    static struct ptpm_asker asker;
     uint8_t request[GET_SIZE] = { 0x0d, 0x12, 0, GET_SIZE };
     memcpy(request + 20, manager, 8);
     memcpy(request + 34, target, 8);
@@ -148,6 +195,7 @@ int main(void) {
         clocks(&clock, request);
         sessions(&session);
         surveys(&survey);
+        askers(&asker, &session);
     }
     puts("stops: done");
     return 0;

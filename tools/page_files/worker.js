@@ -10,10 +10,24 @@ async function unpacked(text) {
     return new Response(stream).arrayBuffer();
 }
 
-/* What a call of the program wrote, as texts. */
-function textsOf({ status, out, err, stopped }) {
+/* Octets that came in pieces, as one text. */
+function textOf(pieces) {
     const decoder = new TextDecoder();
-    return { status, out: decoder.decode(out), err: decoder.decode(err) + stopped };
+    return pieces.map((piece) => decoder.decode(piece, { stream: true })).join('') + decoder.decode();
+}
+
+/* A call of the program, whose whole input is here: its status, and what it wrote as texts. */
+function called(module, { words, input }) {
+    const written = { 1: [], 2: [] };
+    let taken = 0;
+    const read = (size) => {
+        const piece = input.subarray(taken, taken + size);
+        taken += piece.length;
+        return piece;
+    };
+    const write = (stream, octets) => written[stream].push(octets);
+    const { status, stopped } = callProgram(module, words, { read, write });
+    return { status, out: textOf(written[1]), err: textOf(written[2]) + stopped };
 }
 
 async function answer({ program, number, calls }) {
@@ -23,7 +37,7 @@ async function answer({ program, number, calls }) {
     }
     const began = performance.now();
     const module = await compiled;
-    const results = calls.map(({ words, input }) => textsOf(callProgram(module, words, input)));
+    const results = calls.map((call) => called(module, call));
     postMessage({ number, results, milliseconds: performance.now() - began });
 }
 

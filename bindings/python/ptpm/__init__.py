@@ -19,6 +19,7 @@ from .asking import NoAnswer
 from .changed import Changed, ClockMembers, PortMembers
 from .clock import Clock, Handled
 from .data_sets import ClockQuality, CurrentDataSet, DefaultDataSet, ParentDataSet, PortDataSet, TimePropertiesDataSet
+from .errors import PtpmError
 from .identity import Identity, PortIdentity
 from .ids import Action, ManagementId, error_name, id_name, id_of
 from .members import data_field, members
@@ -28,12 +29,14 @@ from .passing import PassedOn, Rate
 from .report import Report
 from .requests import Requests, SessionSettings
 from .saving_clock import SavingClock, Turn
+from .saving_session import SavingSession
 from .session import Session
 from .session_file import DamagedFileError, SessionFile, SessionFileError, usual_path
-from .settings import ClockSettings, DelayMechanism, Manager, PortSettings, PortState, Rights, time_interval
+from .settings import ClockSettings, DelayMechanism, Manager, PortSettings, PortState, Rights
 from .site import SiteError, site
 from .site_tree import Domain, Finding, Site, SiteClock, read_site
-from .survey import Survey, SurveySettings, survey
+from .survey import SURVEY_PORT, Survey, SurveySettings, survey
+from .time_interval import TimeInterval, time_interval
 from .transport import Transport, UdpTransport, UnixTransport
 
 __all__ = [
@@ -41,8 +44,9 @@ __all__ = [
     "ClockSettings", "CurrentDataSet", "DamagedFileError", "data_field", "DefaultDataSet", "DelayMechanism", "Domain",
     "Error", "error_name", "Finding", "get", "HandleAnswer", "Handled", "id_name", "id_of", "Identity", "ManagementId",
     "Manager", "members", "NoAnswer", "ObservedClock", "ObservedGrandmaster", "ObservedPort", "ParentDataSet",
-    "PassedOn", "PortDataSet", "PortIdentity", "PortMembers", "PortSettings", "PortState", "Rate", "read_site",
-    "Report", "Requests", "Rights", "SavingClock", "Session", "SessionAnswer", "SessionFile", "SessionFileError", "SessionSettings",
-    "Site", "site", "SiteClock", "SiteError", "Survey", "survey", "SurveyAnswer", "SurveySettings", "time_interval",
-    "TimePropertiesDataSet", "Transport", "Turn", "UdpTransport", "UnixTransport", "usual_path",
+    "PassedOn", "PortDataSet", "PortIdentity", "PortMembers", "PortSettings", "PortState", "PtpmError", "Rate", "read_site",
+    "Report", "Requests", "Rights", "SavingClock", "SavingSession", "Session", "SessionAnswer", "SessionFile", "SessionFileError",
+    "SessionSettings",
+    "Site", "site", "SiteClock", "SiteError", "Survey", "survey", "SURVEY_PORT", "SurveyAnswer", "SurveySettings", "time_interval",
+    "TimeInterval", "TimePropertiesDataSet", "Transport", "Turn", "UdpTransport", "UnixTransport", "usual_path",
 ]

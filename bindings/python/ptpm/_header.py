@@ -135,6 +135,7 @@ PTPM_MOST_OCTETS = 1472
 PTPM_SESSION_IMAGE_OCTETS = 1478
 PTPM_CLOCK_IMAGE_OCTETS = 27185
 PTPM_MOST_ANSWERS = 512
+PTPM_SURVEY_PORT = 65534
 
 # Answers that several kinds of calls give.
 PTPM_SAVING = 0
@@ -159,6 +160,7 @@ PTPM_NO_MEMORY = 35
 PTPM_NO_SESSION = 37
 PTPM_IDLE = 43
 PTPM_NO_SURVEY = 46
+PTPM_NO_ASKER = 120
 PTPM_OTHER_SIZES = 47
 PTPM_GRANDMASTER_DIFFERS = 50
 PTPM_TOO_MANY_MANAGERS = 51
@@ -281,6 +283,7 @@ PTPM_SEND_NO_SESSION = 37
 PTPM_SEND_IDLE = 43
 PTPM_GAVE_UP = 44
 PTPM_SEND_NO_SURVEY = 46
+PTPM_SEND_UNSAVED = 118
 
 # enum ptpm_resumed.
 PTPM_RESUMED = 0
@@ -346,6 +349,7 @@ PTPM_REPORT_NO_ROOM = 34
 PTPM_REPORT_NO_SESSION = 37
 PTPM_NO_REPORT = 45
 PTPM_REPORT_NO_SURVEY = 46
+PTPM_REPORT_NO_ASKER = 120
 
 # enum ptpm_saved.
 PTPM_SAVED = 0
@@ -376,6 +380,50 @@ PTPM_UNKNOWN_ID = 114
 PTPM_WORD_COUNT = 115
 PTPM_OTHER_NAME = 116
 PTPM_NO_VALUE = 117
+
+# enum ptpm_asker_restored.
+PTPM_ASKER_RESTORED = 0
+PTPM_ASKER_RESTORE_NO_MEMORY = 35
+PTPM_ASKER_RESTORE_NO_PORTS = 48
+PTPM_ASKER_RESTORE_TOO_MANY_PORTS = 49
+PTPM_ASKER_RESTORE_MANAGER_IS_EVERY = 53
+PTPM_ASKER_RESTORE_TARGET_IS_EVERY = 54
+PTPM_ASKER_RESTORE_SAME_CLOCK = 55
+PTPM_ASKER_RESTORE_TARGET_IS_ZERO = 57
+PTPM_ASKER_RESTORE_NOT_AN_IMAGE = 104
+PTPM_ASKER_RESTORE_OTHER_VERSION = 105
+PTPM_ASKER_RESTORE_OTHER_KIND = 106
+PTPM_ASKER_RESTORE_DAMAGED = 107
+PTPM_ASKER_RESTORE_OTHER_SESSION = 110
+
+# enum ptpm_asked.
+PTPM_ASKED = 0
+PTPM_ASK_NO_ROOM = 34
+PTPM_ASK_NO_MEMORY = 35
+PTPM_ASK_BUSY = 38
+PTPM_ASK_NEEDS_PORT = 39
+PTPM_ASK_NOT_PERMITTED = 40
+PTPM_ASK_BAD_VALUE = 41
+PTPM_ASK_COUNT_AT_MAXIMUM = 42
+PTPM_ASK_IDLE = 43
+PTPM_ASK_OUT_OF_REACH = 112
+PTPM_ASK_NO_ASKER = 120
+
+# What an asker hands out.
+PTPM_NOTHING = 0
+PTPM_NOTE_BEGUN = 1
+PTPM_SAVE_IT = 2
+PTPM_SEND_IT = 3
+PTPM_SEND_READ = 4
+PTPM_WAIT = 5
+PTPM_NOTE_ANSWER = 6
+PTPM_FAILED = 7
+
+# What an earlier run left under way.
+PTPM_NOTHING_LEFT = 0
+PTPM_QUESTION_LEFT = 1
+PTPM_GET_LEFT = 2
+PTPM_CHANGE_LEFT = 3
 
 # What ptpm_id_named answers if no id has the name.
 PTPM_NO_ID = 65536
@@ -593,6 +641,34 @@ class ptpm_rate(Structure):
     ]
 
 
+class ptpm_asker(Structure):
+    _fields_ = [
+        ("at", c_void_p),
+        ("live", c_bool),
+        ("restored", c_uint8),
+    ]
+
+
+class ptpm_asker_settings(Structure):
+    _fields_ = [
+        ("session", ptpm_session_settings),
+        ("nobody", c_uint16),
+        ("timeout", c_uint32),
+        ("wait", c_uint32),
+    ]
+
+
+class ptpm_handed(Structure):
+    _fields_ = [
+        ("tag", c_uint64),
+        ("time", c_uint64),
+        ("what", c_uint32),
+        ("number", c_uint16),
+        ("was_sent", c_bool),
+        ("is_read_answered", c_bool),
+    ]
+
+
 # What a call answers, and what it takes.
 CALLS: Dict[str, Tuple[Any, List[Any]]] = {
     "ptpm_version": (c_uint32, []),
@@ -656,6 +732,12 @@ CALLS: Dict[str, Tuple[Any, List[Any]]] = {
     "ptpm_session_retune": (c_uint32, [POINTER(ptpm_session), c_uint8]),
     "ptpm_session_receive": (c_uint32, [POINTER(ptpm_session), c_char_p, c_size_t]),
     "ptpm_session_image": (c_uint32, [POINTER(ptpm_session), POINTER(c_uint8), c_size_t, POINTER(c_size_t)]),
+    "ptpm_session_saving": (c_uint32, [POINTER(ptpm_session)]),
+    "ptpm_session_image_of": (
+        c_uint32,
+        [POINTER(ptpm_session), POINTER(c_uint8), c_size_t, POINTER(c_size_t), POINTER(c_uint64)],
+    ),
+    "ptpm_session_saved": (c_uint32, [POINTER(ptpm_session), c_uint64]),
     "ptpm_session_restore": (c_uint32, [POINTER(ptpm_session), POINTER(ptpm_session_settings), c_char_p, c_size_t]),
     "ptpm_session_issued": (c_uint64, [POINTER(ptpm_session)]),
     "ptpm_session_report": (c_uint32, [POINTER(ptpm_session), POINTER(c_uint8), c_size_t, POINTER(c_size_t), POINTER(c_uint16)]),
@@ -670,6 +752,24 @@ CALLS: Dict[str, Tuple[Any, List[Any]]] = {
         [POINTER(ptpm_survey), c_size_t, POINTER(ptpm_source), POINTER(c_uint8), c_size_t, POINTER(c_size_t), POINTER(c_uint16)],
     ),
     "ptpm_survey_stop": (None, [POINTER(ptpm_survey)]),
+    "ptpm_asker_start": (c_uint32, [POINTER(ptpm_asker), POINTER(ptpm_asker_settings), c_char_p]),
+    "ptpm_asker_restore": (c_uint32, [POINTER(ptpm_asker), POINTER(ptpm_asker_settings), c_char_p, c_char_p, c_size_t]),
+    "ptpm_asker_ask": (
+        c_uint32,
+        [POINTER(ptpm_asker), c_uint64, c_uint64, c_uint8, c_uint16, c_uint16, c_char_p, c_size_t, c_uint8, POINTER(ptpm_handed)],
+    ),
+    "ptpm_asker_settle": (c_uint32, [POINTER(ptpm_asker), c_uint64, c_uint64, c_uint8, POINTER(ptpm_handed)]),
+    "ptpm_asker_let_go": (c_uint32, [POINTER(ptpm_asker), POINTER(ptpm_handed)]),
+    "ptpm_asker_hear": (c_uint32, [POINTER(ptpm_asker), c_char_p, c_size_t, POINTER(ptpm_handed)]),
+    "ptpm_asker_wake": (c_uint32, [POINTER(ptpm_asker), c_uint64, POINTER(ptpm_handed)]),
+    "ptpm_asker_unsent": (c_uint32, [POINTER(ptpm_asker), POINTER(ptpm_handed)]),
+    "ptpm_asker_saved": (c_uint32, [POINTER(ptpm_asker), c_uint64, POINTER(ptpm_handed)]),
+    "ptpm_asker_noted": (c_uint32, [POINTER(ptpm_asker), POINTER(ptpm_handed)]),
+    "ptpm_asker_message": (c_uint32, [POINTER(ptpm_asker), POINTER(c_uint8), c_size_t, POINTER(c_size_t)]),
+    "ptpm_asker_image": (c_uint32, [POINTER(ptpm_asker), POINTER(c_uint8), c_size_t, POINTER(c_size_t)]),
+    "ptpm_asker_earlier": (c_uint32, [POINTER(ptpm_asker), c_uint8, POINTER(c_uint8)]),
+    "ptpm_asker_report": (c_uint32, [POINTER(ptpm_asker), POINTER(c_uint8), c_size_t, POINTER(c_size_t), POINTER(c_uint16)]),
+    "ptpm_asker_stop": (None, [POINTER(ptpm_asker)]),
     "ptpm_passed_on_is_first": (c_bool, [POINTER(ptpm_passed_on), c_char_p, c_size_t, c_uint64, c_uint64]),
     "ptpm_rate_start": (None, [POINTER(ptpm_rate), c_uint64, c_uint64]),
     "ptpm_rate_take": (c_bool, [POINTER(ptpm_rate), c_uint64]),
@@ -702,4 +802,7 @@ STRUCTS: List[Type[Structure]] = [
     ptpm_source,
     ptpm_passed_on,
     ptpm_rate,
+    ptpm_asker,
+    ptpm_asker_settings,
+    ptpm_handed,
 ]

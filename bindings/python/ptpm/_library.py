@@ -14,12 +14,15 @@ _SONAME = "libptpm.so.0"
 
 
 def _path() -> str:
-    """The path of the library: what PTPM_LIBRARY names, that of this file's repository, or the loader's."""
+    """The path of the library: what PTPM_LIBRARY names, that of a wheel, that of this file's repository, or the loader's."""
     named = os.environ.get("PTPM_LIBRARY")
     if named:
         return named
-    built = Path(__file__).resolve().parents[3] / "hosts" / _SONAME
-    return str(built) if built.exists() else _SONAME
+    here = Path(__file__).resolve()
+    for path in (here.parent / _SONAME, *(folder / "hosts" / _SONAME for folder in here.parents[3:4])):
+        if path.exists():
+            return str(path)
+    return _SONAME
 
 
 def _load() -> ctypes.CDLL:

@@ -6,6 +6,7 @@ from enum import IntEnum
 
 from . import _header as header
 from ._library import library, name_by
+from .errors import PtpmError
 
 
 def answer_name(number: int) -> str:
@@ -13,7 +14,7 @@ def answer_name(number: int) -> str:
     return name_by(library.ptpm_answer_name, number) or str(number)
 
 
-class Error(Exception):
+class Error(PtpmError):
     """A call was refused, and changed nothing."""
 
     def __init__(self, number: int) -> None:

@@ -3,16 +3,17 @@
 from __future__ import annotations
 
 import time
-from typing import Optional, Sequence
+from typing import Callable, Optional, Sequence
 
 from . import _header as header
 from .answers import Error, SessionAnswer
+from .errors import PtpmError
 from .report import Report
 from .requests import Requests
 from .transport import Transport
 
 
-class NoAnswer(Exception):
+class NoAnswer(PtpmError, TimeoutError):
     """A clock did not answer. `was_sent` says whether the request itself was sent: a SET or a COMMAND may then have been carried
     out, once."""
 
@@ -52,13 +53,23 @@ def first_answered(sessions: Sequence[Requests], way: Transport, until: float) -
                 return place
 
 
-def carry_out(session: Requests, way: Transport, timeout: float) -> Report:
-    """Sends the unanswered request until it is answered, or its attempts are used."""
+def _stay() -> None:
+    """A request that did not leave stays unanswered."""
+
+
+def carry_out(session: Requests, way: Transport, timeout: float, take_back: Callable[[], None] = _stay) -> Report:
+    """Sends the unanswered request until it is answered, or its attempts are used. If no message of it left, it is taken back."""
     sent = 0
     while True:
         message = next_message(session)
         if message is None:
+            if sent == 0:
+                take_back()
             raise NoAnswer(f"no answer to {sent} messages", was_sent=sent > 0)
-        sent = send_out(way, message, sent)
+        try:
+            sent = send_out(way, message, sent)
+        except OSError:
+            take_back()
+            raise
         if first_answered([session], way, time.monotonic() + timeout) is not None:
             return session.report()

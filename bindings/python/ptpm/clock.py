@@ -30,6 +30,15 @@ def _array(kind: Any, places: Sequence[Any]) -> Any:
     return (kind * max(len(places), 1))(*places)
 
 
+def _trusted(identity: IdentityLike, managers: Sequence[Manager]) -> Any:
+    """The managers of a clock, as the library takes them. It would take one that has the identity of the clock, and never hear it."""
+    places = [manager.as_in_c() for manager in managers]
+    own = Identity.of(identity).octets
+    if any(bytes(place.clock) == own for place in places):
+        raise ValueError("a manager has the identity of the clock, which hears no such manager")
+    return _array(header.ptpm_manager_settings, places)
+
+
 def port_number(port: int) -> int:
     """A number of a port that fits its type."""
     if not 0 <= port <= 65535:
@@ -48,7 +57,7 @@ class Clock(Handle):
     def __init__(self, settings: ClockSettings, ports: Sequence[PortSettings], managers: Sequence[Manager] = ()) -> None:
         self._begin()
         places = _array(header.ptpm_port_settings, [port.as_in_c() for port in ports])
-        trusted = _array(header.ptpm_manager_settings, [manager.as_in_c() for manager in managers])
+        trusted = _trusted(settings.identity, managers)
         struct = settings.as_in_c()
         done(self._call(library.ptpm_clock_start, ctypes.byref(struct), places, len(ports), trusted, len(managers)))
 
@@ -66,7 +75,7 @@ class Clock(Handle):
         clock = cls.__new__(cls)
         clock._begin()
         gone = ctypes.c_size_t()
-        trusted = _array(header.ptpm_manager_settings, [manager.as_in_c() for manager in managers])
+        trusted = _trusted(identity, managers)
         octets, own = bytes(image), Identity.of(identity).octets
         words = (own, ports, trusted, len(managers), octets, len(octets), ctypes.byref(gone))
         done(clock._call(library.ptpm_clock_restore, *words))

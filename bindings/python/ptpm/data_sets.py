@@ -9,6 +9,7 @@ from typing import Any, Callable, Dict, Mapping, Optional, Type, TypeVar
 
 from .identity import Identity, PortIdentity
 from .settings import PortState
+from .time_interval import TimeInterval
 
 _Read = TypeVar("_Read")
 
@@ -40,6 +41,16 @@ class CurrentDataSet:
     steps_removed: int
     offset_from_master: Decimal
     mean_delay: Decimal
+
+    @property
+    def offset_from_master_ns(self) -> Decimal:
+        """The same in a name that says that it is in nanoseconds."""
+        return self.offset_from_master
+
+    @property
+    def mean_delay_ns(self) -> Decimal:
+        """As above."""
+        return self.mean_delay
 
 
 @dataclass(frozen=True)
@@ -81,6 +92,11 @@ class PortDataSet:
     log_min_pdelay_req_interval: int
     version_number: int
 
+    @property
+    def mean_link_delay_ns(self) -> Decimal:
+        """The same in a name that says that it is in nanoseconds."""
+        return self.mean_link_delay
+
 
 def number_of(value: Any) -> int:
     """A whole number of JSON, which is no flag."""
@@ -105,9 +121,7 @@ def text_of(value: Any) -> str:
 
 def interval(scaled: int) -> Decimal:
     """A TimeInterval (5.3.2), in nanoseconds times 2^16, as nanoseconds with all digits of their fraction."""
-    whole, fraction = divmod(abs(scaled), 65536)
-    digits = str(whole) + f"{fraction * 5**16:016d}"  # a part of 2^16 has sixteen digits after the point
-    return Decimal(f"{'-' if scaled < 0 else ''}{digits[:-16]}.{digits[-16:].rstrip('0') or '0'}")
+    return TimeInterval(scaled).nanoseconds
 
 
 def nanoseconds_of(value: Any) -> Decimal:

@@ -65,8 +65,7 @@ class ObservedClock:
         """As the library takes it."""
         struct = header.ptpm_observed_clock(is_grandmaster=int(self.is_grandmaster))
         for member in _PLAIN:
-            value = getattr(self, member)
-            write_given(struct, member, None if value is None else int(value))
+            write_given(struct, member, getattr(self, member))
         if self.grandmaster is not None:
             self.grandmaster.write_to(struct)
         return struct

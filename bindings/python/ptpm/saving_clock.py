@@ -39,7 +39,7 @@ class SavingClock:
     unsaved, and each datagram is refused (UNSAVED) until `save` is done.
 
     >>> from ptpm import ClockSettings, Manager, PortSettings
-    >>> manager = Manager("0011223344556677/1", clock_set=True)
+    >>> manager = Manager("0011223344556677/1")
     >>> clock = SavingClock(Clock(ClockSettings("aabbccfffeddee01"), [PortSettings()], [manager]))
     >>> stored = []
     >>> with clock.save() as turn:  # a clock that was started is not saved yet

@@ -173,6 +173,12 @@ class Session(Requests):
         if self._file is not None:
             self._file.write(self.image())
 
+    def _take_back(self) -> None:
+        """The latest request did not leave: its number is that of the next one, and no later run sends it."""
+        self._start(replace(self.settings, first=(self.next_number - 1) % 65536))
+        if self._file is not None:
+            self._file.write(self.image())
+
     def ask(
         self,
         way: Transport,
@@ -196,7 +202,7 @@ class Session(Requests):
             if not self._is_fresh:
                 self._find_number(way, number, port, timeout)
             self._begin(action, number, data, port)
-            return carry_out(self, way, timeout)
+            return carry_out(self, way, timeout, self._take_back)
 
     def go_on(self, way: Transport, attempts: int = 30, *, timeout: float = 0.2) -> Report:
         """Asks the unanswered request again. The clock still carries it out once. If it is one of an earlier run, what became

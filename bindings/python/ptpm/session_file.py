@@ -15,6 +15,7 @@ from typing import Optional, Set, Union
 from . import _header as header
 from . import seal
 from .answers import Error
+from .errors import PtpmError
 from .identity import Identity, IdentityLike, PortIdentity, PortIdentityLike
 
 _TURN = 60.0
@@ -27,7 +28,7 @@ _own: Set[str] = set()
 _own_turn = threading.Lock()
 
 
-class SessionFileError(Exception):
+class SessionFileError(PtpmError):
     """A file is held by another, or is not a file."""
 
 

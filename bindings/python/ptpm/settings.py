@@ -3,6 +3,7 @@
 from __future__ import annotations
 
 import ctypes
+import operator
 from dataclasses import dataclass
 from enum import IntEnum, IntFlag
 from typing import Any, Optional
@@ -10,6 +11,10 @@ from typing import Any, Optional
 from . import _header as header
 from ._library import library
 from .identity import Identity, IdentityLike, PortIdentity, PortIdentityLike
+from .time_interval import time_interval as time_interval
+
+# The members that are TimeIntervals.
+TIME_INTERVALS = ("offset_from_master", "mean_path_delay", "peer_delay")
 
 
 class PortState(IntEnum):
@@ -44,14 +49,13 @@ class Rights(IntFlag):
     ALL = CLOCK_SET | PORT_SET | PORT_COMMAND
 
 
-def time_interval(nanoseconds: float) -> int:
-    """The TimeInterval (5.3.2) of N nanoseconds, which the members of a clock take: N times 2^16."""
-    return round(nanoseconds * 65536)
-
-
 def write_number(struct: ctypes.Structure, member: str, value: int) -> None:
-    """Writes a member, and refuses a value that does not fit it. ctypes would cut it off."""
-    setattr(struct, member, value)
+    """Writes a member, and refuses a value that does not fit it. ctypes would cut it off. What is no whole number is refused too
+    (TypeError): an offset is no number of nanoseconds here, but a TimeInterval."""
+    if not hasattr(value, "__index__"):
+        interval = " of nanoseconds: TimeInterval.from_nanoseconds has what it takes" if member in TIME_INTERVALS else ""
+        raise TypeError(f"{member} takes no {value!r}{interval}")
+    setattr(struct, member, operator.index(value))
     if getattr(struct, member) != value:
         raise OverflowError(f"{member} takes no {value}")
 
@@ -125,7 +129,7 @@ class ClockSettings:
         for member in _PLAIN:
             value = getattr(self, member)
             if value is not None:
-                write_number(struct, member, int(value))
+                write_number(struct, member, value)
         return struct
 
 
@@ -166,8 +170,10 @@ class Manager:
     rights: Rights = Rights.ALL
 
     def as_in_c(self) -> header.ptpm_manager_settings:
-        """As the library takes it."""
+        """As the library takes it. A ValueError for rights that are none of these: the library would take them."""
         identity = PortIdentity.of(self.identity)
+        if not 0 <= self.rights <= Rights.ALL:
+            raise ValueError(f"rights are a sum of the three, and not {int(self.rights)}")
         struct = header.ptpm_manager_settings(port=identity.port, rights=int(self.rights))
         write_octets(struct, "clock", identity.clock.octets)
         return struct

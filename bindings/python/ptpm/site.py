@@ -11,6 +11,7 @@ import time
 from pathlib import Path
 from typing import Iterable, List, Optional, Sequence, Tuple, Union
 
+from .errors import PtpmError
 from .site_tree import Site, read_site
 
 _FOUND, _NO_CLOCK = 1, 3
@@ -24,7 +25,7 @@ PASSING = frozenset((
 ))
 
 
-class SiteError(Exception):
+class SiteError(PtpmError):
     """A program did not show a site: what it said, and its exit status, which is None if it did not run to its end. Status 3
     means that no clock answered."""
 

@@ -5,7 +5,7 @@ from __future__ import annotations
 import ctypes
 import time
 from dataclasses import dataclass
-from typing import Iterator, Optional
+from typing import Generator, Iterator, Optional
 
 from . import _header as header
 from ._library import Handle, library
@@ -18,6 +18,7 @@ from .report import MOST_DATA, Report, told
 from .settings import write_number, write_octets
 from .transport import Transport
 
+SURVEY_PORT: int = header.PTPM_SURVEY_PORT
 # Rounds without a new answer that end a survey: if somebody answered, and if nobody did.
 _QUIET = 2
 _QUIET_AT_FIRST = 5
@@ -26,7 +27,7 @@ _QUIET_AT_FIRST = 5
 @dataclass(frozen=True)
 class SurveySettings:
     """One manager, and the GET that it sends to every port of every clock, or of one. Each survey gets a number that is not on its
-    way any more."""
+    way any more. With port 0 the manager asks from SURVEY_PORT, which no session has."""
 
     manager: PortIdentityLike
     number: int
@@ -48,8 +49,8 @@ class SurveySettings:
 class Survey(Handle):
     """What a survey asks, and its answers: the first of each port, of 512 ports at most.
 
-    A session of the same portIdentity may treat an answer as its own. So the manager here has no session: for example, it is
-    another port number of the same clockIdentity.
+    A session of the same portIdentity may treat an answer as its own. So the manager here has no session: it is another port number
+    of the same clockIdentity, and with port 0 it is SURVEY_PORT.
 
     With a target every port of that clock is asked, and no other clock answers. A clock treats such a GET from one of its
     managers as a numbered request, like one of a session. So the manager must not be one of them then either. """
@@ -109,7 +110,7 @@ def survey(
     hops: int = 1,
     attempts: int = 30,
     timeout: float = 0.2,
-) -> Iterator[Report]:
+) -> Generator[Report, None, None]:
     """Asks every clock, and yields the answers as they come. It asks again until two rounds bring no new answer, or five if nobody
     has answered, and `attempts` times at most. `manager` is who asks, and has no session: a session of the same portIdentity may
     treat an answer as its own. By default it is a port of this process that no session has."""

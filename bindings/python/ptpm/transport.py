@@ -9,6 +9,7 @@ import fcntl
 import ipaddress
 import itertools
 import os
+import select
 import selectors
 import socket
 import struct
@@ -94,6 +95,7 @@ class Transport:
         self._heard = [opened, *beside]
         self._to = to
         self._name = name or (to if isinstance(to, str) else to[0])
+        self._waiting: Optional[select.epoll] = None
         for one in self._heard:
             one.setblocking(False)
 
@@ -105,8 +107,19 @@ class Transport:
 
     def close(self) -> None:
         """Closes the sockets."""
+        if self._waiting is not None:
+            self._waiting.close()
         for one in self._heard:
             one.close()
+
+    def fileno(self) -> int:
+        """A descriptor that can be read when something has come in at one of the sockets: for `select`, and `add_reader` of asyncio.
+        `take` then reads it."""
+        if self._waiting is None:
+            self._waiting = select.epoll()
+            for one in self._heard:
+                self._waiting.register(one, select.EPOLLIN)
+        return self._waiting.fileno()
 
     def send(self, octets: bytes) -> bool:
         """Sends a message; whether there was room for it. An OSError says that there is no transport."""
@@ -135,12 +148,26 @@ class Transport:
             found = self._readable(left) if left > 0 else []
             if not found:
                 return None
-            try:
-                message = self._message_of(found[0], found[0].recv(MOST_DATAGRAM))
-            except OSError:
-                continue  # as an ICMP of an earlier message
+            message = self._read(found[0])
             if message is not None:
                 return message
+
+    def take(self) -> Optional[bytes]:
+        """A datagram that has come in, or None if there is none. It does not wait."""
+        while True:
+            found = self._readable(0)
+            if not found:
+                return None
+            message = self._read(found[0])
+            if message is not None:
+                return message
+
+    def _read(self, opened: socket.socket) -> Optional[bytes]:
+        """The message that a socket has. None for what is none, and for an error such as an ICMP of an earlier message."""
+        try:
+            return self._message_of(opened, opened.recv(MOST_DATAGRAM))
+        except OSError:
+            return None
 
     def _message_of(self, opened: socket.socket, octets: bytes) -> Optional[bytes]:
         """The message in what a socket heard."""

@@ -76,6 +76,22 @@ class Losing(ptpm.Transport):
 
 
 @unittest.skipUnless((TOP / "hosts/clock").exists(), "hosts/clock is not built")
+class Failing(ptpm.Transport):
+    """A way that fails after so many messages."""
+
+    def __init__(self, way: ptpm.Transport, left: int) -> None:  # it has no socket of its own
+        self._way, self._left = way, left
+
+    def send(self, octets: bytes) -> bool:
+        if self._left == 0:
+            raise OSError("there is no way")
+        self._left -= 1
+        return self._way.send(octets)
+
+    def receive(self, until: float) -> Optional[bytes]:
+        return self._way.receive(until)
+
+
 class Asking(Folder):
     def setUp(self) -> None:
         super().setUp()
@@ -394,6 +410,19 @@ class Asking(Folder):
             with ptpm.Session(settings, file, wait=0) as session, self.assertRaises(ptpm.NoAnswer):
                 session.ask(self.way, ptpm.Action.GET, "PRIORITY1", timeout=0.05)
         self.assertEqual([name for name in os.listdir(self.folder) if name.startswith("session")], [])
+
+    def test_a_request_that_did_not_leave_is_taken_back(self) -> None:
+        settings = ptpm.SessionSettings(MANAGER, CLOCK, attempts=2)
+        with ptpm.SessionFile(MANAGER, CLOCK) as file:
+            session = ptpm.Session(settings, file, wait=0)
+            with self.assertRaises(OSError):  # the question leaves, and the SET does not
+                session.ask(Failing(self.way, 1), ptpm.Action.SET, "PRIORITY1", 100, timeout=1)
+            number = session.next_number
+            self.assertFalse(session.is_busy())
+        with ptpm.SessionFile(MANAGER, CLOCK) as file, ptpm.Session(settings, file) as session:
+            self.assertEqual((session.is_under_way, session.next_number), (False, number))
+            session.ask(self.way, ptpm.Action.SET, "PRIORITY2", 7, timeout=1)
+        self.assertEqual(ptpm.get(self.way, CLOCK, "PRIORITY1").members, {"priority1": 128})
 
     def test_the_command_line(self) -> None:
         def run(*words: str) -> "tuple[int, str]":

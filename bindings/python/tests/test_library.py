@@ -27,7 +27,7 @@ PORT = ptpm.PortSettings(0x0A0B0C0D0E0F1A1B, ptpm.PortState.PRE_MASTER, -11, 3, 
 
 def load_tests(_loader: unittest.TestLoader, tests: unittest.TestSuite, _pattern: object) -> unittest.TestSuite:
     """The examples of the module too."""
-    for name in ("ptpm.identity", "ptpm.members", "ptpm.clock"):
+    for name in ("ptpm.identity", "ptpm.members", "ptpm.clock", "ptpm.saving_clock", "ptpm.saving_session", "ptpm.time_interval"):
         tests.addTests(doctest.DocTestSuite(name))
     return tests
 
@@ -137,6 +137,31 @@ class Clocks(unittest.TestCase):
                 lambda: ptpm.SessionSettings(MANAGER, CLOCK, 65536).as_in_c(),
             ):
                 self.assertRaises(OverflowError, call)
+
+    def test_an_offset_is_no_number_of_nanoseconds(self) -> None:
+        """CURRENT_DATA_SET has it times 2^16 (15.5.3.4.1). What a data set gives back in nanoseconds is not taken for that."""
+        for wrong in (1.5, Decimal("-0.5")):
+            with clock() as asked, self.assertRaisesRegex(TypeError, "TimeInterval.from_nanoseconds"):
+                asked.observe(ptpm.ObservedClock(offset_from_master=wrong))  # type: ignore[arg-type]
+            with self.assertRaisesRegex(TypeError, "TimeInterval.from_nanoseconds"):
+                ptpm.ClockSettings(CLOCK, mean_path_delay=wrong).as_in_c()  # type: ignore[arg-type]
+        with clock() as asked:
+            asked.observe(ptpm.ObservedClock(offset_from_master=ptpm.TimeInterval.from_nanoseconds(Decimal("-0.5"))))
+            self.assertEqual(asked.read("CURRENT_DATA_SET").hex(), "0000" + "ffffffffffff8000" + "0" * 16)
+
+    def test_managers_that_no_clock_hears_are_refused(self) -> None:
+        for rights in (8, 255, 256, -1):
+            with self.assertRaisesRegex(ValueError, "a sum of the three"):
+                ptpm.Manager(MANAGER, ptpm.Rights(rights) if rights > 0 else rights).as_in_c()  # type: ignore[arg-type]
+        own = [ptpm.Manager(f"{CLOCK}/2")]
+        with self.assertRaisesRegex(ValueError, "the identity of the clock"):
+            ptpm.Clock(ptpm.ClockSettings(CLOCK), [ptpm.PortSettings()], own)
+        with clock() as asked, self.assertRaisesRegex(ValueError, "the identity of the clock"):
+            ptpm.Clock.restore(CLOCK, 2, own, asked.image())
+
+    def test_errors_have_one_class(self) -> None:
+        for kind in (ptpm.Error, ptpm.NoAnswer, ptpm.SessionFileError, ptpm.DamagedFileError, ptpm.SiteError):
+            self.assertTrue(issubclass(kind, ptpm.PtpmError))
 
     def test_a_handle_is_not_copied(self) -> None:
         with clock() as asked:

@@ -4,6 +4,7 @@ ptpm of the repository."""
 from __future__ import annotations
 
 import os
+import re
 import subprocess
 import sys
 import unittest
@@ -41,11 +42,11 @@ def lines(name: str) -> List[str]:
 
 
 def rows_of_text(name: str) -> List[Tuple[int, str]]:
-    """The clocks of the tree that ptpm prints, each with the number of rows above it up to its root."""
+    """The clocks of the tree that ptpm prints, each with the number of rows above it up to its root. Other lines begin with a word."""
     words = [str(TOP / "ptpm"), "site"]
     printed = subprocess.run(words, input="\n".join(lines(name)) + "\n", capture_output=True, text=True, check=False).stdout
     tree = printed[: printed.index("findings:")].splitlines()
-    clocks = [line for line in tree if line.startswith("  ") and not line.startswith("  not seen:")]
+    clocks = [line for line in tree if re.match(r" +[0-9a-f]{16}\b", line)]
     return [((len(line) - len(line.lstrip())) // 2 - 1, line.split()[0]) for line in clocks]
 
 

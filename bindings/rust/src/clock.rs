@@ -5,6 +5,7 @@ use crate::changed::Changed;
 use crate::error::{done, judged, Error};
 use crate::id::ManagementId;
 use crate::identity::Identity;
+use crate::memory::alone;
 use crate::observation::{ObservedClock, ObservedPort};
 use crate::outbox::{Messages, Outbox};
 use crate::settings::{ClockSettings, Manager, PortSettings};
@@ -78,7 +79,7 @@ impl Clock {
         let settings = settings.as_in_c();
         // SAFETY: the handle is all zeros before this first call. Settings, ports and managers may be read, and are laid out as the
         // library takes them (`settings` asserts it); their sizes are those of the slices.
-        done(unsafe {
+        done(alone(|| unsafe {
             sys::ptpm_clock_start(
                 &mut clock.handle,
                 &settings,
@@ -87,7 +88,7 @@ impl Clock {
                 managers.as_ptr().cast(),
                 managers.len(),
             )
-        })?;
+        }))?;
         Ok(clock)
     }
 
@@ -107,7 +108,7 @@ impl Clock {
         let mut gone = 0;
         // SAFETY: the handle is all zeros before this first call. Identity, managers and image may be read, and the managers are laid
         // out as the library takes them (`settings` asserts it); the sizes are those of the slices. `gone` may be written.
-        done(unsafe {
+        done(alone(|| unsafe {
             sys::ptpm_clock_restore(
                 &mut clock.handle,
                 identity.0.as_ptr(),
@@ -118,7 +119,7 @@ impl Clock {
                 image.len(),
                 &mut gone,
             )
-        })?;
+        }))?;
         Ok((clock, gone))
     }
 
@@ -235,7 +236,7 @@ impl Clock {
 impl Drop for Clock {
     fn drop(&mut self) {
         // SAFETY: the handle holds what its start made, or nothing.
-        unsafe { sys::ptpm_clock_stop(&mut self.handle) }
+        alone(|| unsafe { sys::ptpm_clock_stop(&mut self.handle) });
     }
 }
 

@@ -97,6 +97,7 @@ errors! {
     NoValue = PTPM_NO_VALUE, "a word is no value of the member, or no SET has the member";
     Unsaved = PTPM_UNSAVED, "something is not saved, and nothing is given out before it is";
     OtherImage = PTPM_OTHER_IMAGE, "it was changed since that image was made";
+    NoAsker = PTPM_NO_ASKER, "the handle holds no asker";
 }
 
 /// The number of a call that was done is 0, and every other one an error.

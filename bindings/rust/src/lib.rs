@@ -32,6 +32,12 @@
 //!   other call 2,100. An [`Outbox`] has 22,140 octets: [`Outbox::boxed`] puts them on the heap.
 //! - `malloc`, `realloc` and `free` of the program are those of one allocator.
 //!
+//! # Without std, and without a C library
+//!
+//! The crate is `no_std`. Its feature `alloc`, which is there by default, is for what has texts and octets on Rust's heap. With the
+//! feature `memory` the library has its memory from a block that the host gives (`give_memory`), and calls no `malloc`. It then takes
+//! only `memcpy`, `memmove` and `memset`. `without_std` beside this crate is a program that has no C library.
+//!
 //! A handle is used by one thread at a time: a clock may be moved to another thread, and is shared by none.
 //!
 //! ```compile_fail
@@ -45,41 +51,64 @@
 //! environment names a folder, it links the `libptpm.a` there.
 #![no_std]
 
+#[cfg(feature = "alloc")]
 extern crate alloc;
 
 mod answers;
 mod changed;
 mod clock;
+#[cfg(feature = "alloc")]
+mod data_field;
+mod data_sets;
 mod error;
 mod id;
 mod identity;
 mod members;
+mod memory;
 mod names;
 mod observation;
 mod outbox;
 mod passing;
+pub mod refusals;
 mod report;
 mod saving_clock;
+mod saving_session;
 mod session;
 mod settings;
 mod survey;
 pub mod sys;
+mod time_interval;
 
 pub use answers::{Handled, Received, Surveyed};
 pub use changed::{Changed, ClockMembers, PortMembers};
 pub use clock::{Clock, Ports, Turn, CLOCK_IMAGE_OCTETS, MOST_READ};
+#[cfg(feature = "alloc")]
+pub use data_field::NoField;
+pub use data_sets::{ClockQuality, CurrentDataSet, DataSet, DefaultDataSet, ParentDataSet, PortDataSet, TimePropertiesDataSet};
 pub use error::Error;
 pub use id::{ManagementErrorId, ManagementId, UnknownId};
 pub use identity::{Identity, NoIdentity, PortIdentity};
-pub use members::{Members, NoField};
+pub use members::Members;
+#[cfg(feature = "memory")]
+pub use memory::{clock_memory, give_memory, memory_taken, most_memory_taken, SESSION_MEMORY};
 pub use observation::{ObservedClock, ObservedGrandmaster, ObservedPort};
 pub use outbox::{Messages, Outbox};
 pub use passing::{PassedOn, Rate};
-pub use report::{Answer, Report, MOST_DATA, MOST_OCTETS};
+pub use refusals::{
+    BeginError, GiveUpError, HandleError, ObserveError, ParseError, ReadError, ReceiveError, ReportError, RestoreError,
+    ResumeError, RetuneError, SaveError, SendError, StartError, SurveyError,
+};
+#[cfg(feature = "alloc")]
+pub use report::Answer;
+pub use report::{Report, MOST_DATA, MOST_OCTETS};
 pub use saving_clock::{SavingClock, SavingTurn, Unsaved};
+pub use saving_session::{SavingSession, UnsavedSession};
 pub use session::{Action, Session, SessionSettings, SESSION_IMAGE_OCTETS};
-pub use settings::{ClockSettings, DelayMechanism, Manager, PortSettings, PortState, Rights, TimeInterval};
-pub use survey::{Answers, Survey, SurveySettings};
+pub use settings::{ClockSettings, DelayMechanism, Manager, PortSettings, PortState, Rights};
+#[cfg(feature = "alloc")]
+pub use survey::Answers;
+pub use survey::{Survey, SurveySettings, SURVEY_PORT};
+pub use time_interval::TimeInterval;
 
 /// The version of the library that is linked, as a number: 10,000 times its first part, 100 times the second, and the third.
 pub fn version() -> u32 {

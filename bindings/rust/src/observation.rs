@@ -1,8 +1,9 @@
 //! What a host observes about its clock and its ports.
 
 use crate::identity::{Identity, PortIdentity};
-use crate::settings::{PortState, TimeInterval};
+use crate::settings::PortState;
 use crate::sys;
+use crate::time_interval::TimeInterval;
 
 /// The grandmaster of a clock, which is observed as a whole.
 #[derive(Clone, Copy, Debug, PartialEq, Eq)]
@@ -19,7 +20,7 @@ pub enum ObservedGrandmaster {
 /// ```
 /// use ptpm::{ObservedClock, TimeInterval};
 ///
-/// let observed = ObservedClock { offset_from_master: Some(TimeInterval::of_nanoseconds(-12)), ..ObservedClock::default() };
+/// let observed = ObservedClock { offset_from_master: Some(TimeInterval::from_nanoseconds(-12)), ..ObservedClock::default() };
 /// ```
 #[derive(Clone, Copy, Debug, Default, PartialEq, Eq)]
 #[allow(missing_docs)] // the members of the data sets (8.2), by the header's names

@@ -1,6 +1,7 @@
 //! The places into which a clock writes its messages, and the messages there.
 
 use crate::sys;
+#[cfg(feature = "alloc")]
 use alloc::boxed::Box;
 use core::fmt;
 use core::iter::FusedIterator;
@@ -19,6 +20,7 @@ impl Outbox {
     }
 
     /// Room on the heap.
+    #[cfg(feature = "alloc")]
     pub fn boxed() -> Box<Self> {
         // SAFETY: an outbox is made of places that need not be written.
         unsafe { Box::<Self>::new_uninit().assume_init() }

@@ -2,8 +2,10 @@
 
 use crate::error::{judged, Error};
 use crate::id::ManagementErrorId;
+#[cfg(feature = "alloc")]
 use crate::identity::PortIdentity;
 use crate::sys;
+#[cfg(feature = "alloc")]
 use alloc::vec::Vec;
 
 /// The most octets of a message.
@@ -27,6 +29,7 @@ pub enum Report<'a> {
 }
 
 /// An answer of a survey, with octets of its own.
+#[cfg(feature = "alloc")]
 #[derive(Clone, Debug, PartialEq, Eq)]
 pub struct Answer {
     /// The port that gave it.

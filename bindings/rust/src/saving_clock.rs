@@ -6,6 +6,7 @@ use crate::clock::{Clock, Ports, Turn, CLOCK_IMAGE_OCTETS, MOST_READ};
 use crate::error::{done, Error};
 use crate::id::ManagementId;
 use crate::identity::Identity;
+use crate::memory::alone;
 use crate::observation::{ObservedClock, ObservedPort};
 use crate::outbox::{Messages, Outbox};
 use crate::sys;
@@ -87,7 +88,7 @@ impl SavingClock {
     /// [`Error::NoMemory`]; the clock is dropped then.
     pub fn new(mut clock: Clock) -> Result<Self, Error> {
         // SAFETY: the handle holds a clock.
-        done(unsafe { sys::ptpm_clock_saving(clock.handle_mut()) })?;
+        done(alone(|| unsafe { sys::ptpm_clock_saving(clock.handle_mut()) }))?;
         Ok(Self { clock })
     }
 
@@ -163,9 +164,7 @@ impl Unsaved<'_> {
         let mut count = MaybeUninit::uninit();
         let (sent, room) = outbox.room();
         // SAFETY: the places and the count may be written; the places are borrowed mutably, so they lie apart from the rest.
-        done(unsafe {
-            sys::ptpm_clock_saved(self.clock.clock.handle_mut(), self.token, sent, room, count.as_mut_ptr())
-        })?;
+        done(unsafe { sys::ptpm_clock_saved(self.clock.clock.handle_mut(), self.token, sent, room, count.as_mut_ptr()) })?;
         // SAFETY: the call has written the count, and as many places.
         Ok(unsafe { outbox.messages(count.assume_init()) })
     }

@@ -4,6 +4,7 @@ use crate::answers::Received;
 use crate::error::{done, judged, Error};
 use crate::id::ManagementId;
 use crate::identity::{Identity, PortIdentity};
+use crate::memory::alone;
 use crate::report::{told, Report, MOST_OCTETS};
 use crate::sys;
 use core::fmt;
@@ -114,7 +115,7 @@ impl Session {
         let mut session = Self::none();
         let settings = settings.as_in_c();
         // SAFETY: the handle is all zeros before this first call, and the settings may be read.
-        done(unsafe { sys::ptpm_session_start(&mut session.handle, &settings) })?;
+        done(alone(|| unsafe { sys::ptpm_session_start(&mut session.handle, &settings) }))?;
         Ok(session)
     }
 
@@ -131,8 +132,13 @@ impl Session {
         let mut session = Self::none();
         let settings = settings.as_in_c();
         // SAFETY: the handle is all zeros before this first call. The settings may be read, and so may the octets of the slice.
-        done(unsafe { sys::ptpm_session_restore(&mut session.handle, &settings, image.as_ptr(), image.len()) })?;
+        done(alone(|| unsafe { sys::ptpm_session_restore(&mut session.handle, &settings, image.as_ptr(), image.len()) }))?;
         Ok(session)
+    }
+
+    /// The handle, for calls that only a session that saves has.
+    pub(crate) fn handle_mut(&mut self) -> &mut sys::ptpm_session {
+        &mut self.handle
     }
 
     /// A handle that holds nothing.
@@ -158,7 +164,7 @@ impl Session {
     /// that holds; then nothing changes.
     pub fn begin(&mut self, action: Action, id: ManagementId, port: u16, data: &[u8]) -> Result<(), Error> {
         // SAFETY: the octets and their size are those of a slice, which may be read.
-        done(unsafe { sys::ptpm_session_begin(&mut self.handle, action as u8, id.0, port, data.as_ptr(), data.len()) })
+        done(alone(|| unsafe { sys::ptpm_session_begin(&mut self.handle, action as u8, id.0, port, data.as_ptr(), data.len()) }))
     }
 
     /// Does what [`Session::begin`] does, but names the port for any id. Some clocks answer only if one of their
@@ -169,7 +175,9 @@ impl Session {
     /// Those of [`Session::begin`]: [`Error::NeedsPort`] for each port that the clock lacks.
     pub fn begin_at(&mut self, action: Action, id: ManagementId, port: u16, data: &[u8]) -> Result<(), Error> {
         // SAFETY: the octets and their size are those of a slice, which may be read.
-        done(unsafe { sys::ptpm_session_begin_at(&mut self.handle, action as u8, id.0, port, data.as_ptr(), data.len()) })
+        done(alone(|| unsafe {
+            sys::ptpm_session_begin_at(&mut self.handle, action as u8, id.0, port, data.as_ptr(), data.len())
+        }))
     }
 
     /// Makes the message of the unanswered request in the room that it is given, and uses one of its attempts.
@@ -202,7 +210,7 @@ impl Session {
     /// The first of [`Error::Idle`] and [`Error::OutOfReach`] that holds; then nothing changes.
     pub fn give_up(&mut self) -> Result<(), Error> {
         // SAFETY: the handle is live.
-        done(unsafe { sys::ptpm_session_give_up(&mut self.handle) })
+        done(alone(|| unsafe { sys::ptpm_session_give_up(&mut self.handle) }))
     }
 
     /// Has requests sent, and replies expected, in this domain from now on, the unanswered request among them.
@@ -218,7 +226,8 @@ impl Session {
     /// [`Error::NoMemory`]; then nothing changes, and the answer may be handed in again.
     pub fn receive(&mut self, datagram: &[u8]) -> Result<Received, Error> {
         // SAFETY: the octets and their size are those of a slice, which may be read.
-        judged(unsafe { sys::ptpm_session_receive(&mut self.handle, datagram.as_ptr(), datagram.len()) }).map(Received::of_number)
+        judged(alone(|| unsafe { sys::ptpm_session_receive(&mut self.handle, datagram.as_ptr(), datagram.len()) }))
+            .map(Received::of_number)
     }
 
     /// How many requests were begun.
@@ -244,7 +253,7 @@ impl Session {
 impl Drop for Session {
     fn drop(&mut self) {
         // SAFETY: the handle holds what its start made, or nothing.
-        unsafe { sys::ptpm_session_stop(&mut self.handle) }
+        alone(|| unsafe { sys::ptpm_session_stop(&mut self.handle) });
     }
 }
 

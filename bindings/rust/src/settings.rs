@@ -2,21 +2,11 @@
 
 use crate::identity::{Identity, PortIdentity};
 use crate::sys;
+use crate::time_interval::TimeInterval;
+#[cfg(feature = "alloc")]
 use alloc::string::String;
 use core::mem::{align_of, offset_of, size_of, MaybeUninit};
 use core::ops::BitOr;
-
-/// A TimeInterval (5.3.2): nanoseconds times 2^16.
-#[derive(Clone, Copy, Debug, Default, PartialEq, Eq, PartialOrd, Ord, Hash)]
-#[repr(transparent)]
-pub struct TimeInterval(pub i64);
-
-impl TimeInterval {
-    /// An interval of N nanoseconds. What is out of the range of a TimeInterval becomes its nearest limit.
-    pub const fn of_nanoseconds(nanoseconds: i64) -> Self {
-        Self(nanoseconds.saturating_mul(1 << 16))
-    }
-}
 
 /// A portState (table 20).
 #[derive(Clone, Copy, Debug, PartialEq, Eq, Hash)]
@@ -90,7 +80,8 @@ impl DelayMechanism {
 pub struct ClockSettings {
     pub identity: Identity,
     pub domain: u8,
-    /// At most 128 octets.
+    /// At most 128 octets. Without the feature `alloc` it is empty at the start.
+    #[cfg(feature = "alloc")]
     pub user_description: String,
     pub two_step: bool,
     pub priority1: u8,
@@ -141,6 +132,7 @@ impl ClockSettings {
         Self {
             identity,
             domain: s.domain,
+            #[cfg(feature = "alloc")]
             user_description: String::new(),
             two_step: s.two_step != 0,
             priority1: s.priority1,
@@ -200,6 +192,7 @@ impl ClockSettings {
             ..default_clock()
         };
         self.write_parent(&mut s);
+        #[cfg(feature = "alloc")]
         self.write_user_description(&mut s);
         s
     }
@@ -223,6 +216,7 @@ impl ClockSettings {
     }
 
     /// A text that is too long for its place has a size that the library refuses.
+    #[cfg(feature = "alloc")]
     fn write_user_description(&self, s: &mut sys::ptpm_clock_settings) {
         let text = self.user_description.as_bytes();
         let room = s.user_description.len();

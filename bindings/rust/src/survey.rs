@@ -4,14 +4,20 @@ use crate::answers::Surveyed;
 use crate::error::{done, judged, Error};
 use crate::id::ManagementId;
 use crate::identity::{Identity, PortIdentity};
-use crate::report::{told, Answer, Report, MOST_DATA, MOST_OCTETS};
+use crate::memory::alone;
+use crate::report::{told, Report, MOST_OCTETS};
+#[cfg(feature = "alloc")]
+use crate::report::{Answer, MOST_DATA};
 use crate::sys;
 use core::fmt;
 use core::ptr::null_mut;
 
+/// The portNumber of a survey whose manager has port 0. No session has it.
+pub const SURVEY_PORT: u16 = sys::PTPM_SURVEY_PORT;
+
 /// One manager, and the GET that it sends to every port of every clock, or of one. Each survey gets a number that is not on its way
-/// any more. A session of the same manager may treat an answer as its own. So the manager here has no session: for example, it is
-/// another port number of the same clockIdentity.
+/// any more. A session of the same manager may treat an answer as its own. So the manager here has no session: it is another port number
+/// of the same clockIdentity. With port 0 it is [`SURVEY_PORT`].
 #[derive(Clone, Copy, Debug, PartialEq, Eq)]
 pub struct SurveySettings {
     /// The manager; its clock is not all ones.
@@ -83,7 +89,7 @@ impl Survey {
         let mut survey = Self::none();
         let settings = settings.as_in_c();
         // SAFETY: the handle is all zeros before this first call, and the settings may be read.
-        done(unsafe { sys::ptpm_survey_start(&mut survey.handle, &settings) })?;
+        done(alone(|| unsafe { sys::ptpm_survey_start(&mut survey.handle, &settings) }))?;
         Ok(survey)
     }
 
@@ -100,7 +106,7 @@ impl Survey {
         let mut survey = Self::none();
         let settings = settings.as_in_c();
         // SAFETY: the handle is all zeros before this first call. The settings may be read, and so may the identity's octets.
-        done(unsafe { sys::ptpm_survey_start_at(&mut survey.handle, &settings, target.0.as_ptr()) })?;
+        done(alone(|| unsafe { sys::ptpm_survey_start_at(&mut survey.handle, &settings, target.0.as_ptr()) }))?;
         Ok(survey)
     }
 
@@ -124,7 +130,8 @@ impl Survey {
     /// [`Error::NoMemory`]; then nothing changes, and the answer may be handed in again.
     pub fn receive(&mut self, datagram: &[u8]) -> Result<Surveyed, Error> {
         // SAFETY: the octets and their size are those of a slice, which may be read.
-        judged(unsafe { sys::ptpm_survey_receive(&mut self.handle, datagram.as_ptr(), datagram.len()) }).map(Surveyed::of_number)
+        judged(alone(|| unsafe { sys::ptpm_survey_receive(&mut self.handle, datagram.as_ptr(), datagram.len()) }))
+            .map(Surveyed::of_number)
     }
 
     /// How many answers are kept.
@@ -133,7 +140,7 @@ impl Survey {
         unsafe { sys::ptpm_survey_count(&self.handle) }
     }
 
-    /// Reports what an answer says, and who gave it; a dataField in the room that it is given, for which [`MOST_DATA`] octets do.
+    /// Reports what an answer says, and who gave it; a dataField in the room that it is given, for which [`MOST_DATA`](crate::MOST_DATA) octets do.
     /// The answers are counted from 0, in the order in which they came.
     ///
     /// # Errors
@@ -149,6 +156,7 @@ impl Survey {
     }
 
     /// The answers in the order in which they came, each with octets of its own.
+    #[cfg(feature = "alloc")]
     pub fn answers(&self) -> Answers<'_> {
         Answers { survey: self, place: 0 }
     }
@@ -157,7 +165,7 @@ impl Survey {
 impl Drop for Survey {
     fn drop(&mut self) {
         // SAFETY: the handle holds what its start made, or nothing.
-        unsafe { sys::ptpm_survey_stop(&mut self.handle) }
+        alone(|| unsafe { sys::ptpm_survey_stop(&mut self.handle) });
     }
 }
 
@@ -168,12 +176,14 @@ impl fmt::Debug for Survey {
 }
 
 /// The answers of a survey, one after the other.
+#[cfg(feature = "alloc")]
 #[derive(Debug)]
 pub struct Answers<'a> {
     survey: &'a Survey,
     place: usize,
 }
 
+#[cfg(feature = "alloc")]
 impl Iterator for Answers<'_> {
     type Item = Answer;
 

@@ -27,6 +27,8 @@ pub type ptpm_reported = u32;
 pub type ptpm_saved = u32;
 pub type ptpm_restored = u32;
 pub type ptpm_parsed = u32;
+pub type ptpm_asker_restored = u32;
+pub type ptpm_asked = u32;
 
 #[repr(C)]
 pub struct ptpm_clock {
@@ -233,6 +235,33 @@ pub struct ptpm_rate {
     pub time: u64,
 }
 
+#[repr(C)]
+pub struct ptpm_asker {
+    pub at: *mut c_void,
+    pub live: bool,
+    pub restored: u8,
+}
+
+#[repr(C)]
+#[derive(Clone, Copy)]
+pub struct ptpm_asker_settings {
+    pub session: ptpm_session_settings,
+    pub nobody: u16,
+    pub timeout: u32,
+    pub wait: u32,
+}
+
+#[repr(C)]
+#[derive(Clone, Copy)]
+pub struct ptpm_handed {
+    pub tag: u64,
+    pub time: u64,
+    pub what: u32,
+    pub number: u16,
+    pub was_sent: bool,
+    pub is_read_answered: bool,
+}
+
 extern "C" {
     pub fn ptpm_version() -> u32;
     pub fn ptpm_sizes_agree(sizes: *const usize, count: usize) -> ptpm_started;
@@ -330,6 +359,15 @@ extern "C" {
     pub fn ptpm_session_retune(session: *mut ptpm_session, domain: u8) -> ptpm_retuned;
     pub fn ptpm_session_receive(session: *mut ptpm_session, datagram: *const u8, size: usize) -> ptpm_session_received;
     pub fn ptpm_session_image(session: *const ptpm_session, octets: *mut u8, room: usize, size: *mut usize) -> ptpm_saved;
+    pub fn ptpm_session_saving(session: *mut ptpm_session) -> ptpm_sending;
+    pub fn ptpm_session_image_of(
+        session: *const ptpm_session,
+        octets: *mut u8,
+        room: usize,
+        size: *mut usize,
+        token: *mut u64,
+    ) -> ptpm_saved;
+    pub fn ptpm_session_saved(session: *mut ptpm_session, token: u64) -> ptpm_saved;
     pub fn ptpm_session_restore(
         session: *mut ptpm_session,
         settings: *const ptpm_session_settings,
@@ -364,6 +402,44 @@ extern "C" {
         error: *mut u16,
     ) -> ptpm_reported;
     pub fn ptpm_survey_stop(survey: *mut ptpm_survey);
+    pub fn ptpm_asker_start(asker: *mut ptpm_asker, settings: *const ptpm_asker_settings, drawn: *const u8) -> ptpm_started;
+    pub fn ptpm_asker_restore(
+        asker: *mut ptpm_asker,
+        settings: *const ptpm_asker_settings,
+        drawn: *const u8,
+        image: *const u8,
+        size: usize,
+    ) -> ptpm_asker_restored;
+    pub fn ptpm_asker_ask(
+        asker: *mut ptpm_asker,
+        now: u64,
+        tag: u64,
+        action: u8,
+        id: u16,
+        port: u16,
+        octets: *const u8,
+        size: usize,
+        domain: u8,
+        handed: *mut ptpm_handed,
+    ) -> ptpm_asked;
+    pub fn ptpm_asker_settle(asker: *mut ptpm_asker, now: u64, tag: u64, domain: u8, handed: *mut ptpm_handed) -> ptpm_asked;
+    pub fn ptpm_asker_let_go(asker: *mut ptpm_asker, handed: *mut ptpm_handed) -> ptpm_asked;
+    pub fn ptpm_asker_hear(asker: *mut ptpm_asker, datagram: *const u8, size: usize, handed: *mut ptpm_handed) -> ptpm_asked;
+    pub fn ptpm_asker_wake(asker: *mut ptpm_asker, now: u64, handed: *mut ptpm_handed) -> ptpm_asked;
+    pub fn ptpm_asker_unsent(asker: *mut ptpm_asker, handed: *mut ptpm_handed) -> ptpm_asked;
+    pub fn ptpm_asker_saved(asker: *mut ptpm_asker, now: u64, handed: *mut ptpm_handed) -> ptpm_asked;
+    pub fn ptpm_asker_noted(asker: *mut ptpm_asker, handed: *mut ptpm_handed) -> ptpm_asked;
+    pub fn ptpm_asker_message(asker: *const ptpm_asker, octets: *mut u8, room: usize, size: *mut usize) -> ptpm_asked;
+    pub fn ptpm_asker_image(asker: *const ptpm_asker, octets: *mut u8, room: usize, size: *mut usize) -> ptpm_asked;
+    pub fn ptpm_asker_earlier(asker: *const ptpm_asker, domain: u8, there: *mut u8) -> u32;
+    pub fn ptpm_asker_report(
+        asker: *const ptpm_asker,
+        octets: *mut u8,
+        room: usize,
+        size: *mut usize,
+        error: *mut u16,
+    ) -> ptpm_reported;
+    pub fn ptpm_asker_stop(asker: *mut ptpm_asker);
     pub fn ptpm_passed_on_is_first(table: *mut ptpm_passed_on, message: *const u8, size: usize, now: u64, time: u64) -> bool;
     pub fn ptpm_rate_start(rate: *mut ptpm_rate, tokens: u64, now: u64);
     pub fn ptpm_rate_take(rate: *mut ptpm_rate, now: u64) -> bool;
@@ -391,7 +467,7 @@ pub const fn ptpm_is_refusal(answer: u32) -> bool {
 }
 
 /// The sizes of these structs, in their order.
-const SIZES: [usize; 15] = [
+const SIZES: [usize; 18] = [
     size_of::<ptpm_clock>(),
     size_of::<ptpm_clock_settings>(),
     size_of::<ptpm_port_settings>(),
@@ -407,6 +483,9 @@ const SIZES: [usize; 15] = [
     size_of::<ptpm_source>(),
     size_of::<ptpm_passed_on>(),
     size_of::<ptpm_rate>(),
+    size_of::<ptpm_asker>(),
+    size_of::<ptpm_asker_settings>(),
+    size_of::<ptpm_handed>(),
 ];
 
 /// Compares these declarations with the library that is linked.

@@ -4,8 +4,8 @@
 use ptpm::{
     Action, Clock, ClockMembers, ClockSettings, DelayMechanism, Error, Handled, Identity, ManagementErrorId, ManagementId,
     Manager, ObservedClock, ObservedGrandmaster, ObservedPort, Outbox, PortIdentity, PortMembers, PortSettings, PortState,
-    Received, Report, Rights, Session, SessionSettings, Survey, SurveySettings, Surveyed, TimeInterval, MOST_DATA, MOST_OCTETS,
-    MOST_READ,
+    Received, Report, Rights, SavingSession, Session, SessionSettings, Survey, SurveySettings, Surveyed, TimeInterval, MOST_DATA,
+    MOST_OCTETS, MOST_READ, SESSION_IMAGE_OCTETS,
 };
 
 const CLOCK: &str = "aabbccfffeddee01";
@@ -67,7 +67,7 @@ fn a_command_changes_the_ports_that_it_names() {
     let disable = request(1, "aabbccfffeddee010002", 0, 3, "200e");
     let (_, changed) = clock.handle_changed(1, &disable, &mut outbox).expect("it is judged");
     assert_eq!(changed.ports_with(PortMembers::STATE).collect::<Vec<_>>(), [2]);
-    let observed = [ObservedPort { state: Some(PortState::Slave), peer_delay: Some(TimeInterval::of_nanoseconds(3)) }; 2];
+    let observed = [ObservedPort { state: Some(PortState::Slave), peer_delay: Some(TimeInterval::from_nanoseconds(3)) }; 2];
     let left = clock.observe(&ObservedClock::default(), &observed).expect("it is observed");
     assert_eq!(left.iter().collect::<Vec<_>>(), [2]);
     reads(&mut clock, ManagementId::PORT_DATA_SET, 1, "aabbccfffeddee01000109000000000000030000010300010002");
@@ -144,7 +144,7 @@ fn observations_have_their_places() {
     let observed = ObservedClock {
         steps_removed: Some(2),
         offset_from_master: Some(TimeInterval(-2)),
-        mean_path_delay: Some(TimeInterval::of_nanoseconds(1)),
+        mean_path_delay: Some(TimeInterval::from_nanoseconds(1)),
         parent_stats: Some(true),
         observed_variance: Some(0x5152),
         observed_rate: Some(0x2122_2324),
@@ -235,6 +235,21 @@ fn a_session_is_answered() {
     assert_eq!(exchanged(&mut session, &mut clock), Ok(Received::Answered));
     assert_eq!(session.report(&mut room), Ok(Report::Done));
     assert_eq!(session.receive(b"\x0d\x12"), Ok(Received::TooShort));
+}
+
+#[test]
+fn a_saving_session_sends_nothing_unsaved() {
+    let settings = SessionSettings::new(port_identity("0011223344556677/1"), identity(CLOCK), 7);
+    let mut session = SavingSession::new(Session::start(&settings).expect("it starts")).expect("it saves");
+    let (mut room, mut image) = ([0; MOST_OCTETS], [0; SESSION_IMAGE_OCTETS]);
+    drop(session.begin(Action::Get, ManagementId::PRIORITY1, 0, &[], &mut image).expect("it begins"));
+    assert_eq!(session.send(&mut room), Err(Error::Unsaved));
+    let unsaved = session.unsaved(&mut image).expect("it has an image");
+    assert_eq!(unsaved.image().len(), 60);
+    assert_eq!(unsaved.saved(), Ok(()));
+    assert_eq!(session.send(&mut room).map(<[u8]>::len), Ok(54));
+    assert_eq!(session.give_up(), Ok(()));
+    assert_eq!(session.send(&mut room), Err(Error::Unsaved));
 }
 
 #[test]

@@ -1,3 +1,4 @@
 pub mod KeptWord
 pub mod Turns
 pub mod Numbers
+pub mod HandingIn

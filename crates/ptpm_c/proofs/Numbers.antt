@@ -5,9 +5,11 @@ use Rattle.ptpm_manager.specs.declared.error.BeginError.{BeginError}
 use Rattle.ptpm_manager.specs.declared.error.BeginError.TheVariants as begins
 use Rattle.ptpm_manager.specs.declared.error.RestoreError.{RestoreError}
 use Rattle.ptpm_manager.specs.declared.error.RestoreError.TheVariants as restores
+use Rattle.ptpm_host.specs.declared.refusal.AskerRefusal.{AskerRefusal}
+use Rattle.ptpm_host.specs.declared.refusal.AskerRefusal.TheVariants as askers
 use Rattle.ptpm_host.specs.declared.refusal.StartRefusal.{StartRefusal}
 use Rattle.ptpm_host.specs.declared.refusal.StartRefusal.TheVariants as starts
-use Rattle.ptpm_host.specs.Numbers.{begin_number, no_memory, restore_number, start_number}
+use Rattle.ptpm_host.specs.Numbers.{asker_number, begin_number, no_memory, restore_number, start_number}
 
 one_reason : {E : Type 0} (first : Option E) (r e : E)
     → first ≡ Some r
@@ -49,3 +51,10 @@ pub memory_of_restore : (first : Option RestoreError) (r : RestoreError) (number
     → first ≡ None → number ≡ no_memory
 memory_of_restore first restores.OutOfMemory number told numbered none = numbered
 memory_of_restore first r number told numbered none = no_reason first _ (told (λ memory. cc)) none
+
+pub memory_of_asker_restore : (first : Option AskerRefusal) (r : AskerRefusal) (number : ℕ)
+    → (r ≢ askers.Image restores.OutOfMemory → first ≡ Some r)
+    → number ≡ asker_number r
+    → first ≡ None → number ≡ no_memory
+memory_of_asker_restore first (askers.Image restores.OutOfMemory) number told numbered none = numbered
+memory_of_asker_restore first r number told numbered none = no_reason first _ (told (λ memory. cc)) none

@@ -1,10 +1,13 @@
--- What a handle holds: a clock, a session, a survey, or nothing.
+-- What a handle holds: a clock, a session, a survey, an asker, or nothing.
 use Rattle.std.specs.Prelude.{◌≡◌, ℕ, Option, Some, None}
+use Rattle.ptpm_host.specs.declared.asker.HostedAsker.{HostedAsker}
 use Rattle.ptpm_host.specs.declared.clock.HostedClock.{HostedClock}
+use Rattle.ptpm_host.specs.declared.handed.Handed.{Handed}
+use Rattle.ptpm_host.specs.Asker.{handed}
 use Rattle.ptpm_host.specs.declared.saving_clock.SavingClock.{SavingClock}
 use Rattle.ptpm_host.specs.declared.session.HostedSession.{HostedSession}
 use Rattle.ptpm_host.specs.declared.survey.HostedSurvey.{HostedSurvey}
-use Rattle.ptpm_host.specs.Numbers.{no_session}
+use Rattle.ptpm_host.specs.Numbers.{no_asker, no_session}
 use Rattle.ptpm_c.specs.declared.keeping.Keeping.{Keeping}
 use Rattle.ptpm_c.specs.declared.kept.Hosted.{Hosted}
 use Rattle.ptpm_c.specs.declared.kept.Hosted.TheVariants as hosts
@@ -23,6 +26,7 @@ clock_of (hosts.Clock clock) = Some clock.value
 clock_of (hosts.Session session) = None
 clock_of (hosts.Survey survey) = None
 clock_of (hosts.SavingClock clock) = None
+clock_of (hosts.Asker asker) = None
 
 -- of a clock whose host says when it was saved
 abbrev pub saving_clock_of : Hosted → Option SavingClock
@@ -31,6 +35,7 @@ saving_clock_of (hosts.Clock clock) = None
 saving_clock_of (hosts.Session session) = None
 saving_clock_of (hosts.Survey survey) = None
 saving_clock_of (hosts.SavingClock clock) = Some clock.value
+saving_clock_of (hosts.Asker asker) = None
 
 -- of either kind of clock
 abbrev pub any_clock_of : Hosted → Option HostedClock
@@ -39,6 +44,7 @@ any_clock_of (hosts.Clock clock) = Some clock.value
 any_clock_of (hosts.Session session) = None
 any_clock_of (hosts.Survey survey) = None
 any_clock_of (hosts.SavingClock clock) = Some clock.value.clock.value
+any_clock_of (hosts.Asker asker) = None
 
 abbrev pub session_of : Hosted → Option HostedSession
 session_of hosts.Nothing = None
@@ -46,6 +52,7 @@ session_of (hosts.Clock clock) = None
 session_of (hosts.Session session) = Some session.value
 session_of (hosts.Survey survey) = None
 session_of (hosts.SavingClock clock) = None
+session_of (hosts.Asker asker) = None
 
 abbrev pub survey_of : Hosted → Option HostedSurvey
 survey_of hosts.Nothing = None
@@ -53,9 +60,18 @@ survey_of (hosts.Clock clock) = None
 survey_of (hosts.Session session) = None
 survey_of (hosts.Survey survey) = Some survey.value
 survey_of (hosts.SavingClock clock) = None
+survey_of (hosts.Asker asker) = None
 
--- the clock, the session, or the survey, that a handle holds, if it holds one. A clock sends at once, and a saving clock once it is
--- saved
+abbrev pub asker_of : Hosted → Option HostedAsker
+asker_of hosts.Nothing = None
+asker_of (hosts.Clock clock) = None
+asker_of (hosts.Session session) = None
+asker_of (hosts.Survey survey) = None
+asker_of (hosts.SavingClock clock) = None
+asker_of (hosts.Asker asker) = Some asker.value
+
+-- the clock, the session, the survey, or the asker, that a handle holds, if it holds one. A clock sends at once, and a saving clock
+-- once it is saved
 
 abbrev pub clock_held : Keeping → Option HostedClock
 clock_held keeping = clock_of (held keeping)
@@ -72,7 +88,19 @@ session_held keeping = session_of (held keeping)
 abbrev pub survey_held : Keeping → Option HostedSurvey
 survey_held keeping = survey_of (held keeping)
 
+abbrev pub asker_held : Keeping → Option HostedAsker
+asker_held keeping = asker_of (held keeping)
+
 -- a call that wants a session finds none: it answers so, and the handle holds what it held
 abbrev pub FindsNoSession : Keeping → ℕ → Keeping → Type 0
 FindsNoSession before number after =
     session_held before ≡ None → (number ≡ no_session) × (held after ≡ held before)
+
+-- nothing is handed out
+abbrev pub HandsOutNothing : Handed → Type 0
+HandsOutNothing out = out ≡ handed 0 0 0 0
+
+-- a call that wants an asker finds none
+abbrev pub FindsNoAsker : Keeping → ℕ → Handed → Keeping → Type 0
+FindsNoAsker before number out after =
+    asker_held before ≡ None → (number ≡ no_asker) × (HandsOutNothing out × (held after ≡ held before))

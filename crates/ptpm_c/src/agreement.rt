@@ -7,12 +7,13 @@ ghost use Rattle.ptpm_c.specs.Sizes.{header_sizes};
 use crate::handle::Handle;
 use ptpm_data::ChangedMembers;
 use ptpm_host::{
-    ClockSettings, ManagerSettings, OTHER_SIZES, ObservedClock, ObservedPort, PassedOn,
-    PortSettings, Rate, Sent, SessionSettings, Source, SurveySettings, VERSION_NUMBER,
+    AskerSettings, ClockSettings, Handed, ManagerSettings, OTHER_SIZES, ObservedClock,
+    ObservedPort, PassedOn, PortSettings, Rate, Sent, SessionSettings, Source, SurveySettings,
+    VERSION_NUMBER,
 };
 
 /// The sizes of the structs of the header, in its order.
-const SIZES: [usize; 15] = [
+const SIZES: [usize; 18] = [
     size_of::<Handle>(),
     size_of::<ClockSettings>(),
     size_of::<PortSettings>(),
@@ -28,6 +29,9 @@ const SIZES: [usize; 15] = [
     size_of::<Source>(),
     size_of::<PassedOn>(),
     size_of::<Rate>(),
+    size_of::<Handle>(),
+    size_of::<AskerSettings>(),
+    size_of::<Handed>(),
 ];
 
 /// The version of this library, as a number.

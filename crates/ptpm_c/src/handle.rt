@@ -1,4 +1,4 @@
-//! What a host in C keeps of a clock, a session or a survey.
+//! What a host in C keeps of a clock, a session, a survey or an asker.
 
 ghost use Rattle.std.specs.Prelude.{◌≡◌, ◌==◌, IfNone, IfSome, MatchOption, None, OnSome, Some, is_some};
 ghost use Rattle.ptpm_data.specs.Changed.{changed};
@@ -8,7 +8,7 @@ ghost use Rattle.ptpm_c.specs.declared.kept.Hosted.TheVariants as hosts;
 use crate::keeping::Keeping;
 use crate::kept::{Hosted, Kept};
 use ptpm_data::{ChangedMembers, DataSets};
-use ptpm_host::{HostedClock, HostedSession, HostedSurvey, SavingClock};
+use ptpm_host::{HostedAsker, HostedClock, HostedSession, HostedSurvey, SavingClock};
 use std::alloc::Global;
 use std::mem;
 
@@ -27,7 +27,7 @@ pub struct Handle {
 
 impl Handle {
     ghost use Rattle.std.specs.Borrow.{sem};
-    ghost use Rattle.ptpm_c.specs.Held.{clock_held, held, saving_clock_held, session_held, survey_held};
+    ghost use Rattle.ptpm_c.specs.Held.{asker_held, clock_held, held, saving_clock_held, session_held, survey_held};
     ghost use Rattle.ptpm_c.specs.LendingHandle.{LendsHeld};
 
     /// Holds nothing.
@@ -63,6 +63,18 @@ impl Handle {
         let mut handle = Handle::of(kept, hosted);
         handle.restored = 1;
         handle
+    }
+
+    /// Holds this, in this box, after it was taken out and not changed. `restored` says what `is_restored` said.
+    pub fn of_unchanged(kept: Box<Kept>, hosted: Hosted, restored: bool) -> Handle
+        ensures holds { held result.keeping ≡ hosted }
+        ensures restored { (result.restored == 1) ≡ restored }
+    {
+        if restored {
+            Handle::of_restored(kept, hosted)
+        } else {
+            Handle::of(kept, hosted)
+        }
     }
 
     /// Whether what it holds was restored, and is as it was then.
@@ -151,6 +163,23 @@ impl Handle {
         let (kept, hosted) = self.open(alloc)?;
         match hosted {
             Hosted::Survey(survey) => Some((kept, survey)),
+            other => {
+                *self = Handle::of(kept, other);
+                None
+            }
+        }
+    }
+
+    /// Takes the asker out, in the same way.
+    pub fn take_asker(&mut self, alloc: Global) -> Option<(Box<Kept>, Box<HostedAsker>)>
+        ensures some { IfSome result (λ taken. held self.old.keeping ≡ hosts.Asker taken.1) }
+        ensures left { OnSome result (held self.new.keeping ≡ hosts.Nothing) }
+        ensures none { IfNone result (asker_held self.old.keeping ≡ None) }
+        ensures unchanged { IfNone result (held self.new.keeping ≡ held self.old.keeping) }
+    {
+        let (kept, hosted) = self.open(alloc)?;
+        match hosted {
+            Hosted::Asker(asker) => Some((kept, asker)),
             other => {
                 *self = Handle::of(kept, other);
                 None

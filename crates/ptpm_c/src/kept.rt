@@ -3,7 +3,7 @@
 ghost use Rattle.std.specs.Prelude.{◌≡◌};
 ghost use Rattle.std.specs.Option.{option_copied};
 
-use ptpm_host::{HostedClock, HostedSession, HostedSurvey, SavingClock};
+use ptpm_host::{HostedAsker, HostedClock, HostedSession, HostedSurvey, SavingClock};
 use std::mem::ManuallyDrop;
 
 /// One of the things that a handle can hold, each in a block of its own.
@@ -16,6 +16,7 @@ pub enum Hosted {
     Survey(Box<HostedSurvey>),
     /// A clock whose host says when it was saved.
     SavingClock(Box<SavingClock>),
+    Asker(Box<HostedAsker>),
 }
 
 /// Only `into_hosted` lets it go. So nothing is to be done when its box is let go.
@@ -25,7 +26,7 @@ pub struct Kept {
 }
 
 impl Kept {
-    ghost use Rattle.ptpm_c.specs.Held.{any_clock_of, saving_clock_of, session_of, survey_of};
+    ghost use Rattle.ptpm_c.specs.Held.{any_clock_of, asker_of, saving_clock_of, session_of, survey_of};
 
     /// Keeps this.
     pub fn of(hosted: Hosted) -> Kept
@@ -73,6 +74,16 @@ impl Kept {
     {
         match &*self.hosted {
             Hosted::Survey(survey) => Some(survey.as_ref()),
+            _ => None,
+        }
+    }
+
+    /// The asker that is kept.
+    pub fn asker(&self) -> Option<&HostedAsker>
+        ensures { option_copied result ≡ asker_of self.now.hosted.value }
+    {
+        match &*self.hosted {
+            Hosted::Asker(asker) => Some(asker.as_ref()),
             _ => None,
         }
     }

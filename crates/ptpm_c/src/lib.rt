@@ -1,4 +1,4 @@
-//! A clock, and a manager's session or survey, for hosts in C: a static library of calls over `ptpm_host`. `hosts/ptpm.h` is
+//! A clock, and a manager's session, asker or survey, for hosts in C: a static library of calls over `ptpm_host`. `hosts/ptpm.h` is
 //! its header.
 #![tactic(auto)]
 
@@ -23,6 +23,7 @@ ghost use Rattle.ptpm_c.specs.Turned.{AreWritten, FindsNoClock, RefusesTurn, Tak
 ghost use Rattle.ptpm_c.specs.Withholding.{Observes, RefusesCall, TakesCall};
 
 mod agreement;
+mod asker;
 mod fields;
 mod handle;
 mod keeping;
@@ -34,6 +35,7 @@ mod saving_clock;
 mod session;
 mod survey;
 mod withholding;
+mod withholding_session;
 
 use crate::handle::Handle;
 use crate::kept::{Hosted, Kept};

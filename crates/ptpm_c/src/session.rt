@@ -15,6 +15,7 @@ ghost use Rattle.ptpm_host.specs.declared.refusal.SessionRefusal.{SessionRefusal
 ghost use Rattle.ptpm_host.specs.declared.session.HostedSession.{HostedSession};
 ghost use Rattle.ptpm_host.specs.Numbers.{begin_number, give_up_number, heard_number, no_memory, no_session, report_number, resume_number, send_number, session_number, outcome_number};
 ghost use Rattle.ptpm_host.specs.Session.{HasBegun, IsAt, ask_of, hand_refusal, heard_of, report_refusal};
+ghost use Rattle.ptpm_host.specs.SessionStanding.{changed_standing, started_standing};
 ghost use Rattle.ptpm_host.specs.SessionSettings.{session_refusal, session_start};
 ghost use Rattle.ptpm_host.specs.ReportedOutcome.{reported_error, outcome_octets, reported_of};
 ghost use Rattle.ptpm_c.specs.declared.kept.Hosted.TheVariants.{Nothing};
@@ -39,7 +40,7 @@ pub extern "C" fn ptpm_session_start(
     settings: &SessionSettings,
 ) -> u32
     ensures started { IfSome (session_held handle.new.keeping)
-        (λ s. (result ≡ 0) × IsAt s (session_start settings.now) None) }
+        (λ s. (result ≡ 0) × IsAt s (session_start settings.now) None started_standing) }
     ensures refused { IfNone (session_held handle.new.keeping)
         ((1 ≤ result) × (held handle.new.keeping ≡ Nothing)) }
     ensures number { (e : SessionRefusal)
@@ -138,7 +139,7 @@ pub extern "C" fn ptpm_session_begin_at(
 }
 
 /// Leaves the unanswered request at the head of `octets`, `size` octets: 0, or the number of the refusal. What follows
-/// them stays. Takes no memory.
+/// them stays. A session that saves refuses it while something is unsaved. Takes no memory.
 #[unsafe(no_mangle)]
 pub extern "C" fn ptpm_session_send(
     alloc: Global,
@@ -148,20 +149,22 @@ pub extern "C" fn ptpm_session_send(
 ) -> u32
     ensures sent { (s : HostedSession)
         → session_held handle.old.keeping ≡ Some s
-        → hand_refusal (length octets.old) s.session ≡ None
+        → hand_refusal (length octets.old) s.standing s.session ≡ None
         → (result ≡ 0)
-        × IsSomeAnd (session_held handle.new.keeping) (λ t. IsAt t (sent s.session) s.report) }
+        × IsSomeAnd (session_held handle.new.keeping)
+        (λ t. IsAt t (sent s.session) s.report s.standing) }
     ensures octets { (s : HostedSession) (v : Message) → session_held handle.old.keeping ≡ Some s →
-        hand_refusal (length octets.old) s.session ≡ None → due_message s.session ≡ Some v →
+        hand_refusal (length octets.old) s.standing s.session ≡ None → due_message s.session ≡ Some v →
         take size.new octets.new ≡ canonical v }
     ensures within { size.new ≤ length octets.new }
     ensures behind { drop size.new octets.new ≡ drop size.new octets.old }
     ensures refused { (s : HostedSession) (e : SendRefusal)
         → session_held handle.old.keeping ≡ Some s
-        → hand_refusal (length octets.old) s.session ≡ Some e
+        → hand_refusal (length octets.old) s.standing s.session ≡ Some e
         → (result ≡ send_number e)
         × ((size.new ≡ 0)
-        × IsSomeAnd (session_held handle.new.keeping) (λ t. IsAt t s.session s.report)) }
+        × IsSomeAnd (session_held handle.new.keeping)
+        (λ t. IsAt t s.session s.report s.standing)) }
     ensures empty { session_held handle.old.keeping ≡ None
         → (result ≡ no_session)
         × ((size.new ≡ 0) × (held handle.new.keeping ≡ held handle.old.keeping)) }
@@ -189,7 +192,7 @@ pub extern "C" fn ptpm_session_resume(alloc: Global, handle: &mut Handle, attemp
         → is_waiting s.session ≡ true
         → (result ≡ 0)
         × IsSomeAnd (session_held handle.new.keeping)
-        (λ t. IsAt t (resumed s.session attempts) s.report) }
+        (λ t. IsAt t (resumed s.session attempts) s.report s.standing) }
     ensures idle { (s : HostedSession)
         → session_held handle.old.keeping ≡ Some s
         → is_waiting s.session ≡ false
@@ -215,7 +218,7 @@ pub extern "C" fn ptpm_session_give_up(alloc: Global, handle: &mut Handle) -> u3
         → give_up_refusal s.session ≡ None
         → (result ≡ 0)
         × IsSomeAnd (session_held handle.new.keeping)
-        (λ t. IsAt t (given_up s.session) s.report) }
+        (λ t. IsAt t (given_up s.session) s.report (changed_standing s.standing)) }
     ensures refused { (s : HostedSession) (e : GiveUpRefusal)
         → session_held handle.old.keeping ≡ Some s
         → give_up_refusal s.session ≡ Some e
@@ -240,7 +243,7 @@ pub extern "C" fn ptpm_session_retune(alloc: Global, handle: &mut Handle, domain
         → session_held handle.old.keeping ≡ Some s
         → (result ≡ 0)
         × IsSomeAnd (session_held handle.new.keeping)
-        (λ t. IsAt t (retuned s.session domain) s.report) }
+        (λ t. IsAt t (retuned s.session domain) s.report s.standing) }
     ensures empty { FindsNoSession handle.old.keeping result handle.new.keeping }
 {
     let Some((kept, mut session)) = handle.take_session(alloc) else {

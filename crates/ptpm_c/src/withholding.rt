@@ -15,7 +15,7 @@ ghost use Rattle.ptpm_c.specs.Withholding.{BeginsSaved, IsSaved, Observes, Refus
 use crate::handle::Handle;
 use crate::kept::Hosted;
 use ptpm_agent::Verdict;
-use ptpm_data::ChangedMembers;
+use ptpm_data::{ChangedMembers, DataSets};
 use ptpm_host::{
     NO_CLOCK, NO_MEMORY, NO_ROOM, ObservedClock, ObservedPort, SavingClock, Sent, left_number,
     observe_number, saved_number, saving_number, verdict_number,
@@ -38,7 +38,9 @@ pub extern "C" fn ptpm_clock_saving(alloc: Global, handle: &mut Handle) -> u32
     ensures refused { (c : HostedClock)
         → clock_held handle.old.keeping ≡ Some c
         → result ≢ 0
-        → (result ≡ no_memory) × (clock_held handle.new.keeping ≡ Some c) }
+        → (result ≡ no_memory)
+        × ((clock_held handle.new.keeping ≡ Some c)
+        × ((handle.new.restored == 1) ≡ (handle.old.restored == 1))) }
     ensures empty { any_clock_held handle.old.keeping ≡ None
         → (result ≡ no_clock) × (held handle.new.keeping ≡ held handle.old.keeping) }
 {
@@ -52,7 +54,8 @@ pub extern "C" fn ptpm_clock_saving(alloc: Global, handle: &mut Handle) -> u32
             0
         }
         Err(refused) => {
-            *handle = Handle::of(kept, Hosted::Clock(refused.value.into_clock()));
+            let clock = Hosted::Clock(refused.value.into_clock());
+            *handle = Handle::of_unchanged(kept, clock, saved);
             NO_MEMORY
         }
     }
@@ -71,6 +74,42 @@ fn saving_already(alloc: Global, handle: &mut Handle) -> u32
     };
     *handle = Handle::of(kept, Hosted::SavingClock(clock));
     0
+}
+
+/// What becomes of a datagram: the number of the verdict, or of the refusal, and then nothing is sent.
+fn hand_in(
+    clock: &mut SavingClock,
+    port: u16,
+    datagram: &[u8],
+    sent: &mut [Sent],
+    count: &mut usize,
+) -> u32
+    ensures taken { TakesCall clock.old port datagram.now sent.old result count.new sent.new
+        (Some clock.new) }
+    ensures refused { RefusesCall clock.old port sent.old result count.new sent.new
+        (Some clock.new) }
+{
+    *count = 0;
+    match clock.handle(port, datagram, sent) {
+        Ok(handled) => {
+            *count = handled.count;
+            verdict_number(handled.verdict)
+        }
+        Err(refusal) => saving_number(refusal),
+    }
+}
+
+/// The members that have another value in a clock than in these data sets. There are none unless this is the number of a new
+/// request's verdict.
+fn changed_if_new(number: u32, clock: &SavingClock, before: &DataSets) -> ChangedMembers
+    ensures new { number ≡ verdict_number Verdict.AnsweredNew
+        → result ≡ changed before.now clock.now.clock.value.agent.sets }
+    ensures other { number ≢ verdict_number Verdict.AnsweredNew → result ≡ no_members }
+{
+    if number != verdict_number(Verdict::AnsweredNew) {
+        return ChangedMembers::NONE;
+    }
+    clock.clock().sets().changed_since(before)
 }
 
 /// What becomes of a datagram at a clock whose host says when it was saved: the number of the verdict, or of the refusal. Takes no
@@ -102,13 +141,7 @@ pub(crate) fn judge(
     let Some((kept, mut clock)) = handle.take_saving_clock(alloc) else {
         return NO_CLOCK;
     };
-    let number = match clock.handle(port, datagram, sent) {
-        Ok(handled) => {
-            *count = handled.count;
-            verdict_number(handled.verdict)
-        }
-        Err(refusal) => saving_number(refusal),
-    };
+    let number = hand_in(&mut *clock, port, datagram, sent, count);
     *handle = Handle::of(kept, Hosted::SavingClock(clock));
     number
 }
@@ -151,16 +184,8 @@ pub(crate) fn judge_changed(
         return NO_CLOCK;
     };
     let before = clock.clock().sets().copy();
-    let number = match clock.handle(port, datagram, sent) {
-        Ok(handled) => {
-            *count = handled.count;
-            verdict_number(handled.verdict)
-        }
-        Err(refusal) => saving_number(refusal),
-    };
-    if number == verdict_number(Verdict::AnsweredNew) {
-        *members = clock.clock().sets().changed_since(&before);
-    }
+    let number = hand_in(&mut *clock, port, datagram, sent, count);
+    *members = changed_if_new(number, clock.as_ref(), &before);
     *handle = Handle::of(kept, Hosted::SavingClock(clock));
     number
 }

@@ -9,6 +9,7 @@ pub mod SessionSettings
 pub mod Session
 pub mod SurveySettings
 pub mod Survey
+pub mod Asker
 pub mod Names
 pub mod Texts
 pub mod TextsLaws
@@ -25,3 +26,5 @@ pub mod Parsing
 pub mod Blanks
 pub mod Withheld
 pub mod SavingClock
+pub mod SessionStanding
+pub mod SavingSession

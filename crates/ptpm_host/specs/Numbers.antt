@@ -27,6 +27,8 @@ use Rattle.ptpm_manager.specs.declared.receiving.Surveyed.{Surveyed}
 use Rattle.ptpm_manager.specs.declared.receiving.Surveyed.TheVariants as surveyed
 use Rattle.ptpm_saved.specs.declared.error.RestoreError.{RestoreError as ClockImageError}
 use Rattle.ptpm_saved.specs.declared.error.RestoreError.TheVariants as images
+use Rattle.ptpm_host.specs.declared.refusal.AskerRefusal.{AskerRefusal}
+use Rattle.ptpm_host.specs.declared.refusal.AskerRefusal.TheVariants as askers
 use Rattle.ptpm_host.specs.declared.refusal.ClockRestoreRefusal.{ClockRestoreRefusal}
 use Rattle.ptpm_host.specs.declared.refusal.ClockRestoreRefusal.TheVariants as clock_restores
 use Rattle.ptpm_host.specs.declared.refusal.HandleRefusal.{HandleRefusal}
@@ -129,6 +131,10 @@ no_session = 37
 abbrev pub no_survey : ℕ
 no_survey = 46
 
+-- a handle holds no asker
+abbrev pub no_asker : ℕ
+no_asker = 120
+
 -- a struct of the host has another size than the library's
 abbrev pub other_sizes : ℕ
 other_sizes = 47
@@ -146,7 +152,7 @@ abbrev pub saving_number : SavingRefusal → ℕ
 saving_number (saving.Handle refusal) = handle_number refusal
 saving_number saving.Unsaved = unsaved
 
--- why a clock does not count as saved
+-- why a clock or a session does not count as saved
 abbrev pub saved_number : SavedRefusal → ℕ
 saved_number saves.NoRoom = no_room
 saved_number saves.OtherImage = 119
@@ -174,6 +180,7 @@ give_up_number give_ups.OutOfReach = 112
 
 abbrev pub send_number : SendRefusal → ℕ
 send_number sends.NoRoom = no_room
+send_number sends.Unsaved = unsaved
 send_number (sends.Session refusal) = resume_number refusal
 
 abbrev pub report_number : ReportRefusal → ℕ
@@ -224,6 +231,11 @@ restore_number restores.OtherVersion = 105
 restore_number restores.OtherKind = 106
 restore_number restores.Damaged = 107
 restore_number restores.OtherSession = 110
+
+-- why an asker does not go on from an image
+abbrev pub asker_number : AskerRefusal → ℕ
+asker_number (askers.Settings refusal) = session_number refusal
+asker_number (askers.Image refusal) = restore_number refusal
 
 -- why octets are no image of a clock
 abbrev pub image_number : ClockImageError → ℕ

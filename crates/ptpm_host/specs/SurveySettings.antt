@@ -1,5 +1,5 @@
 -- What the settings of a host describe: a survey. And why they describe none.
-use Rattle.std.specs.Prelude.{[], ◌∷◌, Option}
+use Rattle.std.specs.Prelude.{ℕ, ◌==◌, if◌then◌else◌, [], ◌∷◌, Option}
 use Rattle.ptpm_codec.specs.declared.identity.ClockIdentity.{ClockIdentity}
 use Rattle.ptpm_codec.specs.declared.identity.PortIdentity.{PortIdentity}
 use Rattle.ptpm_codec.specs.Identity.{every_clock, same_clock}
@@ -10,8 +10,16 @@ use Rattle.ptpm_host.specs.declared.refusal.SessionRefusal.TheVariants as refusa
 use Rattle.ptpm_host.specs.declared.survey_settings.SurveySettings.{SurveySettings}
 use Rattle.ptpm_host.specs.Settings.{is_zero}
 
+-- what a survey has of a host that names no port: the portNumber of no session (this project's profile)
+abbrev pub survey_port : ℕ
+survey_port = 65534
+
+-- the portNumber that its host gives; 0 is no port's (7.5.2.3)
+abbrev pub port_given : ℕ → ℕ
+port_given port = if port == 0 then survey_port else port
+
 abbrev pub surveying_port : SurveySettings → PortIdentity
-surveying_port s = record { clock = record { 0 = s.clock }; port = s.port }
+surveying_port s = record { clock = record { 0 = s.clock }; port = port_given s.port }
 
 -- of every port of one clock
 abbrev pub enquiry_at : SurveySettings → ClockIdentity → Enquiry

@@ -51,7 +51,7 @@ fn datagram_name(number: u32) -> Option<&'static str>
     }
 }
 
-/// Why a call changed nothing, 32 to 57 and 104 to 119.
+/// Why a call changed nothing, 32 to 57 and 104 to 120.
 #[tactic(auto, unfolding(crate::specs::AnswerNames::name_in))]
 fn refusal_name(number: u32) -> Option<&'static str>
     ensures { option_map (λ name. name.now) result ≡ name_in refusal_names number }
@@ -98,6 +98,7 @@ fn refusal_name(number: u32) -> Option<&'static str>
         117 => Some("NO_VALUE"),
         118 => Some("UNSAVED"),
         119 => Some("OTHER_IMAGE"),
+        120 => Some("NO_ASKER"),
         _ => None,
     }
 }

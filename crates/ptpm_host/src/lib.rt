@@ -1,12 +1,15 @@
-//! A clock, and a manager's session or survey, as the software of a device keeps them. Plain numbers and octets go in, and
+//! A clock, and a manager's session, asker or survey, as the software of a device keeps them. Plain numbers and octets go in, and
 //! messages to send come out.
 #![tactic(auto)]
 
 mod answer_names;
+mod asker;
+mod asker_settings;
 mod blanks;
 mod clock;
 mod data_set_reading;
 mod error_names;
+mod handed;
 mod id_names;
 mod judged;
 mod laws;
@@ -25,6 +28,7 @@ mod saving_clock;
 mod sent;
 mod session;
 mod session_settings;
+mod session_standing;
 mod settings;
 mod standing;
 mod survey;
@@ -34,25 +38,28 @@ mod version;
 mod words;
 
 pub use answer_names::answer_name;
+pub use asker::HostedAsker;
+pub use asker_settings::AskerSettings;
 pub use clock::{Handled, HostedClock, MOST_SENT};
 pub use error_names::error_name;
+pub use handed::{Handed, earlier_number};
 pub use id_names::{NO_ID, id_at, id_name, id_named};
 pub use laws::{names_law, passed_on_law, rate_law};
 pub use names::hand_out_name;
 pub use numbers::{
-    NO_CLOCK, NO_MEMORY, NO_ROOM, NO_SESSION, NO_SURVEY, OTHER_SIZES, begin_number,
-    clock_restore_number, give_up_number, handle_number, heard_number, observe_number,
-    outcome_number, parse_number, read_number, report_number, restore_number, resume_number,
-    saved_number, saving_number, send_number, session_number, start_number, surveyed_number,
-    verdict_number,
+    NO_ASKER, NO_CLOCK, NO_MEMORY, NO_ROOM, NO_SESSION, NO_SURVEY, OTHER_SIZES, asker_number,
+    begin_number, clock_restore_number, give_up_number, handle_number, heard_number,
+    observe_number, outcome_number, parse_number, read_number, report_number, restore_number,
+    resume_number, saved_number, saving_number, send_number, session_number, start_number,
+    surveyed_number, verdict_number,
 };
 pub use observing::{ObservedClock, ObservedPort, left_number};
 pub use parsing::parse_field;
 pub use passed_on::{MessageKey, PassedOn, PassedOnPlace};
 pub use rate::Rate;
 pub use refusal::{
-    ClockRestoreRefusal, HandleRefusal, ParseRefusal, ReadRefusal, ReportRefusal, SavedRefusal,
-    SavingRefusal, SendRefusal, SessionRefusal, StartRefusal,
+    AskerRefusal, ClockRestoreRefusal, HandleRefusal, ParseRefusal, ReadRefusal, ReportRefusal,
+    SavedRefusal, SavingRefusal, SendRefusal, SessionRefusal, StartRefusal,
 };
 pub use reported_outcome::ReportedOutcome;
 pub use saving_clock::SavingClock;
@@ -61,6 +68,6 @@ pub use session::{Heard, HostedSession};
 pub use session_settings::SessionSettings;
 pub use settings::{ClockSettings, ManagerSettings, PortSettings};
 pub use survey::{HostedSurvey, Source, SurveyAnswer};
-pub use survey_settings::SurveySettings;
+pub use survey_settings::{SURVEY_PORT, SurveySettings};
 pub use texts::hand_out_lines;
 pub use version::VERSION_NUMBER;

@@ -7,11 +7,11 @@
 //! refusals of a restore, and those from 112 on are further refusals of a call.
 
 ghost use Rattle.std.specs.Prelude.{◌≡◌, ◌≤◌};
-ghost use Rattle.ptpm_host.specs.Numbers.{begin_number, cause_number, clock_restore_number, give_up_number, handle_number, heard_number, image_number, managers_number, member_number, observe_number, parse_number, read_number, reason_number, report_number, restore_number, resume_number, saved_number, saving_number, send_number, session_number, start_number, surveyed_number, outcome_number, values_number, verdict_number};
+ghost use Rattle.ptpm_host.specs.Numbers.{asker_number, begin_number, cause_number, clock_restore_number, give_up_number, handle_number, heard_number, image_number, managers_number, member_number, observe_number, parse_number, read_number, reason_number, report_number, restore_number, resume_number, saved_number, saving_number, send_number, session_number, start_number, surveyed_number, outcome_number, values_number, verdict_number};
 
 use crate::refusal::{
-    ClockRestoreRefusal, HandleRefusal, ParseRefusal, ReadRefusal, ReportRefusal, SavedRefusal,
-    SavingRefusal, SendRefusal, SessionRefusal, StartRefusal,
+    AskerRefusal, ClockRestoreRefusal, HandleRefusal, ParseRefusal, ReadRefusal, ReportRefusal,
+    SavedRefusal, SavingRefusal, SendRefusal, SessionRefusal, StartRefusal,
 };
 use crate::reported_outcome::ReportedOutcome;
 use crate::session::Heard;
@@ -41,6 +41,9 @@ pub const OTHER_SIZES: u32 = 47;
 
 /// A change is not saved yet.
 const UNSAVED: u32 = 118;
+
+/// A handle holds no asker.
+pub const NO_ASKER: u32 = 120;
 
 /// What became of a datagram, 1 to 24. A datagram that is no management message is recognized first. The numbers of the other
 /// verdicts are in the order of the verdicts, so that LLVM makes no table of them.
@@ -151,7 +154,7 @@ pub fn saving_number(refusal: SavingRefusal) -> u32
     }
 }
 
-/// Why a clock does not count as saved, 34 or 119.
+/// Why a clock or a session does not count as saved, 34 or 119.
 pub fn saved_number(refusal: SavedRefusal) -> u32
     ensures number { result ≡ saved_number refusal }
     ensures some { 1 ≤ result }
@@ -265,12 +268,13 @@ pub fn give_up_number(refusal: GiveUpRefusal) -> u32
     }
 }
 
-/// Why no request is handed out, 34, 43 or 44.
+/// Why no request is handed out, 34, 43, 44 or 118.
 pub fn send_number(refusal: SendRefusal) -> u32
     ensures { result ≡ send_number refusal }
 {
     match refusal {
         SendRefusal::NoRoom => NO_ROOM,
+        SendRefusal::Unsaved => UNSAVED,
         SendRefusal::Session(refusal) => resume_number(refusal),
     }
 }
@@ -312,6 +316,17 @@ pub fn restore_number(refusal: RestoreError) -> u32
         RestoreError::OtherKind => 106,
         RestoreError::Damaged => 107,
         RestoreError::OtherSession => 110,
+    }
+}
+
+/// Why an asker does not go on from an image, 35, 48, 49, 53 to 55, 57, 104 to 107 or 110.
+pub fn asker_number(refusal: AskerRefusal) -> u32
+    ensures number { result ≡ asker_number refusal }
+    ensures some { 1 ≤ result }
+{
+    match refusal {
+        AskerRefusal::Settings(refusal) => session_number(refusal),
+        AskerRefusal::Image(refusal) => restore_number(refusal),
     }
 }
 

@@ -46,10 +46,10 @@ pub enum SavingRefusal {
     Unsaved,
 }
 
-/// Why a clock does not count as saved, in the order in which the reasons are judged.
+/// Why a clock or a session does not count as saved, in the order in which the reasons are judged.
 #[derive(Clone, Copy, Debug, PartialEq, Eq)]
 pub enum SavedRefusal {
-    /// There is room for fewer than fifteen messages.
+    /// There is room for fewer than fifteen messages; only of a clock.
     NoRoom,
     /// The image is of another state.
     OtherImage,
@@ -64,6 +64,15 @@ pub enum ReadRefusal {
     NoPort,
     /// There is room for fewer than 130 octets.
     NoRoom,
+}
+
+/// Why an asker does not go on from an image, in the order in which the reasons are judged.
+#[derive(Clone, Copy, Debug, PartialEq, Eq)]
+pub enum AskerRefusal {
+    /// No session has these settings.
+    Settings(SessionRefusal),
+    /// It is no image of this session.
+    Image(ptpm_manager::RestoreError),
 }
 
 /// Why a session does not start, in the order in which the reasons are judged. A survey of every clock has only the first, and
@@ -89,6 +98,8 @@ pub enum SessionRefusal {
 pub enum SendRefusal {
     /// There is room for fewer than 1,472 octets.
     NoRoom,
+    /// The session is to be saved first.
+    Unsaved,
     /// The session has none to send.
     Session(SendError),
 }

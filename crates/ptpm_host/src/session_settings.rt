@@ -1,8 +1,11 @@
 //! What a session is set up with, as a host in C lays it out.
 
-ghost use Rattle.std.specs.Prelude.{◌≡◌};
-ghost use Rattle.ptpm_host.specs.SessionSettings.{manager_port, target_clock};
+ghost use Rattle.std.specs.Prelude.{◌≡◌, MatchResult, None, OnOk, Some};
+ghost use Rattle.ptpm_manager.specs.Setup.{IsSetup};
+ghost use Rattle.ptpm_host.specs.SessionSettings.{manager_port, session_refusal, setup_of, target_clock};
 
+use crate::refusal::SessionRefusal;
+use crate::settings::NO_IDENTITY;
 use ptpm_codec::{ClockIdentity, PortIdentity};
 
 /// One manager, the clock that it manages, and how its requests are numbered and sent.
@@ -38,6 +41,35 @@ impl SessionSettings {
             clock: ClockIdentity(self.clock),
             port: self.port,
         }
+    }
+
+    /// Why no session has these settings, if none has.
+    pub(crate) fn judge(&self) -> Result<(), SessionRefusal>
+        ensures refusal { MatchResult result (λ _. session_refusal self.now ≡ None)
+            (λ e. session_refusal self.now ≡ Some e) }
+        ensures setup { OnOk result (IsSetup (setup_of self.now)) }
+    {
+        let me = self.manager();
+        let target = self.target();
+        if me.clock == ClockIdentity::EVERY {
+            return Err(SessionRefusal::ManagerIsEvery);
+        }
+        if target == ClockIdentity::EVERY {
+            return Err(SessionRefusal::TargetIsEvery);
+        }
+        if me.clock == target {
+            return Err(SessionRefusal::SameClock);
+        }
+        if self.target_ports < 1 {
+            return Err(SessionRefusal::NoPorts);
+        }
+        if self.target_ports > 8 {
+            return Err(SessionRefusal::TooManyPorts);
+        }
+        if target == NO_IDENTITY {
+            return Err(SessionRefusal::TargetIsZero);
+        }
+        Ok(())
     }
 
     /// The clock that it manages.

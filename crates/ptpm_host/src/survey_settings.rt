@@ -5,11 +5,14 @@ ghost use Rattle.ptpm_host.specs.SurveySettings.{surveying_port};
 
 use ptpm_codec::{ClockIdentity, PortIdentity};
 
+/// The portNumber that a survey has if its host gives none: 0 is no port's. No session has it (this project's profile).
+pub const SURVEY_PORT: u16 = 65_534;
+
 /// One manager, and the GET that it sends to every port of every clock, or of one.
 #[repr(C)]
 #[derive(Clone, Copy)]
 pub struct SurveySettings {
-    /// portNumber of the manager.
+    /// portNumber of the manager; 0 for `SURVEY_PORT`.
     pub port: u16,
     /// The sequenceId of the GET.
     pub number: u16,
@@ -32,7 +35,11 @@ impl SurveySettings {
     {
         PortIdentity {
             clock: ClockIdentity(self.clock),
-            port: self.port,
+            port: if self.port == 0 {
+                SURVEY_PORT
+            } else {
+                self.port
+            },
         }
     }
 }

@@ -1,11 +1,11 @@
 -- What a delivery at a clock does to what the clock accepted.
-use Rattle.ptpm_network.proofs.Common.{arith, by_test, ◌≡◌, ℕ, ◌<◌, ◌==◌, List, [], ◌∷◌, ◌++◌, Option, Some, None, true, false, refl, sym, ◌∙◌, ap, subst, ⊎_elim, ◌⊎◌, inl, inr, length, and_parts, cond-true, cond-false, eq-eqb, eqb-true, ltb-true, cons_option, slice_get, PortIdentity, Message, same_identity, message_of, RequestValue, Accepted, Delivery, History, RequestCopy, accepted_from, after_arrival, after_copy, applied_once, copies, initial_history, copy_from, copy_of, greatest, is_copy, joined, joins, kept_reply, Clock, applied_once-ports, delivers_copy, same_identity-true, number_of, AreDataSets, IsInStep, IsReached, arrives, delivery, IsNetwork, Network, manager, ports, Frame, NetworkState, SessionState, RequestOf, accepted_at_target, copies_at, history, with_place-other, with_place-same}
+use Rattle.ptpm_network.proofs.Common.{expected_ports, copy_parts, names_port, IsForOne, arith, by_test, ◌≡◌, ℕ, ◌-◌, ◌<◌, ◌≤◌, ◌==◌, List, [], ◌∷◌, ◌++◌, Option, Some, None, true, false, refl, sym, ◌∙◌, ap, subst, ⊎_elim, ◌⊎◌, inl, inr, length, and_parts, cond-true, cond-false, eq-eqb, eqb-true, ltb-true, cons_option, slice_get, PortIdentity, Message, same_identity, message_of, RequestValue, Accepted, Delivery, History, RequestCopy, accepted_from, after_arrival, after_copy, applied_once, copies, initial_history, copy_from, copy_of, greatest, is_copy, joined, joins, kept_reply, Clock, applied_once-ports, delivers_copy, same_identity-true, number_of, AreDataSets, IsInStep, IsReached, arrives, delivery, IsNetwork, Network, manager, ports, Frame, NetworkState, SessionState, RequestOf, accepted_at_target, copies_at, history, with_place-other, with_place-same}
 use Rattle.std.proofs.lemmas.List.Elements.{filter_map-append}
 use Rattle.ptpm_network.proofs.Accepting.{IsAbove, JoinsOwn, Keeps, in_step-joined, keeps-joined, kept-joined, kept-le}
 use Rattle.ptpm_network.proofs.Frames.{IsHeard, SaysRequest, same_read, says_request}
 use Rattle.ptpm_network.proofs.Messages.{request_at}
 use Rattle.ptpm_network.proofs.Origins.{heard-true, is_copy_by}
-use Rattle.ptpm_network.proofs.Requests.{answered, kept, once}
+use Rattle.ptpm_network.proofs.Requests.{answered, for_one-there, kept, once}
 use Rattle.ptpm_network.proofs.Steps.{KeptStays, frames-stay}
 
 -- ---- the session that a numbered copy is of
@@ -149,10 +149,23 @@ keeps-gained m p begun new old gains at = ⊎_elim
     gains
 
 joins-own : (N : Network) (w : NetworkState) (c port : ℕ) (f : Frame)
-    → IsReached N w → c < N.clocks → (j : JoinsAt N w c port f)
+    → IsNetwork N → IsReached N w → c < N.clocks → (j : JoinsAt N w c port f)
     → JoinsOwn (manager N j.of.session) (w.session j.of.session).begun
     (accepted_from (N.clock c) (history N w c) j.copy)
-joins-own N w c port f r place j = grind (arith, slice_get, answered, once)
+joins-own N w c port f n r place j =
+    let s = j.of.session in
+    let says = j.of.says in
+    let q : RequestValue = j.copy.request in
+    let v : Message = request_at N s j.of.k says.domain says.hops says.request in
+    let has : names_port (ports N c) says.request.port ≡ true = (copy_parts (N.clock c) (ports N c) v (j.of.read v says.message.read)).port in
+    let one : IsForOne (ports N c) q = subst (IsForOne (ports N c)) (sym j.of.request)
+    (for_one-there (expected_ports N s) (ports N c) says.request says.asked.one (n.are_sessions s says.place).at_most_eight has) in
+    record {
+      index = subst (λ i. i ≤ length (w.session s).begun) (sym j.of.index) says.within;
+      begun_as = ap (λ i. slice_get (w.session s).begun (i - 1)) j.of.index ∙ says.begun_as ∙ ap Some (sym j.of.request);
+      answers = answered q ((N.clock c).rights j.copy.heard.source) (ports N c) (history N w c).sets (r.clocks c place);
+      one = once q ((N.clock c).rights j.copy.heard.source) (ports N c) (history N w c).sets (r.clocks c place) one;
+    }
 
 module _ (N : Network) (w : NetworkState) (c port : ℕ) (f : Frame) (n : IsNetwork N) (r : IsReached N w) (place : c < N.clocks) (i : IsHeard N w f.octets f.origin) (t : ℕ) (exists : t < N.sessions) where
   gains-here : (N.session t).target ≡ c
@@ -167,7 +180,7 @@ module _ (N : Network) (w : NetworkState) (c port : ℕ) (f : Frame) (n : IsNetw
         own = λ y.
             let me : manager N t ≡ manager N j.of.session = same_identity-true _ _ y ∙ j.of.source in
             let ts : t ≡ j.of.session = n.sessions_apart t j.of.session exists j.of.says.place me (at ∙ sym j.of.target) in
-            subst (λ s. JoinsOwn (manager N s) (w.session s).begun (accepted_from (N.clock c) (history N w c) j.copy)) (sym ts) (joins-own N w c port f r place j);
+            subst (λ s. JoinsOwn (manager N s) (w.session s).begun (accepted_from (N.clock c) (history N w c) j.copy)) (sym ts) (joins-own N w c port f n r place j);
       }))
       (here_after N w c port f n r place i)
 
@@ -184,7 +197,7 @@ module _ (N : Network) (w : NetworkState) (c port : ℕ) (f : Frame) (n : IsNetw
   pub arrives-reached : IsHeard N w f.octets f.origin → IsReached N (arrives w c (delivery port f))
   arrives-reached i = record {
     sessions = λ t exists.
-        step-gained (manager N t) (ports N (N.session t).target) (accepted_at_target N (arrives w c (delivery port f)) t) (accepted_at_target N w t) (w.session t) (gains N w c port f n r place i t exists) (r.sessions t exists);
+        step-gained (manager N t) (expected_ports N t) (accepted_at_target N (arrives w c (delivery port f)) t) (accepted_at_target N w t) (w.session t) (gains N w c port f n r place i t exists) (r.sessions t exists);
     clocks = clocks-after N w c port f n r place i;
     frames = frames-stay N w (arrives w c (delivery port f)) (λ s j q e. e) (kept-stays i) w.frames r.frames;
   }

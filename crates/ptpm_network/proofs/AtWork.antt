@@ -1,6 +1,6 @@
 -- A session whose own messages come in time and that gives up now and then. What its own acts, what it hears and the turns of its
 -- target make of it.
-use Rattle.ptpm_network.proofs.Common.{arith, ◌≡◌, ℕ, ◌+◌, ◌-◌, ◌<◌, ◌≤◌, is_some, nat_le, not, Bool, List, [], ◌∷◌, ◌++◌, length, length-append, Option, Some, None, true, false, refl, sym, ◌∙◌, ap, subst, ⊎_elim, false≢true, slice_get, all_append, all_weaker, AllByRecursion, PortIdentity, reading, Answer, RequestValue, Accepted, greatest, kept_reply, State, Report, received_of, reports_by, reports_of, IsAsked, IsNetwork, Network, manager, ports, Held, Origin, ReplyTo, SessionValue, answered, begun, is_waiting, get_last, first_of-none}
+use Rattle.ptpm_network.proofs.Common.{expected_ports, arith, ◌≡◌, ℕ, ◌+◌, ◌-◌, ◌<◌, ◌≤◌, is_some, nat_le, not, Bool, List, [], ◌∷◌, ◌++◌, length, length-append, Option, Some, None, true, false, refl, sym, ◌∙◌, ap, subst, ⊎_elim, false≢true, slice_get, all_append, all_weaker, AllByRecursion, PortIdentity, reading, Answer, RequestValue, Accepted, greatest, kept_reply, State, Report, received_of, reports_by, reports_of, IsAsked, IsNetwork, Network, manager, Held, Origin, ReplyTo, SessionValue, answered, begun, is_waiting, get_last, first_of-none}
 use Rattle.std.proofs.lemmas.Bool.{leb-false}
 use Rattle.ptpm_manager.specs.declared.error.GiveUpRefusal.{GiveUpRefusal}
 use Rattle.ptpm_manager.specs.declared.error.GiveUpRefusal.TheVariants as give_ups
@@ -90,7 +90,7 @@ module _ (N : Network) (s : ℕ) (value : SessionValue) (reports : List Report) 
     held = at.held;
   }
 
-  pub work-begun : (q : RequestValue) → IsAsked (ports N (N.session s).target) q → is_waiting value ≡ false
+  pub work-begun : (q : RequestValue) → IsAsked (expected_ports N s) q → is_waiting value ≡ false
       → IsAtWork N s (begun value q) reports clock frames (record { begun = a.begun ++ q ∷ []; accepted = a.accepted })
   work-begun q asked idle =
       let place : length a.begun ≡ value.issued + 1 - 1 = omega (arith, at.issued) in

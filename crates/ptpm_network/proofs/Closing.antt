@@ -1,5 +1,5 @@
 -- Which events leave a way: all but those of the session's own and requests for DOMAIN and DISABLE_PORT at its clocks.
-use Rattle.ptpm_network.proofs.Common.{Replay, by_test, suc, zero, arith, ◌≡◌, ℕ, ◌<◌, ◌≤◌, ◌+◌, ◌-◌, ◌==◌, ◌||◌, ◌⊎◌, not, Bool, true, false, List, [], ◌∷◌, Option, Some, None, refl, sym, ◌∙◌, ap, map, slice_get, find, and_parts, cond-true, cond-false, eq-eqb, eqb-true, not-true, or_cases, true≢false, AllByRecursion, DataSetsValue, is_forwarding_port, may_forward, is_named, set_members, row_of, changed_by, RequestValue, after_arrival, History, RequestCopy, Clock, Begin, Deliver, Event, IsInRange, Resume, Retune, Send, Stranger, refusal, IsReached, arrives, delivery, happens, strange_frame, with_place, IsNetwork, Network, Frame, NetworkState, greatest_accepted, history, issued, Hop, at_place, with_place-other, with_place-same}
+use Rattle.ptpm_network.proofs.Common.{length, LastIsForOne, subst, Replay, by_test, suc, zero, arith, ◌≡◌, ℕ, ◌<◌, ◌≤◌, ◌+◌, ◌-◌, ◌==◌, ◌||◌, ◌⊎◌, not, Bool, true, false, List, [], ◌∷◌, Option, Some, None, refl, sym, ◌∙◌, ap, map, slice_get, find, and_parts, cond-true, cond-false, eq-eqb, eqb-true, not-true, or_cases, true≢false, AllByRecursion, DataSetsValue, is_forwarding_port, may_forward, is_named, set_members, row_of, changed_by, RequestValue, after_arrival, History, RequestCopy, Clock, Begin, Deliver, Event, IsInRange, Resume, Retune, Send, Stranger, refusal, IsReached, arrives, delivery, happens, strange_frame, with_place, IsNetwork, Network, Frame, NetworkState, greatest_accepted, history, issued, Hop, at_place, with_place-other, with_place-same}
 use Rattle.std.specs.List.{enumerate_from, list_all}
 use Rattle.ptpm_data.specs.declared.rights.Rights.{Rights}
 use Rattle.ptpm_data.specs.declared.data_sets.PortDataSet.{PortDataSet}
@@ -174,10 +174,12 @@ all_both P Q R f (x ∷ xs) p q = (f x p.0 q.0, all_both P Q R f xs p.1 q.1)
 
 -- the clocks stay open, and the target does or has accepted the last request by now
 pub way-left : (N : Network) (w u : NetworkState) (s domain port : ℕ) (hops : List Hop)
-    → s < N.sessions → IsReached N u → issued u s ≡ issued w s
+    → s < N.sessions → IsReached N u → (u.session s).begun ≡ (w.session s).begun
     → greatest_accepted N w s ≤ greatest_accepted N u s
     → AllByRecursion (λ h. StaysOpen N w u h.clock) hops
     → StaysOpen N w u (N.session s).target ⊎ (greatest_accepted N u s ≡ issued u s)
     → IsWayIn N w s domain hops port
     → IsWayIn N u s domain hops port
-way-left N w u s domain port hops place r counted grows clear target way = grind (arith, all_both)
+way-left N w u s domain port hops place r begun grows clear target way =
+    let for_one : LastIsForOne N s (u.session s).begun = subst (LastIsForOne N s) (sym begun) way.for_one in
+    let counted : issued u s ≡ issued w s = ap length begun in grind (arith, all_both)

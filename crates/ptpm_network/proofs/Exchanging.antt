@@ -1,5 +1,5 @@
 -- What one copy of a session's last request brings about at its target, and one of the reply at the session.
-use Rattle.ptpm_network.proofs.Common.{arith, ◌≡◌, ℕ, ◌<◌, ◌+◌, ◌-◌, ◌^◌, List, [], ◌∷◌, ◌++◌, Some, None, true, false, refl, sym, ◌∙◌, ap, subst, ⊎_elim, length, length-append, and_from, cases_eq, cond-true, eq-eqb, eqb-false, false_from_ne_true, le-leb, le-ltb, lt-ltb, or_left, or_right, append-nil, option_or, ClockIdentity, PortIdentity, Message, canonical, same_clock, boundary_hops, domain_number, Fits, IsValid, first_of, message_of, canonical_spells, same_clock-refl, same_clock-true, octet-take, message_of-some, message_of-spells, message_size, Answer, ReplyValue, RequestValue, reply_message, History, RequestCopy, copy_by, copy_from, copy_of, due_reply, greatest, is_copy, kept_reply, is_for_this_clock, Clock, Report, outcome_in, Deliver, Event, FramesAtMaximum, frame_at, frames_limit, no_frame, no_room, refusal, HasReplied, HasReported, HasRoom, IsHeardBy, IsAsked, IsFrame, IsOfOrigin, IsReached, arrives, delivered_at, delivered_at_clock, delivery, happens, index_of, made_frames, report_from, reported, step, step_by, AtPort, AtSession, End, HasEnd, IsNetwork, Network, manager, peers, ports, Frame, NetworkState, RequestOf, ReplyTo, accepted_at_target, greatest_accepted, history, is_idle, issued, new_frames, with_place-same, forwarded-copy}
+use Rattle.ptpm_network.proofs.Common.{LastIsForOne, expected_ports, IsForOne, arith, ◌≡◌, ℕ, ◌<◌, ◌+◌, ◌-◌, ◌^◌, List, [], ◌∷◌, ◌++◌, Some, None, true, false, refl, sym, ◌∙◌, ap, subst, ⊎_elim, length, length-append, and_from, cases_eq, cond-true, eq-eqb, eqb-false, false_from_ne_true, le-leb, le-ltb, lt-ltb, or_left, or_right, append-nil, option_or, ClockIdentity, PortIdentity, Message, canonical, same_clock, boundary_hops, domain_number, Fits, IsValid, first_of, message_of, canonical_spells, same_clock-refl, same_clock-true, octet-take, message_of-some, message_of-spells, message_size, Answer, ReplyValue, RequestValue, reply_message, History, RequestCopy, copy_by, copy_from, copy_of, due_reply, greatest, is_copy, kept_reply, is_for_this_clock, Clock, Report, outcome_in, Deliver, Event, FramesAtMaximum, frame_at, frames_limit, no_frame, no_room, refusal, HasReplied, HasReported, HasRoom, IsHeardBy, IsAsked, IsFrame, IsOfOrigin, IsReached, arrives, delivered_at, delivered_at_clock, delivery, happens, index_of, made_frames, report_from, reported, step, step_by, AtPort, AtSession, End, HasEnd, IsNetwork, Network, manager, peers, ports, Frame, NetworkState, RequestOf, ReplyTo, accepted_at_target, greatest_accepted, history, is_idle, issued, new_frames, with_place-same, forwarded-copy}
 use Rattle.ptpm_network.proofs.Answering.{keeps_due, rendered-one, small}
 use Rattle.ptpm_network.proofs.Arriving.{arrives-reached, is_copy_of}
 use Rattle.ptpm_network.proofs.DueReplies.{due-latest}
@@ -39,10 +39,10 @@ clocks_apart a b ne = false_from_ne_true (same_clock a b) (λ y. ne (same_clock-
 -- ---- a copy of a session's request at its target
 
 request-is_copy : (N : Network) (s k domain hops : ℕ) (q : RequestValue)
-    → IsNetwork N → s < N.sessions → IsAsked (ports N (N.session s).target) q
+    → IsNetwork N → s < N.sessions → IsAsked (expected_ports N s) q → IsForOne (ports N (N.session s).target) q
     → is_copy (N.clock (N.session s).target) (ports N (N.session s).target)
     (request_at N s k domain hops q) ≡ true
-request-is_copy N s k domain hops q n place asked = grind (arith, request_at, clocks_apart, same_clock-refl, and_from, or_right, le-leb, or_left, eq-eqb)
+request-is_copy N s k domain hops q n place asked one = grind (arith, request_at, clocks_apart, same_clock-refl, and_from, or_right, le-leb, or_left, eq-eqb)
 
 -- ---- a reply is due to it
 
@@ -149,9 +149,9 @@ made-reply N w s port f x v r origin e here is due ingress m = grind (arith, for
 pub replied : (N : Network) (w : NetworkState) (s port : ℕ) (f : Frame)
     → IsNetwork N → IsReached N w → s < N.sessions → IsFrame N w f
     → f.end ≡ AtPort (N.session s).target port → f.origin ≡ RequestOf s (issued w s)
-    → IsHeardBy N w s f.octets
+    → LastIsForOne N s (w.session s).begun → IsHeardBy N w s f.octets
     → HasReplied N w (delivered_at_clock N w (N.session s).target port f) s port f.octets
-replied N w s port f n r place i end origin heard =
+replied N w s port f n r place i end origin for_one heard =
     let c = (N.session s).target in
     let session = n.are_sessions s place in
     let own : IsOfOrigin N w f.octets (RequestOf s (issued w s)) = grind arith in
@@ -161,7 +161,7 @@ replied N w s port f n r place i end origin heard =
     let domain : says.domain ≡ domain_number f.octets = message-domain v f.octets says.message.read in
     let of : IsLatestCopy N w s f.octets x = record { says = says; source = refl; index = ap index_of origin; request = refl; domain = domain } in
     let is : copy_of (N.clock c) (ports N c) (delivery port f) ≡ Some x =
-    ap (copy_by (N.clock c) (ports N c) (delivery port f)) says.message.read ∙ cond-true _ _ _ (request-is_copy N s (issued w s) says.domain says.hops says.request n place says.asked) in
+    ap (copy_by (N.clock c) (ports N c) (delivery port f)) says.message.read ∙ cond-true _ _ _ (request-is_copy N s (issued w s) says.domain says.hops says.request n place says.asked (for_one says.request says.begun_as)) in
     let due = due-to N w s f.octets x r place of heard in
     let m = reply-message N w s port f x due.0 n r place (subst (HasEnd N) end i.end) origin i.origin of refl says.message.fits.number is due.1 in
     let u : Message = reply_message (N.clock c).identity x.heard (due.0).action (due.0).id x.ingress m.answer in

@@ -1,5 +1,5 @@
 -- What a frame of each origin says, and that what a clock passes on keeps its origin.
-use Rattle.ptpm_network.proofs.Common.{arith, ◌≡◌, ℕ, ◌<◌, ◌≤◌, ◌+◌, ◌-◌, ◌^◌, List, [], ◌∷◌, Some, sym, ◌∙◌, ap, subst, length, same_Some, slice_get_within, slice_get, AllByRecursion, Message, canonical, boundary_hops, Fits, message_of, Answer, RequestValue, Heard, with_less_hop, Accepted, kept_reply, number_of, Answers, HasOneAnswer, IsSendable, IsAsked, IsForeign, IsFrame, IsMessage, IsOfOrigin, IsReached, forwarded_frames, AtPort, HasEnd, IsNetwork, Network, manager, peers, ports, Frame, NetworkState, Origin, RequestOf, ReplyTo, Neither, accepted_at_target, all_flat, all_made, le_trans}
+use Rattle.ptpm_network.proofs.Common.{expected_ports, arith, ◌≡◌, ℕ, ◌<◌, ◌≤◌, ◌+◌, ◌-◌, ◌^◌, List, [], ◌∷◌, Some, sym, ◌∙◌, ap, subst, length, same_Some, slice_get_within, slice_get, AllByRecursion, Message, canonical, boundary_hops, Fits, message_of, Answer, RequestValue, Heard, with_less_hop, Accepted, kept_reply, number_of, Answers, HasOneAnswer, IsSendable, IsAsked, IsForeign, IsFrame, IsMessage, IsOfOrigin, IsReached, forwarded_frames, AtPort, HasEnd, IsNetwork, Network, manager, peers, Frame, NetworkState, Origin, RequestOf, ReplyTo, Neither, accepted_at_target, all_flat, all_made, le_trans}
 use Rattle.ptpm_network.specs.Invariant.{IsReplyFrame, IsRequestFrame}
 use Rattle.ptpm_network.proofs.Accepting.{Keeps, in_step-keeps, kept-le}
 use Rattle.ptpm_network.proofs.Messages.{IsPassedOn, canonical-message, less_hop-canonical, less_hop-hops, less_hop-message, message-hops, reply_at, reply-fits, reply-valid, request_at, request-fits, request-valid}
@@ -13,7 +13,7 @@ pub record SaysRequest (N : Network) (s k : ℕ) (begun : List RequestValue) (oc
   pub within : k ≤ length begun
   pub request : RequestValue
   pub begun_as : slice_get begun (k - 1) ≡ Some request
-  pub asked : IsAsked (ports N (N.session s).target) request
+  pub asked : IsAsked (expected_ports N s) request
   pub domain : ℕ
   pub hops : ℕ
   pub is : octets ≡ canonical (request_at N s k domain hops request)
@@ -22,7 +22,7 @@ pub record SaysRequest (N : Network) (s k : ℕ) (begun : List RequestValue) (oc
 -- what was accepted as request k, with the one answer to it
 pub record SaysKept (N : Network) (s k : ℕ) (begun : List RequestValue) (e : Accepted) : Type 0 where
   pub begun_as : slice_get begun (k - 1) ≡ Some e.request
-  pub asked : IsAsked (ports N (N.session s).target) e.request
+  pub asked : IsAsked (expected_ports N s) e.request
   pub answers : Answers e.request e.reply
   pub one : HasOneAnswer e.request e.reply
   pub within : k ≤ length begun
@@ -52,7 +52,7 @@ pub sendable-one : (q : RequestValue) (e : Accepted) (a : Answer)
 sendable-one q e a one answers = (subst (AllByRecursion IsSendable) one answers.sendable).0
 
 pub kept_says : (N : Network) (s k : ℕ) (accepted : List Accepted) (begun : List RequestValue) (e : Accepted)
-    → Keeps (manager N s) (ports N (N.session s).target) begun accepted → 0 < k → kept_reply (manager N s) k accepted ≡ Some e
+    → Keeps (manager N s) (expected_ports N s) begun accepted → 0 < k → kept_reply (manager N s) k accepted ≡ Some e
     → SaysKept N s k begun e
 kept_says N s k accepted begun e keeps positive kept =
     let le = kept-le (manager N s) k accepted e kept in
@@ -60,7 +60,7 @@ kept_says N s k accepted begun e keeps positive kept =
     let same : was.entry ≡ e = same_Some was.entry e (sym was.is ∙ kept) in
     subst (SaysKept N s k begun) same (search (keeps.asked (k - 1) was.entry.request was.begun_as, le_trans le keeps.begun_before))
 
-module _ (N : Network) (s k : ℕ) (accepted : List Accepted) (begun : List RequestValue) (n : IsNetwork N) (place : s < N.sessions) (keeps : Keeps (manager N s) (ports N (N.session s).target) begun accepted) where
+module _ (N : Network) (s k : ℕ) (accepted : List Accepted) (begun : List RequestValue) (n : IsNetwork N) (place : s < N.sessions) (keeps : Keeps (manager N s) (expected_ports N s) begun accepted) where
   pub request_says : (octets : List ℕ)
       → IsRequestFrame (N.session s).setup begun k octets
       → SaysRequest N s k begun octets
@@ -69,8 +69,8 @@ module _ (N : Network) (s k : ℕ) (accepted : List Accepted) (begun : List Requ
       let v : Message = request_at N s k i.domain i.hops i.request in
       let within : k ≤ length begun = omega (arith, i.positive, slice_get_within begun (k - 1) i.request i.begun_as) in
       let message : IsMessage octets v = subst (λ m. IsMessage m v) (sym i.is)
-      (canonical-message v (request-valid N s k i.domain i.hops (ports N (N.session s).target) i.request asked)
-      (request-fits N s k i.domain i.hops (ports N (N.session s).target) i.request n place asked)) in
+      (canonical-message v (request-valid N s k i.domain i.hops (expected_ports N s) i.request asked)
+      (request-fits N s k i.domain i.hops (expected_ports N s) i.request n place asked)) in
       search (asked, message, within)
 
   pub reply_says : (octets : List ℕ)
@@ -98,7 +98,7 @@ module _ (N : Network) (s k : ℕ) (accepted : List Accepted) (begun : List Requ
   request_passed octets i =
       let says = request_says octets i in
       search (ap with_less_hop says.is ∙ less_hop-canonical (request_at N s k says.domain says.hops says.request)
-      (request-valid N s k says.domain says.hops (ports N (N.session s).target) says.request says.asked) says.message.fits)
+      (request-valid N s k says.domain says.hops (expected_ports N s) says.request says.asked) says.message.fits)
 
   pub reply_passed : (octets : List ℕ)
       → IsReplyFrame (N.session s).setup accepted k octets
@@ -112,8 +112,8 @@ module _ (N : Network) (s k : ℕ) (accepted : List Accepted) (begun : List Requ
 
 reached-keeps : (N : Network) (w : NetworkState) (s : ℕ)
     → IsReached N w → s < N.sessions
-    → Keeps (manager N s) (ports N (N.session s).target) (w.session s).begun (accepted_at_target N w s)
-reached-keeps N w s r place = in_step-keeps (manager N s) (ports N (N.session s).target) (accepted_at_target N w s) (w.session s) (r.sessions s place)
+    → Keeps (manager N s) (expected_ports N s) (w.session s).begun (accepted_at_target N w s)
+reached-keeps N w s r place = in_step-keeps (manager N s) (expected_ports N s) (accepted_at_target N w s) (w.session s) (r.sessions s place)
 
 module _ (N : Network) (w : NetworkState) (s k : ℕ) where
   pub says_request : (octets : List ℕ)

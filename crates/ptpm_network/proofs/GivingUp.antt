@@ -1,5 +1,5 @@
 -- A manager whose own messages come in time is served in order, whatever it gives up, and whatever others do.
-use Rattle.ptpm_network.proofs.Common.{at_place, ◌++◌, arith, by_test, ◌≡◌, ℕ, ◌+◌, ◌<◌, ◌≤◌, ◌==◌, ◌^◌, ◌&&◌, is_some, nat_lt, Bool, List, [], ◌∷◌, length, Option, Some, None, Result, Ok, Err, true, false, refl, sym, ◌∙◌, ap, subst, and_from, eq-eqb, eqb-true, ltb-false, same_Some, all_append, frame_at-all, AllByRecursion, Message, canonical, is_copy, received_of, IsAsked, strange_frame, with_place, AtPort, AtSession, End, HasEnd, IsNetwork, Network, manager, ports, Held, Frame, seen, Origin, RequestOf, ReplyTo, SessionValue, Happened, Refusal, network_event, after_turn, reaches, hears, RunningNetwork, begun, resumed, retuned, sent, due_message, Ask, begin_refusal, Event, Begin, IsInRange, frame_at, is_late_at, sends_in, StandsAfter, session_value, PortIdentity, Accepted, greatest, kept_reply, Report, same_identity, Clock, State, cond-true, cond-false, if◌then◌else◌, le_trans}
+use Rattle.ptpm_network.proofs.Common.{expected_ports, at_place, ◌++◌, arith, by_test, ◌≡◌, ℕ, ◌+◌, ◌<◌, ◌≤◌, ◌==◌, ◌^◌, ◌&&◌, is_some, nat_lt, Bool, List, [], ◌∷◌, length, Option, Some, None, Result, Ok, Err, true, false, refl, sym, ◌∙◌, ap, subst, and_from, eq-eqb, eqb-true, ltb-false, same_Some, all_append, frame_at-all, AllByRecursion, Message, canonical, is_copy, received_of, IsAsked, strange_frame, with_place, AtPort, AtSession, End, HasEnd, IsNetwork, Network, manager, ports, Held, Frame, seen, Origin, RequestOf, ReplyTo, SessionValue, Happened, Refusal, network_event, after_turn, reaches, hears, RunningNetwork, begun, resumed, retuned, sent, due_message, Ask, begin_refusal, Event, Begin, IsInRange, frame_at, is_late_at, sends_in, StandsAfter, session_value, PortIdentity, Accepted, greatest, kept_reply, Report, same_identity, Clock, State, cond-true, cond-false, if◌then◌else◌, le_trans}
 use Rattle.std.proofs.lemmas.Bool.{ltb-true}
 use Rattle.std.specs.FinMap.{get}
 use Rattle.ptpm_data.specs.ObservationBack.{Observation}
@@ -77,7 +77,7 @@ module _ (N : Network) (n : IsNetwork N) (s : ℕ) (place : s < N.sessions) (r :
       let request = ask.request_of q in
       by_test (t == s)
       (λ y. let ts : t ≡ s = eqb-true t s y in
-      let asked : IsAsked (ports N (N.session s).target) request = subst (λ j. IsAsked (ports N (N.session j).target) request) ts ((begins-honest N r t q n h there id fine).asked request refl) in
+      let asked : IsAsked (expected_ports N s) request = subst (λ j. IsAsked (expected_ports N j) request) ts ((begins-honest N r t q n h there id fine).asked request refl) in
       let idle = subst (λ j. begin_refusal (r.session j) q ≡ None) ts fine in
       rw (ts, eq-eqb s s refl) (work-begun N s (r.session s) (r.reports s) (r.clock (N.session s).target) r.frames a at request asked (begin-not_refused (r.session s) q idle).0))
       (λ o. rw (o, flipped t s o) at)
@@ -295,7 +295,7 @@ module _ (N : Network) (s : ℕ) (r : RunningNetwork) (a : Account) (at : Works 
       let late : is_late_at k (r.session s).issued ≡ false = subst (λ (o : Origin). is_behind r o ≡ false) copy.origin copy.in_time in
       let time : length a.begun ≤ k + 32768 = subst (λ i. i ≤ k + 32768) at.work.issued (ltb-false (k + 32768) (r.session s).issued late) in
       let many : ports N c ≡ length (r.clock c).sets.ports = sym (at.honest.clocks c (at.network.are_sessions s at.place).exists).sets.ports_are in
-      turns_own (manager N s) (N.session s).setup.first (ports N c) (N.clock c) (r.clock c) port x.octets v k k a.accepted a.begun copy.read
+      turns_own (manager N s) (N.session s).setup.first (expected_ports N s) (N.clock c) (r.clock c) port x.octets v k k a.accepted a.begun copy.read
       (comes_own N at.network s at.place r at.honest a at.work.held port (seen x) i.says said v k k copy.origin
       (work-given N s (r.session s) (r.reports s) (r.clock c) r.frames a at.work k time) copy.read (subst (λ p. is_copy (N.clock c) p v ≡ true) many copy.copy))
 

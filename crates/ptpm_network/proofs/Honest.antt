@@ -1,6 +1,6 @@
 -- What holds of a running network after every list of events, however late others come. Each frame is true to whom it is
 -- of, and clocks and sessions can send what they keep.
-use Rattle.ptpm_network.proofs.Common.{◌++◌, ◌∷◌, [], by_test, arith, map, reading, Turned, all_weaker, sends_in, sent, IsMessage, IsForeignFrame, ◌≡◌, ℕ, ◌<◌, ◌^◌, List, Option, Some, None, Result, Ok, refl, sym, ◌∙◌, ap, subst, length, same_Some, option_map, AllByRecursion, PortIdentity, Message, canonical, same_identity, Fits, message_of, ReplyValue, RequestValue, read_reply_to, reply_to, Entry, reply_messages, RequestCopy, copy_of, delivers_copy, heard_of, request_of, Clock, State, turn, judged, reply_by, turn-message, Verdict, Answers, AreDataSets, same_identity-true, answer_origin, delivery, reply_origin, AtPort, AtSession, End, HasEnd, IsNetwork, Network, peers, ports, Frame, Held, held, seen, turn_frames, after_turn, Origin, RequestOf, ReplyTo, Neither, Happened, unless_refused, reaches, hears, sent_posted, with_session_value, RunningNetwork, SessionValue, initial_history, DataSetsValue, Stands, initial_state, answered, begun, due_message, received_of, request_message, Ask, ask_refusal, begin_refusal, Refusal, frame_at, IsAsked, all_append, frame_at-all, all_made, at_place}
+use Rattle.ptpm_network.proofs.Common.{expected_ports, ◌++◌, ◌∷◌, [], by_test, arith, map, reading, Turned, all_weaker, sends_in, sent, IsMessage, IsForeignFrame, ◌≡◌, ℕ, ◌<◌, ◌^◌, List, Option, Some, None, Result, Ok, refl, sym, ◌∙◌, ap, subst, length, same_Some, option_map, AllByRecursion, PortIdentity, Message, canonical, same_identity, Fits, message_of, ReplyValue, RequestValue, read_reply_to, reply_to, Entry, reply_messages, RequestCopy, copy_of, delivers_copy, heard_of, request_of, Clock, State, turn, judged, reply_by, turn-message, Verdict, Answers, AreDataSets, same_identity-true, answer_origin, delivery, reply_origin, AtPort, AtSession, End, HasEnd, IsNetwork, Network, peers, ports, Frame, Held, held, seen, turn_frames, after_turn, Origin, RequestOf, ReplyTo, Neither, Happened, unless_refused, reaches, hears, sent_posted, with_session_value, RunningNetwork, SessionValue, initial_history, DataSetsValue, Stands, initial_state, answered, begun, due_message, received_of, request_message, Ask, ask_refusal, begin_refusal, Refusal, frame_at, IsAsked, all_append, frame_at-all, all_made, at_place}
 use Rattle.std.specs.FinMap.{get, insert}
 use Rattle.ptpm_manager.specs.declared.receiving.Received.{Received}
 use Rattle.ptpm_manager.specs.declared.receiving.Received.TheVariants as received
@@ -37,7 +37,7 @@ pub record IsHonestClock (p : ℕ) (s : State) : Type 0 where
 
 pub record IsHonestSession (N : Network) (t : ℕ) (v : SessionValue) : Type 0 where
   pub setup : v.setup ≡ (N.session t).setup
-  pub asked : (q : RequestValue) → v.unanswered ≡ Some q → IsAsked (ports N (N.session t).target) q
+  pub asked : (q : RequestValue) → v.unanswered ≡ Some q → IsAsked (expected_ports N t) q
 
 pub record IsTrueFrame (N : Network) (h : Held) : Type 0 where
   pub end : HasEnd N h.end
@@ -170,7 +170,7 @@ moved-honest N r h t f there setup unanswered =
 pub record IsSentBy (N : Network) (t : ℕ) (value : SessionValue) (v : Message) : Type 0 where
   pub request : RequestValue
   pub unanswered : value.unanswered ≡ Some request
-  pub asked : IsAsked (ports N (N.session t).target) request
+  pub asked : IsAsked (expected_ports N t) request
   pub is : v ≡ request_message (N.session t).setup value.domain value.issued request
   pub message : IsMessage (canonical v) v
 
@@ -183,7 +183,7 @@ sent-by N t value (Some q) v n place h u e =
     let made : request_message value.setup value.domain value.issued q ≡ v = same_Some _ v e in
     let is : v ≡ request_message (N.session t).setup value.domain value.issued q = grind arith in
     let asked = h.asked q u in
-    let p = ports N (N.session t).target in
+    let p = expected_ports N t in
     let first : Message = request_message (N.session t).setup value.domain value.issued q in grind (arith, canonical-message, request-valid, request-fits)
 
 pub sent_by : (N : Network) (t : ℕ) (value : SessionValue) (v : Message)
@@ -241,12 +241,11 @@ pub begins-honest : (N : Network) (r : RunningNetwork) (t : ℕ) (a : Ask)
     → IsHonestSession N t (begun (r.session t) (ask.request_of a))
 begins-honest N r t a n h place id e =
     let session = n.are_sessions t place in
-    let clock = n.are_clocks (N.session t).target session.exists in
     let value = h.sessions t place in
     let fine = (begin-not_refused (r.session t) a e).1 in
-    let asked : IsAsked (ports N (N.session t).target) (ask.request_of a) =
-    asked-not_refused (ports N (N.session t).target) a clock.at_most_eight id
-    (subst (λ p. ask_refusal p a ≡ None) (ap (λ (x : Setup). x.ports) value.setup ∙ session.ports) fine) in grind arith
+    let asked : IsAsked (expected_ports N t) (ask.request_of a) =
+    asked-not_refused (expected_ports N t) a session.at_most_eight id
+    (subst (λ p. ask_refusal p a ≡ None) (ap (λ (x : Setup). x.ports) value.setup) fine) in grind arith
 
 module _ (N : Network) (n : IsNetwork N) (r : RunningNetwork) (h : IsHonest N r) where
   pub frame-true : (k : ℕ) (x : Held) → frame_at r.frames k ≡ Some x → IsTrueFrame N x

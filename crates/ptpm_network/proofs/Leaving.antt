@@ -1,5 +1,5 @@
 -- What events leave as it was: frames stay, and a way stays one if its clocks and its session do.
-use Rattle.ptpm_network.proofs.Common.{arith, ◌≡◌, ℕ, List, [], ◌∷◌, Replay, Deliver, Event, Send, Stranger, happens, run, step, Network, NetworkState, Frame, history, issued, Hop, all_weaker}
+use Rattle.ptpm_network.proofs.Common.{LastIsForOne, arith, ◌≡◌, ℕ, List, [], ◌∷◌, Replay, Deliver, Event, Send, Stranger, happens, run, step, Network, NetworkState, Frame, history, issued, Hop, all_weaker}
 use Rattle.ptpm_network.specs.Way.{IsWayIn}
 use Rattle.ptpm_network.proofs.Carrying.{IsIn, in_left}
 use Rattle.ptpm_network.proofs.RoundTrip.{Hears}
@@ -25,9 +25,9 @@ run-frames N w (e ∷ es) x p = run-frames N (step N w e) es x (after-step (λ (
 
 -- ---- a way stays one
 
--- if all clocks but the target are as they were, and the target hears the last request
+-- if all clocks but the target are as they were, and the target hears the last request, and has the port that it is for
 pub way-stays : (N : Network) (w u : NetworkState) (s domain port : ℕ) (hops : List Hop)
     → ((d : ℕ) → (d ≡ (N.session s).target → ⊥) → history N u d ≡ history N w d)
-    → Hears N u s (issued u s) domain → IsWayIn N w s domain hops port
+    → LastIsForOne N s (u.session s).begun → Hears N u s (issued u s) domain → IsWayIn N w s domain hops port
     → IsWayIn N u s domain hops port
-way-stays N w u s domain port hops same hears way = grind (arith, all_weaker)
+way-stays N w u s domain port hops same for_one hears way = grind (arith, all_weaker)

@@ -1,9 +1,10 @@
 -- A turn at a message whose hops were lowered.
-use Rattle.ptpm_network.proofs.Common.{arith, ◌≡◌, ℕ, ◌-◌, ◌<◌, ◌≤◌, ◌==◌, ◌&&◌, not, nat_lt, Bool, true, false, if◌then◌else◌, List, [], ◌∷◌, map, Option, Some, None, Ok, refl, sym, ◌∙◌, ap, cond-false, lt-ltb, ClockIdentity, Message, canonical, message_of, same_clock, may_forward, Answer, ReplyValue, Heard, DataSetsValue, heard_of, reply_message, rendered, Clock, State, Turned, Verdict, judged, turn, turn_by, turn-message, reply_messages, reply_by, forwarded}
+use Rattle.ptpm_network.proofs.Common.{arith, ◌≡◌, ℕ, ◌-◌, ◌<◌, ◌≤◌, ◌==◌, ◌&&◌, not, nat_lt, Bool, true, false, if◌then◌else◌, List, [], ◌∷◌, map, Option, Some, None, Ok, refl, sym, ◌∙◌, ap, subst, cond-false, lt-ltb, ClockIdentity, Message, canonical, message_of, same_clock, may_forward, Answer, ReplyValue, Heard, DataSetsValue, heard_of, reply_message, rendered, Clock, State, Turned, Verdict, judged, turn, turn_by, turn-message, reply_messages, reply_by, forwarded}
+use Rattle.ptpm_codec.proofs.RewritingLaws.{less_hop_message}
 use Rattle.ptpm_agent.specs.Forwarding.{egress_ports, forwarded_by, is_forwarded, with_less_hop}
 use Rattle.ptpm_agent.specs.declared.verdict.Verdict.TheVariants as verdicts
 use Rattle.ptpm_agent.specs.Turn.{next_by}
-use Rattle.ptpm_network.specs.Lowered.{IsLowered, ports_of, with_fewer_hops}
+use Rattle.ptpm_network.specs.Lowered.{AreLowered, IsLowered, with_fewer_hops}
 
 -- ---- what is replied
 
@@ -44,14 +45,29 @@ passed-from : (me : ClockIdentity) (ingress : ℕ) (d : DataSetsValue) (datagram
 unfolding forwarded
 passed-from me ingress d datagram v e = ap (forwarded_by me ingress d datagram) e
 
-ports-of : (b : Bool) (octets : List ℕ) (ports : List ℕ)
-    → ports_of (if b then map (λ port. (port, octets)) ports else []) ≡ (if b then ports else [])
-ports-of false octets ports = refl
-ports-of true octets ports = ports-each octets ports
-  where
-    ports-each : (octets : List ℕ) (ports : List ℕ) → map (λ (m : ℕ × List ℕ). m.0) (map (λ (port : ℕ). (port, octets)) ports) ≡ ports
-    ports-each octets [] = refl
-    ports-each octets (p ∷ ports) = ap (λ (qs : List ℕ). p ∷ qs) (ports-each octets ports)
+-- a hop fewer of each
+starting-alike : (starting hops most : ℕ) → 0 < most → starting - (hops - most) ≡ starting - ((hops - 1) - (most - 1))
+starting-alike starting hops most some = omega (arith, some)
+
+less-lowered : (most : ℕ) (datagram lowered : List ℕ) → 0 < most → IsLowered most datagram lowered
+    → IsLowered (most - 1) (with_less_hop datagram) (with_less_hop lowered)
+less-lowered most datagram lowered some h = record {
+  message = record h.message { hops = h.message.hops - 1 };
+  read = less_hop_message h.message datagram h.read;
+  fewer = omega (arith, h.fewer);
+  is = less_hop_message (with_fewer_hops most h.message) lowered h.is
+      ∙ ap (λ starting. Some (record h.message { starting_hops = starting; hops = most - 1 })) (starting-alike h.message.starting_hops h.message.hops most some);
+}
+
+lowered-at : (most : ℕ) (datagram lowered : List ℕ) (ports : List ℕ) → IsLowered most datagram lowered
+    → AreLowered most (map (λ port. (port, datagram)) ports) (map (λ port. (port, lowered)) ports)
+lowered-at most datagram lowered [] h = tt
+lowered-at most datagram lowered (p ∷ ports) h = (refl, h, lowered-at most datagram lowered ports h)
+
+lowered-if : (b : Bool) (most : ℕ) (datagram lowered : List ℕ) (ports : List ℕ) → IsLowered most datagram lowered
+    → AreLowered most (if b then map (λ port. (port, datagram)) ports else []) (if b then map (λ port. (port, lowered)) ports else [])
+lowered-if false most datagram lowered ports h = tt
+lowered-if true most datagram lowered ports h = lowered-at most datagram lowered ports h
 
 -- ---- the turn
 
@@ -91,7 +107,7 @@ module _ (c : Clock) (s : State) (ingress most : ℕ) (datagram lowered : List �
   forwards-here : (turn c s ingress datagram).forwards ≡ (if is_forwarded c.identity ingress s.sets h.message then map (λ port. (port, with_less_hop datagram)) (egress_ports ingress s.sets) else [])
   forwards-here = ap (λ (t : Turned). t.forwards) here ∙ passed-from c.identity ingress s.sets datagram h.message h.read
 
-  pub passed-alike : 0 < most → ports_of (turn c s ingress lowered).forwards ≡ ports_of (turn c s ingress datagram).forwards
+  pub passed-alike : 0 < most → AreLowered (most - 1) (turn c s ingress datagram).forwards (turn c s ingress lowered).forwards
   passed-alike some =
       let left : nat_lt 0 most ≡ true = lt-ltb 0 most some in
       let had : nat_lt 0 h.message.hops ≡ true = lt-ltb 0 h.message.hops (omega (arith, some, h.fewer)) in
@@ -99,9 +115,11 @@ module _ (c : Clock) (s : State) (ingress most : ℕ) (datagram lowered : List �
       let v : Message = h.message in
       let same : is_forwarded c.identity ingress s.sets less ≡ is_forwarded c.identity ingress s.sets v =
       ap (λ b. v.sdo == 0 && (v.domain == s.sets.default.domain && (not (same_clock v.source.clock c.identity) && (not (same_clock v.target.clock c.identity) && (b && may_forward ingress s.sets))))) both in
-      ap ports_of forwards-there ∙ ports-of (is_forwarded c.identity ingress s.sets less) (with_less_hop lowered) (egress_ports ingress s.sets)
-      ∙ ap (λ b. if b then egress_ports ingress s.sets else []) same
-      ∙ sym (ap ports_of forwards-here ∙ ports-of (is_forwarded c.identity ingress s.sets v) (with_less_hop datagram) (egress_ports ingress s.sets))
+      let there' : (turn c s ingress lowered).forwards ≡ (if is_forwarded c.identity ingress s.sets v then map (λ port. (port, with_less_hop lowered)) (egress_ports ingress s.sets) else []) =
+      forwards-there ∙ ap (λ b. if b then map (λ port. (port, with_less_hop lowered)) (egress_ports ingress s.sets) else []) same in
+      subst (λ ms. AreLowered (most - 1) ms (turn c s ingress lowered).forwards) (sym forwards-here)
+      (subst (λ ls. AreLowered (most - 1) (if is_forwarded c.identity ingress s.sets v then map (λ port. (port, with_less_hop datagram)) (egress_ports ingress s.sets) else []) ls) (sym there')
+      (lowered-if (is_forwarded c.identity ingress s.sets v) (most - 1) (with_less_hop datagram) (with_less_hop lowered) (egress_ports ingress s.sets) (less-lowered most datagram lowered some h)))
 
 never : (a b c d e : Bool) → a && (b && (c && (d && (false && e)))) ≡ false
 never a b c d e = grind arith

@@ -1,6 +1,6 @@
 -- One copy each way along a way answers a request, whatever else happens between: frames stay, so each is there when its turn
 -- comes.
-use Rattle.ptpm_network.proofs.Common.{suc, arith, ◌≡◌, ℕ, ◌<◌, ◌≤◌, ◌+◌, ◌-◌, ◌*◌, List, [], ◌∷◌, ◌++◌, None, false, refl, sym, ◌∙◌, ap, subst, length, length-append, append_assoc, AllByRecursion, Deliver, Event, IsInRange, Send, frames_limit, refusal, HasRoom, IsReached, run, step, AtPort, AtSession, End, IsNetwork, Network, NetworkState, Origin, RequestOf, ReplyTo, is_idle, issued, AreLinked, Hop, IsWay, Leads, LinksHaveAtMost, PassesOn, made_along, made_each_way, passed_at_most, visited}
+use Rattle.ptpm_network.proofs.Common.{SessionState, LastIsForOne, with_place-same, eq-eqb, suc, arith, ◌≡◌, ℕ, ◌<◌, ◌≤◌, ◌+◌, ◌-◌, ◌*◌, List, [], ◌∷◌, ◌++◌, None, false, refl, sym, ◌∙◌, ap, subst, length, length-append, append_assoc, AllByRecursion, Deliver, Event, IsInRange, Send, frames_limit, refusal, HasRoom, IsReached, run, step, AtPort, AtSession, End, IsNetwork, Network, NetworkState, Origin, RequestOf, ReplyTo, is_idle, issued, AreLinked, Hop, IsWay, Leads, LinksHaveAtMost, PassesOn, made_along, made_each_way, passed_at_most, visited}
 use Rattle.ptpm_network.specs.Way.{IsWayIn}
 use Rattle.ptpm_network.specs.Machine as machine
 use Rattle.ptpm_network.specs.Meanwhile.{ComeInMeanwhile, LeavesWay}
@@ -27,7 +27,9 @@ module _ (N : Network) (w v u : NetworkState) (s : ℕ) (hops : List Hop) (port 
       → made ≡ most * suc n → IsOpen N w v s hops port made → Moved N s v u most
       → Hears N u s (issued w s) (w.session s).domain
       → IsOpen N w u s hops port (most * n)
-  open-moved most n e o m hears = grind (arith, IsSameSession, way-stays, Hears)
+  open-moved most n e o m hears =
+      let for_one : LastIsForOne N s (u.session s).begun = subst (λ (f : ℕ → SessionState). LastIsForOne N s (f s).begun) (sym m.sessions) o.way.for_one in
+      grind (arith, IsSameSession, way-stays, Hears)
 
 -- ---- one message after another
 
@@ -121,7 +123,7 @@ module _ (N : Network) (w : NetworkState) (s : ℕ) (all : List Hop) (port ends 
       → Goes N w s all port ends (RequestOf s (issued w s)) (first_end hops target) (behind hops target ++ from ∷ es) left
   goes [] left lost from es of sum le leads next =
       hand-on N w s all port ends target from es (RequestOf s (issued w s)) (ReplyTo s (issued w s)) left lost n
-      (λ u o comes. reply N s u (passed_at_most ends) (issued w s) (w.session s).domain left lost port from n place few o.reached (open-room u _ o) o.same.counted sum leads (open-hears u _ o) comes) next
+      (λ u o comes. reply N s u (passed_at_most ends) (issued w s) (w.session s).domain left lost port from n place few o.reached (open-room u _ o) o.same.counted sum leads o.way.for_one (open-hears u _ o) comes) next
   goes (h ∷ hops) left lost from es of sum le leads next =
       let far : End = AtPort h.clock h.far in
       let first : End = first_end hops target in
@@ -161,6 +163,9 @@ open-sent N w s hops port most n r place few sent way room =
     let own = sent-session N w s in
     let same : IsSameSession w u s = search own in
     let hears : Hears N u s (issued u s) (w.session s).domain = grind (arith, Hears, hears-stays) in
+    let state : SessionState = record (w.session s) { attempts_left = (w.session s).attempts_left - 1 } in
+    let for_one : LastIsForOne N s (u.session s).begun =
+    subst (λ (x : SessionState). LastIsForOne N s x.begun) (sym (with_place-same w.session s state s (eq-eqb s s refl))) way.for_one in
     record {
       reached = sends-reached N w s n place r;
       same = same;

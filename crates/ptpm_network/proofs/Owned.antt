@@ -1,5 +1,5 @@
 -- A session whose own messages come in time, and what its own acts and what it hears make of it.
-use Rattle.ptpm_network.proofs.Common.{arith, ◌-◌, ◌≡◌, ℕ, ◌+◌, ◌<◌, ◌≤◌, List, [], ◌∷◌, ◌++◌, length, Some, true, false, refl, sym, ◌∙◌, ap, subst, eqb-true, eqb-false, slice_get, get_append, all_weaker, AllByRecursion, Message, canonical, reading, RequestValue, Accepted, kept_reply, State, number_of, Report, received_of, IsAsked, IsInStep, request_message, with_less_hop, IsNetwork, Network, manager, ports, Held, Origin, RequestOf, ReplyTo, Neither, SessionState, SessionValue, session_value, answered, begun, resumed, retuned, sent, is_waiting, le_trans}
+use Rattle.ptpm_network.proofs.Common.{expected_ports, arith, ◌-◌, ◌≡◌, ℕ, ◌+◌, ◌<◌, ◌≤◌, List, [], ◌∷◌, ◌++◌, length, Some, true, false, refl, sym, ◌∙◌, ap, subst, eqb-true, eqb-false, slice_get, get_append, all_weaker, AllByRecursion, Message, canonical, reading, RequestValue, Accepted, kept_reply, State, number_of, Report, received_of, IsAsked, IsInStep, request_message, with_less_hop, IsNetwork, Network, manager, Held, Origin, RequestOf, ReplyTo, Neither, SessionState, SessionValue, session_value, answered, begun, resumed, retuned, sent, is_waiting, le_trans}
 use Rattle.std.specs.FinMap.{get}
 use Rattle.ptpm_manager.specs.declared.receiving.Received.{Received}
 use Rattle.ptpm_manager.specs.declared.receiving.Received.TheVariants as received
@@ -32,13 +32,13 @@ IsOwnFrame N s a h = IsSaid N s a h.octets h.origin
 
 pub record IsOwn (N : Network) (s : ℕ) (value : SessionValue) (reports : List Report) (clock : State) (frames : List Held) (a : Account) : Type 0 where
   pub value_is : value ≡ session_value (N.session s) (state_of value reports a)
-  pub step : IsInStep (manager N s) (ports N (N.session s).target) a.accepted (state_of value reports a)
+  pub step : IsInStep (manager N s) (expected_ports N s) a.accepted (state_of value reports a)
   pub last : IsLastOf (manager N s) (N.session s).setup.first a.accepted (get clock.entries (manager N s))
   pub frames_say : AllByRecursion (IsOwnFrame N s a) frames
 
 -- of it, what its target and the frames have
 pub record IsHeld (N : Network) (s : ℕ) (clock : State) (frames : List Held) (a : Account) : Type 0 where
-  pub keeps : Keeps (manager N s) (ports N (N.session s).target) a.begun a.accepted
+  pub keeps : Keeps (manager N s) (expected_ports N s) a.begun a.accepted
   pub last : IsLastOf (manager N s) (N.session s).setup.first a.accepted (get clock.entries (manager N s))
   pub frames_say : AllByRecursion (IsOwnFrame N s a) frames
 
@@ -46,7 +46,7 @@ pub own-held : (N : Network) (s : ℕ) (value : SessionValue) (reports : List Re
     → IsOwn N s value reports clock frames a
     → IsHeld N s clock frames a
 own-held N s value reports clock frames a at = record {
-  keeps = in_step-keeps (manager N s) (ports N (N.session s).target) a.accepted (state_of value reports a) at.step;
+  keeps = in_step-keeps (manager N s) (expected_ports N s) a.accepted (state_of value reports a) at.step;
   last = at.last;
   frames_say = at.frames_say;
 }
@@ -63,7 +63,7 @@ said-stays N s a b octets Neither begun kept i = tt
 
 -- and of what is passed on
 pub said-passed : (N : Network) (s : ℕ) (a : Account) (octets : List ℕ) (o : Origin)
-    → IsNetwork N → s < N.sessions → Keeps (manager N s) (ports N (N.session s).target) a.begun a.accepted
+    → IsNetwork N → s < N.sessions → Keeps (manager N s) (expected_ports N s) a.begun a.accepted
     → IsSaid N s a octets o
     → IsSaid N s a (with_less_hop octets) o
 said-passed N s a octets (RequestOf t k) n place keeps i = λ ts. request_passed N s k a.accepted a.begun n place keeps octets (i ts)
@@ -72,12 +72,12 @@ said-passed N s a octets Neither n place keeps i = tt
 
 -- and it is still so when the session begins its next request
 pub held-begun : (N : Network) (s : ℕ) (clock : State) (frames : List Held) (a : Account) (q : RequestValue)
-    → IsAsked (ports N (N.session s).target) q → IsHeld N s clock frames a
+    → IsAsked (expected_ports N s) q → IsHeld N s clock frames a
     → IsHeld N s clock frames (record { begun = a.begun ++ q ∷ []; accepted = a.accepted })
 held-begun N s clock frames a q asked at =
     let b : Account = record { begun = a.begun ++ q ∷ []; accepted = a.accepted } in
     record {
-      keeps = keeps-begun (manager N s) (ports N (N.session s).target) a.begun a.accepted q asked at.keeps;
+      keeps = keeps-begun (manager N s) (expected_ports N s) a.begun a.accepted q asked at.keeps;
       last = at.last;
       frames_say = all_weaker (IsOwnFrame N s a) (IsOwnFrame N s b)
           (λ x i. said-stays N s a b x.octets x.origin (λ j p e. get_append a.begun (q ∷ []) j p e) (λ k e kept. kept) i) frames at.frames_say;
@@ -105,7 +105,7 @@ pub told_of : (N : Network) (s : ℕ) (value : SessionValue) (a : Account) (octe
     → IsNetwork N → s < N.sessions → (takes : Takes value octets report) → IsTrueTo N takes.message o → IsSaid N s a octets o
     → ((k : ℕ) → o ≡ ReplyTo s k → length a.begun ≤ k + 32768)
     → value.setup ≡ (N.session s).setup → value.issued ≡ length a.begun
-    → Keeps (manager N s) (ports N (N.session s).target) a.begun a.accepted
+    → Keeps (manager N s) (expected_ports N s) a.begun a.accepted
     → IsToldOf (manager N s) (length a.begun) a.accepted report
 told_of N s value a octets o report n place takes i says time setup issued keeps =
     let own = takes-own N s value octets o report n place setup takes i in
@@ -121,7 +121,7 @@ module _ (N : Network) (s : ℕ) (value : SessionValue) (reports : List Report) 
 
   -- ---- what the session does
 
-  pub own-begun : (q : RequestValue) → IsAsked (ports N (N.session s).target) q → is_waiting value ≡ false
+  pub own-begun : (q : RequestValue) → IsAsked (expected_ports N s) q → is_waiting value ≡ false
       → IsOwn N s (begun value q) reports clock frames (record { begun = a.begun ++ q ∷ []; accepted = a.accepted })
   own-begun q asked idle =
       let state = state_of value reports a in
@@ -130,19 +130,19 @@ module _ (N : Network) (s : ℕ) (value : SessionValue) (reports : List Report) 
         value_is = ap (λ (x : SessionValue). begun x q) at.value_is
             ∙ begun-value (N.session s) state q told
             ∙ ap (λ n. session_value (N.session s) (record { domain = value.domain; attempts_left = n; begun = a.begun ++ q ∷ []; reports = reports })) (sym (ap (λ (x : SessionValue). x.setup.attempts) at.value_is));
-        step = in_step-begun (manager N s) (ports N (N.session s).target) a.accepted state q value.setup.attempts asked done at.step;
+        step = in_step-begun (manager N s) (expected_ports N s) a.accepted state q value.setup.attempts asked done at.step;
         last = at.last;
         frames_say = (held-begun N s clock frames a q asked (own-held N s value reports clock frames a at)).frames_say;
       }
 
   pub own-resumed : (n : ℕ) → IsOwn N s (resumed value n) reports clock frames a
-  own-resumed n = search (ap (λ (x : SessionValue). resumed x n) at.value_is, in_step-set (manager N s) (ports N (N.session s).target) a.accepted (state_of value reports a) value.domain n at.step)
+  own-resumed n = search (ap (λ (x : SessionValue). resumed x n) at.value_is, in_step-set (manager N s) (expected_ports N s) a.accepted (state_of value reports a) value.domain n at.step)
 
   pub own-retuned : (domain : ℕ) → IsOwn N s (retuned value domain) reports clock frames a
-  own-retuned domain = search (ap (λ (x : SessionValue). retuned x domain) at.value_is, in_step-set (manager N s) (ports N (N.session s).target) a.accepted (state_of value reports a) domain value.attempts_left at.step)
+  own-retuned domain = search (ap (λ (x : SessionValue). retuned x domain) at.value_is, in_step-set (manager N s) (expected_ports N s) a.accepted (state_of value reports a) domain value.attempts_left at.step)
 
   pub own-sent : IsOwn N s (sent value) reports clock frames a
-  own-sent = search (ap sent at.value_is, in_step-set (manager N s) (ports N (N.session s).target) a.accepted (state_of value reports a) value.domain (value.attempts_left - 1) at.step)
+  own-sent = search (ap sent at.value_is, in_step-set (manager N s) (expected_ports N s) a.accepted (state_of value reports a) value.domain (value.attempts_left - 1) at.step)
 
   pub own-message : (v : Message) → IsSentBy N s value v → IsRequestFrame (N.session s).setup a.begun value.issued (canonical v)
   own-message v by =
@@ -161,7 +161,7 @@ module _ (N : Network) (s : ℕ) (value : SessionValue) (reports : List Report) 
       let busy : length reports ≡ length a.begun → ⊥ = grind (arith, eqb-false, not_idle) in
       record {
         value_is = ap answered at.value_is ∙ answered-value (N.session s) state report busy at.step.one_at_a_time told;
-        step = in_step-reported (manager N s) (ports N (N.session s).target) a.accepted state (length a.begun) report refl busy t at.step;
+        step = in_step-reported (manager N s) (expected_ports N s) a.accepted state (length a.begun) report refl busy t at.step;
         last = at.last;
         frames_say = at.frames_say;
       }

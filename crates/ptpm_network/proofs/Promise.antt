@@ -1,5 +1,5 @@
 -- The promise of a network, and the states of a running network in which it holds.
-use Rattle.ptpm_network.proofs.Common.{◌==◌, ◌&&◌, and_from, and_parts, eq-eqb, eqb-true, refl, by_test, suc, zero, arith, ◌≡◌, ℕ, ◌<◌, ◌≤◌, List, [], ◌∷◌, ◌++◌, Some, None, true, false, sym, ◌∙◌, ap, subst, ⊎_elim, cases_eq, cond-true, cond-false, true≢false, if◌then◌else◌, AllByRecursion, PortIdentity, same_identity, same_identity-refl, same_identity-true, Event, IsInRange, Refusal, refusal, RunningNetwork, initial_network, Happened, Ok, Result, network_event, network_run, result_err, Headline, IsPromised, StandsAfter, AreInTime, happens, is_late_delivery, run, taken, IsNetwork, Network, manager, ports, AreFirsts, Stands, NetworkState, accepted_at_target, initial_state, all_append}
+use Rattle.ptpm_network.proofs.Common.{expected_ports, ◌==◌, ◌&&◌, and_from, and_parts, eq-eqb, eqb-true, refl, by_test, suc, zero, arith, ◌≡◌, ℕ, ◌<◌, ◌≤◌, List, [], ◌∷◌, ◌++◌, Some, None, true, false, sym, ◌∙◌, ap, subst, ⊎_elim, cases_eq, cond-true, cond-false, true≢false, if◌then◌else◌, AllByRecursion, PortIdentity, same_identity, same_identity-refl, same_identity-true, Event, IsInRange, Refusal, refusal, RunningNetwork, initial_network, Happened, Ok, Result, network_event, network_run, result_err, Headline, IsPromised, StandsAfter, AreInTime, happens, is_late_delivery, run, taken, IsNetwork, Network, manager, AreFirsts, Stands, NetworkState, accepted_at_target, initial_state, all_append}
 use Rattle.ptpm_network.proofs.Accepting.{IsInOrder, in_order}
 use Rattle.ptpm_network.proofs.DueReplies.{copy-delivered, latest-kept, older-none}
 use Rattle.ptpm_network.proofs.Running.{follows, network_run-running}
@@ -47,7 +47,7 @@ stands-headline N events r at =
     let there = at.stands (first_of_sessions N N.sessions) (firsts N p.network) in
     let order : (s : ℕ) → s < N.sessions → IsInOrder (manager N s) (w.session s).begun (accepted_at_target N w s) (r.reports s) = λ s place.
     subst (IsInOrder (manager N s) (w.session s).begun (accepted_at_target N w s)) (sym (there.reports s place))
-    (in_order (manager N s) (ports N (N.session s).target) (accepted_at_target N w s) (w.session s) (is.sessions s place)) in
+    (in_order (manager N s) (expected_ports N s) (accepted_at_target N w s) (w.session s) (is.sessions s place)) in
     record {
       sets = λ c place. (there.clocks c place).sets;
       frames = there.frames;

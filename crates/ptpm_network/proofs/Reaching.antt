@@ -1,5 +1,5 @@
 -- Every event keeps the invariant, and so it holds after every schedule.
-use Rattle.ptpm_network.proofs.Common.{arith, ◌≡◌, ℕ, ◌<◌, ◌^◌, nat_lt, not, List, [], ◌∷◌, Option, Some, None, true, refl, subst, length, and_parts, cond-true, cond-false, eqb-true, eqb-false, leb-true, ltb-true, not-false, not-true, same_Some, nat_le, AllByRecursion, first_of-none, option_or-none, Message, message_of, kept_reply, Ask, Report, ask_refusal, outcome_in, begin_refusal, BeginRefused, Begin, Replay, no_end, no_frame, to_end, End, Deliver, Event, Forged, IsInRange, NoSuchName, Resume, Retune, Send, Stranger, begin_refused, forged, frame_at, is_forged, no_port, no_room, no_session, refusal, IsAsked, IsFrame, IsOfOrigin, IsReached, delivered, happens, is_answer, report_from, reported, run, step, strange_frame, told_by, with_session, AtPort, AtSession, HasEnd, IsNetwork, Network, manager, ports, Frame, NetworkState, Origin, RequestOf, ReplyTo, Neither, SessionState, accepted_at_target, initial_state, issued, session_value, frame_at-all, get_append, le_trans, octet, delivered_at_clock}
+use Rattle.ptpm_network.proofs.Common.{expected_ports, arith, ◌≡◌, ℕ, ◌<◌, ◌^◌, nat_lt, not, List, [], ◌∷◌, Option, Some, None, true, refl, subst, length, and_parts, cond-true, cond-false, eqb-true, eqb-false, leb-true, ltb-true, not-false, not-true, same_Some, nat_le, AllByRecursion, first_of-none, option_or-none, Message, message_of, kept_reply, Ask, Report, ask_refusal, outcome_in, begin_refusal, BeginRefused, Begin, Replay, no_end, no_frame, to_end, End, Deliver, Event, Forged, IsInRange, NoSuchName, Resume, Retune, Send, Stranger, begin_refused, forged, frame_at, is_forged, no_port, no_room, no_session, refusal, IsAsked, IsFrame, IsOfOrigin, IsReached, delivered, happens, is_answer, report_from, reported, run, step, strange_frame, told_by, with_session, AtPort, AtSession, HasEnd, IsNetwork, Network, manager, Frame, NetworkState, Origin, RequestOf, ReplyTo, Neither, SessionState, accepted_at_target, initial_state, issued, session_value, frame_at-all, get_append, le_trans, octet, delivered_at_clock}
 use Rattle.ptpm_manager.specs.Ask as ask
 use Rattle.ptpm_network.proofs.Accepting.{IsToldOf, in_step-begun, in_step-reported}
 use Rattle.ptpm_network.proofs.Frames.{heard-frame, says_reply, IsHeard}
@@ -53,7 +53,7 @@ reported-reached N w s f None n r place i e = session-changes N w s (w.session s
 reported-reached N w s f (Some report) n r place i e =
     let p = reports_of_frame N w s f report n r i e in
     session-changes N w s (reported (w.session s) (Some report)) (λ j q h. h)
-    (in_step-reported (manager N s) (ports N (N.session s).target) (accepted_at_target N w s) (w.session s) (issued w s) report refl p.busy p.told (r.sessions s place)) r
+    (in_step-reported (manager N s) (expected_ports N s) (accepted_at_target N w s) (w.session s) (issued w s) report refl p.busy p.told (r.sessions s place)) r
 
 -- ---- what an event comes to
 
@@ -99,15 +99,13 @@ begins-reached : (N : Network) (w : NetworkState) (s : ℕ) (a : Ask)
     → IsReached N (happens N w (Begin s a))
 unfolding happens
 begins-reached N w s a n r place id e =
-    let session = n.are_sessions s place in
-    let clock = n.are_clocks (N.session s).target session.exists in
     let at = r.sessions s place in
     let parts = begin-not_refused (session_value (N.session s) (w.session s)) a (option_map-none BeginRefused (begin_refusal (session_value (N.session s) (w.session s)) a) e) in
     let idle = idle-not_waiting (N.session s) (w.session s) (le_trans at.accepted_before at.begun_before) parts.0 in
-    let asked : IsAsked (ports N (N.session s).target) (ask.request_of a) =
-    asked-not_refused (ports N (N.session s).target) a clock.at_most_eight id (subst (λ p. ask_refusal p a ≡ None) session.ports parts.1) in
+    let asked : IsAsked (expected_ports N s) (ask.request_of a) =
+    asked-not_refused (expected_ports N s) a (n.are_sessions s place).at_most_eight id parts.1 in
     session-changes N w s _ (λ i q h. grind (arith, get_append))
-    (in_step-begun (manager N s) (ports N (N.session s).target) (accepted_at_target N w s) (w.session s) (ask.request_of a) (N.session s).setup.attempts asked (eqb-true _ _ idle) at) r
+    (in_step-begun (manager N s) (expected_ports N s) (accepted_at_target N w s) (w.session s) (ask.request_of a) (N.session s).setup.attempts asked (eqb-true _ _ idle) at) r
 
 -- a stranger's datagram that is not forged says nothing of a session
 pub strange-says : (N : Network) (w : NetworkState) (datagram : List ℕ)

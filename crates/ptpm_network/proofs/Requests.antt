@@ -1,5 +1,5 @@
 -- What a request keeps of the data sets, and what its reply says.
-use Rattle.ptpm_network.proofs.Common.{◌∙◌, arith, ◌≡◌, refl, ℕ, zero, suc, ◌+◌, ◌<◌, ◌≤◌, ◌^◌, Bool, true, false, List, length, map, Option, Some, None, cond-true, cond-false, length-map, AllByRecursion, filter, range_with_len, ErrorId, Action, IsDataField, changed_by, is_named, data_field_at, is_of_port, DataSetsValue, refusal_of, answer, named_ports, outcome, read_refusal, read_reply_to, reply_of, reply_to, RequestValue, changed_by-ports, changed_by-sized, Answers, AreDataSets, HasOneAnswer, IsForOne, IsSendable, IsSendableOutcome, all_made, filter-few, length-range_with_len}
+use Rattle.ptpm_network.proofs.Common.{◌∙◌, or_cases, ⊎_elim, and_parts, names_port, every_port, eqb-true, ◌==◌, ◌&&◌, nat_le, leb-true, arith, ◌≡◌, refl, ℕ, zero, suc, ◌+◌, ◌<◌, ◌≤◌, ◌^◌, Bool, true, false, List, length, map, Option, Some, None, cond-true, cond-false, length-map, AllByRecursion, filter, range_with_len, ErrorId, Action, IsDataField, changed_by, is_named, data_field_at, is_of_port, DataSetsValue, refusal_of, answer, named_ports, outcome, read_refusal, read_reply_to, reply_of, reply_to, RequestValue, changed_by-ports, changed_by-sized, Answers, AreDataSets, HasOneAnswer, IsForOne, IsSendable, IsSendableOutcome, all_made, filter-few, length-range_with_len}
 use Rattle.ptpm_codec.specs.declared.message.Action.TheVariants as actions
 use Rattle.ptpm_data.specs.declared.rights.Rights.{Rights}
 use Rattle.ptpm_data.specs.Observation.{observed}
@@ -98,6 +98,15 @@ unfolding read_reply_to
 read_answered q ports d s = reply_of-answers q (read_refusal q) d (sized ports d s)
 
 -- ---- one answer
+
+-- a port that a manager takes a clock to have, and that a clock has
+pub for_one-there : (expected ports : ℕ) (q : RequestValue)
+    → IsForOne expected q → expected ≤ 8 → names_port ports q.port ≡ true
+    → IsForOne ports q
+for_one-there expected ports q one few named = λ is. ⊎_elim
+    (λ (every : q.port == every_port ≡ true). absurd (omega (arith, (one is).1, eqb-true q.port every_port every, few)))
+    (λ (has : nat_le 1 q.port && nat_le q.port ports ≡ true). let parts = and_parts _ _ has in (leb-true 1 q.port parts.0, leb-true q.port ports parts.1))
+    (or_cases (q.port == every_port) _ named)
 
 pub once : (q : RequestValue) (r : Rights) (ports : ℕ) (d : DataSetsValue)
     → AreDataSets ports d → IsForOne ports q

@@ -1,5 +1,5 @@
 -- A session that is retuned or resumed first, and then answered along a way.
-use Rattle.ptpm_network.proofs.Common.{arith, ◌≡◌, ℕ, ◌<◌, ◌≤◌, ◌+◌, List, [], ◌∷◌, ◌++◌, None, false, refl, sym, ap, subst, length, eq-eqb, AllByRecursion, is_none, cond-true, Event, IsInRange, Resume, Retune, frames_limit, refusal, happens, run, step, taken, with_session, IsNetwork, Network, NetworkState, SessionState, initial_state, is_idle, issued, IsWay, LinksHaveAtMost, Hop, made_each_way, all_append, with_place-same, AreInTime, RunningNetwork, RunsToReport, StandsAfter, network_run}
+use Rattle.ptpm_network.proofs.Common.{LastIsForOne, arith, ◌≡◌, ℕ, ◌<◌, ◌≤◌, ◌+◌, List, [], ◌∷◌, ◌++◌, None, false, refl, sym, ap, subst, length, eq-eqb, AllByRecursion, is_none, cond-true, Event, IsInRange, Resume, Retune, frames_limit, refusal, happens, run, step, taken, with_session, IsNetwork, Network, NetworkState, SessionState, initial_state, is_idle, issued, IsWay, LinksHaveAtMost, Hop, made_each_way, all_append, with_place-same, AreInTime, RunningNetwork, RunsToReport, StandsAfter, network_run}
 use Rattle.ptpm_network.specs.Way.{IsWayIn}
 use Rattle.ptpm_network.specs.Meanwhile.{IsAnswerableMeanwhile, IsReady}
 use Rattle.ptpm_network.proofs.Exchanging.{step-taken}
@@ -43,20 +43,23 @@ resume-step N w s attempts place busy = step-taken N w (Resume s attempts) (resu
 session-set : (w : NetworkState) (s : ℕ) (x : SessionState) → (with_session w s x).session s ≡ x
 session-set w s x = with_place-same w.session s x s (eq-eqb s s refl)
 
--- a session that has begun as many requests, in a state of its own
+-- a session that has begun the same requests, in a state of its own
 way-set : (N : Network) (w : NetworkState) (s domain : ℕ) (x : SessionState) (hops : List Hop)
     (port : ℕ)
-    → length x.begun ≡ issued w s → IsWayIn N w s domain hops port
+    → x.begun ≡ (w.session s).begun → IsWayIn N w s domain hops port
     → IsWayIn N (with_session w s x) s domain hops port
-way-set N w s domain x hops port counted way = grind (arith, session-set, way-stays, Hears)
+way-set N w s domain x hops port begun way =
+    let for_one : LastIsForOne N s ((with_session w s x).session s).begun =
+    subst (λ (y : SessionState). LastIsForOne N s y.begun) (sym (session-set w s x)) (subst (LastIsForOne N s) (sym begun) way.for_one) in
+    let counted : length x.begun ≡ issued w s = ap length begun in grind (arith, session-set, way-stays, Hears)
 
 -- it is there once the session is in a state of its own with attempts left, in the domain of the way
 ready-set : (N : Network) (w : NetworkState) (s : ℕ) (x : SessionState) (hops : List Hop)
     (port ends : ℕ)
-    → is_idle x ≡ false → 0 < x.attempts_left → length x.begun ≡ issued w s
+    → is_idle x ≡ false → 0 < x.attempts_left → x.begun ≡ (w.session s).begun
     → IsWayIn N w s x.domain hops port → length w.frames + made_each_way ends hops ≤ frames_limit
     → IsReady N (with_session w s x) s hops port ends
-ready-set N w s x hops port ends busy attempts counted way room = grind (arith, session-set, way-set)
+ready-set N w s x hops port ends busy attempts begun way room = grind (arith, session-set, way-set)
 
 -- ---- events of the session's own
 

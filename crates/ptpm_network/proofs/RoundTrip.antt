@@ -1,5 +1,5 @@
 -- One delivery on the way of a request: a clock passes it on, or the target replies, and the same of the reply.
-use Rattle.ptpm_network.proofs.Common.{arith, ◌≡◌, ℕ, ◌<◌, ◌≤◌, ◌+◌, ◌-◌, List, [], ◌∷◌, Some, true, false, refl, sym, ◌∙◌, ap, subst, ⊎_elim, ◌⊎◌, inl, inr, length, length-append, cond-false, le-ltb, ne_eqb, slice_get, list_any, boundary_hops, domain_number, may_forward, History, Deliver, frame_at, HasReplied, HasRoom, IsHeardBy, IsOfOrigin, IsReached, delivered_at_clock, step, AtPort, End, HasEnd, IsNetwork, Network, peers, same_end, Frame, NetworkState, Origin, RequestOf, ReplyTo, greatest_accepted, history, is_late, issued, new_frames, AreLinked, ComesIn, Hop, Leads, PassesOn, IsFrame, same_identity-refl, length-map}
+use Rattle.ptpm_network.proofs.Common.{LastIsForOne, arith, ◌≡◌, ℕ, ◌<◌, ◌≤◌, ◌+◌, ◌-◌, List, [], ◌∷◌, Some, true, false, refl, sym, ◌∙◌, ap, subst, ⊎_elim, ◌⊎◌, inl, inr, length, length-append, cond-false, le-ltb, ne_eqb, slice_get, list_any, boundary_hops, domain_number, may_forward, History, Deliver, frame_at, HasReplied, HasRoom, IsHeardBy, IsOfOrigin, IsReached, delivered_at_clock, step, AtPort, End, HasEnd, IsNetwork, Network, peers, same_end, Frame, NetworkState, Origin, RequestOf, ReplyTo, greatest_accepted, history, is_late, issued, new_frames, AreLinked, ComesIn, Hop, Leads, PassesOn, IsFrame, same_identity-refl, length-map}
 use Rattle.ptpm_network.proofs.Accepting.{greatest-same}
 use Rattle.ptpm_network.proofs.Arriving.{JoinsAt, here_after, history-elsewhere}
 use Rattle.ptpm_network.proofs.Carrying.{IsIn, IsPassing, MakesAtMost, MayPass, in_any, in_map, in_right, passed-domain, passed-hops, passed_copy, passing-few, passing-history, passing-made, reply-passing, request-passing}
@@ -126,9 +126,9 @@ hears-after N s w k domain port f n place r i r_u e origin hears = grind (arith,
 pub reply : (N : Network) (s : ℕ) (w : NetworkState) (most k domain hops lost port : ℕ) (from : End)
     → IsNetwork N → s < N.sessions → MakesAtMost N most → IsReached N w → HasRoom w → issued w s ≡ k
     → lost + hops ≡ (N.session s).setup.hops → AreLinked N from (AtPort (N.session s).target port)
-    → Hears N w s k domain → Comes w (AtPort (N.session s).target port) (RequestOf s k) domain hops
+    → LastIsForOne N s (w.session s).begun → Hears N w s k domain → Comes w (AtPort (N.session s).target port) (RequestOf s k) domain hops
     → HandedOn N s w most k domain (AtPort (N.session s).target port) from (ReplyTo s k) lost
-reply N s w most k domain hops lost port from n place few r room e sum link hears comes =
+reply N s w most k domain hops lost port from n place few r room e sum link for_one hears comes =
     let f = comes.frame in
     let t = (N.session s).target in
     let number = numbered w.frames f comes.held in

@@ -8,7 +8,7 @@ use Rattle.ptpm_manager.specs.declared.error.SendError.TheVariants as sends
 use Rattle.ptpm_manager.specs.declared.report.Outcome.TheVariants as outcomes
 use Rattle.ptpm_codec.specs.Layout.{clock_identity_at}
 
--- ---- one clock of two ports, and one session at its port 1
+-- ---- one clock of two ports, and one session at its port 1, which takes it to have eight
 
 abbrev clock_k : ClockIdentity
 clock_k = record { 0 = 0xaa ∷ 0xbb ∷ 0xcc ∷ 0xff ∷ 0xfe ∷ 0xdd ∷ 0xee ∷ 0x01 ∷ [] }
@@ -29,7 +29,7 @@ one_clock = record {
   clock = λ c. record { identity = clock_k; managers = manager_m ∷ []; rights = λ m. all_rights };
   start = λ c. started (default_clock clock_k 0) (default_port ∷ default_port ∷ []);
   sessions = 1;
-  session = λ s. session_to clock_k 2 7 1;
+  session = λ s. session_to clock_k 8 7 1;
   links = (AtPort 0 1 ∷ AtSession 0 ∷ []) ∷ [];
 }
 
@@ -90,7 +90,7 @@ first_script-reports : (whole_script.session 0).reports
 unfolding refusal happens begin_refusal send_refusal ask_refusal target_port row_of port_identity_octets tlv_octets message_of frame_refusal tlv_refusal text_refusal body_at number_at port_identity_at clock_identity_at changed_by row_refusal forwarded answer clock_field_of reply_of reply_to read_reply_to rendered
 first_script-reports = refl
 
--- ---- it is a network of an accepted file
+-- ---- it is a network of the laws
 
 abbrev first_octet : ClockIdentity → ℕ
 first_octet c = octet 0 c.0
@@ -123,6 +123,20 @@ refused_after : map (refused (Begin 0 get_priority1 ∷ Send 0 ∷ Send 0 ∷ []
     ∷ None ∷ Some NoSuchFrame ∷ []
 unfolding refusal happens begin_refusal send_refusal ask_refusal target_port row_of
 refused_after = refl
+
+-- ---- a port that the clock lacks
+
+abbrev get_at_port_5 : Ask
+get_at_port_5 = record { action = actions.Get; id = 0x200b; port = Some 5; octets = [] }
+
+-- The session asks, since it takes the clock to have eight ports. The clock drops what comes in, and the session waits.
+port_5-origins : map (λ f. f.origin) (run one_clock (initial_state one_clock) (Begin 0 get_at_port_5 ∷ Send 0 ∷ Deliver 1 ∷ [])).frames ≡ RequestOf 0 1 ∷ []
+unfolding refusal happens begin_refusal send_refusal ask_refusal target_port row_of port_identity_octets tlv_octets message_of frame_refusal tlv_refusal text_refusal body_at number_at port_identity_at clock_identity_at changed_by row_refusal forwarded answer clock_field_of reply_of reply_to read_reply_to rendered
+port_5-origins = refl
+
+port_5-accepted : (history one_clock (run one_clock (initial_state one_clock) (Begin 0 get_at_port_5 ∷ Send 0 ∷ Deliver 1 ∷ [])) 0).accepted ≡ []
+unfolding refusal happens begin_refusal send_refusal ask_refusal target_port row_of port_identity_octets tlv_octets message_of frame_refusal tlv_refusal text_refusal body_at number_at port_identity_at clock_identity_at changed_by row_refusal forwarded answer clock_field_of reply_of reply_to read_reply_to rendered
+port_5-accepted = refl
 
 -- ---- another domain
 

@@ -1,5 +1,5 @@
 -- A session sends its unanswered request, and hears the answer.
-use Rattle.ptpm_network.proofs.Common.{◌≡◌, ℕ, ◌<◌, ◌≤◌, ◌+◌, ◌-◌, List, ◌++◌, Some, None, true, false, refl, sym, ◌∙◌, ap, subst, length, length-append, eq-eqb, ne_eqb, list_any, Message, canonical, boundary_hops, domain_number, RequestValue, send_refusal, request_message, Deliver, Send, refusal, HasReported, HasRoom, IsReached, happens, step, AtSession, End, IsNetwork, Network, peers, ports, same_end, Frame, NetworkState, RequestOf, ReplyTo, is_idle, is_late, issued, new_frames, unanswered, ComesIn, with_place-same, length-map, arith}
+use Rattle.ptpm_network.proofs.Common.{expected_ports, ◌≡◌, ℕ, ◌<◌, ◌≤◌, ◌+◌, ◌-◌, List, ◌++◌, Some, None, true, false, refl, sym, ◌∙◌, ap, subst, length, length-append, eq-eqb, ne_eqb, list_any, Message, canonical, boundary_hops, domain_number, RequestValue, send_refusal, request_message, Deliver, Send, refusal, HasReported, HasRoom, IsReached, happens, step, AtSession, End, IsNetwork, Network, peers, same_end, Frame, NetworkState, RequestOf, ReplyTo, is_idle, is_late, issued, new_frames, unanswered, ComesIn, with_place-same, length-map, arith}
 use Rattle.ptpm_network.specs.Machine as machine
 use Rattle.ptpm_network.proofs.Carrying.{IsIn, MakesAtMost, in_any, in_map, in_right}
 use Rattle.ptpm_network.proofs.Exchanging.{delivery-step, is_room, reports-answer, said-domain, said-hops, step-taken}
@@ -26,7 +26,7 @@ send-frames N w s q n r place e =
     let k = issued w s in
     let asked = (r.sessions s place).asked (length (w.session s).begun - 1) q (unanswered-last (w.session s) q e) in
     let v : Message = request_message (N.session s).setup (w.session s).domain k q in
-    let p = ports N (N.session s).target in
+    let p = expected_ports N s in
     let valid = request-valid N s k (w.session s).domain (N.session s).setup.hops p q asked in
     let fits = request-fits N s k (w.session s).domain (N.session s).setup.hops p q n place asked in
     record {

@@ -1,5 +1,5 @@
 -- A session whose own messages come in time is served, after every list of events, whatever comes late of others.
-use Rattle.ptpm_network.proofs.Common.{◌++◌, arith, by_test, ◌≡◌, ℕ, ◌+◌, ◌<◌, ◌≤◌, ◌==◌, ◌^◌, ◌&&◌, Bool, List, [], ◌∷◌, reading, length, Option, Some, None, Result, Ok, Err, true, false, refl, sym, ap, subst, and_cases, and_from, eq-eqb, eqb-true, ltb-false, true≢false, all_append, frame_at-all, AllByRecursion, Message, canonical, is_copy, received_of, IsAsked, strange_frame, with_place, AtPort, AtSession, End, HasEnd, IsNetwork, Network, manager, ports, Held, seen, Origin, SessionValue, Happened, network_event, network_run, goes_on, reaches, hears, RunningNetwork, begun, resumed, retuned, sent, due_message, Ask, begin_refusal, Refusal, Event, Begin, IsInRange, frame_at, is_late_at, sends_in, PortIdentity, DataSetsValue, Entry, initial_history, StandsAfter, session_value, Clock, greatest, Frame, State, RequestOf, Verdict, DecodeError, Accepted, after_turn, judged, if◌then◌else◌}
+use Rattle.ptpm_network.proofs.Common.{expected_ports, ◌++◌, arith, by_test, ◌≡◌, ℕ, ◌+◌, ◌<◌, ◌≤◌, ◌==◌, ◌^◌, ◌&&◌, Bool, List, [], ◌∷◌, reading, length, Option, Some, None, Result, Ok, Err, true, false, refl, sym, ap, subst, and_cases, and_from, eq-eqb, eqb-true, ltb-false, true≢false, all_append, frame_at-all, AllByRecursion, Message, canonical, is_copy, received_of, IsAsked, strange_frame, with_place, AtPort, AtSession, End, HasEnd, IsNetwork, Network, manager, ports, Held, seen, Origin, SessionValue, Happened, network_event, network_run, goes_on, reaches, hears, RunningNetwork, begun, resumed, retuned, sent, due_message, Ask, begin_refusal, Refusal, Event, Begin, IsInRange, frame_at, is_late_at, sends_in, PortIdentity, DataSetsValue, Entry, initial_history, StandsAfter, session_value, Clock, greatest, Frame, State, RequestOf, Verdict, DecodeError, Accepted, after_turn, judged, if◌then◌else◌}
 use Rattle.ptpm_agent.specs.CarriedOut.{carried_by, carried_in, carried_of}
 use Rattle.ptpm_agent.specs.declared.verdict.Verdict.TheVariants as verdicts
 use Rattle.ptpm_agent.specs.Laws.{IsKept}
@@ -61,7 +61,7 @@ module _ (N : Network) (n : IsNetwork N) (s : ℕ) (place : s < N.sessions) (r :
   -- the session's own copies are in the window, and are accepted one after another
   given-in_time : (k : ℕ) → length a.begun ≤ k + 32768 → IsGiven (manager N s) a k (greatest (manager N s) a.accepted + 1)
   given-in_time k time = record {
-    window = λ within. in_step-window (manager N s) (ports N (N.session s).target) a.accepted (state_of (r.session s) (r.reports s) a) k at.step within time;
+    window = λ within. in_step-window (manager N s) (expected_ports N s) a.accepted (state_of (r.session s) (r.reports s) a) k at.step within time;
     index = λ within above. omega (arith, within, above, at.step.one_at_a_time, at.step.accepted_before);
   }
 
@@ -78,7 +78,7 @@ module _ (N : Network) (n : IsNetwork N) (s : ℕ) (place : s < N.sessions) (r :
       (λ k o here. given-in_time k (time k o here)) in
       let own : Own N s (after_turn N r d port f) (with_accepted a new) = record {
         value_is = at.value_is;
-        step = step-gained m (ports N c) new a.accepted (state_of (r.session s) (r.reports s) a) turned.gains at.step;
+        step = step-gained m (expected_ports N s) new a.accepted (state_of (r.session s) (r.reports s) a) turned.gains at.step;
         last = turned.held.last;
         frames_say = turned.held.frames_say;
       } in
@@ -107,7 +107,7 @@ module _ (N : Network) (n : IsNetwork N) (s : ℕ) (place : s < N.sessions) (r :
       let request = ask.request_of q in
       by_test (t == s)
       (λ y. let ts : t ≡ s = eqb-true t s y in
-      let asked : IsAsked (ports N (N.session s).target) request = subst (λ j. IsAsked (ports N (N.session j).target) request) ts ((begins-honest N r t q n h there id fine).asked request refl) in
+      let asked : IsAsked (expected_ports N s) request = subst (λ j. IsAsked (expected_ports N j) request) ts ((begins-honest N r t q n h there id fine).asked request refl) in
       let idle = subst (λ j. begin_refusal (r.session j) q ≡ None) ts fine in
       rw (ts, eq-eqb s s refl) (own-begun N s (r.session s) (r.reports s) (r.clock (N.session s).target) r.frames a at request asked (begin-not_refused (r.session s) q idle).0))
       (λ o. rw (o, flipped t s o) at)
@@ -240,12 +240,12 @@ module _ (N : Network) (s : ℕ) (r : RunningNetwork) (a : Account) (at : Stays 
       let time : length a.begun ≤ k + 32768 = grind (arith, issued-begun, ltb-false) in
       let many : ports N c ≡ length (r.clock c).sets.ports = grind arith in
       let j = greatest (manager N s) a.accepted + 1 in
-      turns_own (manager N s) (N.session s).setup.first (ports N c) (N.clock c) (r.clock c) port x.octets v k j a.accepted a.begun copy.read
+      turns_own (manager N s) (N.session s).setup.first (expected_ports N s) (N.clock c) (r.clock c) port x.octets v k j a.accepted a.begun copy.read
       (comes_own N at.network s at.place r at.honest a (own-held N s (r.session s) (r.reports s) (r.clock c) r.frames a at.own) port (seen x) i.says said v k j copy.origin (given-in_time N at.network s at.place r at.honest a at.own k time) copy.read (subst (λ p. is_copy (N.clock c) p v ≡ true) many copy.copy))
 
   pub is-served : IsServed N s r a
   is-served =
-      let order = in_order (manager N s) (ports N (N.session s).target) a.accepted (state_of (r.session s) (r.reports s) a) at.own.step in
+      let order = in_order (manager N s) (expected_ports N s) a.accepted (state_of (r.session s) (r.reports s) a) at.own.step in
       record {
         accepted = λ k p le. let was = at.own.step.without_gap k p le in (was.entry, was.is, was.begun_as);
         accepted_begun = order.accepted_begun;

@@ -1,5 +1,5 @@
 -- What a turn of any clock makes of a session whose own messages come in time, whatever comes late of others.
-use Rattle.ptpm_network.proofs.Common.{arith, by_test, IsForOne, ◌≡◌, ℕ, ◌<◌, ◌≤◌, ◌==◌, inl, List, [], ◌++◌, length, Option, Some, None, Result, Ok, Err, true, false, refl, sym, ◌∙◌, ap, subst, ⊎_elim, cases_eq, cond-false, eq-eqb, eqb-true, eqb-false, true≢false, map, all_append, all_weaker, AllByRecursion, PortIdentity, Message, DecodeError, same_identity, message_of, reading, message_of-reading, RequestValue, Accepted, Delivery, RequestCopy, copy_of, delivers_copy, copy_parts, no_copy, is_copy, heard_of, request_of, Clock, State, turn, judged, Verdict, same_identity-true, InWindow, greatest, answer_origin, delivery, reply_origin, AtPort, HasEnd, IsNetwork, Network, manager, ports, Frame, Held, held, turn_frames, after_turn, Origin, RequestOf, ReplyTo, RunningNetwork, false_from_ne_true}
+use Rattle.ptpm_network.proofs.Common.{expected_ports, names_port, arith, by_test, IsForOne, ◌≡◌, ℕ, ◌<◌, ◌≤◌, ◌==◌, inl, List, [], ◌++◌, length, Option, Some, None, Result, Ok, Err, true, false, refl, sym, ◌∙◌, ap, subst, ⊎_elim, cases_eq, cond-false, eq-eqb, eqb-true, eqb-false, true≢false, map, all_append, all_weaker, AllByRecursion, PortIdentity, Message, DecodeError, same_identity, message_of, reading, message_of-reading, RequestValue, Accepted, Delivery, RequestCopy, copy_of, delivers_copy, copy_parts, no_copy, is_copy, heard_of, request_of, Clock, State, turn, judged, Verdict, same_identity-true, InWindow, greatest, answer_origin, delivery, reply_origin, AtPort, HasEnd, IsNetwork, Network, manager, ports, Frame, Held, held, turn_frames, after_turn, Origin, RequestOf, ReplyTo, RunningNetwork, false_from_ne_true}
 use Rattle.std.specs.FinMap.{get}
 use Rattle.ptpm_agent.specs.CarriedOut.{carried_by, carried_of}
 use Rattle.ptpm_agent.specs.declared.verdict.Verdict.TheVariants as verdicts
@@ -18,7 +18,7 @@ use Rattle.ptpm_network.proofs.Frames.{kept_says, request_says, same_read}
 use Rattle.ptpm_network.proofs.Honest.{IsHonest}
 use Rattle.ptpm_network.proofs.Own.{ComesOwn, IsLastOf, Replied, accepted_after, does, turns_own}
 use Rattle.ptpm_network.proofs.Owned.{IsHeld, IsOwnFrame, IsSaid, said-passed, said-stays}
-use Rattle.ptpm_network.proofs.Requests.{answered as reply-answers, once}
+use Rattle.ptpm_network.proofs.Requests.{answered as reply-answers, for_one-there, once}
 use Rattle.ptpm_network.proofs.Origins.{IsTrue, is_copy_by}
 use Rattle.ptpm_network.proofs.Truth.{turn_frames-all}
 use Rattle.ptpm_network.proofs.Lists.{all_of}
@@ -68,7 +68,7 @@ pub record HeldAfter (N : Network) (s : ℕ) (clock : State) (frames : List Held
 
 -- the session's frames, once a clock took its turn at a frame
 frames-after : (N : Network) (s : ℕ) (b : Account) (clock : State) (d port : ℕ) (f : Frame) (frames : List Held)
-    → IsNetwork N → s < N.sessions → Keeps (manager N s) (ports N (N.session s).target) b.begun b.accepted
+    → IsNetwork N → s < N.sessions → Keeps (manager N s) (expected_ports N s) b.begun b.accepted
     → AllByRecursion (IsOwnFrame N s b) frames → IsSaid N s b f.octets f.origin
     → AllByRecursion (λ (x : ℕ × List ℕ). IsSaid N s b x.1 (answer_origin f.origin (copy_of (N.clock d) (length clock.sets.ports) (delivery port f)))) (turn (N.clock d) clock port f.octets).replies
     → AllByRecursion (IsOwnFrame N s b) (frames ++ map held (turn_frames N clock d port f))
@@ -111,13 +111,13 @@ module _ (N : Network) (n : IsNetwork N) (s : ℕ) (place : s < N.sessions) (r :
       → (new : List Accepted) → StaysOrGains (manager N s) a.begun new a.accepted
       → IsLastOf (manager N s) (N.session s).setup.first new (get (turn (N.clock (N.session s).target) (r.clock (N.session s).target) port f.octets).next.entries (manager N s))
       → (k : Option RequestCopy) → copy_of (N.clock (N.session s).target) (length (r.clock (N.session s).target).sets.ports) (delivery port f) ≡ k
-      → (Keeps (manager N s) (ports N (N.session s).target) a.begun new
+      → (Keeps (manager N s) (expected_ports N s) a.begun new
       → AllByRecursion (λ (x : ℕ × List ℕ). IsSaid N s (with_accepted a new) x.1 (answer_origin f.origin k)) (turn (N.clock (N.session s).target) (r.clock (N.session s).target) port f.octets).replies)
       → HeldAfter N s (turn (N.clock (N.session s).target) (r.clock (N.session s).target) port f.octets).next
       (r.frames ++ map held (turn_frames N (r.clock (N.session s).target) (N.session s).target port f)) a new
   held-with end new gains last k e replied =
       let c = (N.session s).target in
-      let keeps = keeps-gained (manager N s) (ports N c) a.begun new a.accepted gains at.keeps in
+      let keeps = keeps-gained (manager N s) (expected_ports N s) a.begun new a.accepted gains at.keeps in
       let kept = kept-gained (manager N s) a.begun new a.accepted gains in
       let stays : (octets : List ℕ) (o : Origin) → IsSaid N s a octets o → IsSaid N s (with_accepted a new) octets o = grind (arith, said-stays) in
       record {
@@ -142,15 +142,16 @@ module _ (N : Network) (n : IsNetwork N) (s : ℕ) (place : s < N.sessions) (r :
   -- the session's own copy comes in at its target
   pub comes_own : (v : Message) (k j : ℕ) → f.origin ≡ RequestOf s k → IsGiven (manager N s) a k j
       → message_of f.octets ≡ Some v → is_copy (N.clock (N.session s).target) (length (r.clock (N.session s).target).sets.ports) v ≡ true
-      → ComesOwn (manager N s) (N.session s).setup.first (ports N (N.session s).target) (N.clock (N.session s).target) (r.clock (N.session s).target) v k j a.accepted a.begun
+      → ComesOwn (manager N s) (N.session s).setup.first (expected_ports N s) (N.clock (N.session s).target) (r.clock (N.session s).target) v k j a.accepted a.begun
   comes_own v k j origin given read passes =
       let c = (N.session s).target in
       let clock = h.clocks c (n.are_sessions s place).exists in
       let says = request_says N s k a.accepted a.begun n place at.keeps f.octets (subst (IsSaid N s a f.octets) origin said refl) in
       let same = same_read f.octets v _ says.message read in
       let request : request_of v ≡ says.request = ap request_of same in
+      let parts = copy_parts (N.clock c) (length (r.clock c).sets.ports) v passes in
       record {
-        parts = grind (arith, copy_parts);
+        parts = parts;
         source = ap (λ (u : Message). u.source) same;
         positive = says.positive;
         within = says.within;
@@ -162,7 +163,8 @@ module _ (N : Network) (n : IsNetwork N) (s : ℕ) (place : s < N.sessions) (r :
         last = at.last;
         answers = grind (arith, reply-answers);
         one = once (request_of v) ((N.clock c).rights v.source) (ports N c) (r.clock c).sets clock.sets
-            (subst (λ (q : RequestValue). IsForOne (ports N c) q) (sym request) says.asked.one);
+            (for_one-there (expected_ports N s) (ports N c) (request_of v) (subst (λ (q : RequestValue). IsForOne (expected_ports N s) q) (sym request) says.asked.one)
+            (n.are_sessions s place).at_most_eight (subst (λ p. names_port p v.target.port ≡ true) clock.sets.ports_are parts.port));
       }
 
   held-here : HasEnd N (AtPort (N.session s).target port)
@@ -191,7 +193,7 @@ module _ (N : Network) (n : IsNetwork N) (s : ℕ) (place : s < N.sessions) (r :
       (λ (ts : by.session ≡ s).
       let origin : f.origin ≡ RequestOf s by.k = by.origin ∙ ap (λ i. RequestOf i by.k) ts in
       let o = comes_own v by.k j origin (given by.k origin) copy.read copy.passes in
-      let t = turns_own (manager N s) (N.session s).setup.first (ports N c) (N.clock c) st port f.octets v by.k j a.accepted a.begun copy.read o in
+      let t = turns_own (manager N s) (N.session s).setup.first (expected_ports N s) (N.clock c) st port f.octets v by.k j a.accepted a.begun copy.read o in
       let P : ℕ × List ℕ → Type 0 = λ x. IsReplyFrame (N.session s).setup new by.k x.1 in
       held-with end new t.gains t.last (Some k) e
       (λ keeps.

@@ -1,5 +1,5 @@
 -- What sessions do keeps the invariant.
-use Rattle.ptpm_network.proofs.Common.{by_test, arith, ◌≡◌, ℕ, ◌<◌, ◌-◌, List, [], ◌∷◌, Option, Some, None, Bool, refl, length, eqb-true, cond-true, cond-false, slice_get_within, option_map, slice_get, AllByRecursion, filter, list_any, canonical, RequestValue, Accepted, kept_reply, request_message, IsFrame, IsInStep, IsOfOrigin, IsReached, sends, sent_frames, with_frames, with_session, End, AtSession, HasEnd, IsLink, IsNetwork, Network, SessionStart, manager, peers, ports, same_end, Frame, NetworkState, Origin, RequestOf, ReplyTo, Neither, SessionState, accepted_at_target, new_frames, unanswered, all_append, all_made, all_weaker, at_place}
+use Rattle.ptpm_network.proofs.Common.{expected_ports, by_test, arith, ◌≡◌, ℕ, ◌<◌, ◌-◌, List, [], ◌∷◌, Option, Some, None, Bool, refl, length, eqb-true, cond-true, cond-false, slice_get_within, option_map, slice_get, AllByRecursion, filter, list_any, canonical, RequestValue, Accepted, kept_reply, request_message, IsFrame, IsInStep, IsOfOrigin, IsReached, sends, sent_frames, with_frames, with_session, End, AtSession, HasEnd, IsLink, IsNetwork, Network, SessionStart, manager, peers, same_end, Frame, NetworkState, Origin, RequestOf, ReplyTo, Neither, SessionState, accepted_at_target, new_frames, unanswered, all_append, all_made, all_weaker, at_place}
 use Rattle.ptpm_manager.specs.declared.setup.Setup.{Setup}
 use Rattle.ptpm_network.specs.Invariant.{IsReplyFrame, IsRequestFrame}
 use Rattle.ptpm_network.proofs.Accepting.{in_step-set}
@@ -70,7 +70,7 @@ begun-stays : (w : NetworkState) (s : ℕ) (v : SessionState)
 begun-stays w s v g t i q e = grind (arith, slice_get, eqb-true)
 
 abbrev pub InStep : Network → NetworkState → ℕ → SessionState → Type 0
-InStep N w s v = IsInStep (manager N s) (ports N (N.session s).target) (accepted_at_target N w s) v
+InStep N w s v = IsInStep (manager N s) (expected_ports N s) (accepted_at_target N w s) v
 
 pub session-changes : (N : Network) (w : NetworkState) (s : ℕ) (v : SessionState)
     → ((i : ℕ) (q : RequestValue) → slice_get (w.session s).begun i ≡ Some q → slice_get v.begun i ≡ Some q)
@@ -89,7 +89,7 @@ pub session-set : (N : Network) (w : NetworkState) (s domain attempts : ℕ)
     (with_session w s (record { domain = domain; attempts_left = attempts; begun = (w.session s).begun; reports = (w.session s).reports }))
 session-set N w s domain attempts place r =
     session-changes N w s _ (λ i q e. e)
-    (in_step-set (manager N s) (ports N (N.session s).target) (accepted_at_target N w s) (w.session s) domain attempts (r.sessions s place)) r
+    (in_step-set (manager N s) (expected_ports N s) (accepted_at_target N w s) (w.session s) domain attempts (r.sessions s place)) r
 
 -- ---- more frames
 

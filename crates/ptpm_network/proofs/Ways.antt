@@ -1,9 +1,15 @@
 -- Worked ways: that what the law of one copy each way asks for is met, and an exchange that it speaks of.
-use Rattle.ptpm_network.proofs.Common.{◌≡◌, List, [], ◌∷◌, refl, inl, arith, number_at, port_identity_at, port_identity_octets, tlv_octets, body_at, message_of, frame_refusal, tlv_refusal, text_refusal, row_of, clock_field_of, row_refusal, answer, reply_of, reply_to, read_reply_to, changed_by, forwarded, rendered, ask_refusal, target_port, begin_refusal, send_refusal, Begin, Deliver, Send, refusal, happens, run, initial_state, Hop, IsAnswerable, IsWay}
+use Rattle.ptpm_network.proofs.Common.{true, false, Some, RequestValue, IsForOne, same_Some, subst, sym, true≢false, ◌≡◌, List, [], ◌∷◌, refl, inl, arith, number_at, port_identity_at, port_identity_octets, tlv_octets, body_at, message_of, frame_refusal, tlv_refusal, text_refusal, row_of, clock_field_of, row_refusal, answer, reply_of, reply_to, read_reply_to, changed_by, forwarded, rendered, ask_refusal, target_port, begin_refusal, send_refusal, Begin, Deliver, Send, refusal, happens, run, initial_state, Hop, IsAnswerable, IsWay}
+use Rattle.ptpm_manager.specs.Ask.{request_of}
 use Rattle.ptpm_manager.specs.declared.report.Outcome.TheVariants as outcomes
 use Rattle.ptpm_network.proofs.Answerable.{answerable}
 use Rattle.ptpm_network.proofs.Schedules.{get_priority1, in_ring, one_clock, one_clock-IsNetwork, ring_of_three_clocks}
 use Rattle.ptpm_codec.specs.Layout.{clock_identity_at}
+
+-- a GET of PRIORITY1 is for no port
+of_no_port : (q : RequestValue) → Some (request_of get_priority1) ≡ Some q → IsForOne 2 q
+unfolding target_port row_of
+of_no_port q e = subst (λ (x : RequestValue). IsForOne 2 x) (same_Some (request_of get_priority1) q e) (λ is. absurd (true≢false (sym is)))
 
 -- the session on the link of its clock's port 1 has begun a GET, and can be answered with no clock between
 one_clock-answerable : IsAnswerable one_clock
@@ -11,7 +17,7 @@ one_clock-answerable : IsAnswerable one_clock
 unfolding refusal happens begin_refusal ask_refusal target_port row_of
 one_clock-answerable =
     answerable one_clock (Begin 0 get_priority1 ∷ []) 0 [] 1 2 one_clock-IsNetwork (omega arith, tt) (omega arith) refl (omega arith)
-    (record { leads = record { there = refl; back = refl }; passes = tt; hops_suffice = omega arith; heard = inl refl })
+    (record { leads = record { there = refl; back = refl }; passes = tt; hops_suffice = omega arith; for_one = λ q e. of_no_port q e; heard = inl refl })
     (omega arith, tt) (omega arith)
 
 -- in the ring a way leads over clock 0, in at port 1 and out at port 2, to port 1 of clock 1
@@ -24,6 +30,7 @@ ring-way = record {
   leads = grind arith;
   passes = grind arith;
   hops_suffice = omega arith;
+  for_one = λ q e. of_no_port q e;
   heard = inl refl;
 }
 

@@ -1,14 +1,21 @@
 -- How a request is answered: what one copy of it does at the session's target, and one copy of the reply at the session.
-use Rattle.std.specs.Prelude.{◌≡◌, ℕ, ◌-◌, ◌≤◌, true, List, [], ◌∷◌, ◌++◌, length, ◌⊎◌}
+use Rattle.std.specs.Prelude.{◌≡◌, ℕ, ◌-◌, ◌≤◌, true, List, [], ◌∷◌, ◌++◌, length, slice_get, Some, ◌⊎◌}
 use Rattle.ptpm_codec.specs.Layout.{boundary_hops, domain_number}
+use Rattle.ptpm_data.specs.Request.{RequestValue}
 use Rattle.ptpm_manager.specs.declared.report.Report.{Report}
+use Rattle.ptpm_network.specs.DataSets.{IsForOne}
 use Rattle.ptpm_network.specs.Events.{frames_limit}
-use Rattle.ptpm_network.specs.Network.{AtPort, Network, peers}
+use Rattle.ptpm_network.specs.Network.{AtPort, Network, peers, ports}
 use Rattle.ptpm_network.specs.State.{NetworkState, ReplyTo, greatest_accepted, history, is_idle, issued, new_frames}
 
 -- one more event that makes frames is not refused for their number
 abbrev pub HasRoom : NetworkState → Type 0
 HasRoom w = length w.frames ≤ frames_limit
+
+-- the last of a session's requests, if its id is of a port, is for a port that the session's target has
+abbrev pub LastIsForOne : Network → ℕ → List RequestValue → Type 0
+LastIsForOne N s begun = (q : RequestValue) → slice_get begun (length begun - 1) ≡ Some q
+    → IsForOne (ports N (N.session s).target) q
 
 -- A session's target hears a copy of the session's last request. The copy is in the clock's domain, or the clock has accepted
 -- that request already, so that it is a repeat.

@@ -15,9 +15,9 @@ use Rattle.ptpm_network.specs.Network.{IsNetwork, Network, manager}
 use Rattle.ptpm_network.specs.RunningNetwork.{RunningNetwork, held}
 use Rattle.ptpm_network.specs.State.{Frame, NetworkState, accepted_at_target, copies_at, greatest_accepted, history, initial_state, issued, outcomes_kept}
 
--- The premises: the network is one that a file describes. Each event is one that a program can hand in: a managementId has 16
--- bits, an octet eight. And no frame is delivered late, that is, after its session has begun over 32,768 requests more than the
--- one that the frame belongs to.
+-- The premises: the network is as `IsNetwork` says, as each is that a file describes. Each event is one that a program can hand in:
+-- a managementId has 16 bits, an octet eight. And no frame is delivered late, that is, after its session has begun over 32,768
+-- requests more than the one that the frame belongs to.
 pub record IsPromised (N : Network) (events : List Event) : Type 0 where
   pub network : IsNetwork N
   pub in_range : AllByRecursion IsInRange events

@@ -19,12 +19,13 @@ use Rattle.ptpm_manager.specs.declared.setup.Setup.{Setup}
 use Rattle.ptpm_codec.specs.SequenceNumber.{number_of}
 use Rattle.ptpm_manager.specs.Setup.{request_message}
 use Rattle.ptpm_network.specs.DataSets.{Answers, AreDataSets, HasOneAnswer, IsForOne}
-use Rattle.ptpm_network.specs.Network.{HasEnd, Network, manager, ports}
+use Rattle.ptpm_network.specs.Network.{HasEnd, Network, expected_ports, manager, ports}
 use Rattle.ptpm_network.specs.State.{Frame, NetworkState, Origin, RequestOf, ReplyTo, Neither, SessionState, accepted_at_target, history, outcomes_kept}
 
 -- ---- a session and what its target accepted of it
 
--- A request that a session begins at a clock of this many ports. It can be sent. For an id of a port it names one port.
+-- A request that a session begins at a clock that it takes to have this many ports. It can be sent. For an id of a port it names
+-- one port.
 pub record IsAsked (ports : ℕ) (q : RequestValue) : Type 0 where
   pub action : IsRequestAction q.action
   pub id : q.id < 2 ^ 16
@@ -42,7 +43,7 @@ pub record WasAccepted (m : PortIdentity) (begun : List RequestValue) (accepted 
   pub answers : Answers entry.request entry.reply
   pub one : HasOneAnswer entry.request entry.reply
 
--- the manager m, whose target has this many ports and accepted this of it, in this state
+-- the manager m, which takes its target to have this many ports, in this state; the target accepted this of it
 pub record IsInStep (m : PortIdentity) (ports : ℕ) (accepted : List Accepted)
     (s : SessionState) : Type 0 where
   pub asked : (i : ℕ) (q : RequestValue) → slice_get s.begun i ≡ Some q → IsAsked ports q
@@ -124,7 +125,7 @@ pub record IsFrame (N : Network) (w : NetworkState) (f : Frame) : Type 0 where
 
 pub record IsReached (N : Network) (w : NetworkState) : Type 0 where
   pub sessions : (s : ℕ) → s < N.sessions
-      → IsInStep (manager N s) (ports N (N.session s).target) (accepted_at_target N w s)
+      → IsInStep (manager N s) (expected_ports N s) (accepted_at_target N w s)
       (w.session s)
   pub clocks : (c : ℕ) → c < N.clocks → AreDataSets (ports N c) (history N w c).sets
   pub frames : AllByRecursion (IsFrame N w) w.frames

@@ -1,5 +1,5 @@
 -- A message whose hops a host lowers before its clock takes its turn, as `ptpm-clock --hops` does.
-use Rattle.std.specs.Prelude.{◌≡◌, ℕ, ◌-◌, ◌≤◌, List, map, Some}
+use Rattle.std.specs.Prelude.{◌≡◌, ℕ, ◌-◌, ◌≤◌, List, [], ◌∷◌, Some}
 use Rattle.ptpm_codec.specs.declared.message.Message.{Message}
 use Rattle.ptpm_codec.specs.Reading.{message_of}
 
@@ -14,6 +14,9 @@ pub record IsLowered (most : ℕ) (datagram lowered : List ℕ) : Type 0 where
   pub fewer : most ≤ message.hops
   pub is : message_of lowered ≡ Some (with_fewer_hops most message)
 
--- at which ports messages leave
-abbrev pub ports_of : List (ℕ × List ℕ) → List ℕ
-ports_of messages = map (λ m. m.0) messages
+-- Messages leave one after another, each at the same port as its lowered one. The lowered ones have this many boundaryHops, which are
+-- no more.
+abbrev pub AreLowered : ℕ → List (ℕ × List ℕ) → List (ℕ × List ℕ) → Type 0
+AreLowered most [] [] = Unit {0}
+AreLowered most (m ∷ ms) (l ∷ ls) = (l.0 ≡ m.0) × IsLowered most m.1 l.1 × AreLowered most ms ls
+AreLowered most _ _ = ⊥

@@ -51,6 +51,10 @@ manager N s = (N.session s).setup.me
 abbrev pub ports : Network → ℕ → ℕ
 ports N c = length (N.start c).ports
 
+-- as how many ports a session takes its target to have
+abbrev pub expected_ports : Network → ℕ → ℕ
+expected_ports N s = (N.session s).setup.ports
+
 abbrev pub HasEnd : Network → End → Type 0
 HasEnd N (AtPort c p) = (c < N.clocks) × (1 ≤ p) × (p ≤ ports N c)
 HasEnd N (AtSession s) = s < N.sessions
@@ -65,13 +69,15 @@ pub record IsClock (N : Network) (c : ℕ) : Type 0 where
   pub at_most_eight : ports N c ≤ 8
   pub start : AreDataSets (ports N c) (N.start c)
 
--- a session with one of the clocks for its target, set up with that clock's identity and number of ports
+-- A session with one of the clocks for its target, set up with that clock's identity. It takes the clock to have one to eight ports,
+-- whatever the clock has.
 pub record IsSession (N : Network) (s : ℕ) : Type 0 where
   pub identity : PortIdentityFits (manager N s)
   pub is_one : (manager N s).clock ≢ every_clock
   pub exists : (N.session s).target < N.clocks
   pub target : (N.session s).setup.target ≡ (N.clock (N.session s).target).identity
-  pub ports : (N.session s).setup.ports ≡ ports N (N.session s).target
+  pub some_port : 1 ≤ expected_ports N s
+  pub at_most_eight : expected_ports N s ≤ 8
 
 -- a link of 2 to 16 ends, and each end is there
 pub record IsLink (N : Network) (link : List End) : Type 0 where

@@ -5,7 +5,7 @@ use Rattle.ptpm_data.specs.Members.{may_forward}
 use Rattle.ptpm_manager.specs.declared.report.Report.{Report}
 use Rattle.ptpm_manager.specs.Session.{is_waiting}
 use Rattle.ptpm_network.specs.Events.{Event, Deliver, Send, frame_at, refusal}
-use Rattle.ptpm_network.specs.Exchange.{HasReported}
+use Rattle.ptpm_network.specs.Exchange.{HasReported, LastIsForOne}
 use Rattle.ptpm_network.specs.RunningNetwork.{RunningNetwork, network_run}
 use Rattle.ptpm_network.specs.Machine.{run, step}
 use Rattle.ptpm_network.specs.Network.{AtPort, AtSession, End, Network, peers, same_end}
@@ -39,13 +39,14 @@ pub record PassesOn (N : Network) (w : NetworkState) (target domain : ℕ) (h : 
   pub far : may_forward h.far (history N w h.clock).sets ≡ true
 
 -- A way from a session to a port of its target in this domain. Each clock on it passes messages on in that domain, and the
--- session's boundaryHops suffice. The target hears the request, since it is in that domain too or has accepted the request
--- already.
+-- session's boundaryHops suffice. The target has the port that the request is for, if it is for one. It hears the request, since it
+-- is in that domain too or has accepted the request already.
 pub record IsWayIn (N : Network) (w : NetworkState) (s domain : ℕ) (hops : List Hop)
     (port : ℕ) : Type 0 where
   pub leads : Leads N (AtSession s) hops (AtPort (N.session s).target port)
   pub passes : AllByRecursion (PassesOn N w (N.session s).target domain) hops
   pub hops_suffice : length hops ≤ (N.session s).setup.hops
+  pub for_one : LastIsForOne N s (w.session s).begun
   pub heard : ((history N w (N.session s).target).sets.default.domain ≡ domain)
       ⊎ (greatest_accepted N w s ≡ issued w s)
 

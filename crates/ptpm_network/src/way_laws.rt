@@ -6,11 +6,11 @@ ghost use Rattle.std.specs.List.{AllByRecursion};
 ghost use Rattle.ptpm_codec.specs.declared.identity.PortIdentity.{PortIdentity};
 ghost use Rattle.ptpm_codec.specs.Layout.{domain_number};
 ghost use Rattle.ptpm_network.specs.Events.{Deliver, Event, IsInRange, Resume, Retune, Send, frame_at, frames_limit, refusal};
-ghost use Rattle.ptpm_network.specs.Exchange.{HasReplied, HasReported, HasRoom, IsHeardBy};
+ghost use Rattle.ptpm_network.specs.Exchange.{HasReplied, HasReported, HasRoom, IsHeardBy, LastIsForOne};
 ghost use Rattle.ptpm_network.specs.Stands.{StandsAfter};
 ghost use Rattle.ptpm_network.specs.Machine.{AreInTime, state_after, step, taken};
 ghost use Rattle.ptpm_network.specs.Meanwhile.{IsAnswerableMeanwhile};
-ghost use Rattle.ptpm_network.specs.Network.{AtPort, AtSession, IsNetwork, Network};
+ghost use Rattle.ptpm_network.specs.Network.{AtPort, AtSession, IsNetwork, Network, expected_ports, ports};
 ghost use Rattle.ptpm_network.specs.RunningNetwork.{RunningNetwork, network_run};
 ghost use Rattle.ptpm_network.specs.Stands.{AreFirsts, Stands};
 ghost use Rattle.ptpm_network.specs.State.{Frame, NetworkState, ReplyTo, RequestOf, is_idle, is_late, issued};
@@ -18,10 +18,12 @@ ghost use Rattle.ptpm_network.specs.Way.{Hop, IsAnswerable, IsWay, IsWayIn, Link
 
 /// One copy each way suffices. After every list of events, for the last request that a session has begun:
 /// - its copies and those of the reply are never late, and a delivery is not refused if there is room for frames;
-/// - a copy of the request may come in at a port of the session's target, in the clock's domain or as a repeat. It makes a copy
-///   of the reply for each other end of that port's link, and no other frame;
+/// - a copy of the request may come in at a port of the session's target, in the clock's domain or as a repeat. Let the target have the
+///   port that is asked. Then it makes a copy of the reply for each other end of that port's link, and no other frame;
 /// - a copy of the reply may come in at the session, in the session's domain and while the request is not reported. It is
 ///   reported then, and the session waits for nothing after it.
+///
+/// If a session takes its target to have as many ports as it has, the target has each port that is asked.
 pub fn one_copy_each_way()
     ensures in_time { (w : NetworkState) (s : ℕ) →
         (is_late w (RequestOf s (issued w s)) ≡ false)
@@ -32,6 +34,7 @@ pub fn one_copy_each_way()
         IsNetwork N → AllByRecursion IsInRange es → s < N.sessions →
         frame_at (state_after N es).frames n ≡ Some f → f.end ≡ AtPort (N.session s).target port →
         f.origin ≡ RequestOf s (issued (state_after N es) s) →
+        LastIsForOne N s ((state_after N es).session s).begun →
         IsHeardBy N (state_after N es) s f.octets → HasRoom (state_after N es) →
         HasReplied N (state_after N es) (step N (state_after N es) (Deliver n)) s port f.octets }
     ensures reply { (N : Network) (es : List Event) (n s : ℕ) (f : Frame) →
@@ -42,6 +45,10 @@ pub fn one_copy_each_way()
         domain_number f.octets ≡ ((state_after N es).session s).domain
         → HasRoom (state_after N es) →
         HasReported (state_after N es) (step N (state_after N es) (Deliver n)) s }
+    ensures for_one { (N : Network) (es : List Event) (s : ℕ) →
+        IsNetwork N → AllByRecursion IsInRange es → s < N.sessions →
+        expected_ports N s ≡ ports N (N.session s).target →
+        LastIsForOne N s ((state_after N es).session s).begun }
 {}
 
 /// Nothing deadlocks. Take any list of events, late deliveries among them. After it let a session wait for a report and have an

@@ -238,7 +238,7 @@ answered-again N is k s hops port ends a place waits attempts way all room =
     let value : (k.session s).live.session ≡ session_value (N.session s) (w.session s) = ap (λ (l : SessionLog). l.session) (sym (live s)) ∙ at.stands.sessions s place in
     let busy : is_idle (w.session s) ≡ false = not_idle (N.session s) (w.session s) (subst (λ (v : SessionValue). is_waiting v ≡ true) value waits) in
     let may : 0 < (w.session s).attempts_left = subst (λ (v : SessionValue). 0 < v.attempts_left) value attempts in
-    let way' : IsWay N u s hops port = way-stays N w u s (w.session s).domain port hops (λ d other. refl) way.heard way in
+    let way' : IsWay N u s hops port = way-stays N w u s (w.session s).domain port hops (λ d other. refl) way.for_one way.heard way in
     let size : length on.frames + made_each_way ends hops ≤ frames_limit =
     omega (arith, length-map on.frames held, ap length at.stands.frames, save.size, length-append k.frames (map (λ (x : ℕ × Held). x.1) k.waiting), length-map k.waiting (λ (x : ℕ × Held). x.1), room) in
     let answers : IsAnswerable N u s hops port = answerable-alone N u s hops port ends (answerable-at N u s hops port ends n on.reached place all busy may way' size) in

@@ -13,3 +13,5 @@ pub mod Undone
 pub mod Laws
 pub mod Acting
 pub mod ActRuns
+pub mod HostsLowering
+pub mod LoweringBeside

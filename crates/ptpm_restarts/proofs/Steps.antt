@@ -49,7 +49,7 @@ pub passes : (o : Option Refusal) (x : Result Happened Refusal) → o ≡ None �
 passes None x e = refl
 passes (Some reason) x e = absurd (cc)
 
-fewer : (xs ys : List Held) → length xs ≤ length ys → no_room ys ≡ None → no_room xs ≡ None
+pub fewer : (xs ys : List Held) → length xs ≤ length ys → no_room ys ≡ None → no_room xs ≡ None
 fewer xs ys le e = grind (arith, ltb-true, ltb-false, first_of-none)
 
 -- ---- one event

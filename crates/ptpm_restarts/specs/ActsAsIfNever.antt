@@ -22,8 +22,8 @@ IsPossibleAct (Happens e) = IsInRange e
 IsPossibleAct (Observes c o) = IsSizedObservation o.clock
 IsPossibleAct _ = Unit {0}
 
--- A network that a file describes, what a program can hand in, and no frame that is delivered late. When anyone saves, crashes, gives
--- up or observes is free.
+-- Such a network as the headline's, what a program can hand in, and no frame that is delivered late. When anyone saves, crashes,
+-- gives up or observes is free.
 pub record IsPromisedActing (N : Network) (is : List Incident) : Type 0 where
   pub network : IsNetwork N
   pub possible : AllByRecursion IsPossibleAct is

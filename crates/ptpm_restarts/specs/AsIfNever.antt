@@ -45,8 +45,8 @@ IsPossible (GivesUp s) = ⊥
 IsPossible (Observes c o) = ⊥
 IsPossible _ = Unit {0}
 
--- The premises are the headline's: a network that a file describes, events that a program can hand in, and no frame that is
--- delivered late. When anyone saves or crashes is free.
+-- The premises are the headline's: such a network, events that a program can hand in, and no frame that is delivered late. When
+-- anyone saves or crashes is free.
 pub record IsPromisedRestarting (N : Network) (is : List Incident) : Type 0 where
   pub network : IsNetwork N
   pub possible : AllByRecursion IsPossible is

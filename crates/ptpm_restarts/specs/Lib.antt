@@ -4,3 +4,4 @@ pub mod Incidents
 pub mod AsIfNever
 pub mod GoingOn
 pub mod ActsAsIfNever
+pub mod HostsLowering

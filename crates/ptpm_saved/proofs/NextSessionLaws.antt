@@ -1,5 +1,5 @@
 -- A session that goes on for another sends and reports what that one would.
-use Rattle.std.proofs.Common.{arith, ◌≡◌, ℕ, ◌+◌, ◌-◌, ◌<◌, ◌≤◌, ◌%◌, nat_lt, true, false, List, [], ◌∷◌, ◌++◌, map, length, Option, Some, None, option_map, Result, Ok, Err, refl, sym, ◌∙◌, ap, subst, if◌then◌else◌, ⊎_elim}
+use Rattle.std.proofs.Common.{arith, ◌≡◌, ℕ, ◌+◌, ◌-◌, ◌<◌, ◌%◌, nat_lt, true, false, List, [], ◌∷◌, ◌++◌, map, Option, Some, None, option_map, Result, Ok, Err, refl, sym, ◌∙◌, ap, subst, if◌then◌else◌, ⊎_elim}
 use Rattle.std.specs.Prelude.{is_some}
 use Rattle.std.proofs.Math.Nat.{mod-add-mod}
 use Rattle.std.proofs.lemmas.Bool.{cases_Bool, cond-true, lt-ltb, false≢true}
@@ -20,7 +20,7 @@ use Rattle.ptpm_manager.specs.Receiving.{answer_by, answer_to, left_by, reason_o
 use Rattle.ptpm_manager.specs.Report.{outcome_in}
 use Rattle.ptpm_manager.specs.Session.{SessionValue, begin_refusal, begun, count_limit, due_message, give_up_refusal, given_up, is_waiting, send_refusal}
 use Rattle.ptpm_manager.specs.Setup.{request_message}
-use Rattle.ptpm_saved.specs.NextSession.{IsOver, counted_after, message_with_hops, next_session, with_hops}
+use Rattle.ptpm_saved.specs.NextSession.{CanBegin, CanBeginEach, IsOver, counted_after, message_with_hops, next_session, with_hops}
 use Rattle.ptpm_saved.specs.Saving.{Came, Happening, Noted, after_one, all_messages, all_reports, messages_of, reports_of}
 use Rattle.ptpm_saved.specs.SavingSession.{Begins, GivesUp, Hears, IsToSend, SessionInput, SessionNote, begun_unless, datagrams_of, given_up_unless, reports_in, session_process, session_reports}
 
@@ -155,74 +155,56 @@ record DoTheSame (n : ℕ) (a b : SessionValue) (x : Happening SessionInput Sess
   pub after : IsBehind n (after_one session_process a x) (after_one session_process b x)
   pub messages : messages_of session_process b x ≡ messages_of session_process a x
   pub reports : reports_of session_reports a x ≡ map (counted_after n) (reports_of session_reports b x)
-  pub issued : (after_one session_process a x).issued ≤ a.issued + 1
 
 reports-shifted : (n : ℕ) (x : Received) → reports_in (shifted n x) ≡ map (counted_after n) (reports_in x)
 reports-shifted n (received.Answered report) = refl
 reports-shifted n (received.Ignored why) = refl
 
-issued-begun : (o : Option BeginError) (a : SessionValue) (q : Ask) → (begun_unless o a q).issued ≤ a.issued + 1
-issued-begun None a q = omega arith
-issued-begun (Some error) a q = omega arith
-
-issued-given_up : (o : Option GiveUpRefusal) (a : SessionValue) → (given_up_unless o a).issued ≤ a.issued + 1
-issued-given_up None a = omega arith
-issued-given_up (Some reason) a = omega arith
-
-issued-left : (x : Received) (a : SessionValue) → (left_by a x).issued ≤ a.issued + 1
-issued-left (received.Answered report) a = omega arith
-issued-left (received.Ignored why) a = omega arith
-
-same : (n : ℕ) (a b : SessionValue) (x : Happening SessionInput SessionNote) → IsBehind n a b → a.issued < count_limit → DoTheSame n a b x
+same : (n : ℕ) (a b : SessionValue) (x : Happening SessionInput SessionNote) → IsBehind n a b → CanBegin a x → DoTheSame n a b x
 same n a b (Came (Begins q)) h few = record {
   after = subst (λ (o : Option BeginError). IsBehind n (begun_unless o a q) (begun_unless (begin_refusal b q) b q)) (beginning n a b h q few) (behind-begun_unless n a b (begin_refusal b q) q h);
   messages = refl;
   reports = refl;
-  issued = issued-begun (begin_refusal a q) a q;
 }
 same n a b (Came IsToSend) h few = record {
   after = h;
   messages = λ i. if is_some (sending n a b h i) then [] else datagrams_of (due n a b h i);
   reports = refl;
-  issued = omega arith;
 }
 same n a b (Came GivesUp) h few = record {
   after = subst (λ (o : Option GiveUpRefusal). IsBehind n (given_up_unless o a) (given_up_unless (give_up_refusal b) b)) (giving_up n a b h) (behind-given_up_unless n a b (give_up_refusal b) h);
   messages = refl;
   reports = refl;
-  issued = issued-given_up (give_up_refusal a) a;
 }
 same n a b (Came (Hears datagram)) h few = record {
   after = subst (λ (x : Received). IsBehind n (left_by a x) (left_by b (received_of b datagram))) (sym (hears n a b h datagram)) (behind-left n a b (received_of b datagram) h);
   messages = refl;
   reports = ap reports_in (hears n a b h datagram) ∙ reports-shifted n (received_of b datagram);
-  issued = issued-left (received_of a datagram) a;
 }
 same n a b (Noted note) h few = record {
   after = record { setup = h.setup; domain = refl; issued = h.issued; reported = h.reported; unanswered = h.unanswered; attempts = λ w. refl; counted = h.counted };
   messages = refl;
   reports = refl;
-  issued = omega arith;
 }
 
 map-append : {A B : Type 0} (f : A → B) (xs ys : List A) → map f (xs ++ ys) ≡ map f xs ++ map f ys
 map-append f [] ys = refl
 map-append f (x ∷ xs) ys = ap (λ zs. f x ∷ zs) (map-append f xs ys)
 
-all-sent : (n : ℕ) (a b : SessionValue) (hs : List (Happening SessionInput SessionNote)) → IsBehind n a b → a.issued + length hs ≤ count_limit
+all-sent : (n : ℕ) (a b : SessionValue) (hs : List (Happening SessionInput SessionNote)) → IsBehind n a b → CanBeginEach a hs
     → all_messages session_process b hs ≡ all_messages session_process a hs
 all-sent n a b [] h few = refl
 all-sent n a b (x ∷ hs) h few =
-    let one = same n a b x h (omega (arith, few)) in
-    let rest = all-sent n (after_one session_process a x) (after_one session_process b x) hs one.after (omega (arith, few, one.issued)) in
+    let one = same n a b x h few.0 in
+    let rest = all-sent n (after_one session_process a x) (after_one session_process b x) hs one.after few.1 in
     (λ i. one.messages i ++ rest i)
 
-all-reported : (n : ℕ) (a b : SessionValue) (hs : List (Happening SessionInput SessionNote)) → IsBehind n a b → a.issued + length hs ≤ count_limit
+all-reported : (n : ℕ) (a b : SessionValue) (hs : List (Happening SessionInput SessionNote)) → IsBehind n a b → CanBeginEach a hs
     → all_reports session_reports session_process a hs ≡ map (counted_after n) (all_reports session_reports session_process b hs)
 all-reported n a b [] h few = refl
 all-reported n a b (x ∷ hs) h few =
-    let one = same n a b x h (omega (arith, few)) in
-    let rest = all-reported n (after_one session_process a x) (after_one session_process b x) hs one.after (omega (arith, few, one.issued)) in
+    let one = same n a b x h few.0 in
+    let rest = all-reported n (after_one session_process a x) (after_one session_process b x) hs one.after few.1 in
     (λ i. one.reports i ++ rest i) ∙ sym (map-append (counted_after n) (reports_of session_reports b x) (all_reports session_reports session_process (after_one session_process b x) hs))
 
 -- ---- the session that goes on
@@ -238,11 +220,11 @@ starts s hops over = record {
   counted = λ w. absurd (false≢true w);
 }
 
-pub messages-go-on : (s : SessionValue) (hops : ℕ) (hs : List (Happening SessionInput SessionNote)) → IsOver s → s.issued + length hs ≤ count_limit
+pub messages-go-on : (s : SessionValue) (hops : ℕ) (hs : List (Happening SessionInput SessionNote)) → IsOver s → CanBeginEach (with_hops hops s) hs
     → all_messages session_process (next_session s hops) hs ≡ all_messages session_process (with_hops hops s) hs
 messages-go-on s hops hs over few = all-sent s.issued (with_hops hops s) (next_session s hops) hs (starts s hops over) few
 
-pub reports-go-on : (s : SessionValue) (hops : ℕ) (hs : List (Happening SessionInput SessionNote)) → IsOver s → s.issued + length hs ≤ count_limit
+pub reports-go-on : (s : SessionValue) (hops : ℕ) (hs : List (Happening SessionInput SessionNote)) → IsOver s → CanBeginEach (with_hops hops s) hs
     → all_reports session_reports session_process (with_hops hops s) hs
     ≡ map (counted_after s.issued) (all_reports session_reports session_process (next_session s hops) hs)
 reports-go-on s hops hs over few = all-reported s.issued (with_hops hops s) (next_session s hops) hs (starts s hops over) few

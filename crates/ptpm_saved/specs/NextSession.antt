@@ -1,10 +1,12 @@
 -- The session that goes on for one that is over (this project's profile). A manager starts it once the other has begun as many requests
 -- as it can, or if its messages are to have other hops.
-use Rattle.std.specs.Prelude.{◌≡◌, ℕ, ◌+◌, None}
+use Rattle.std.specs.Prelude.{◌≡◌, ℕ, ◌+◌, ◌<◌, List, [], ◌∷◌, None}
 use Rattle.ptpm_codec.specs.SequenceNumber.{number_of}
 use Rattle.ptpm_codec.specs.declared.message.Message.{Message}
 use Rattle.ptpm_manager.specs.declared.report.Report.{Report}
-use Rattle.ptpm_manager.specs.Session.{SessionValue, fresh}
+use Rattle.ptpm_manager.specs.Session.{SessionValue, count_limit, fresh}
+use Rattle.ptpm_saved.specs.Saving.{Came, Happening, after_one}
+use Rattle.ptpm_saved.specs.SavingSession.{Begins, SessionInput, SessionNote, session_process}
 
 -- its requests have these hops
 abbrev pub with_hops : ℕ → SessionValue → SessionValue
@@ -25,3 +27,14 @@ message_with_hops hops v = record v { starting_hops = hops; hops = hops }
 -- the same report, of a request before which this many more were begun
 abbrev pub counted_after : ℕ → Report → Report
 counted_after before r = record r { index = before + r.index }
+
+-- ---- as long as the first can begin what it is asked
+
+abbrev pub CanBegin : SessionValue → Happening SessionInput SessionNote → Type 0
+CanBegin s (Came (Begins ask)) = s.issued < count_limit
+CanBegin s _ = Unit {0}
+
+-- whenever it is asked to begin a request, it has begun fewer than it can
+abbrev pub CanBeginEach : SessionValue → List (Happening SessionInput SessionNote) → Type 0
+CanBeginEach s [] = Unit {0}
+CanBeginEach s (h ∷ hs) = CanBegin s h × CanBeginEach (after_one session_process s h) hs

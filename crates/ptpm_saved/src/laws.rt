@@ -1,6 +1,6 @@
 //! Laws of images, each the contract of a function that changes nothing.
 
-ghost use Rattle.std.specs.Prelude.{◌≡◌, ◌+◌, ◌<◌, ◌≤◌, ℕ, length, List, map, true};
+ghost use Rattle.std.specs.Prelude.{◌≡◌, ◌+◌, ◌<◌, ℕ, List, map, true};
 ghost use Rattle.std.specs.FinMap as fin;
 ghost use Rattle.std.specs.List.{All};
 ghost use Rattle.ptpm_agent.specs.Agent.{state_of};
@@ -10,10 +10,10 @@ ghost use Rattle.ptpm_data.specs.Members.{IsConsistent};
 ghost use Rattle.ptpm_data.specs.ObservationBack.{Observation};
 ghost use Rattle.ptpm_data.specs.Request.{RequestValue};
 ghost use Rattle.ptpm_table.specs.Managers.{Clock};
-ghost use Rattle.ptpm_saved.specs.NextSession.{IsOver, counted_after, message_with_hops, next_session, with_hops};
+ghost use Rattle.ptpm_saved.specs.NextSession.{CanBeginEach, IsOver, counted_after, message_with_hops, next_session, with_hops};
 ghost use Rattle.ptpm_saved.specs.Saving.{Device, Event, Happening, IsAsIfPowered, ReportsAsIfPowered, all_messages, all_reports, happen_all, started};
 ghost use Rattle.ptpm_saved.specs.Withholding.{Withholds, called_each, events_of};
-ghost use Rattle.ptpm_manager.specs.Session.{SessionValue, count_limit};
+ghost use Rattle.ptpm_manager.specs.Session.{SessionValue};
 ghost use Rattle.ptpm_manager.specs.Setup.{request_message};
 ghost use Rattle.ptpm_saved.specs.SavingSession.{SessionInput, SessionNote, held_by_session, session_process, session_reports};
 ghost use Rattle.ptpm_saved.specs.SavingClock.{Datagram, clock_process, held_by_clock};
@@ -63,19 +63,19 @@ pub fn saving_session_law()
 /// A session that is over may go on as another, at its next number. So it does once it has begun as many requests as it can, or if its
 /// messages are to have other hops. The other starts afresh:
 /// - its request k is the message that the first one's request k would be after the requests of that one, with these hops;
-/// - whatever happens then, the other sends what the first would send, if that had these hops. That is so until the first would have
-///   begun as many as it can;
+/// - whatever happens then, the other sends what the first would send, if that had these hops. That is so until the first is asked for
+///   more requests than it can begin;
 /// - and it reports what the first would report, each as a request before which that many fewer were begun.
 pub fn next_session_law()
     ensures requests { (s : SessionValue) (hops domain k : ℕ) (q : RequestValue) → 0 < k
         → request_message (next_session s hops).setup domain k q
         ≡ message_with_hops hops (request_message s.setup domain (s.issued + k) q) }
     ensures messages { (s : SessionValue) (hops : ℕ) (hs : List (Happening SessionInput SessionNote)) → IsOver s
-        → s.issued + length hs ≤ count_limit
+        → CanBeginEach (with_hops hops s) hs
         → all_messages session_process (next_session s hops) hs
         ≡ all_messages session_process (with_hops hops s) hs }
     ensures reports { (s : SessionValue) (hops : ℕ) (hs : List (Happening SessionInput SessionNote)) → IsOver s
-        → s.issued + length hs ≤ count_limit
+        → CanBeginEach (with_hops hops s) hs
         → all_reports session_reports session_process (with_hops hops s) hs
         ≡ map (counted_after s.issued) (all_reports session_reports session_process (next_session s hops) hs) }
 {}

@@ -1,8 +1,5 @@
 //! A site as a picture in SVG 1.1: its tree, and below each clock what is wrong with it.
 
-ghost use Rattle.std.specs.Prelude.{◌≡◌, IfErr, true};
-ghost use Rattle.ptpm_commands.specs.Faults.{is_outside};
-
 use crate::escaped::Escaped;
 use crate::lines::{Frame, Line, lines_of};
 use crate::names::Names;
@@ -100,17 +97,13 @@ pub(crate) fn draw<O: Write>(
     picture: &Picture<'_>,
     names: &Names,
     out: &mut O,
-) -> Result<(), Fault>
-    ensures { IfErr result (λ e. is_outside e ≡ true) }
-{
+) -> Result<(), Fault> {
     let lines = lines_of(alloc, picture, names).map_err(|_| Fault::OutOfMemory)?;
     write_drawing(alloc, lines.as_slice(), out)
 }
 
 /// Writes a picture of these rows.
-fn write_drawing<O: Write>(alloc: Global, lines: &[Line], out: &mut O) -> Result<(), Fault>
-    ensures { IfErr result (λ e. is_outside e ≡ true) }
-{
+fn write_drawing<O: Write>(alloc: Global, lines: &[Line], out: &mut O) -> Result<(), Fault> {
     let sizes = sizes_of(lines);
     write_head(sizes, lines, out)?;
     let mut tops: Vec<usize> = Vec::new(alloc);

@@ -1,8 +1,5 @@
 //! A site as one JSON object, by the standard's names.
 
-ghost use Rattle.std.specs.Prelude.{◌≡◌, IfErr, true};
-ghost use Rattle.ptpm_commands.specs.Faults.{is_outside};
-
 use crate::finding_json::finding_value;
 use crate::names::Names;
 use ptpm_codec::{ClockIdentity, PortIdentity};
@@ -22,9 +19,7 @@ pub(crate) struct Object<'a>(pub(crate) &'a Picture<'a>, pub(crate) &'a Names);
 
 impl Object<'_> {
     /// Prints one object: the domains with their clocks, the findings, and how much was left out.
-    pub(crate) fn print<O: Write>(&self, alloc: Global, out: &mut O) -> Result<(), Fault>
-        ensures { IfErr result (λ e. is_outside e ≡ true) }
-    {
+    pub(crate) fn print<O: Write>(&self, alloc: Global, out: &mut O) -> Result<(), Fault> {
         write!(out, "{{\"domains\":[")?;
         let mut domain = None;
         for (source, clock) in self.0.site.clocks.iter() {
@@ -60,9 +55,7 @@ fn print_value<O: Write>(
     alloc: Global,
     value: Result<Value, AllocError>,
     out: &mut O,
-) -> Result<(), Fault>
-    ensures { IfErr result (λ e. is_outside e ≡ true) }
-{
+) -> Result<(), Fault> {
     let text = match value {
         Ok(value) => value.to_string(alloc),
         Err(error) => Err(error),

@@ -1,8 +1,5 @@
 //! A site as a plugin of Nagios, or of Icinga, shows it: a line, and the findings below it.
 
-ghost use Rattle.std.specs.Prelude.{◌≡◌, IfErr, true};
-ghost use Rattle.ptpm_commands.specs.Faults.{is_outside};
-
 use crate::finding_names::{ALL, FindingName};
 use crate::names::Names;
 use crate::seconds::{IntervalSeconds, NanosecondSeconds};
@@ -75,9 +72,7 @@ pub(crate) struct Plugin<'a> {
 
 impl Plugin<'_> {
     /// Prints the line, and the findings as the text has them.
-    pub(crate) fn print<O: Write>(&self, alloc: Global, out: &mut O) -> Result<(), Fault>
-        ensures { IfErr result (λ e. is_outside e ≡ true) }
-    {
+    pub(crate) fn print<O: Write>(&self, alloc: Global, out: &mut O) -> Result<(), Fault> {
         let sheet = Sheet(self.picture, self.names);
         let unseen = sheet.unseen(alloc).map_err(|_| Fault::OutOfMemory)?;
         let count = lines_of(self.picture.findings.as_slice(), unseen.as_slice());

@@ -1,8 +1,5 @@
 //! A site as numbers for a monitoring system, in OpenMetrics 1.0. Programs that read the older text format of Prometheus read it too.
 
-ghost use Rattle.std.specs.Prelude.{◌≡◌, IfErr, true};
-ghost use Rattle.ptpm_commands.specs.Faults.{is_outside};
-
 use crate::finding_names::ALL;
 use crate::grandmaster_line::source_name;
 use crate::label::Label;
@@ -49,9 +46,7 @@ pub(crate) struct Metrics<'a> {
 
 impl Metrics<'_> {
     /// Prints each family with its numbers. What was not answered has none.
-    pub(crate) fn print<O: Write>(&self, out: &mut O) -> Result<(), Fault>
-        ensures { IfErr result (λ e. is_outside e ≡ true) }
-    {
+    pub(crate) fn print<O: Write>(&self, out: &mut O) -> Result<(), Fault> {
         self.print_domains(out)?;
         self.print_clocks(out)?;
         for family in [OfClock::Offset, OfClock::Delay, OfClock::Steps] {

@@ -1,8 +1,5 @@
 //! A site as a page in HTML that needs nothing else: its tree as a table, and below each clock what is wrong with it.
 
-ghost use Rattle.std.specs.Prelude.{◌≡◌, IfErr, true};
-ghost use Rattle.ptpm_commands.specs.Faults.{is_outside};
-
 use crate::escaped::Escaped;
 use crate::finding_names::meaning_of;
 use crate::finding_text::Said;
@@ -30,9 +27,7 @@ pub(crate) fn print_page<O: Write>(
     picture: &Picture<'_>,
     names: &Names,
     out: &mut O,
-) -> Result<(), Fault>
-    ensures { IfErr result (λ e. is_outside e ≡ true) }
-{
+) -> Result<(), Fault> {
     let all = Rows(picture, names);
     print_head(picture, out)?;
     print_found(alloc, all, out)?;
@@ -116,9 +111,7 @@ fn print_head<O: Write>(picture: &Picture<'_>, out: &mut O) -> io::Result<()> {
 }
 
 /// Prints all findings, each with a link to its clock.
-fn print_found<O: Write>(alloc: Global, all: Rows<'_>, out: &mut O) -> Result<(), Fault>
-    ensures { IfErr result (λ e. is_outside e ≡ true) }
-{
+fn print_found<O: Write>(alloc: Global, all: Rows<'_>, out: &mut O) -> Result<(), Fault> {
     let findings = all.0.findings.as_slice();
     if findings.is_empty() {
         return Ok(());
@@ -193,9 +186,7 @@ fn called(
 }
 
 /// Prints the tree of each domain.
-fn print_domains<O: Write>(alloc: Global, all: Rows<'_>, out: &mut O) -> Result<(), Fault>
-    ensures { IfErr result (λ e. is_outside e ≡ true) }
-{
+fn print_domains<O: Write>(alloc: Global, all: Rows<'_>, out: &mut O) -> Result<(), Fault> {
     let mut rest = all.0.rows.as_slice();
     for _ in 0..all.0.rows.len() {
         let Some(first) = rest.first() else {
@@ -239,9 +230,7 @@ fn print_row<O: Write>(
     all: Rows<'_>,
     row: &TreeRow,
     out: &mut O,
-) -> Result<(), Fault>
-    ensures { IfErr result (λ e. is_outside e ≡ true) }
-{
+) -> Result<(), Fault> {
     match row {
         TreeRow::NotSeen { parent, .. } => {
             let name = format!(in alloc; "{}", all.1.quoted(parent.clock));
@@ -327,9 +316,7 @@ fn print_found_at<O: Write>(
     source: Source,
     depth: u32,
     out: &mut O,
-) -> Result<(), Fault>
-    ensures { IfErr result (λ e. is_outside e ≡ true) }
-{
+) -> Result<(), Fault> {
     let findings = found_at(all.0, source);
     if findings.is_empty() {
         return Ok(());

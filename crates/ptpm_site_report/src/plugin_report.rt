@@ -1,10 +1,5 @@
 //! `ptpm site --nagios`: a site as a plugin shows it, by the answers among lines of datagrams.
 
-ghost use Rattle.std.specs.Prelude.{◌≡◌, IfErr, IfSome, true};
-ghost use Rattle.ptpm_commands.specs.Faults.{is_outside};
-ghost use Rattle.ptpm_commands.specs.Taken.{HasNumbers};
-ghost use Rattle.ptpm_site_report.specs.Reporting.{HasFault};
-
 use crate::nagios::{Plugin, Standing};
 use crate::names::Names;
 use crate::site_lines::read_site;
@@ -23,11 +18,7 @@ pub fn report_standing<R: Read + Drop, O: Write>(
     names: &Names,
     reader: R,
     out: &mut O,
-) -> Result<Standing, Fault>
-    ensures fault { IfErr result
-        (λ e.
-        IfSome (R.remaining reader) (λ octets. HasNumbers octets → HasFault octets e)) }
-{
+) -> Result<Standing, Fault> {
     let mut site = read_site(alloc, reader)?;
     let left_out = site.keep_first();
     standing_of(alloc, limits, names, &site, left_out, out)
@@ -41,9 +32,7 @@ fn standing_of<O: Write>(
     site: &Site,
     left_out: LeftOut,
     out: &mut O,
-) -> Result<Standing, Fault>
-    ensures fault { IfErr result (λ e. is_outside e ≡ true) }
-{
+) -> Result<Standing, Fault> {
     match Picture::of(alloc, site, left_out, limits) {
         Ok(picture) => {
             let plugin = Plugin {

@@ -1,11 +1,9 @@
 //! `ptpm site`: a site's tree and what is wrong with it, by the answers among lines of datagrams.
 
-ghost use Rattle.std.specs.Prelude.{◌≡◌, IfErr, IfOk, IfSome, true};
-ghost use Rattle.ptpm_commands.specs.Faults.{is_outside};
-ghost use Rattle.ptpm_commands.specs.Taken.{HasNumbers};
+ghost use Rattle.std.specs.Prelude.{◌≡◌, IfOk};
 ghost use Rattle.ptpm_site.specs.Findings.{findings_of, reported};
 ghost use Rattle.ptpm_site.specs.Site.{site_answers};
-ghost use Rattle.ptpm_site_report.specs.Reporting.{HasFault, IsReported, outcome, status};
+ghost use Rattle.ptpm_site_report.specs.Reporting.{outcome, status};
 
 use crate::drawing::draw;
 use crate::json::Object;
@@ -82,15 +80,7 @@ pub fn report<R: Read + Drop, O: Write>(
     options: Options,
     reader: R,
     out: &mut O,
-) -> Result<Conclusion, Fault>
-    ensures conclusion { IfOk result
-        (λ came.
-        IfSome (R.remaining reader)
-        (λ octets. HasNumbers octets → IsReported octets options.limits came)) }
-    ensures fault { IfErr result
-        (λ e.
-        IfSome (R.remaining reader) (λ octets. HasNumbers octets → HasFault octets e)) }
-{
+) -> Result<Conclusion, Fault> {
     report_named(alloc, options, &Names::new(alloc), reader, out)
 }
 
@@ -101,15 +91,7 @@ pub fn report_named<R: Read + Drop, O: Write>(
     names: &Names,
     reader: R,
     out: &mut O,
-) -> Result<Conclusion, Fault>
-    ensures conclusion { IfOk result
-        (λ came.
-        IfSome (R.remaining reader)
-        (λ octets. HasNumbers octets → IsReported octets options.limits came)) }
-    ensures fault { IfErr result
-        (λ e.
-        IfSome (R.remaining reader) (λ octets. HasNumbers octets → HasFault octets e)) }
-{
+) -> Result<Conclusion, Fault> {
     let mut site = read_site(alloc, reader)?;
     let left_out = site.keep_first();
     report_of(alloc, options, names, &site, left_out, out)
@@ -124,8 +106,7 @@ fn report_of<O: Write>(
     left_out: LeftOut,
     out: &mut O,
 ) -> Result<Conclusion, Fault>
-    ensures conclusion { IfOk result (λ came. came ≡ outcome (site_answers site.now).clocks (findings_of (site_answers site.now) options.limits)) }
-    ensures fault { IfErr result (λ e. is_outside e ≡ true) }
+    ensures { IfOk result (λ came. came ≡ outcome (site_answers site.now).clocks (findings_of (site_answers site.now) options.limits)) }
 {
     match Picture::of(alloc, site, left_out, options.limits) {
         Ok(picture) => {
@@ -142,9 +123,7 @@ fn print_picture<O: Write>(
     picture: &Picture<'_>,
     names: &Names,
     out: &mut O,
-) -> Result<(), Fault>
-    ensures { IfErr result (λ e. is_outside e ≡ true) }
-{
+) -> Result<(), Fault> {
     match form {
         Form::Text => Sheet(picture, names).print(alloc, out),
         Form::Json => Object(picture, names).print(alloc, out),

@@ -1,8 +1,5 @@
 //! A site as text: for each domain its tree, a line a clock, and then the findings, one a line.
 
-ghost use Rattle.std.specs.Prelude.{◌≡◌, IfErr, true};
-ghost use Rattle.ptpm_commands.specs.Faults.{is_outside};
-
 use crate::columns::{Columns, Widths, print_spaces};
 use crate::finding_text::Words;
 use crate::grandmaster_line::GrandmasterLine;
@@ -27,9 +24,7 @@ pub(crate) struct Sheet<'a>(pub(crate) &'a Picture<'a>, pub(crate) &'a Names);
 
 impl Sheet<'_> {
     /// Prints the tree of each domain, and the findings.
-    pub(crate) fn print<O: Write>(&self, alloc: Global, out: &mut O) -> Result<(), Fault>
-        ensures { IfErr result (λ e. is_outside e ≡ true) }
-    {
+    pub(crate) fn print<O: Write>(&self, alloc: Global, out: &mut O) -> Result<(), Fault> {
         let all = Rows(self.0, self.1);
         let mut rest = self.0.rows.as_slice();
         for _ in 0..self.0.rows.len() {
@@ -59,9 +54,7 @@ impl Sheet<'_> {
 
     /// The findings, one a line. Each grandmaster that is not seen has one line, which says how many
     /// clocks name it.
-    fn print_findings<O: Write>(&self, alloc: Global, out: &mut O) -> Result<(), Fault>
-        ensures { IfErr result (λ e. is_outside e ≡ true) }
-    {
+    fn print_findings<O: Write>(&self, alloc: Global, out: &mut O) -> Result<(), Fault> {
         let unseen = self.unseen(alloc).map_err(|_| Fault::OutOfMemory)?;
         let lines = lines_of(self.0.findings.as_slice(), unseen.as_slice());
         if lines == 0 {
@@ -77,9 +70,7 @@ impl Sheet<'_> {
         &self,
         unseen: &[Source],
         out: &mut O,
-    ) -> Result<(), Fault>
-        ensures { IfErr result (λ e. is_outside e ≡ true) }
-    {
+    ) -> Result<(), Fault> {
         let mut unseen = unseen;
         for finding in self.0.findings.as_slice() {
             if let What::GrandmasterNotSeen(_) = finding.what {
@@ -139,9 +130,7 @@ fn print_rows<O: Write>(
     all: Rows<'_>,
     rows: &[TreeRow],
     out: &mut O,
-) -> Result<(), Fault>
-    ensures { IfErr result (λ e. is_outside e ≡ true) }
-{
+) -> Result<(), Fault> {
     let widths = widths_of(alloc, all, rows).map_err(|_| Fault::OutOfMemory)?;
     for row in rows {
         match row {

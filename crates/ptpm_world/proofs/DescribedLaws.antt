@@ -8,7 +8,8 @@ use Rattle.ptpm_network.proofs.Lists.{all_get, all_made}
 use Rattle.ptpm_script.specs.declared.network.End.{End}
 use Rattle.ptpm_script.specs.declared.network.End.TheVariants as ends
 use Rattle.ptpm_script.specs.declared.network.NetworkSession.{NetworkSession}
-use Rattle.ptpm_world.specs.Described.{no_session}
+use Rattle.ptpm_script.specs.NetworkValue.{CanStart, IsSessionOf}
+use Rattle.ptpm_world.specs.Described.{clock_at, no_clock, no_session, session_at}
 
 -- ---- what is at a place
 
@@ -78,6 +79,11 @@ known-place (x ∷ xs) m c k =
 
 -- ---- sessions
 
+-- the clock that a session manages can start, so it has one to eight ports
+target-starts : (n : NetworkValue) (s : ℕ) → IsAccepted n → s < length n.sessions → CanStart (clock_at n (session_at n s).target)
+target-starts n s facts h =
+    of_place CanStart n.clocks (session_at n s).target no_clock facts.clocks (of_place (IsSessionOf n) n.sessions s no_session facts.sessions h).target
+
 -- ---- links
 
 pub at_place : {X : Type 0} (xs : List X) (i : ℕ) (x d : X)
@@ -109,4 +115,4 @@ pub described-network : (n : NetworkValue)
     → IsAccepted n
     → AreSized n
     → machine.IsNetwork (described n)
-described-network n facts sized = grind (arith, there, of_place, known-configured, known-place, described-links, length-map)
+described-network n facts sized = grind (arith, there, of_place, target-starts, known-configured, known-place, described-links, length-map)

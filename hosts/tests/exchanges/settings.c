@@ -52,6 +52,14 @@ static const struct member of_session[] = {
     OCTETS_OF(ptpm_session_settings, target), SESSION(domain), SESSION(hops), SESSION(attempts), { 0 },
 };
 
+#define ASKER(name) NUMBER_OF(ptpm_asker_settings, name)
+#define ASKER_SESSION(name) { #name, offsetof(struct ptpm_asker_settings, session.name), SIZE_OF(ptpm_session_settings, name), 0, NUMBER }
+#define ASKER_OCTETS(name) { #name, offsetof(struct ptpm_asker_settings, session.name), SIZE_OF(ptpm_session_settings, name), 0, OCTETS }
+static const struct member of_asker[] = {
+    ASKER_SESSION(port), ASKER_SESSION(target_ports), ASKER_SESSION(first), ASKER_OCTETS(clock), ASKER_OCTETS(target),
+    ASKER_SESSION(hops), ASKER_SESSION(attempts), ASKER(nobody), ASKER(timeout), ASKER(wait), { 0 },
+};
+
 #define SURVEY(name) NUMBER_OF(ptpm_survey_settings, name)
 static const struct member of_survey[] = {
     SURVEY(port), SURVEY(number), SURVEY(id), OCTETS_OF(ptpm_survey_settings, clock), SURVEY(domain), SURVEY(hops), { 0 },
@@ -144,6 +152,11 @@ void read_observation(char **words, struct observation *observation) {
 void read_session(char **words, struct ptpm_session_settings *settings) {
     memset(settings, 0, sizeof *settings);
     read_members(words, of_session, settings);
+}
+
+void read_asker(char **words, struct ptpm_asker_settings *settings) {
+    memset(settings, 0, sizeof *settings);
+    read_members(words, of_asker, settings);
 }
 
 bool read_survey(char **words, struct ptpm_survey_settings *settings, uint8_t target[8]) {

@@ -37,6 +37,9 @@ void read_managers(char **words, struct managers *managers);
 
 void read_session(char **words, struct ptpm_session_settings *settings);
 
+/* The members of its session, and its own. */
+void read_asker(char **words, struct ptpm_asker_settings *settings);
+
 /* Takes `target=K` too; whether it is there. */
 bool read_survey(char **words, struct ptpm_survey_settings *settings, uint8_t target[8]);
 

@@ -10,9 +10,11 @@
 //! With a FILE the clock outlasts its power, and the next run goes on from it: it gives nothing out before it is saved. A save that
 //! fails ends the agent, as a loss of power would.
 
+mod forwarding;
 mod port;
 mod store;
 
+use forwarding::Forwarding;
 use ptpm::{
     Clock, ClockMembers, ClockSettings, Handled, ManagementId, Manager, ObservedClock, ObservedPort, Outbox, PortMembers,
     PortSettings, PortState, Ports, Rights, SavingClock, SavingTurn, TimeInterval, CLOCK_IMAGE_OCTETS, MOST_READ,
@@ -37,7 +39,7 @@ impl Servo {
         self.offset.0 /= 2;
         ObservedClock {
             offset_from_master: Some(self.offset),
-            mean_path_delay: Some(TimeInterval::of_nanoseconds(420)),
+            mean_path_delay: Some(TimeInterval::from_nanoseconds(420)),
             ..ObservedClock::default()
         }
     }
@@ -69,6 +71,7 @@ impl Kept {
 struct Agent {
     clock: Kept,
     sockets: Vec<UdpSocket>,
+    forwarding: Forwarding,
     servo: Servo,
     outbox: Box<Outbox>,
     room: Box<[u8; CLOCK_IMAGE_OCTETS]>,
@@ -121,13 +124,14 @@ impl Agent {
         for interface in interfaces {
             sockets.push(port::open(interface).map_err(|error| format!("{interface}: {error}"))?);
         }
-        let servo = Servo { offset: TimeInterval::of_nanoseconds(1 << 20) };
-        Ok(Self { clock, sockets, servo, outbox: Outbox::boxed(), room: Box::new([0; CLOCK_IMAGE_OCTETS]) })
+        let servo = Servo { offset: TimeInterval::from_nanoseconds(1 << 20) };
+        let forwarding = Forwarding::new(sockets.len())?;
+        Ok(Self { clock, sockets, forwarding, servo, outbox: Outbox::boxed(), room: Box::new([0; CLOCK_IMAGE_OCTETS]) })
     }
 
     /// Tells the clock what was found since.
     fn observe(&mut self) -> Result<(), ptpm::Error> {
-        let ports = [ObservedPort { peer_delay: Some(TimeInterval::of_nanoseconds(210)), ..ObservedPort::default() }; 2];
+        let ports = [ObservedPort { peer_delay: Some(TimeInterval::from_nanoseconds(210)), ..ObservedPort::default() }; 2];
         self.clock.observe(&self.servo.steer(), &ports[..self.sockets.len()])?;
         Ok(())
     }
@@ -154,8 +158,11 @@ impl Agent {
                 }
             }
         };
-        for (port, octets) in messages {
-            port::send(&self.sockets[usize::from(port) - 1], octets);
+        let mut sending = self.forwarding.of(port, datagram);
+        for (egress, octets) in messages {
+            if sending.admits(egress) {
+                port::send(&self.sockets[usize::from(egress) - 1], octets);
+            }
         }
         if changed.clock.intersects(ClockMembers::PRIORITY1) {
             let mut room = [0; MOST_READ];

@@ -110,6 +110,7 @@ pub const PTPM_MOST_OCTETS: usize = 1472;
 pub const PTPM_SESSION_IMAGE_OCTETS: usize = 1478;
 pub const PTPM_CLOCK_IMAGE_OCTETS: usize = 27185;
 pub const PTPM_MOST_ANSWERS: usize = 512;
+pub const PTPM_SURVEY_PORT: u16 = 65534;
 
 // Answers that several kinds of calls give.
 pub const PTPM_SAVING: u32 = 0;
@@ -134,6 +135,7 @@ pub const PTPM_NO_MEMORY: u32 = 35;
 pub const PTPM_NO_SESSION: u32 = 37;
 pub const PTPM_IDLE: u32 = 43;
 pub const PTPM_NO_SURVEY: u32 = 46;
+pub const PTPM_NO_ASKER: u32 = 120;
 pub const PTPM_OTHER_SIZES: u32 = 47;
 pub const PTPM_GRANDMASTER_DIFFERS: u32 = 50;
 pub const PTPM_TOO_MANY_MANAGERS: u32 = 51;
@@ -256,6 +258,7 @@ pub const PTPM_SEND_NO_SESSION: u32 = 37;
 pub const PTPM_SEND_IDLE: u32 = 43;
 pub const PTPM_GAVE_UP: u32 = 44;
 pub const PTPM_SEND_NO_SURVEY: u32 = 46;
+pub const PTPM_SEND_UNSAVED: u32 = 118;
 
 // `enum ptpm_resumed`.
 pub const PTPM_RESUMED: u32 = 0;
@@ -321,6 +324,7 @@ pub const PTPM_REPORT_NO_ROOM: u32 = 34;
 pub const PTPM_REPORT_NO_SESSION: u32 = 37;
 pub const PTPM_NO_REPORT: u32 = 45;
 pub const PTPM_REPORT_NO_SURVEY: u32 = 46;
+pub const PTPM_REPORT_NO_ASKER: u32 = 120;
 
 // `enum ptpm_saved`.
 pub const PTPM_SAVED: u32 = 0;
@@ -351,6 +355,50 @@ pub const PTPM_UNKNOWN_ID: u32 = 114;
 pub const PTPM_WORD_COUNT: u32 = 115;
 pub const PTPM_OTHER_NAME: u32 = 116;
 pub const PTPM_NO_VALUE: u32 = 117;
+
+// `enum ptpm_asker_restored`.
+pub const PTPM_ASKER_RESTORED: u32 = 0;
+pub const PTPM_ASKER_RESTORE_NO_MEMORY: u32 = 35;
+pub const PTPM_ASKER_RESTORE_NO_PORTS: u32 = 48;
+pub const PTPM_ASKER_RESTORE_TOO_MANY_PORTS: u32 = 49;
+pub const PTPM_ASKER_RESTORE_MANAGER_IS_EVERY: u32 = 53;
+pub const PTPM_ASKER_RESTORE_TARGET_IS_EVERY: u32 = 54;
+pub const PTPM_ASKER_RESTORE_SAME_CLOCK: u32 = 55;
+pub const PTPM_ASKER_RESTORE_TARGET_IS_ZERO: u32 = 57;
+pub const PTPM_ASKER_RESTORE_NOT_AN_IMAGE: u32 = 104;
+pub const PTPM_ASKER_RESTORE_OTHER_VERSION: u32 = 105;
+pub const PTPM_ASKER_RESTORE_OTHER_KIND: u32 = 106;
+pub const PTPM_ASKER_RESTORE_DAMAGED: u32 = 107;
+pub const PTPM_ASKER_RESTORE_OTHER_SESSION: u32 = 110;
+
+// `enum ptpm_asked`.
+pub const PTPM_ASKED: u32 = 0;
+pub const PTPM_ASK_NO_ROOM: u32 = 34;
+pub const PTPM_ASK_NO_MEMORY: u32 = 35;
+pub const PTPM_ASK_BUSY: u32 = 38;
+pub const PTPM_ASK_NEEDS_PORT: u32 = 39;
+pub const PTPM_ASK_NOT_PERMITTED: u32 = 40;
+pub const PTPM_ASK_BAD_VALUE: u32 = 41;
+pub const PTPM_ASK_COUNT_AT_MAXIMUM: u32 = 42;
+pub const PTPM_ASK_IDLE: u32 = 43;
+pub const PTPM_ASK_OUT_OF_REACH: u32 = 112;
+pub const PTPM_ASK_NO_ASKER: u32 = 120;
+
+// What an asker hands out.
+pub const PTPM_NOTHING: u32 = 0;
+pub const PTPM_NOTE_BEGUN: u32 = 1;
+pub const PTPM_SAVE_IT: u32 = 2;
+pub const PTPM_SEND_IT: u32 = 3;
+pub const PTPM_SEND_READ: u32 = 4;
+pub const PTPM_WAIT: u32 = 5;
+pub const PTPM_NOTE_ANSWER: u32 = 6;
+pub const PTPM_FAILED: u32 = 7;
+
+// What an earlier run left under way.
+pub const PTPM_NOTHING_LEFT: u32 = 0;
+pub const PTPM_QUESTION_LEFT: u32 = 1;
+pub const PTPM_GET_LEFT: u32 = 2;
+pub const PTPM_CHANGE_LEFT: u32 = 3;
 
 // What `ptpm_id_named` answers if no id has the name.
 pub const PTPM_NO_ID: u32 = 65536;

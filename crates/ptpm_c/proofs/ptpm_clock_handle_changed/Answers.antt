@@ -1,6 +1,6 @@
 use Rattle.std.proofs.Common.{rules, ◌≡◌, Some, ap, sym, ◌∙◌}
 use Rattle.ptpm_c.proofs.Turns.{changed_to, none_to}
-use Rattle.ptpm_c.specs.Held.{clock_held, clock_of}
+use Rattle.ptpm_c.specs.Held.{clock_held, clock_of, saving_clock_of}
 use Rattle.ptpm_c.proofs.ptpm_clock_handle_changed.Goals as goal
 
 pub returns-then-number-verdict_number-clause-changed :
@@ -37,3 +37,11 @@ returns-else-number-verdict_number-clause-refused c = λ c' h e is.
     let before : clock_held c.args.handle.now.keeping ≡ Some c.deref.result.now = search rules in
     let kept : clock_held c.of.result.keeping ≡ Some c.deref.result.now = search rules in
     c.ptpm_clock_handle-number.ensures.refused c' (kept ∙ sym before ∙ h) e is
+
+pub returns-in_default-clause-changed_saving : goal.returns-in_default-clause-changed_saving
+returns-in_default-clause-changed_saving c = λ w is.
+    c.judge_changed.ensures.changed w (ap saving_clock_of c.in_default.ensures.unchanged ∙ is)
+
+pub returns-in_default-clause-withheld : goal.returns-in_default-clause-withheld
+returns-in_default-clause-withheld c = λ w is.
+    c.judge_changed.ensures.refused w (ap saving_clock_of c.in_default.ensures.unchanged ∙ is)

@@ -24,7 +24,7 @@ returns-clause-event c = λ N es e s hops port frames n range i place free clear
       reports = same.reports;
       domain = same.domain;
       way = λ way. subst (λ d. IsWayIn N u s d hops port) (sym same.domain)
-          (way-left N w u s (w.session s).domain port hops place (step-reached N w e n i (reached N es n range)) (ap length same.begun) (after-step (λ (x : NetworkState). greatest_accepted N w s ≤ greatest_accepted N x s) N w e (le_refl _) (λ none. happens-grows N w s e)) clear target way);
+          (way-left N w u s (w.session s).domain port hops place (step-reached N w e n i (reached N es n range)) same.begun (after-step (λ (x : NetworkState). greatest_accepted N w s ≤ greatest_accepted N x s) N w e (le_refl _) (λ none. happens-grows N w s e)) clear target way);
       room = λ before. room;
     }
 

@@ -1,0 +1,1 @@
+../../../../../dist/aarch64/libptpm.s

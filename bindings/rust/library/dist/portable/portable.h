@@ -1,0 +1,1 @@
+../../../../../dist/portable/portable.h

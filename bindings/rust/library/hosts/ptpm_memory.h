@@ -1,0 +1,1 @@
+../../../../hosts/ptpm_memory.h

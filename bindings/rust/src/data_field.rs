@@ -1,0 +1,78 @@
+//! The dataField of a SET from words.
+
+use crate::clock::MOST_READ;
+use crate::error::{done, Error};
+use crate::id::ManagementId;
+use crate::members::Members;
+use crate::sys;
+use alloc::string::String;
+use alloc::vec::Vec;
+use core::fmt;
+
+/// Words that are no dataField of a SET.
+#[derive(Clone, Debug, PartialEq, Eq)]
+#[non_exhaustive]
+pub struct NoField {
+    /// What is wrong with them.
+    pub error: Error,
+    /// The standard's name of the member that is at fault, after [`Error::OtherName`] and [`Error::NoValue`].
+    pub member: Option<String>,
+}
+
+impl fmt::Display for NoField {
+    fn fmt(&self, to: &mut fmt::Formatter<'_>) -> fmt::Result {
+        match &self.member {
+            Some(member) => write!(to, "{}: {member}", self.error),
+            None => self.error.fmt(to),
+        }
+    }
+}
+
+impl core::error::Error for NoField {}
+
+impl ManagementId {
+    /// The dataField of a SET of this id, from words: the name of each member in the standard, in either case, and its value.
+    /// They are written as [`Members`] has them, and in that order. The name of a sole member may be left out.
+    ///
+    /// ```
+    /// use ptpm::{Error, ManagementId};
+    ///
+    /// let words = ["currentUtcOffset", "37", "leap61", "false", "leap59", "false", "currentUtcOffsetValid", "true"];
+    /// assert_eq!(ManagementId::UTC_PROPERTIES.data_field(&words)?, [0, 37, 4, 0]);
+    /// assert_eq!(ManagementId::PRIORITY1.data_field(&["100"])?, [100, 0]);
+    /// let refused = ManagementId::UTC_PROPERTIES.data_field(&[&words[..3], &["maybe"], &words[4..]].concat()).unwrap_err();
+    /// assert_eq!((refused.error, refused.member.as_deref()), (Error::NoValue, Some("leap61")));
+    /// # Ok::<(), ptpm::NoField>(())
+    /// ```
+    ///
+    /// # Errors
+    ///
+    /// [`Error::NotWords`] also of a word with a zero octet; [`Error::UnknownId`], [`Error::WordCount`], [`Error::OtherName`] or
+    /// [`Error::NoValue`].
+    pub fn data_field(self, words: &[&str]) -> Result<Vec<u8>, NoField> {
+        if words.iter().any(|word| word.contains('\0')) {
+            return Err(NoField { error: Error::NotWords, member: None });
+        }
+        let joined: String = words.iter().flat_map(|word| [*word, "\0"]).collect();
+        let mut octets = [0; MOST_READ];
+        let (mut count, mut place) = (0, 0);
+        let (from, room) = (joined.as_ptr().cast(), octets.as_mut_ptr());
+        // SAFETY: the words may be read; the octets, the count and the place may be written, and lie apart from these.
+        let answer = unsafe { sys::ptpm_field_parse(self.0, from, joined.len(), room, MOST_READ, &mut count, &mut place) };
+        match done(answer) {
+            Ok(()) => Ok(octets[..count].to_vec()),
+            Err(error) => Err(NoField { error, member: self.member_at_fault(error, place) }),
+        }
+    }
+
+    /// The name of the member at a place, if the error is about one.
+    fn member_at_fault(self, error: Error, place: usize) -> Option<String> {
+        if !matches!(error, Error::OtherName | Error::NoValue) {
+            return None;
+        }
+        let mut all_zeros = (2..MOST_READ).step_by(2).map(|size| Members::of(self, &[0; MOST_READ][..size]));
+        let members = all_zeros.find(|members| members.get("value").is_none())?;
+        let (name, _) = members.iter().nth(place)?;
+        Some(name.into())
+    }
+}

@@ -1,0 +1,93 @@
+//! For each kind of call the reasons for which it is refused, as the header's types of answers have them.
+//!
+//! A call returns [`Error`], which has all reasons. A function that returns one of these types takes it by `?`, and a `match` over
+//! one is whole without a pattern for all else:
+//!
+//! ```
+//! use ptpm::{Clock, Handled, HandleError, Outbox};
+//!
+//! fn come_in(clock: &mut Clock, port: u16, datagram: &[u8], outbox: &mut Outbox) -> Result<Handled, HandleError> {
+//!     Ok(clock.handle(port, datagram, outbox)?.handled())
+//! }
+//! ```
+
+use crate::error::Error;
+use core::fmt;
+
+macro_rules! refusals {
+    ($($(#[$what:meta])* $kind:ident { $($variant:ident)* })*) => {$(
+        $(#[$what])*
+        #[derive(Clone, Copy, Debug, PartialEq, Eq, Hash)]
+        #[allow(missing_docs)] // as those of `Error`
+        pub enum $kind {
+            $($variant,)*
+            /// A reason that only a newer library has.
+            Other(Error),
+        }
+
+        impl From<Error> for $kind {
+            fn from(error: Error) -> Self {
+                match error {
+                    $(Error::$variant => Self::$variant,)*
+                    other => Self::Other(other),
+                }
+            }
+        }
+
+        impl From<$kind> for Error {
+            fn from(refusal: $kind) -> Self {
+                match refusal {
+                    $($kind::$variant => Self::$variant,)*
+                    $kind::Other(error) => error,
+                }
+            }
+        }
+
+        impl fmt::Display for $kind {
+            fn fmt(&self, to: &mut fmt::Formatter<'_>) -> fmt::Result {
+                Error::from(*self).fmt(to)
+            }
+        }
+
+        impl core::error::Error for $kind {}
+    )*};
+}
+
+refusals! {
+    /// Why a clock, a session or a survey does not start (`enum ptpm_started`).
+    StartError {
+        NoMemory OtherSizes NoPorts TooManyPorts GrandmasterDiffers TooManyManagers ManagerTwice ManagerIsEvery TargetIsEvery SameClock
+        IdentityIsZero TargetIsZero BadIdentity BadUserDescription BadClockAccuracy BadLeap59 BadState BadLogAnnounce
+        BadReceiptTimeout BadLogSync BadDelayMechanism BadLogMinPdelay
+    }
+    /// Why a datagram is not judged by a clock, or why a clock does not save (`enum ptpm_handled`).
+    HandleError { NoClock NoPort NoRoom NoMemory Unsaved }
+    /// Why nothing is observed (`enum ptpm_observed`).
+    ObserveError { NoClock NoPort GrandmasterDiffers BadClockAccuracy BadLeap59 BadState }
+    /// Why nothing is read (`enum ptpm_read`).
+    ReadError { NoClock NoPort NoRoom NotReadable }
+    /// Why no request is begun (`enum ptpm_begun`).
+    BeginError { NoMemory NoSession Busy NeedsPort NotPermitted BadValue CountAtMaximum }
+    /// Why there is no message to send (`enum ptpm_sending`).
+    SendError { NoRoom NoSession Idle GaveUp NoSurvey }
+    /// Why a request gets no more attempts (`enum ptpm_resumed`).
+    ResumeError { NoSession Idle }
+    /// Why a request is not given up (`enum ptpm_given_up`).
+    GiveUpError { NoSession Idle OutOfReach }
+    /// Why a session stays in its domain (`enum ptpm_retuned`).
+    RetuneError { NoSession }
+    /// Why a datagram is not judged by a session (`enum ptpm_session_received`).
+    ReceiveError { NoMemory NoSession }
+    /// Why a datagram is not judged by a survey (`enum ptpm_survey_received`).
+    SurveyError { NoMemory NoSurvey }
+    /// Why nothing is reported (`enum ptpm_reported`).
+    ReportError { NoRoom NoSession NoReport NoSurvey }
+    /// Why there is no image, or nothing is saved by one (`enum ptpm_saved`).
+    SaveError { NoClock NoRoom NoSession OtherImage }
+    /// Why nothing is restored (`enum ptpm_restored`).
+    RestoreError {
+        NoMemory OtherSizes TooManyManagers ManagerTwice IdentityIsZero NotAnImage OtherVersion OtherKind Damaged OtherClock OtherPorts OtherSession
+    }
+    /// Why words are no dataField (`enum ptpm_parsed`).
+    ParseError { NoRoom NotWords UnknownId WordCount OtherName NoValue }
+}

@@ -1,0 +1,12 @@
+# Whether this version is one that find_package asks for: that one or a later one, with the same first number.
+set(PACKAGE_VERSION "@version@")
+string(REGEX MATCH "^[0-9]+" ptpm_first "${PACKAGE_VERSION}")
+if(PACKAGE_FIND_VERSION VERSION_EQUAL PACKAGE_VERSION)
+    set(PACKAGE_VERSION_EXACT TRUE)
+endif()
+if(PACKAGE_FIND_VERSION VERSION_GREATER PACKAGE_VERSION OR NOT "${PACKAGE_FIND_VERSION_MAJOR}" STREQUAL "${ptpm_first}")
+    set(PACKAGE_VERSION_COMPATIBLE FALSE)
+else()
+    set(PACKAGE_VERSION_COMPATIBLE TRUE)
+endif()
+unset(ptpm_first)

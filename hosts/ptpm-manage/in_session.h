@@ -1,0 +1,13 @@
+/* A task, carried out in the session that its file keeps. The asker of the library says what is noted, saved and sent, and in which order;
+   here that is done. So a request is in the file before it is sent. An answer is reported before the file has the session without the
+   request. A run may be killed, or its machine lose power. Its request was then answered and reported, or the next run settles it. */
+#ifndef IN_SESSION_H
+#define IN_SESSION_H
+
+#include "task.h"
+
+/* Settles what an earlier run left, or abandons it if the task says so. Then makes the task's request as many times as the task says, one
+   after the other. Prints what each answer says; the program's status. */
+int ask_in_session(const struct task *task);
+
+#endif

@@ -1,0 +1,23 @@
+/* What answers are printed, and what is said of a request of an earlier run. */
+#ifndef TELLING_H
+#define TELLING_H
+
+#include "answer.h"
+#include "session.h"
+
+/* Prints what the answer to the task's request says; the program's status. */
+int print_report(const struct task *task, const struct answer *answer);
+
+/* Prints how many requests there were, and messages of them. */
+void print_count(long requests, long sent);
+
+/* Says what the answer to the request of an earlier run is; NOT_WRITTEN if that can't be said. */
+int say_settled(const struct earlier *earlier, const struct task *task, const struct answer *answer);
+
+/* Says that the request of an earlier run is abandoned. */
+void say_let_go(const struct earlier *earlier, const struct task *task);
+
+/* Ends the program, status 2: the library refuses to abandon that request. */
+_Noreturn void refuse_to_let_go(uint32_t refusal, const struct earlier *earlier, const struct task *task);
+
+#endif
