@@ -30,7 +30,8 @@ const TAI_UTC: i16 = 37;
 
 /// Does what the words say, and answers the exit status. The first word is the program's name. 0: it was done.
 /// 1: a fault, with the line `ptpm: FAULT` on `err`, or `check` wrote faults on `out`. 2: the words were refused,
-/// with the reason on `err`. `site` answers 1 if it found something, and 3 if no clock answered. What `err` does changes nothing.
+/// with the reason on `err`. `site` answers 1 if it found something, and 3 if no clock answered. With
+/// `--nagios` it answers as a plugin of Nagios: 3 at a fault and if the words were refused, too. What `err` does changes nothing.
 /// Only `run`, `check`, `schedule`, `draw`, `site` and the option `--lines` read.
 /// Whatever was written on `out` is flushed, at a fault too.
 pub fn command<R: Read, O: Write, E: Write>(
@@ -42,17 +43,23 @@ pub fn command<R: Read, O: Write, E: Write>(
 ) -> u8 {
     match run(alloc, words, reader, out, err) {
         Ok(status) => status,
-        Err(Failure::Fault(fault)) if is_for_plugin(words) => {
-            let _ = tell(&fault, err);
-            end_unknown(&fault, out)
-        }
-        Err(Failure::Fault(fault)) => end_at_fault(&fault, out, err),
-        Err(Failure::Script(fault)) => end_at_fault(&fault, out, err),
-        Err(Failure::Refused(reason)) => {
-            let _ = write!(err, "{reason}");
+        Err(failure) => {
+            let status = end_at_failure(&failure, out, err);
             if is_for_plugin(words) {
-                return end_unknown(&"the command line was refused", out);
+                end_unknown(&failure, out)
+            } else {
+                status
             }
+        }
+    }
+}
+
+fn end_at_failure<O: Write, E: Write>(failure: &Failure, out: &mut O, err: &mut E) -> u8 {
+    match failure {
+        Failure::Fault(fault) => end_at_fault(fault, out, err),
+        Failure::Script(fault) => end_at_fault(fault, out, err),
+        Failure::Refused(reason) => {
+            let _ = write!(err, "{reason}");
             2
         }
     }
@@ -60,12 +67,19 @@ pub fn command<R: Read, O: Write, E: Write>(
 
 /// Whether the words are of `site`, and ask for what a plugin of Nagios shows.
 fn is_for_plugin(words: &[&str]) -> bool {
-    words.get(1).is_some_and(|word| *word == "site") && words.iter().any(|word| *word == "--nagios")
+    match words.get(1) {
+        Some(word) => *word == "site" && words.iter().any(|word| *word == "--nagios"),
+        None => false,
+    }
 }
 
-/// Ends as a plugin does that can't say how the site is.
-fn end_unknown<F: fmt::Display, O: Write>(reason: &F, out: &mut O) -> u8 {
-    let _ = writeln!(out, "PTP UNKNOWN - {reason}");
+/// Ends as a plugin does that can't say how the site is. Its line says why.
+fn end_unknown<O: Write>(failure: &Failure, out: &mut O) -> u8 {
+    let _ = match failure {
+        Failure::Fault(fault) => writeln!(out, "PTP UNKNOWN - {fault}"),
+        Failure::Script(fault) => writeln!(out, "PTP UNKNOWN - {fault}"),
+        Failure::Refused(_) => writeln!(out, "PTP UNKNOWN - the command line was refused"),
+    };
     let _ = out.flush();
     3
 }
@@ -81,6 +95,7 @@ fn end_at_fault<F: fmt::Display, O: Write, E: Write>(fault: &F, out: &mut O, err
 }
 
 /// Why a command line was not done.
+#[derive(Drop)]
 enum Failure {
     Fault(Fault),
     /// A script ended before its last event, or could not be checked.
@@ -386,7 +401,7 @@ fn site_task<'a>(
     let mut names = Names::new(alloc);
     if let Some(said) = values.get_strs("name") {
         for words in said {
-            if !names.add(alloc, words)? {
+            if !names.add(alloc, *words)? {
                 return Ok(Err(WithoutTask::BadName));
             }
         }
@@ -670,7 +685,11 @@ fn with_forms<'a>(alloc: Global, site: Command<'a>) -> Result<Command<'a>, Alloc
     let site = with(site, json)?;
     let draw = flag(alloc, "draw", "Draws the tree, as a picture in SVG");
     let site = with(site, draw)?;
-    let html = flag(alloc, "html", "Writes the tree and the findings as a page in HTML");
+    let html = flag(
+        alloc,
+        "html",
+        "Writes the tree and the findings as a page in HTML",
+    );
     let site = with(site, html)?;
     let numbers = flag(
         alloc,
