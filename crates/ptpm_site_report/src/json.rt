@@ -15,9 +15,9 @@ use std::io::Write;
 
 /// A picture as JSON, with the names of its clocks.
 #[derive(Clone, Copy)]
-pub(crate) struct Object<'a>(pub(crate) &'a Picture<'a>, pub(crate) &'a Names);
+pub(crate) struct Object<'a, 'b>(pub(crate) &'a Picture<'a>, pub(crate) &'b Names);
 
-impl Object<'_> {
+impl Object<'_, '_> {
     /// Prints one object: the domains with their clocks, the findings, and how much was left out.
     pub(crate) fn print<O: Write>(&self, alloc: Global, out: &mut O) -> Result<(), Fault> {
         write!(out, "{{\"domains\":[")?;

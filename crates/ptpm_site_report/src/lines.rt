@@ -80,7 +80,7 @@ fn said(alloc: Global, name: String) -> Line {
     }
 }
 
-fn line_of(alloc: Global, all: Rows<'_>, row: &TreeRow) -> Result<Option<Line>, AllocError> {
+fn line_of(alloc: Global, all: Rows<'_, '_>, row: &TreeRow) -> Result<Option<Line>, AllocError> {
     match row {
         TreeRow::NotSeen { parent, .. } => Ok(Some(Line {
             frame: Frame::Dashed,
@@ -102,7 +102,7 @@ fn line_of(alloc: Global, all: Rows<'_>, row: &TreeRow) -> Result<Option<Line>, 
 
 fn clock_line(
     alloc: Global,
-    all: Rows<'_>,
+    all: Rows<'_, '_>,
     source: Source,
     clock: &Clock,
     depth: u32,

@@ -64,13 +64,13 @@ impl Standing {
 
 /// A picture as a plugin shows it.
 #[derive(Clone, Copy)]
-pub(crate) struct Plugin<'a> {
+pub(crate) struct Plugin<'a, 'b> {
     pub(crate) picture: &'a Picture<'a>,
-    pub(crate) names: &'a Names,
+    pub(crate) names: &'b Names,
     pub(crate) limits: Limits,
 }
 
-impl Plugin<'_> {
+impl Plugin<'_, '_> {
     /// Prints the line, and the findings as the text has them.
     pub(crate) fn print<O: Write>(&self, alloc: Global, out: &mut O) -> Result<(), Fault> {
         let sheet = Sheet(self.picture, self.names);

@@ -39,12 +39,12 @@ const GRANDMASTER: Family = Family {
 
 /// A picture as numbers.
 #[derive(Clone, Copy)]
-pub(crate) struct Metrics<'a> {
+pub(crate) struct Metrics<'a, 'b> {
     pub(crate) picture: &'a Picture<'a>,
-    pub(crate) names: &'a Names,
+    pub(crate) names: &'b Names,
 }
 
-impl Metrics<'_> {
+impl Metrics<'_, '_> {
     /// Prints each family with its numbers. What was not answered has none.
     pub(crate) fn print<O: Write>(&self, out: &mut O) -> Result<(), Fault> {
         self.print_domains(out)?;

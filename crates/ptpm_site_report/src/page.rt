@@ -111,7 +111,7 @@ fn print_head<O: Write>(picture: &Picture<'_>, out: &mut O) -> io::Result<()> {
 }
 
 /// Prints all findings, each with a link to its clock.
-fn print_found<O: Write>(alloc: Global, all: Rows<'_>, out: &mut O) -> Result<(), Fault> {
+fn print_found<O: Write>(alloc: Global, all: Rows<'_, '_>, out: &mut O) -> Result<(), Fault> {
     let findings = all.0.findings.as_slice();
     if findings.is_empty() {
         return Ok(());
@@ -175,7 +175,7 @@ fn words_of(alloc: Global, finding: &Finding<'_>) -> Result<String, AllocError> 
 /// What a person calls a clock; a dash if there is nothing.
 fn called(
     alloc: Global,
-    all: Rows<'_>,
+    all: Rows<'_, '_>,
     source: Source,
     clock: &Clock,
 ) -> Result<String, AllocError> {
@@ -186,7 +186,7 @@ fn called(
 }
 
 /// Prints the tree of each domain.
-fn print_domains<O: Write>(alloc: Global, all: Rows<'_>, out: &mut O) -> Result<(), Fault> {
+fn print_domains<O: Write>(alloc: Global, all: Rows<'_, '_>, out: &mut O) -> Result<(), Fault> {
     let mut rest = all.0.rows.as_slice();
     for _ in 0..all.0.rows.len() {
         let Some(first) = rest.first() else {
@@ -213,10 +213,11 @@ fn print_domains<O: Write>(alloc: Global, all: Rows<'_>, out: &mut O) -> Result<
 }
 
 /// Prints what each clock of these rows that leads says of its time.
-fn print_leaders<O: Write>(all: Rows<'_>, rows: &[TreeRow], out: &mut O) -> io::Result<()> {
+fn print_leaders<O: Write>(all: Rows<'_, '_>, rows: &[TreeRow], out: &mut O) -> io::Result<()> {
+    let site = all.0.site;
     for row in rows {
         if let Some((source, clock)) = all.clock_of(row) {
-            if all.0.site.leads(source) {
+            if site.leads(source) {
                 let line = GrandmasterLine { source, clock };
                 writeln!(out, "<p class=\"faint\">{line}</p>")?;
             }
@@ -227,7 +228,7 @@ fn print_leaders<O: Write>(all: Rows<'_>, rows: &[TreeRow], out: &mut O) -> io::
 
 fn print_row<O: Write>(
     alloc: Global,
-    all: Rows<'_>,
+    all: Rows<'_, '_>,
     row: &TreeRow,
     out: &mut O,
 ) -> Result<(), Fault> {
@@ -254,7 +255,7 @@ fn print_row<O: Write>(
 
 /// Prints the first columns of a clock, further to the right by its depth.
 fn print_clock<O: Write>(
-    all: Rows<'_>,
+    all: Rows<'_, '_>,
     source: Source,
     depth: u32,
     name: &str,
@@ -312,7 +313,7 @@ fn print_numbers<O: Write>(clock: &Clock, out: &mut O) -> io::Result<()> {
 /// Prints what is wrong with a clock, below it.
 fn print_found_at<O: Write>(
     alloc: Global,
-    all: Rows<'_>,
+    all: Rows<'_, '_>,
     source: Source,
     depth: u32,
     out: &mut O,

@@ -13,9 +13,9 @@ use std::alloc::{AllocError, Global};
 
 /// The rows of a picture, whose clocks may have names.
 #[derive(Clone, Copy)]
-pub(crate) struct Rows<'a>(pub(crate) &'a Picture<'a>, pub(crate) &'a Names);
+pub(crate) struct Rows<'a, 'b>(pub(crate) &'a Picture<'a>, pub(crate) &'b Names);
 
-impl<'a> Rows<'a> {
+impl Rows<'_, '_> {
     pub(crate) fn domain_of(&self, row: &TreeRow) -> u8 {
         match row {
             TreeRow::Clock { place, .. } => self.0.forest.domain_of(*place).unwrap_or(0),

@@ -20,9 +20,9 @@ const MARGIN: usize = 2;
 
 /// A picture as text, with the names of its clocks.
 #[derive(Clone, Copy)]
-pub(crate) struct Sheet<'a>(pub(crate) &'a Picture<'a>, pub(crate) &'a Names);
+pub(crate) struct Sheet<'a, 'b>(pub(crate) &'a Picture<'a>, pub(crate) &'b Names);
 
-impl Sheet<'_> {
+impl Sheet<'_, '_> {
     /// Prints the tree of each domain, and the findings.
     pub(crate) fn print<O: Write>(&self, alloc: Global, out: &mut O) -> Result<(), Fault> {
         let all = Rows(self.0, self.1);
@@ -112,7 +112,7 @@ impl Sheet<'_> {
 }
 
 /// Prints a line for each clock of these rows that leads.
-fn print_leaders<O: Write>(all: Rows<'_>, rows: &[TreeRow], out: &mut O) -> io::Result<()> {
+fn print_leaders<O: Write>(all: Rows<'_, '_>, rows: &[TreeRow], out: &mut O) -> io::Result<()> {
     let site = all.0.site;
     for row in rows {
         if let Some((source, clock)) = all.clock_of(row) {
@@ -127,7 +127,7 @@ fn print_leaders<O: Write>(all: Rows<'_>, rows: &[TreeRow], out: &mut O) -> io::
 
 fn print_rows<O: Write>(
     alloc: Global,
-    all: Rows<'_>,
+    all: Rows<'_, '_>,
     rows: &[TreeRow],
     out: &mut O,
 ) -> Result<(), Fault> {
@@ -166,7 +166,7 @@ fn print_clock<O: Write>(
 }
 
 /// The widths that the columns of these rows need.
-fn widths_of(alloc: Global, all: Rows<'_>, rows: &[TreeRow]) -> Result<Widths, AllocError> {
+fn widths_of(alloc: Global, all: Rows<'_, '_>, rows: &[TreeRow]) -> Result<Widths, AllocError> {
     let mut widths = Widths::of_none();
     for row in rows {
         if let TreeRow::Clock { depth, .. } = row {
