@@ -28,10 +28,9 @@ pub(crate) fn print_page<O: Write>(
     names: &Names,
     out: &mut O,
 ) -> Result<(), Fault> {
-    let all = Rows(picture, names);
     print_head(picture, out)?;
-    print_found(alloc, all, out)?;
-    print_domains(alloc, all, out)?;
+    print_found(alloc, picture, names, out)?;
+    print_domains(alloc, picture, names, out)?;
     let notes = notes_of(alloc, picture).map_err(|_| Fault::OutOfMemory)?;
     for note in notes.as_slice() {
         writeln!(out, "<p>{}</p>", Escaped(note.as_str()))?;
@@ -111,8 +110,13 @@ fn print_head<O: Write>(picture: &Picture<'_>, out: &mut O) -> io::Result<()> {
 }
 
 /// Prints all findings, each with a link to its clock.
-fn print_found<O: Write>(alloc: Global, all: Rows<'_, '_>, out: &mut O) -> Result<(), Fault> {
-    let findings = all.0.findings.as_slice();
+fn print_found<O: Write>(
+    alloc: Global,
+    picture: &Picture<'_>,
+    names: &Names,
+    out: &mut O,
+) -> Result<(), Fault> {
+    let findings = picture.findings.as_slice();
     if findings.is_empty() {
         return Ok(());
     }
@@ -122,10 +126,7 @@ fn print_found<O: Write>(alloc: Global, all: Rows<'_, '_>, out: &mut O) -> Resul
     )?;
     for finding in findings {
         let source = finding.source;
-        let name = match all.0.site.clocks.get(&source) {
-            Some(clock) => called(alloc, all, source, clock),
-            None => Ok(String::new(alloc)),
-        };
+        let name = called(alloc, picture, names, source);
         let name = name.map_err(|_| Fault::OutOfMemory)?;
         let words = words_of(alloc, finding).map_err(|_| Fault::OutOfMemory)?;
         print_found_row(finding, name.as_str(), words.as_str(), out)?;
@@ -175,20 +176,29 @@ fn words_of(alloc: Global, finding: &Finding<'_>) -> Result<String, AllocError> 
 /// What a person calls a clock; a dash if there is nothing.
 fn called(
     alloc: Global,
-    all: Rows<'_, '_>,
+    picture: &Picture<'_>,
+    names: &Names,
     source: Source,
-    clock: &Clock,
 ) -> Result<String, AllocError> {
-    match all.name_of(source, clock) {
-        Some(name) => format!(in alloc; "{}", Printable(name)),
+    if let Some(name) = names.get(source.clock) {
+        return format!(in alloc; "{}", Printable(name));
+    }
+    match picture.site.descriptions(source).last() {
+        Some(received) => format!(in alloc; "{}", Printable(received.set.text.as_str())),
         None => String::from_str(alloc, "-"),
     }
 }
 
 /// Prints the tree of each domain.
-fn print_domains<O: Write>(alloc: Global, all: Rows<'_, '_>, out: &mut O) -> Result<(), Fault> {
-    let mut rest = all.0.rows.as_slice();
-    for _ in 0..all.0.rows.len() {
+fn print_domains<O: Write>(
+    alloc: Global,
+    picture: &Picture<'_>,
+    names: &Names,
+    out: &mut O,
+) -> Result<(), Fault> {
+    let all = Rows(picture, names);
+    let mut rest = picture.rows.as_slice();
+    for _ in 0..picture.rows.len() {
         let Some(first) = rest.first() else {
             break;
         };
@@ -204,7 +214,7 @@ fn print_domains<O: Write>(alloc: Global, all: Rows<'_, '_>, out: &mut O) -> Res
             "<div class=\"wide\"><table>\n<thead><tr><th>Clock</th><th>Identity</th><th class=\"number\">Steps</th><th class=\"number\">Offset</th><th class=\"number\">Mean delay</th><th>Ports</th></tr></thead>"
         )?;
         for row in rows {
-            print_row(alloc, all, row, out)?;
+            print_row(alloc, picture, names, row, out)?;
         }
         writeln!(out, "</table></div>")?;
         rest = others;
@@ -228,41 +238,56 @@ fn print_leaders<O: Write>(all: Rows<'_, '_>, rows: &[TreeRow], out: &mut O) -> 
 
 fn print_row<O: Write>(
     alloc: Global,
-    all: Rows<'_, '_>,
+    picture: &Picture<'_>,
+    names: &Names,
     row: &TreeRow,
     out: &mut O,
 ) -> Result<(), Fault> {
     match row {
         TreeRow::NotSeen { parent, .. } => {
-            let name = format!(in alloc; "{}", all.1.quoted(parent.clock));
+            let name = format!(in alloc; "{}", names.quoted(parent.clock));
             let name = name.map_err(|_| Fault::OutOfMemory)?;
             write!(out, "<tr class=\"unseen\"><td colspan=\"6\">not seen: ")?;
             writeln!(out, "{parent}{}</td></tr>", Escaped(name.as_str()))?;
         }
         TreeRow::Clock { place, depth } => {
-            if let Some((source, clock)) = all.clock_of(row) {
-                let name = called(alloc, all, source, clock).map_err(|_| Fault::OutOfMemory)?;
-                print_clock(all, source, *depth, name.as_str(), out)?;
-                print_numbers(clock, out)?;
-                let cut = all.cut(*place, *depth);
-                writeln!(out, "<td>{}{cut}</td></tr>", PortsText(clock))?;
-                print_found_at(alloc, all, source, *depth, out)?;
+            if let Some(source) = picture.forest.sources.get(*place) {
+                let name = called(alloc, picture, names, *source);
+                let name = name.map_err(|_| Fault::OutOfMemory)?;
+                print_clock(picture, *source, *depth, name.as_str(), out)?;
+                let cut = Rows(picture, names).cut(*place, *depth);
+                print_answers(picture, *source, cut, out)?;
+                print_found_at(alloc, picture, *source, *depth, out)?;
             }
         }
     }
     Ok(())
 }
 
+/// Prints the columns of what a clock answered, and the end of its row. `cut` is said of its place.
+fn print_answers<O: Write>(
+    picture: &Picture<'_>,
+    source: Source,
+    cut: &str,
+    out: &mut O,
+) -> io::Result<()> {
+    if let Some(clock) = picture.site.clocks.get(&source) {
+        print_numbers(clock, out)?;
+        write!(out, "<td>{}{cut}</td>", PortsText(clock))?;
+    }
+    writeln!(out, "</tr>")
+}
+
 /// Prints the first columns of a clock, further to the right by its depth.
 fn print_clock<O: Write>(
-    all: Rows<'_, '_>,
+    picture: &Picture<'_>,
     source: Source,
     depth: u32,
     name: &str,
     out: &mut O,
 ) -> io::Result<()> {
     let Source { domain, clock } = source;
-    let leads = if all.0.site.leads(source) {
+    let leads = if picture.site.leads(source) {
         " leads"
     } else {
         ""
@@ -313,12 +338,12 @@ fn print_numbers<O: Write>(clock: &Clock, out: &mut O) -> io::Result<()> {
 /// Prints what is wrong with a clock, below it.
 fn print_found_at<O: Write>(
     alloc: Global,
-    all: Rows<'_, '_>,
+    picture: &Picture<'_>,
     source: Source,
     depth: u32,
     out: &mut O,
 ) -> Result<(), Fault> {
-    let findings = found_at(all.0, source);
+    let findings = found_at(picture, source);
     if findings.is_empty() {
         return Ok(());
     }

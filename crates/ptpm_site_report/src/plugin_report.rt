@@ -35,14 +35,24 @@ fn standing_of<O: Write>(
 ) -> Result<Standing, Fault> {
     match Picture::of(alloc, site, left_out, limits) {
         Ok(picture) => {
-            let plugin = Plugin {
-                picture: &picture,
-                names,
-                limits,
-            };
-            plugin.print(alloc, out)?;
+            print_plugin(alloc, &picture, names, limits, out)?;
             Ok(Standing::of(&picture))
         }
         Err(_) => Err(Fault::OutOfMemory),
     }
+}
+
+fn print_plugin<O: Write>(
+    alloc: Global,
+    picture: &Picture<'_>,
+    names: &Names,
+    limits: Limits,
+    out: &mut O,
+) -> Result<(), Fault> {
+    let plugin = Plugin {
+        picture,
+        names,
+        limits,
+    };
+    plugin.print(alloc, out)
 }
