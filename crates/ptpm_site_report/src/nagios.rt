@@ -156,30 +156,41 @@ fn greatest_offset(picture: &Picture<'_>) -> Option<i64> {
 
 /// Prints how many findings of each name there are, critical ones first.
 fn print_counts<O: Write>(picture: &Picture<'_>, out: &mut O) -> io::Result<()> {
-    let mut between = "";
-    for is_critical in [true, false] {
-        for name in &ALL {
-            if name.is_critical == is_critical {
-                between = print_count(name, picture, between, out)?;
-            }
-        }
-    }
+    let printed = print_counts_of(picture, true, false, out)?;
+    print_counts_of(picture, false, printed, out)?;
     Ok(())
 }
 
-/// Prints how many findings have a name, if one has it. Answers what comes before the next.
-fn print_count<O: Write>(
-    name: &FindingName,
+/// Prints them for names that are critical, or for those that are not. `follows` says whether others are printed before.
+/// Answers whether any are printed by then.
+fn print_counts_of<O: Write>(
     picture: &Picture<'_>,
-    between: &'static str,
+    is_critical: bool,
+    follows: bool,
     out: &mut O,
-) -> io::Result<&'static str> {
-    let count = name.count_in(picture.findings.as_slice());
-    if count == 0 {
-        return Ok(between);
+) -> io::Result<bool> {
+    let mut printed = follows;
+    for name in ALL {
+        let count = name.count_in(picture.findings.as_slice());
+        if name.is_critical == is_critical && count != 0 {
+            print_count(name, count, printed, out)?;
+            printed = true;
+        }
     }
-    write!(out, "{between}{} {count}", name.name)?;
-    Ok(", ")
+    Ok(printed)
+}
+
+/// Prints how many findings have a name, after a comma if others are printed before.
+fn print_count<O: Write>(
+    name: FindingName,
+    count: usize,
+    follows: bool,
+    out: &mut O,
+) -> io::Result<()> {
+    if follows {
+        write!(out, ", ")?;
+    }
+    write!(out, "{} {count}", name.name)
 }
 
 /// Prints lines, with an escape for each bar: what follows one would be read as numbers.
