@@ -8,7 +8,10 @@
 
 enum { MOST_PROGRESS = 256 };
 
-static bool is_quiet, is_shown;
+/* The statuses of a program that asked nothing; of a plugin 2 says that the site is in a critical state. */
+enum { NOT_DONE = 2, UNKNOWN = 3 };
+
+static bool is_quiet, is_shown, is_plugin;
 
 static void say(const char *format, va_list values) {
     clear_progress();
@@ -29,8 +32,16 @@ _Noreturn void refuse(const char *format, ...) {
     va_start(values, format);
     say(format, values);
     va_end(values);
-    exit(2);
+    if (!is_plugin) exit(NOT_DONE);
+    va_start(values, format);
+    printf("PTP UNKNOWN - ");
+    vprintf(format, values);
+    putchar('\n');
+    va_end(values);
+    exit(UNKNOWN);
 }
+
+void be_plugin(void) { is_plugin = true; }
 
 void be_quiet(void) { is_quiet = true; }
 

@@ -8,6 +8,9 @@ __attribute__((format(printf, 1, 2))) void complain(const char *format, ...);
 /* The same, and the program ends with status 2: nothing was asked or sent. */
 _Noreturn __attribute__((format(printf, 1, 2))) void refuse(const char *format, ...);
 
+/* From now on this program is a plugin of Nagios: what it refuses is said on standard output too, and it ends with status 3. */
+void be_plugin(void);
+
 /* From now on no progress is shown. */
 void be_quiet(void);
 

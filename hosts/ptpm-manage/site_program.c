@@ -1,5 +1,6 @@
 #define _GNU_SOURCE
 #include "site_program.h"
+#include "clock_names.h"
 #include "notices.h"
 #include "program.h"
 #include "stopping.h"
@@ -15,6 +16,7 @@
 #include <sys/wait.h>
 #include <unistd.h>
 
+/* The words of its command line, without those of names. */
 enum { MOST_ARGUMENTS = 10, PART = 65536, TURN = 1000, FAULT = 1 };
 
 static char site_program[2 * PATH_MAX];
@@ -116,24 +118,28 @@ static size_t add_option(char **arguments, size_t count, const char *name, const
 }
 
 static void name_arguments(char **arguments, const struct site_options *options, enum shown_as as) {
+    static const char *const forms[] = { NULL, "--json", "--draw", "--html", "--openmetrics", "--nagios" };
     size_t count = 0;
     arguments[count++] = site_program;
     arguments[count++] = (char *)"site";
-    if (as != AS_TEXT) arguments[count++] = (char *)(as == AS_JSON ? "--json" : "--draw");
+    if (as != AS_TEXT) arguments[count++] = (char *)forms[as];
     count = add_option(arguments, count, "--max-offset", options->max_offset);
     count = add_option(arguments, count, "--max-delay", options->max_delay);
     count = add_option(arguments, count, "--tai-utc", options->tai_utc);
+    for (size_t i = 0; i < clock_name_count(); i++) count = add_option(arguments, count, "--name", clock_name(i));
     arguments[count] = NULL;
 }
 
 int run_site_program(const struct site_options *options, enum shown_as as, const struct piece *lines, size_t count, struct report *report) {
-    char *arguments[MOST_ARGUMENTS];
+    char **arguments = calloc(MOST_ARGUMENTS + 2 * clock_name_count(), sizeof *arguments);
     int ends[2], status = FAULT, input = file_of(lines, count);
     pid_t process;
     *report = (struct report){ 0 };
+    if (arguments == NULL) give_up("the names");
     name_arguments(arguments, options, as);
     if (input < 0 || pipe2(ends, O_CLOEXEC)) {
         complain("%s: %s", site_program, strerror(errno));
+        free(arguments);
         return FAULT;
     }
     bool has_started = start_program(&process, arguments, input, ends[1]);
@@ -145,6 +151,7 @@ int run_site_program(const struct site_options *options, enum shown_as as, const
         status = status_of(process);
     }
     close(ends[0]);
+    free(arguments);
     read_report(report);
     return status;
 }

@@ -5,9 +5,6 @@
 #include "report.h"
 #include "task.h"
 
-/* How it shows the site. */
-enum shown_as { AS_TEXT, AS_JSON, AS_DRAWING };
-
 /* Finds the program: beside this one, or else in the PATH. Ends the program with status 2 if it is nowhere. */
 void find_site_program(void);
 

@@ -4,6 +4,7 @@
 #include "collect.h"
 #include "message_places.h"
 #include "notices.h"
+#include "output_file.h"
 #include "report.h"
 #include "seen.h"
 #include "site_program.h"
@@ -110,22 +111,47 @@ static bool is_coloured(void) {
     return isatty(STDOUT_FILENO) && terminal != NULL && strcmp(terminal, "dumb") != 0;
 }
 
-/* Has the lines of a look drawn; the status, which is the look's unless that fails. */
-static int draw_look(const struct look *look, const struct task *task) {
-    struct report drawing;
+/* Whether a look shows the site, which may have no clock by now; otherwise something failed, and that is said. */
+static bool is_whole(const struct look *look) { return look->report.has_findings || look->status == NOT_ANSWERED; }
+
+/* Has the lines of a look shown in the form that was asked for; the status. That of numbers and of a plugin is the program's own. */
+static int print_form(FILE *to, const struct look *look, const struct task *task) {
+    struct report shown;
     const struct piece lines = { look->lines, look->size };
-    int status = run_site_program(&task->site, AS_DRAWING, &lines, 1, &drawing);
-    if (drawing.size > 0) fwrite(drawing.text, 1, drawing.size, stdout);
-    free_report(&drawing);
-    return status > FINDINGS ? status : look->status;
+    enum shown_as form = task->site.form;
+    int status = run_site_program(&task->site, form, &lines, 1, &shown);
+    if (shown.size > 0) fwrite(shown.text, 1, shown.size, to);
+    free_report(&shown);
+    return status > FINDINGS || form == AS_NUMBERS || form == AS_PLUGIN ? status : look->status;
+}
+
+static int print_look_to(FILE *to, const struct look *look, const struct task *task) {
+    bool is_drawing = task->site.form == AS_DRAWING;
+    if (task->site.form != AS_TEXT && is_whole(look) && !(is_drawing && look->status == NOT_ANSWERED)) return print_form(to, look, task);
+    if (task->site.form == AS_PLUGIN) {
+        fputs("PTP UNKNOWN - the site could not be shown\n", to);
+        return NOT_ANSWERED;
+    }
+    print_report_text(to, &look->report, to == stdout && is_coloured());
+    return look->status;
+}
+
+/* Writes it into the file that was named; the status. */
+static int write_look(const struct look *look, const struct task *task) {
+    char *text = NULL;
+    size_t size = 0;
+    FILE *to = open_memstream(&text, &size);
+    int status = to == NULL ? NOT_WRITTEN : print_look_to(to, look, task);
+    if (to == NULL || fclose(to) != 0 || !write_output_file(text, size)) status = NOT_WRITTEN;
+    free(text);
+    return status;
 }
 
 /* Prints it; the status. */
 static int print_look(const struct look *look, const struct task *task) {
     clear_progress();
-    if (task->site.is_drawn && look->status <= FINDINGS) return draw_look(look, task);
-    print_report_text(stdout, &look->report, is_coloured());
-    return look->status;
+    if (task->site.output != NULL) return write_look(look, task);
+    return print_look_to(stdout, look, task);
 }
 
 static bool was_seen(const struct seen_clock *clock) {
@@ -162,16 +188,13 @@ static void print_difference(const struct look *look, const struct look *earlier
     struct tm parts;
     strftime(lead, sizeof lead, "%F %T ", localtime_r(&now, &parts));
     clear_progress();
-    if (task->is_json) {
+    if (task->is_json || task->site.output != NULL) {
         print_look(look, task);
         return;
     }
     print_clocks(lead);
     print_changes(stdout, lead, &look->report, &earlier->report, is_coloured());
 }
-
-/* Whether a look shows the site, which may have no clock by now; otherwise something failed, and that is said. */
-static bool is_whole(const struct look *look) { return look->report.has_findings || look->status == NOT_ANSWERED; }
 
 /* Whether nobody reads what is printed any more. A pipe and a socket show that before something is written. */
 static bool has_lost_reader(void) {
@@ -205,6 +228,7 @@ int show_status(const struct task *task) {
     static struct look look;
     struct domains domains;
     find_site_program();
+    if (task->site.output != NULL) find_output_file(task->site.output);
     widen_transport();
     find_domains(&domains, task);
     look_twice(&look, task, &domains, NULL);

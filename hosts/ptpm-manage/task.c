@@ -1,5 +1,6 @@
 #define _GNU_SOURCE
 #include "task.h"
+#include "clock_names.h"
 #include "exchange.h"
 #include "field_words.h"
 #include "names.h"
@@ -47,6 +48,8 @@ static const char help_text[] =
     "What is asked of whom:\n"
     "  -T, --target IDENTITY   the clock, such as aabbccfffeddee01 or aabbcc.fffe.ddee01. A port of it may\n"
     "                          follow: aabbccfffeddee01/1. An id of a port needs one\n"
+    "      --names FILE        what you call each clock: lines of an identity, a space and a name. Then IDENTITY\n"
+    "                          may be such a name too, and status shows them\n"
     "  -p, --port PORT         the port, in place of one after IDENTITY; all, with get, asks each of them\n"
     "  -d, --domain N          domainNumber, 0 to 255 (0). collect and status also take several: 0-7, or\n"
     "                          all, which is those of Announce messages, 0 and 127\n"
@@ -63,6 +66,10 @@ static const char help_text[] =
     "      --max-delay NS      delays above this limit too\n"
     "      --tai-utc S         how many seconds TAI is before UTC (37)\n"
     "      --draw              status as an SVG file\n"
+    "      --html              status as a page in HTML\n"
+    "      --openmetrics       status as numbers for Prometheus\n"
+    "      --nagios            status as a line for Nagios or Icinga, with the status of a plugin\n"
+    "      --output FILE       what status prints goes into FILE, which is replaced whole\n"
     "      --once              status does not look a second time at findings that may pass\n"
     "      --watch SECONDS     status looks again and again, and prints what came and what went\n"
     "\n";
@@ -122,10 +129,10 @@ static _Noreturn void version(void) {
 }
 
 /* Options without a letter of their own, and a word that is none: getopt's for a string that begins with a hyphen. */
-enum { WORD = 1, UDP = 256, TEXT, VERSION, GIVE_UP, JSON, ANY_SOURCE };
+enum { WORD = 1, UDP = 256, TEXT, VERSION, GIVE_UP, JSON, ANY_SOURCE, NAMES };
 
 /* The same, only for `collect` and `status`. */
-enum site_option { LISTEN = 512, DRAW, MAX_OFFSET, MAX_DELAY, TAI_UTC, ONCE, WATCH };
+enum site_option { LISTEN = 512, DRAW, HTML, OPENMETRICS, NAGIOS, OUTPUT, MAX_OFFSET, MAX_DELAY, TAI_UTC, ONCE, WATCH };
 
 enum { MOST_WORDS = 2 + MOST_FIELD_WORDS, MOST_FIELD = 1418, NOT_NAMED = -1 };
 
@@ -145,7 +152,9 @@ static const struct option options[] = {
     { "wait", required_argument, NULL, 'w' }, { "attempts", required_argument, NULL, 'a' },
     { "timeout", required_argument, NULL, 't' }, { "times", required_argument, NULL, 'n' },
     { "give-up", no_argument, NULL, GIVE_UP }, { "listen", required_argument, NULL, LISTEN }, { "json", no_argument, NULL, JSON },
-    { "draw", no_argument, NULL, DRAW }, { "max-offset", required_argument, NULL, MAX_OFFSET },
+    { "names", required_argument, NULL, NAMES }, { "draw", no_argument, NULL, DRAW }, { "html", no_argument, NULL, HTML },
+    { "openmetrics", no_argument, NULL, OPENMETRICS }, { "nagios", no_argument, NULL, NAGIOS },
+    { "output", required_argument, NULL, OUTPUT }, { "max-offset", required_argument, NULL, MAX_OFFSET },
     { "max-delay", required_argument, NULL, MAX_DELAY }, { "tai-utc", required_argument, NULL, TAI_UTC },
     { "once", no_argument, NULL, ONCE }, { "watch", required_argument, NULL, WATCH },
     { "hexadecimal", no_argument, NULL, 'x' }, { "text", no_argument, NULL, TEXT }, { "quiet", no_argument, NULL, 'q' },
@@ -155,9 +164,9 @@ static const struct option options[] = {
 
 /* The words of the command line, and what options say that a later option may change. */
 struct words {
-    const char *at[MOST_WORDS + 1], *domain;
+    const char *at[MOST_WORDS + 1], *domain, *target;
     int count;
-    bool is_text, has_target, is_every_port;
+    bool is_text, is_every_port;
     long port, target_port, hops, attempts;
 };
 
@@ -186,9 +195,17 @@ static const char *tai_utc(const char *option, const char *text) {
     return text;
 }
 
+/* A site is shown in one form. */
+static void take_form(struct site_options *site, enum shown_as form) {
+    if (site->form != AS_TEXT && site->form != form) refuse("--draw, --html, --openmetrics and --nagios exclude each other");
+    site->form = form;
+}
+
 /* Takes an option of `collect` and `status`; whether it is one of these. */
 static bool take_site_option(struct site_options *site, int option, const char *value) {
-    static const char *const names[] = { "--listen", "--draw", "--max-offset", "--max-delay", "--tai-utc", "--once", "--watch" };
+    static const char *const names[] = {
+        "--listen", "--draw", "--html", "--openmetrics", "--nagios", "--output", "--max-offset", "--max-delay", "--tai-utc", "--once", "--watch",
+    };
     if (option < LISTEN || option > WATCH) return false;
     const char *name = names[option - LISTEN];
     switch ((enum site_option)option) {
@@ -197,7 +214,11 @@ static bool take_site_option(struct site_options *site, int option, const char *
     case MAX_OFFSET: site->max_offset = limit(name, value, true); break;
     case MAX_DELAY: site->max_delay = limit(name, value, false); break;
     case TAI_UTC: site->tai_utc = tai_utc(name, value); break;
-    case DRAW: site->is_drawn = true; break;
+    case DRAW: take_form(site, AS_DRAWING); break;
+    case HTML: take_form(site, AS_PAGE); break;
+    case OPENMETRICS: take_form(site, AS_NUMBERS); break;
+    case NAGIOS: take_form(site, AS_PLUGIN); break;
+    case OUTPUT: site->output = value; break;
     case ONCE: site->is_once = true; break;
     }
     if (option != LISTEN) site->given = name;
@@ -222,14 +243,18 @@ static void read_domains(struct site_options *site, const char *text) {
 static void judge_site_options(const struct site_options *site) {
     if (site->given != NULL && !site->is_shown) refuse("%s: it is of status alone", site->given);
     if (site->listen >= 0 && !site->is_every_domain) refuse("--listen: it is of --domain all of collect and status");
-    if (site->is_drawn && site->watch > 0) refuse("--draw and --watch exclude each other");
+    if (site->form != AS_TEXT && site->watch > 0 && site->output == NULL) {
+        refuse("--watch excludes --draw, --html, --openmetrics and --nagios, unless there is a file for them: --output FILE");
+    }
 }
 
-/* The clock that is asked, and the port after it, if one is named there. */
+/* The clock that is asked, by its name or its identity, and the port after that, if one is named there. */
 static void read_target(struct task *task, struct words *words, const char *text) {
     const char *rest = identity_at(text, task->settings.target);
-    words->has_target = true;
-    if (rest == NULL) refuse("--target %s: it takes aabbccfffeddee01 or aabbcc.fffe.ddee01, and after it -1 for port 1", text);
+    words->target_port = NOT_NAMED;
+    if (find_named_clock(text, task->settings.target)) return;
+    const char *also = clock_name_count() > 0 ? "a name of --names, " : "";
+    if (rest == NULL) refuse("--target %s: it takes %saabbccfffeddee01 or aabbcc.fffe.ddee01, and after it -1 for port 1", text, also);
     words->target_port = *rest == '\0' ? NOT_NAMED : port_behind(rest, 65535);
     if (*rest != '\0' && words->target_port < 0) refuse("--target %s: %s is no port", text, rest);
 }
@@ -261,7 +286,8 @@ static void take_option(struct task *task, struct words *words, int option, cons
     case '2': task->is_ethernet = true; break;
     case ANY_SOURCE: task->is_any_source = true; break;
     case 'u': task->path = value; break;
-    case 'T': read_target(task, words, value); break;
+    case 'T': words->target = value; break;
+    case NAMES: read_clock_names(value); break;
     case 'p': read_port(words, value); break;
     case 'd': words->domain = value; break;
     case 'b': words->hops = number("hops", value, 0, 255); break;
@@ -307,6 +333,7 @@ static void read_words(struct task *task, struct words *words, int argc, char **
         else take_option(task, words, option, optarg);
     }
     while (optind < argc) take_word(words, argv[optind++]);
+    if (words->target != NULL) read_target(task, words, words->target);
 }
 
 enum { ACTIONS = 3 };
@@ -396,8 +423,8 @@ static void judge(const struct task *task, const struct words *words) {
     if (task->address != NULL && task->interface_count > 1) refuse("--udp takes one --interface at most");
     if (task->is_ethernet && (task->address != NULL || task->is_six)) refuse("--ethernet excludes --udp and --ipv6");
     bool asks_one = !task->is_survey || task->is_of_clock;
-    if (!asks_one && words->has_target) refuse("%s asks every clock: it takes no --target", words->at[0]);
-    if (asks_one && !words->has_target) refuse("--target is missing: the clock that is asked; survey asks every clock");
+    if (!asks_one && words->target != NULL) refuse("%s asks every clock: it takes no --target", words->at[0]);
+    if (asks_one && words->target == NULL) refuse("--target is missing: the clock that is asked; survey asks every clock");
     if (words->is_every_port && words->target_port >= 0) refuse("--port all names every port, and --target names one");
     if (words->port >= 0 && words->target_port >= 0 && words->port != words->target_port) {
         refuse("--port %ld and --target name two ports", words->port);
@@ -407,7 +434,7 @@ static void judge(const struct task *task, const struct words *words) {
 /* Whether all that is printed can be objects of JSON. */
 static void judge_json(const struct task *task) {
     if (!task->is_json) return;
-    if (task->site.is_drawn) refuse("--draw and --json exclude each other");
+    if (task->site.form != AS_TEXT) refuse("--json excludes --draw, --html, --openmetrics and --nagios");
     if (task->site.is_collected && !task->site.is_shown) refuse("--json: collect prints datagrams in hexadecimal");
     if (task->times > 1) refuse("--json and --times exclude each other");
 }
@@ -454,6 +481,9 @@ void read_task(struct task *task, int argc, char **argv) {
     *task = (struct task){
         .settings = { .port = 1, .target_ports = SESSION_PORTS }, .site = { .listen = NOT_NAMED }, .wait = 3000, .timeout = 200, .times = 1,
     };
+    for (int i = 1; i < argc; i++) {
+        if (strcmp(argv[i], "--nagios") == 0) be_plugin();
+    }
     read_words(task, &words, argc, argv);
     if (words.count == 0) refuse("it takes get, set, command or survey and a managementId, or collect or status; see ptpm-manage --help");
     read_verb(task, words.at[0]);

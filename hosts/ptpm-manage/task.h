@@ -8,13 +8,18 @@
 
 enum { MOST_INTERFACES = 8, DOMAINS = 256 };
 
+/* How a site is shown: as a text, JSON, a picture in SVG, a page in HTML, numbers in OpenMetrics, or a line of Nagios. */
+enum shown_as { AS_TEXT, AS_JSON, AS_DRAWING, AS_PAGE, AS_NUMBERS, AS_PLUGIN };
+
 /* What a command line of `collect` and `status` says beyond that of a survey. */
 struct site_options {
     bool is_collected, is_shown;                /* `collect`; `status` */
     uint8_t first_domain, last_domain;
     bool is_every_domain;                       /* those in which Announce messages are heard, and 0 and 127 */
     long listen, watch;                         /* in milliseconds: for such messages, or -1 by default; between two looks, or 0 */
-    bool is_drawn, is_once;
+    enum shown_as form;                         /* how it is shown, except by `--json` */
+    bool is_once;
+    const char *output;                         /* the file that gets what is printed, or NULL */
     const char *max_offset, *max_delay, *tai_utc;   /* as they are written, or NULL */
     const char *given;                          /* an option only of `status` that was given, or NULL */
 };

@@ -11,7 +11,8 @@ use ptpm_draw::{Chosen, draw};
 use ptpm_findings::check_script;
 use ptpm_schedule::{Chances, schedule};
 use ptpm_site::limits::Limits;
-use ptpm_site_report::{Form, Options, report};
+use ptpm_site_report::names::Names;
+use ptpm_site_report::{Form, Options, report_named, report_standing};
 use ptpm_world::{ScriptError, run_script};
 use std::alloc::{AllocError, Global};
 use std::fmt;
@@ -29,7 +30,8 @@ const TAI_UTC: i16 = 37;
 
 /// Does what the words say, and answers the exit status. The first word is the program's name. 0: it was done.
 /// 1: a fault, with the line `ptpm: FAULT` on `err`, or `check` wrote faults on `out`. 2: the words were refused,
-/// with the reason on `err`. `site` answers 1 if it found something, and 3 if no clock answered. What `err` does changes nothing.
+/// with the reason on `err`. `site` answers 1 if it found something, and 3 if no clock answered. With
+/// `--nagios` it answers as a plugin of Nagios: 3 at a fault and if the words were refused, too. What `err` does changes nothing.
 /// Only `run`, `check`, `schedule`, `draw`, `site` and the option `--lines` read.
 /// Whatever was written on `out` is flushed, at a fault too.
 pub fn command<R: Read, O: Write, E: Write>(
@@ -41,13 +43,45 @@ pub fn command<R: Read, O: Write, E: Write>(
 ) -> u8 {
     match run(alloc, words, reader, out, err) {
         Ok(status) => status,
-        Err(Failure::Fault(fault)) => end_at_fault(&fault, out, err),
-        Err(Failure::Script(fault)) => end_at_fault(&fault, out, err),
-        Err(Failure::Refused(reason)) => {
+        Err(failure) => {
+            let status = end_at_failure(&failure, out, err);
+            if is_for_plugin(words) {
+                end_unknown(&failure, out)
+            } else {
+                status
+            }
+        }
+    }
+}
+
+fn end_at_failure<O: Write, E: Write>(failure: &Failure, out: &mut O, err: &mut E) -> u8 {
+    match failure {
+        Failure::Fault(fault) => end_at_fault(fault, out, err),
+        Failure::Script(fault) => end_at_fault(fault, out, err),
+        Failure::Refused(reason) => {
             let _ = write!(err, "{reason}");
             2
         }
     }
+}
+
+/// Whether the words are of `site`, and ask for what a plugin of Nagios shows.
+fn is_for_plugin(words: &[&str]) -> bool {
+    match words.get(1) {
+        Some(word) => *word == "site" && words.iter().any(|word| *word == "--nagios"),
+        None => false,
+    }
+}
+
+/// Ends as a plugin does that can't say how the site is. Its line says why.
+fn end_unknown<O: Write>(failure: &Failure, out: &mut O) -> u8 {
+    let _ = match failure {
+        Failure::Fault(fault) => writeln!(out, "PTP UNKNOWN - {fault}"),
+        Failure::Script(fault) => writeln!(out, "PTP UNKNOWN - {fault}"),
+        Failure::Refused(_) => writeln!(out, "PTP UNKNOWN - the command line was refused"),
+    };
+    let _ = out.flush();
+    3
 }
 
 /// Ends at a fault, which is named on `err`. What was written before it may still be in a buffer and is flushed; if `out`
@@ -61,6 +95,7 @@ fn end_at_fault<F: fmt::Display, O: Write, E: Write>(fault: &F, out: &mut O, err
 }
 
 /// Why a command line was not done.
+#[derive(Drop)]
 enum Failure {
     Fault(Fault),
     /// A script ended before its last event, or could not be checked.
@@ -123,8 +158,30 @@ fn carry_out<R: Read, O: Write, E: Write>(
         Task::Run => played(run_script(alloc, reader, out)),
         Task::Schedule(chances) => played(schedule(alloc, chances, reader, out, err)),
         Task::Draw(chosen) => played(draw(alloc, chosen, reader, out)),
-        Task::Site(options) => Ok(report(alloc, options, reader, out)?.status()),
+        Task::Site(shown, names) => show_site(alloc, shown, &names, reader, out),
         Task::Check => check(alloc, reader, out),
+    }
+}
+
+/// Shows a site, and answers the exit status.
+fn show_site<R: Read, O: Write>(
+    alloc: Global,
+    shown: Shown,
+    names: &Names,
+    reader: &mut R,
+    out: &mut O,
+) -> Result<u8, Failure> {
+    match shown {
+        Shown::ByPlugin(limits) => {
+            Ok(report_standing(alloc, limits, names, reader, out)?.status())
+        }
+        Shown::InForm(options) => {
+            let came = report_named(alloc, options, names, reader, out)?;
+            Ok(match options.form {
+                Form::OpenMetrics => came.status_of_numbers(),
+                _ => came.status(),
+            })
+        }
     }
 }
 
@@ -164,8 +221,16 @@ enum Task<'a> {
     Check,
     /// `draw`, with a script on standard input.
     Draw(Chosen),
-    /// `site`, with answers on standard input.
-    Site(Options),
+    /// `site`, with answers on standard input, and the names of clocks.
+    Site(Shown, Names),
+}
+
+/// How a site is shown.
+#[derive(Clone, Copy)]
+enum Shown {
+    InForm(Options),
+    /// As a plugin of Nagios does.
+    ByPlugin(Limits),
 }
 
 /// What `answer` or `show` takes.
@@ -188,6 +253,10 @@ fn parse<'a>(alloc: Global, words: &'a [&'a str]) -> Result<Task<'a>, clap::Erro
             ErrorKind::InvalidValue,
             "invalid value for '--max-offset <NS>': neither a number nor 'none'",
         )?),
+        Err(WithoutTask::BadName) => Err(ptpm.error(
+            ErrorKind::InvalidValue,
+            "invalid value for '--name <ID=NAME>': not sixteen hexadecimal digits, '=' and a name",
+        )?),
     }
 }
 
@@ -197,6 +266,8 @@ enum WithoutTask {
     NoCommand,
     /// `--max-offset` has neither a number nor `none`.
     BadLimit,
+    /// `--name` has no identity, or no name.
+    BadName,
 }
 
 /// The task of the words, or why there is none.
@@ -211,6 +282,9 @@ fn task_among<'a>(
     };
     if has_bad_limit(values) {
         return Ok(Err(WithoutTask::BadLimit));
+    }
+    if name == "site" {
+        return site_task(alloc, values);
     }
     Ok(task_of(alloc, name, values)?.ok_or(WithoutTask::NoCommand))
 }
@@ -268,7 +342,6 @@ fn task_without_members<'a>(name: &str, values: &ArgMatches<'a>) -> Option<Task<
         "schedule" => Some(Task::Schedule(chances(values)?)),
         "check" => Some(Task::Check),
         "draw" => Some(Task::Draw(chosen(values)?)),
-        "site" => Some(Task::Site(site_options(values))),
         _ => None,
     }
 }
@@ -320,21 +393,54 @@ fn chosen(values: &ArgMatches<'_>) -> Option<Chosen> {
     })
 }
 
-/// What `site` prints, and what it allows.
-fn site_options(values: &ArgMatches<'_>) -> Options {
-    Options {
-        form: if values.get_flag("json") {
-            Form::Json
-        } else if values.get_flag("draw") {
-            Form::Drawing
-        } else {
-            Form::Text
-        },
-        limits: Limits {
-            offset: most_offset(values),
-            delay: values.get_one("max-delay"),
-            tai_utc: values.get_one("tai-utc").unwrap_or(TAI_UTC),
-        },
+/// The task of `site`, or why there is none.
+fn site_task<'a>(
+    alloc: Global,
+    values: &ArgMatches<'a>,
+) -> Result<Result<Task<'a>, WithoutTask>, clap::Error> {
+    let mut names = Names::new(alloc);
+    if let Some(said) = values.get_strs("name") {
+        for words in said {
+            if !names.add(alloc, *words)? {
+                return Ok(Err(WithoutTask::BadName));
+            }
+        }
+    }
+    Ok(Ok(Task::Site(how_shown(values), names)))
+}
+
+/// How `site` shows a site.
+fn how_shown(values: &ArgMatches<'_>) -> Shown {
+    let limits = site_limits(values);
+    if values.get_flag("nagios") {
+        Shown::ByPlugin(limits)
+    } else {
+        let form = site_form(values);
+        Shown::InForm(Options { form, limits })
+    }
+}
+
+/// What `site` prints.
+fn site_form(values: &ArgMatches<'_>) -> Form {
+    if values.get_flag("json") {
+        Form::Json
+    } else if values.get_flag("draw") {
+        Form::Drawing
+    } else if values.get_flag("html") {
+        Form::Page
+    } else if values.get_flag("openmetrics") {
+        Form::OpenMetrics
+    } else {
+        Form::Text
+    }
+}
+
+/// What `site` allows.
+fn site_limits(values: &ArgMatches<'_>) -> Limits {
+    Limits {
+        offset: most_offset(values),
+        delay: values.get_one("max-delay"),
+        tai_utc: values.get_one("tai-utc").unwrap_or(TAI_UTC),
     }
 }
 
@@ -562,10 +668,56 @@ fn site_command<'a>(alloc: Global) -> Result<Command<'a>, AllocError> {
         "site",
         "Shows a site at a glance, by the answers of its clocks on standard input, a datagram a line",
     );
+    let site = with_forms(alloc, site)?;
+    let site = with_limits(alloc, site)?;
+    let name = option(
+        alloc,
+        "name",
+        "ID=NAME",
+        "A person calls the clock with this identity NAME; may be given more than once",
+    );
+    with(site, name.action(ArgAction::Append))
+}
+
+/// The command, with the forms in which a site is shown. One of them is taken at most.
+fn with_forms<'a>(alloc: Global, site: Command<'a>) -> Result<Command<'a>, AllocError> {
     let json = flag(alloc, "json", "Prints one JSON object");
     let site = with(site, json)?;
     let draw = flag(alloc, "draw", "Draws the tree, as a picture in SVG");
-    let site = with_either(site, draw, "json")?;
+    let site = with(site, draw)?;
+    let html = flag(
+        alloc,
+        "html",
+        "Writes the tree and the findings as a page in HTML",
+    );
+    let site = with(site, html)?;
+    let numbers = flag(
+        alloc,
+        "openmetrics",
+        "Prints numbers for Prometheus, in OpenMetrics",
+    );
+    let site = with(site, numbers)?;
+    let plugin = flag(
+        alloc,
+        "nagios",
+        "Prints a line for Nagios or Icinga, and ends with the status of a plugin",
+    );
+    with_one_form(alloc, with(site, plugin)?)
+}
+
+/// The command, of whose forms one is taken at most.
+fn with_one_form<'a>(alloc: Global, site: Command<'a>) -> Result<Command<'a>, AllocError> {
+    let forms = ArgGroup::new(alloc, "forms")
+        .arg("json")?
+        .arg("draw")?
+        .arg("html")?
+        .arg("openmetrics")?
+        .arg("nagios")?;
+    site.group(forms)
+}
+
+/// The command, with what is allowed at a site, and known.
+fn with_limits<'a>(alloc: Global, site: Command<'a>) -> Result<Command<'a>, AllocError> {
     let offset = option(
         alloc,
         "max-offset",

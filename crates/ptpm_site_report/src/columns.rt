@@ -13,7 +13,8 @@ const DESCRIPTION: usize = 24;
 /// What comes after a clock's identity: its description, stepsRemoved, offset and mean delay.
 #[derive(Drop)]
 pub(crate) struct Columns {
-    /// In quotes, with each character that is not printable escaped. `-` if none was answered.
+    /// Or the name that an operator gave the clock. In quotes, with each character that is not printable escaped. `-` if there is
+    /// neither.
     pub(crate) description: String,
     steps: String,
     /// `-` if no port is in SLAVE, since the value is then of an earlier time.
@@ -59,8 +60,13 @@ impl Widths {
 }
 
 impl Columns {
-    pub(crate) fn of(alloc: Global, clock: &Clock) -> Result<Columns, AllocError> {
-        let description = match clock.description() {
+    /// The columns of a clock. `name` is what a person calls it.
+    pub(crate) fn of(
+        alloc: Global,
+        name: Option<&str>,
+        clock: &Clock,
+    ) -> Result<Columns, AllocError> {
+        let description = match name {
             Some(text) => format!(in alloc; "{text:?}")?,
             None => String::from_str(alloc, "-")?,
         };

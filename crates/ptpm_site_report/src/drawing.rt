@@ -2,6 +2,7 @@
 
 use crate::escaped::Escaped;
 use crate::lines::{Frame, Line, lines_of};
+use crate::names::Names;
 use ptpm_commands::Fault;
 use ptpm_site::picture::Picture;
 use std::alloc::Global;
@@ -94,9 +95,10 @@ fn sizes_of(lines: &[Line]) -> Sizes {
 pub(crate) fn draw<O: Write>(
     alloc: Global,
     picture: &Picture<'_>,
+    names: &Names,
     out: &mut O,
 ) -> Result<(), Fault> {
-    let lines = lines_of(alloc, picture).map_err(|_| Fault::OutOfMemory)?;
+    let lines = lines_of(alloc, picture, names).map_err(|_| Fault::OutOfMemory)?;
     write_drawing(alloc, lines.as_slice(), out)
 }
 

@@ -76,7 +76,7 @@ fn write_time<W: fmt::Write>(
 }
 
 /// The standard's name of a timeSource (7.6.2.8, table 6); none if it has none.
-fn source_name(number: u8) -> Option<&'static str> {
+pub(crate) fn source_name(number: u8) -> Option<&'static str> {
     match number {
         0x10 => Some("ATOMIC_CLOCK"),
         0x20 => Some("GNSS"),

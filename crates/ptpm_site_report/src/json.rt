@@ -1,6 +1,7 @@
 //! A site as one JSON object, by the standard's names.
 
 use crate::finding_json::finding_value;
+use crate::names::Names;
 use ptpm_codec::{ClockIdentity, PortIdentity};
 use ptpm_commands::Fault;
 use ptpm_site::clock::{Clock, Received};
@@ -12,11 +13,11 @@ use serde_json::{Map, Value, json, put};
 use std::alloc::{AllocError, Global};
 use std::io::Write;
 
-/// A picture as JSON.
+/// A picture as JSON, with the names of its clocks.
 #[derive(Clone, Copy)]
-pub(crate) struct Object<'a>(pub(crate) &'a Picture<'a>);
+pub(crate) struct Object<'a, 'b>(pub(crate) &'a Picture<'a>, pub(crate) &'b Names);
 
-impl Object<'_> {
+impl Object<'_, '_> {
     /// Prints one object: the domains with their clocks, the findings, and how much was left out.
     pub(crate) fn print<O: Write>(&self, alloc: Global, out: &mut O) -> Result<(), Fault> {
         write!(out, "{{\"domains\":[")?;
@@ -30,7 +31,7 @@ impl Object<'_> {
                 writeln!(out, "{between}\n{{\"domainNumber\":{number},\"clocks\":[")?;
                 domain = Some(source.domain);
             }
-            print_value(alloc, clock_value(alloc, *source, clock), out)?;
+            print_value(alloc, clock_value(alloc, *source, clock, self.1), out)?;
         }
         writeln!(out, "{}],", if domain.is_some() { "]}" } else { "" })?;
         write!(out, "\"findings\":[")?;
@@ -66,8 +67,13 @@ fn print_value<O: Write>(
     Ok(())
 }
 
-/// A clock: its identity, and what it answered, under the name of each id.
-fn clock_value(alloc: Global, source: Source, clock: &Clock) -> Result<Value, AllocError> {
+/// A clock: its identity, the name that an operator gave it, and what it answered, under the name of each id.
+fn clock_value(
+    alloc: Global,
+    source: Source,
+    clock: &Clock,
+    names: &Names,
+) -> Result<Value, AllocError> {
     let mut map = Map::new(alloc);
     put(
         &mut map,
@@ -75,6 +81,9 @@ fn clock_value(alloc: Global, source: Source, clock: &Clock) -> Result<Value, Al
         "clockIdentity",
         identity_value(alloc, source.clock)?,
     )?;
+    if let Some(name) = names.get(source.clock) {
+        put(&mut map, alloc, "name", text_value(alloc, name)?)?;
+    }
     put_last(
         alloc,
         &mut map,

@@ -2,8 +2,9 @@
 
 use crate::columns::Columns;
 use crate::finding_text::Said;
+use crate::names::Names;
 use crate::ports_text::PortsText;
-use crate::rows::{Rows, notes_of};
+use crate::rows::{Rows, found_at, notes_of};
 use ptpm_site::clock::Clock;
 use ptpm_site::picture::Picture;
 use ptpm_site::source::Source;
@@ -39,8 +40,12 @@ pub(crate) struct Line {
 }
 
 /// The rows of a drawing.
-pub(crate) fn lines_of(alloc: Global, picture: &Picture<'_>) -> Result<Vec<Line>, AllocError> {
-    let all = Rows(picture);
+pub(crate) fn lines_of(
+    alloc: Global,
+    picture: &Picture<'_>,
+    names: &Names,
+) -> Result<Vec<Line>, AllocError> {
+    let all = Rows(picture, names);
     let mut lines = Vec::new(alloc);
     let mut rest = picture.rows.as_slice();
     for _ in 0..picture.rows.len() {
@@ -75,12 +80,12 @@ fn said(alloc: Global, name: String) -> Line {
     }
 }
 
-fn line_of(alloc: Global, all: Rows<'_>, row: &TreeRow) -> Result<Option<Line>, AllocError> {
+fn line_of(alloc: Global, all: Rows<'_, '_>, row: &TreeRow) -> Result<Option<Line>, AllocError> {
     match row {
         TreeRow::NotSeen { parent, .. } => Ok(Some(Line {
             frame: Frame::Dashed,
             depth: 0,
-            name: format!(in alloc; "not seen: {parent}")?,
+            name: format!(in alloc; "not seen: {parent}{}", all.1.quoted(parent.clock))?,
             follows: String::new(alloc),
             facts: String::new(alloc),
             findings: Vec::new(alloc),
@@ -97,13 +102,13 @@ fn line_of(alloc: Global, all: Rows<'_>, row: &TreeRow) -> Result<Option<Line>, 
 
 fn clock_line(
     alloc: Global,
-    all: Rows<'_>,
+    all: Rows<'_, '_>,
     source: Source,
     clock: &Clock,
     depth: u32,
     cut: &str,
 ) -> Result<Line, AllocError> {
-    let columns = Columns::of(alloc, clock)?;
+    let columns = Columns::of(alloc, all.name_of(source, clock), clock)?;
     let leads = all.0.site.leads(source);
     Ok(Line {
         frame: if leads { Frame::Thick } else { Frame::Thin },
@@ -129,11 +134,8 @@ fn findings_of(
     picture: &Picture<'_>,
     source: Source,
 ) -> Result<Vec<String>, AllocError> {
-    let findings = picture.findings.as_slice();
-    let from = findings.partition_point(|finding| finding.source < source);
-    let to = findings.partition_point(|finding| finding.source <= source);
     let mut texts = Vec::new(alloc);
-    for finding in findings.get(from..to).unwrap_or(&[]) {
+    for finding in found_at(picture, source) {
         texts.push(format!(in alloc; "{}", Said(&finding.what))?)?;
     }
     Ok(texts)

@@ -7,6 +7,9 @@ ghost use Rattle.ptpm_site_report.specs.Reporting.{outcome, status};
 
 use crate::drawing::draw;
 use crate::json::Object;
+use crate::names::Names;
+use crate::openmetrics::Metrics;
+use crate::page::print_page;
 use crate::site_lines::read_site;
 use crate::text::Sheet;
 use ptpm_commands::Fault;
@@ -26,6 +29,10 @@ pub enum Form {
     Json,
     /// The tree as a picture in SVG, with the findings.
     Drawing,
+    /// The tree as a page in HTML, with the findings.
+    Page,
+    /// Numbers for a monitoring system.
+    OpenMetrics,
 }
 
 /// What an operator asks for.
@@ -47,6 +54,14 @@ pub enum Conclusion {
 }
 
 impl Conclusion {
+    /// The exit status of a form whose numbers have the findings: these change no status.
+    pub fn status_of_numbers(self) -> u8 {
+        match self {
+            Conclusion::Sound | Conclusion::Findings => 0,
+            Conclusion::NoClock => self.status(),
+        }
+    }
+
     /// The exit status.
     pub fn status(self) -> u8
         ensures { result ≡ status self }
@@ -66,15 +81,27 @@ pub fn report<R: Read + Drop, O: Write>(
     reader: R,
     out: &mut O,
 ) -> Result<Conclusion, Fault> {
+    report_named(alloc, options, &Names::new(alloc), reader, out)
+}
+
+/// The same, with names of clocks.
+pub fn report_named<R: Read + Drop, O: Write>(
+    alloc: Global,
+    options: Options,
+    names: &Names,
+    reader: R,
+    out: &mut O,
+) -> Result<Conclusion, Fault> {
     let mut site = read_site(alloc, reader)?;
     let left_out = site.keep_first();
-    report_of(alloc, options, &site, left_out, out)
+    report_of(alloc, options, names, &site, left_out, out)
 }
 
 /// Prints a site. `left_out` says how much of it is not shown.
 fn report_of<O: Write>(
     alloc: Global,
     options: Options,
+    names: &Names,
     site: &Site,
     left_out: LeftOut,
     out: &mut O,
@@ -83,7 +110,7 @@ fn report_of<O: Write>(
 {
     match Picture::of(alloc, site, left_out, options.limits) {
         Ok(picture) => {
-            print_picture(alloc, options.form, &picture, out)?;
+            print_picture(alloc, options.form, &picture, names, out)?;
             Ok(outcome_of(&picture))
         }
         Err(_) => Err(Fault::OutOfMemory),
@@ -94,12 +121,15 @@ fn print_picture<O: Write>(
     alloc: Global,
     form: Form,
     picture: &Picture<'_>,
+    names: &Names,
     out: &mut O,
 ) -> Result<(), Fault> {
     match form {
-        Form::Text => Sheet(picture).print(alloc, out),
-        Form::Json => Object(picture).print(alloc, out),
-        Form::Drawing => draw(alloc, picture, out),
+        Form::Text => Sheet(picture, names).print(alloc, out),
+        Form::Json => Object(picture, names).print(alloc, out),
+        Form::Drawing => draw(alloc, picture, names, out),
+        Form::Page => print_page(alloc, picture, names, out),
+        Form::OpenMetrics => Metrics { picture, names }.print(out),
     }
 }
 

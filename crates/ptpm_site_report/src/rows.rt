@@ -2,18 +2,20 @@
 
 ghost use Rattle.std.specs.Prelude.{◌≤◌, length};
 
+use crate::names::Names;
 use ptpm_site::clock::Clock;
+use ptpm_site::finding::Finding;
 use ptpm_site::left_out::{CLOCKS, PORTS};
 use ptpm_site::picture::Picture;
 use ptpm_site::source::Source;
 use ptpm_site::tree::TreeRow;
 use std::alloc::{AllocError, Global};
 
-/// The rows of a picture.
+/// The rows of a picture, whose clocks may have names.
 #[derive(Clone, Copy)]
-pub(crate) struct Rows<'a>(pub(crate) &'a Picture<'a>);
+pub(crate) struct Rows<'a, 'b>(pub(crate) &'a Picture<'a>, pub(crate) &'b Names);
 
-impl<'a> Rows<'a> {
+impl Rows<'_, '_> {
     pub(crate) fn domain_of(&self, row: &TreeRow) -> u8 {
         match row {
             TreeRow::Clock { place, .. } => self.0.forest.domain_of(*place).unwrap_or(0),
@@ -41,6 +43,14 @@ impl<'a> Rows<'a> {
                 Some((*source, self.0.site.clocks.get(source)?))
             }
             TreeRow::NotSeen { .. } => None,
+        }
+    }
+
+    /// What a person calls a clock: the name that an operator gave it, or else its description.
+    pub(crate) fn name_of<'b>(&'b self, source: Source, clock: &'b Clock) -> Option<&'b str> {
+        match self.1.get(source.clock) {
+            Some(name) => Some(name),
+            None => clock.description(),
         }
     }
 
@@ -80,6 +90,14 @@ impl<'a> Rows<'a> {
         }
         Ok(head)
     }
+}
+
+/// The findings of a clock, in their order.
+pub(crate) fn found_at<'a>(picture: &'a Picture<'_>, source: Source) -> &'a [Finding<'a>] {
+    let findings = picture.findings.as_slice();
+    let from = findings.partition_point(|finding| finding.source < source);
+    let to = findings.partition_point(|finding| finding.source <= source);
+    findings.get(from..to).unwrap_or(&[])
 }
 
 /// What is said of the whole: that no clock answered, and how much was left out.

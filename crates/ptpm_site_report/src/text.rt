@@ -3,6 +3,7 @@
 use crate::columns::{Columns, Widths, print_spaces};
 use crate::finding_text::Words;
 use crate::grandmaster_line::GrandmasterLine;
+use crate::names::Names;
 use crate::ports_text::PortsText;
 use crate::rows::{Rows, notes_of};
 use ptpm_commands::Fault;
@@ -17,14 +18,14 @@ use std::io::Write;
 /// How many characters are to the left of the first column. There are two more for each clock above.
 const MARGIN: usize = 2;
 
-/// A picture as text.
+/// A picture as text, with the names of its clocks.
 #[derive(Clone, Copy)]
-pub(crate) struct Sheet<'a>(pub(crate) &'a Picture<'a>);
+pub(crate) struct Sheet<'a, 'b>(pub(crate) &'a Picture<'a>, pub(crate) &'b Names);
 
-impl Sheet<'_> {
+impl Sheet<'_, '_> {
     /// Prints the tree of each domain, and the findings.
     pub(crate) fn print<O: Write>(&self, alloc: Global, out: &mut O) -> Result<(), Fault> {
-        let all = Rows(self.0);
+        let all = Rows(self.0, self.1);
         let mut rest = self.0.rows.as_slice();
         for _ in 0..self.0.rows.len() {
             let Some(first) = rest.first() else {
@@ -61,22 +62,33 @@ impl Sheet<'_> {
         } else {
             writeln!(out, "findings: {lines}")?;
         }
-        let mut unseen = unseen.as_slice();
+        self.print_finding_lines(unseen.as_slice(), out)
+    }
+
+    /// A line for each finding. `unseen` has the grandmasters that are not seen.
+    pub(crate) fn print_finding_lines<O: Write>(
+        &self,
+        unseen: &[Source],
+        out: &mut O,
+    ) -> Result<(), Fault> {
+        let mut unseen = unseen;
         for finding in self.0.findings.as_slice() {
             if let What::GrandmasterNotSeen(_) = finding.what {
                 continue;
             }
-            unseen = print_unseen(unseen, Some(finding.source), out)?;
+            unseen = print_unseen(unseen, Some(finding.source), self.1, out)?;
             write!(out, "{}", Words(finding))?;
             self.print_description(finding.source, out)?;
         }
-        print_unseen(unseen, None, out)?;
+        print_unseen(unseen, None, self.1, out)?;
         Ok(())
     }
 
-    /// Ends the line of a finding with the description of its clock, if the clock has one.
+    /// Ends the line of a finding with the name of its clock, or else its description, if the clock has one.
     fn print_description<O: Write>(&self, source: Source, out: &mut O) -> Result<(), Fault> {
-        if let Some(received) = self.0.site.descriptions(source).last() {
+        if let Some(name) = self.1.get(source.clock) {
+            write!(out, " {name:?}")?;
+        } else if let Some(received) = self.0.site.descriptions(source).last() {
             let text = received.set.text.as_str();
             if !text.is_empty() {
                 write!(out, " {text:?}")?;
@@ -87,7 +99,7 @@ impl Sheet<'_> {
     }
 
     /// The grandmasters that are not seen, in their order, each once for each clock that names it.
-    fn unseen(&self, alloc: Global) -> Result<Vec<Source>, AllocError> {
+    pub(crate) fn unseen(&self, alloc: Global) -> Result<Vec<Source>, AllocError> {
         let mut unseen = Vec::new(alloc);
         for finding in self.0.findings.as_slice() {
             if let What::GrandmasterNotSeen(grandmaster) = finding.what {
@@ -100,7 +112,7 @@ impl Sheet<'_> {
 }
 
 /// Prints a line for each clock of these rows that leads.
-fn print_leaders<O: Write>(all: Rows<'_>, rows: &[TreeRow], out: &mut O) -> io::Result<()> {
+fn print_leaders<O: Write>(all: Rows<'_, '_>, rows: &[TreeRow], out: &mut O) -> io::Result<()> {
     let site = all.0.site;
     for row in rows {
         if let Some((source, clock)) = all.clock_of(row) {
@@ -115,7 +127,7 @@ fn print_leaders<O: Write>(all: Rows<'_>, rows: &[TreeRow], out: &mut O) -> io::
 
 fn print_rows<O: Write>(
     alloc: Global,
-    all: Rows<'_>,
+    all: Rows<'_, '_>,
     rows: &[TreeRow],
     out: &mut O,
 ) -> Result<(), Fault> {
@@ -124,7 +136,8 @@ fn print_rows<O: Write>(
         match row {
             TreeRow::Clock { place, depth } => {
                 if let Some((source, clock)) = all.clock_of(row) {
-                    let columns = Columns::of(alloc, clock).map_err(|_| Fault::OutOfMemory)?;
+                    let name = all.name_of(source, clock);
+                    let columns = Columns::of(alloc, name, clock).map_err(|_| Fault::OutOfMemory)?;
                     print_clock(source, indent(*depth), &columns, &widths, out)?;
                     let cut = all.cut(*place, *depth);
                     writeln!(out, "  {}{cut}", PortsText(clock))?;
@@ -132,7 +145,7 @@ fn print_rows<O: Write>(
             }
             TreeRow::NotSeen { parent, .. } => {
                 print_spaces(MARGIN, out)?;
-                writeln!(out, "not seen: {parent}")?;
+                writeln!(out, "not seen: {parent}{}", all.1.quoted(parent.clock))?;
             }
         }
     }
@@ -153,12 +166,13 @@ fn print_clock<O: Write>(
 }
 
 /// The widths that the columns of these rows need.
-fn widths_of(alloc: Global, all: Rows<'_>, rows: &[TreeRow]) -> Result<Widths, AllocError> {
+fn widths_of(alloc: Global, all: Rows<'_, '_>, rows: &[TreeRow]) -> Result<Widths, AllocError> {
     let mut widths = Widths::of_none();
     for row in rows {
         if let TreeRow::Clock { depth, .. } = row {
-            if let Some((_, clock)) = all.clock_of(row) {
-                widths.widen(indent(*depth), &Columns::of(alloc, clock)?);
+            if let Some((source, clock)) = all.clock_of(row) {
+                let columns = Columns::of(alloc, all.name_of(source, clock), clock)?;
+                widths.widen(indent(*depth), &columns);
             }
         }
     }
@@ -171,7 +185,7 @@ fn indent(depth: u32) -> usize {
 }
 
 /// How many lines the findings take.
-fn lines_of(findings: &[Finding<'_>], unseen: &[Source]) -> usize {
+pub(crate) fn lines_of(findings: &[Finding<'_>], unseen: &[Source]) -> usize {
     let mut lines = 0usize;
     for finding in findings {
         if !matches!(finding.what, What::GrandmasterNotSeen(_)) {
@@ -193,6 +207,7 @@ fn lines_of(findings: &[Finding<'_>], unseen: &[Source]) -> usize {
 fn print_unseen<'a, O: Write>(
     unseen: &'a [Source],
     before: Option<Source>,
+    named: &Names,
     out: &mut O,
 ) -> io::Result<&'a [Source]> {
     let mut rest = unseen;
@@ -212,7 +227,8 @@ fn print_unseen<'a, O: Write>(
         };
         writeln!(
             out,
-            "{domain} {clock} grandmaster_not_seen {count} {names} it"
+            "{domain} {clock} grandmaster_not_seen {count} {names} it{}",
+            named.quoted(clock)
         )?;
         let (_, others) = rest.split_at(count);
         rest = others;

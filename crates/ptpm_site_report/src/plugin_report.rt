@@ -1,0 +1,58 @@
+//! `ptpm site --nagios`: a site as a plugin shows it, by the answers among lines of datagrams.
+
+use crate::nagios::{Plugin, Standing};
+use crate::names::Names;
+use crate::site_lines::read_site;
+use ptpm_commands::Fault;
+use ptpm_site::left_out::LeftOut;
+use ptpm_site::limits::Limits;
+use ptpm_site::picture::Picture;
+use ptpm_site::site::Site;
+use std::alloc::Global;
+use std::io::{Read, Write};
+
+/// Prints the site of a reader's lines as a plugin of Nagios does, and answers how it is.
+pub fn report_standing<R: Read + Drop, O: Write>(
+    alloc: Global,
+    limits: Limits,
+    names: &Names,
+    reader: R,
+    out: &mut O,
+) -> Result<Standing, Fault> {
+    let mut site = read_site(alloc, reader)?;
+    let left_out = site.keep_first();
+    standing_of(alloc, limits, names, &site, left_out, out)
+}
+
+/// Prints a site as a plugin does.
+fn standing_of<O: Write>(
+    alloc: Global,
+    limits: Limits,
+    names: &Names,
+    site: &Site,
+    left_out: LeftOut,
+    out: &mut O,
+) -> Result<Standing, Fault> {
+    match Picture::of(alloc, site, left_out, limits) {
+        Ok(picture) => {
+            print_plugin(alloc, &picture, names, limits, out)?;
+            Ok(Standing::of(&picture))
+        }
+        Err(_) => Err(Fault::OutOfMemory),
+    }
+}
+
+fn print_plugin<O: Write>(
+    alloc: Global,
+    picture: &Picture<'_>,
+    names: &Names,
+    limits: Limits,
+    out: &mut O,
+) -> Result<(), Fault> {
+    let plugin = Plugin {
+        picture,
+        names,
+        limits,
+    };
+    plugin.print(alloc, out)
+}

@@ -1,0 +1,73 @@
+#define _GNU_SOURCE
+#include "clock_names.h"
+#include "notices.h"
+#include "program.h"
+#include "words.h"
+#include <ctype.h>
+#include <errno.h>
+#include <stdio.h>
+#include <stdlib.h>
+#include <string.h>
+
+/* As many clocks as a site shows, and what a name may have: a command line has room for them all. */
+enum { MOST_NAMES = 4096, MOST_NAME = 128, NAME_AT = IDENTITY_TEXT };
+
+static char *names[MOST_NAMES];
+static size_t count;
+
+/* The place of a clock among the names; `count` if it has none yet. */
+static size_t place_of(const uint8_t identity[8]) {
+    char text[IDENTITY_TEXT];
+    size_t place = 0;
+    write_identity(text, identity);
+    while (place < count && memcmp(names[place], text, IDENTITY_TEXT - 1) != 0) place++;
+    return place;
+}
+
+/* Takes a line without its end: of a clock that is named twice the later name counts. */
+static void take_line(const char *path, size_t number, const char *line) {
+    uint8_t identity[8];
+    char text[IDENTITY_TEXT], *named;
+    const char *name = identity_at(line, identity);
+    if (name == NULL || !isblank((unsigned char)*name)) refuse("--names %s: line %zu has no clockIdentity with a name after it", path, number);
+    while (isblank((unsigned char)*name)) name++;
+    if (*name == '\0' || strlen(name) > MOST_NAME) refuse("--names %s: line %zu: a name has 1 to %d octets", path, number, MOST_NAME);
+    size_t place = place_of(identity);
+    if (place == MOST_NAMES) refuse("--names %s: it has more than %d clocks", path, MOST_NAMES);
+    write_identity(text, identity);
+    if (asprintf(&named, "%s=%s", text, name) < 0) give_up("the names");
+    free(names[place]);
+    names[place] = named;
+    if (place == count) count++;
+}
+
+void read_clock_names(const char *path) {
+    char *line = NULL;
+    size_t room = 0, number = 0;
+    FILE *file = fopen(path, "re");
+    if (file == NULL) refuse("--names %s: %s", path, strerror(errno));
+    for (ssize_t size; (size = getline(&line, &room, file)) >= 0;) {
+        number++;
+        if (strlen(line) != (size_t)size) refuse("--names %s: line %zu has an octet 0", path, number);
+        while (size > 0 && isspace((unsigned char)line[size - 1])) line[--size] = '\0';
+        if (size > 0 && line[0] != '#') take_line(path, number, line);
+    }
+    if (ferror(file)) refuse("--names %s: %s", path, strerror(errno));
+    free(line);
+    fclose(file);
+}
+
+size_t clock_name_count(void) { return count; }
+
+const char *clock_name(size_t place) { return names[place]; }
+
+bool find_named_clock(const char *name, uint8_t identity[8]) {
+    size_t found = 0;
+    for (size_t place = 0; place < count; place++) {
+        if (strcmp(names[place] + NAME_AT, name) != 0) continue;
+        identity_at(names[place], identity);
+        found++;
+    }
+    if (found > 1) refuse("--target %s: %zu clocks have this name", name, found);
+    return found == 1;
+}

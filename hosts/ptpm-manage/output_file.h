@@ -1,0 +1,14 @@
+/* A file that is replaced whole by what is printed. */
+#ifndef OUTPUT_FILE_H
+#define OUTPUT_FILE_H
+
+#include <stdbool.h>
+#include <stddef.h>
+
+/* Finds the folder of a path. Ends the program with status 2 if it can't. */
+void find_output_file(const char *path);
+
+/* Replaces the file by one with this text; whether that was done, and otherwise why not is said. */
+bool write_output_file(const char *text, size_t size);
+
+#endif
