@@ -176,8 +176,8 @@ uint32_t ptpm_version(void) {
 
 enum ptpm_started ptpm_sizes_agree(const size_t *sizes, size_t count) {
     fill();
-    u64 sizes_in[16];
-    if (count > 16) count = 16;
+    u64 sizes_in[64];
+    if (count > 64) count = 64;
     for (size_t i = 0; i < count; i++) store64(ADDRESS(&sizes_in[i]), sizes[i]);
     return (enum ptpm_started)portable_ptpm_sizes_agree(ADDRESS(sizes_in), count);
 }
