@@ -149,6 +149,7 @@ static void swap_ptpm_survey_settings(struct ptpm_survey_settings *at) {
     at->id = (uint16_t)swap16((u16)at->id);
 }
 static void swap_ptpm_asker_settings(struct ptpm_asker_settings *at) {
+    swap_ptpm_session_settings(&at->session);
     at->nobody = (uint16_t)swap16((u16)at->nobody);
     at->timeout = (uint32_t)swap32((u32)at->timeout);
     at->wait = (uint32_t)swap32((u32)at->wait);
@@ -281,8 +282,10 @@ enum ptpm_handled ptpm_clock_saving(struct ptpm_clock *clock) {
 enum ptpm_saved ptpm_clock_image_of(const struct ptpm_clock *clock, uint8_t *octets, size_t room, size_t *size, uint64_t *token) {
     fill();
     u64 size_out = 0;
-    enum ptpm_saved answer = (enum ptpm_saved)portable_ptpm_clock_image_of(ADDRESS(clock), ADDRESS(octets), room, ADDRESS(&size_out), ADDRESS(token));
+    u64 token_out = 0;
+    enum ptpm_saved answer = (enum ptpm_saved)portable_ptpm_clock_image_of(ADDRESS(clock), ADDRESS(octets), room, ADDRESS(&size_out), ADDRESS(&token_out));
     *size = (size_t)load64(ADDRESS(&size_out));
+    *token = load64(ADDRESS(&token_out));
     return answer;
 }
 
@@ -381,8 +384,10 @@ enum ptpm_sending ptpm_session_saving(struct ptpm_session *session) {
 enum ptpm_saved ptpm_session_image_of(const struct ptpm_session *session, uint8_t *octets, size_t room, size_t *size, uint64_t *token) {
     fill();
     u64 size_out = 0;
-    enum ptpm_saved answer = (enum ptpm_saved)portable_ptpm_session_image_of(ADDRESS(session), ADDRESS(octets), room, ADDRESS(&size_out), ADDRESS(token));
+    u64 token_out = 0;
+    enum ptpm_saved answer = (enum ptpm_saved)portable_ptpm_session_image_of(ADDRESS(session), ADDRESS(octets), room, ADDRESS(&size_out), ADDRESS(&token_out));
     *size = (size_t)load64(ADDRESS(&size_out));
+    *token = load64(ADDRESS(&token_out));
     return answer;
 }
 

@@ -14,14 +14,14 @@ MOST_SIZES = 64
 
 
 class Header:
-    """The structs that have numbers of several octets, and the calls."""
+    """The structs that have numbers of several octets, also in a struct inside, and the calls."""
 
     def __init__(self, text):
         text = re.sub(r'/\*.*?\*/', '', text, flags=re.S)
         self.numbers = {}
         for name, body in re.findall(r'^struct (ptpm_\w+) \{(.*?)\};', text, flags=re.M | re.S):
             members = re.findall(r'(\w+) (\w+)(?:\[\w+\])*;', body)
-            wide = [(kind, member) for kind, member in members if kind in WIDTHS]
+            wide = [(kind, member) for kind, member in members if kind in WIDTHS or kind in self.numbers]
             if wide and name not in CLOSED:
                 self.numbers[name] = wide
         self.calls = []
@@ -37,6 +37,9 @@ class Header:
         for name, members in self.numbers.items():
             lines.append(f'static void swap_{name}(struct {name} *at) {{')
             for kind, member in members:
+                if kind in self.numbers:
+                    lines.append(f'    swap_{kind}(&at->{member});')
+                    continue
                 lines.append(f'    at->{member} = ({kind})swap{WIDTHS[kind]}((u{WIDTHS[kind]})at->{member});')
             lines.append('}')
         lines.append('#endif')
@@ -74,6 +77,8 @@ class Header:
             return [f'u64 {name}_out = 0;'], [f'ADDRESS(&{name}_out)'], [f'*{name} = (size_t)load64(ADDRESS(&{name}_out));']
         if 'uint16_t *' in text:
             return [f'u16 {name}_out = 0;'], [f'ADDRESS(&{name}_out)'], [f'*{name} = load16(ADDRESS(&{name}_out));']
+        if 'uint64_t *' in text:
+            return [f'u64 {name}_out = 0;'], [f'ADDRESS(&{name}_out)'], [f'*{name} = load64(ADDRESS(&{name}_out));']
         if struct and struct[2] in self.numbers:
             return (structs_in if struct[1] else structs_out)(name, struct[2])
         return [], [f'ADDRESS({name})'], []
