@@ -8,6 +8,7 @@ pub mod DatagramLemmas
 pub mod Dropped
 pub mod Followed
 pub mod Growth
+pub mod Hearing
 pub mod KeptAnswers
 pub mod KeptStatements
 pub mod Links
@@ -25,4 +26,5 @@ pub mod Sorted
 pub mod Sources
 pub mod Statements
 pub mod Strays
+pub mod SubjectParts
 pub mod Values

@@ -35,6 +35,7 @@ use Rattle.ptpm_site.specs.Parents.{no_master_port, unseen_parent, wrong_steps}
 use Rattle.ptpm_site.specs.SiteAnswers.{SiteAnswers}
 use Rattle.ptpm_site.specs.Staying.{staying_state, unlocked_port}
 use Rattle.ptpm_site.specs.TaiAndUtc.{followers_off, offset_by_utc}
+use Rattle.ptpm_site.specs.Unseen.{subjects, unseen}
 
 abbrev pub finding : Source → What → Finding
 finding s w = record { source = s; what = w }
@@ -255,6 +256,13 @@ found_of site limits s =
     reported (found_above site s) ++ loop_reported site s ++ reported (found_here site limits s) ++ reported (leader_found site limits s)
     ++ answers_reported site s
 
+-- of a clock that is not seen
+unfoldable pub unseen_reported : SiteAnswers → Source → List Said
+unseen_reported site s = option_to_list (option_map (λ why. said s (says (what.Unseen why))) (unseen site s))
+
+abbrev pub found_at : SiteAnswers → Limits → Source → List Said
+found_at site limits s = if site.seen s then found_of site limits s else unseen_reported site s
+
 -- the findings of all clocks
 abbrev pub findings_of : SiteAnswers → Limits → List Said
-findings_of site limits = flat_map (found_of site limits) site.clocks
+findings_of site limits = flat_map (found_at site limits) (subjects site)

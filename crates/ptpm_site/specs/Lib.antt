@@ -6,11 +6,13 @@ pub mod Changes
 pub mod Completeness
 pub mod Datagrams
 pub mod Differences
+pub mod Evidence
 pub mod Findings
 pub mod Following
 pub mod Forest
 pub mod Grandmasters
 pub mod Growing
+pub mod Heard
 pub mod Ids
 pub mod KeptAnswers
 pub mod KeptStatements
@@ -27,4 +29,5 @@ pub mod SiteAnswers
 pub mod Staying
 pub mod TaiAndUtc
 pub mod Tree
+pub mod Unseen
 pub mod Walks

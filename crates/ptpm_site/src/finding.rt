@@ -13,6 +13,7 @@ use crate::parents::{NoMaster, Steps};
 use crate::source::Source;
 use crate::staying::Unlocked;
 use crate::tai_and_utc::OffByUtc;
+use crate::unseen::Absence;
 use ptpm_codec::{ClockIdentity, PortIdentity};
 use ptpm_data::PortState;
 use std::alloc::AllocError;
@@ -27,6 +28,8 @@ pub struct Finding<'a> {
 /// What is wrong, in the order in which the findings of a clock are reported.
 #[derive(Drop)]
 pub enum What<'a> {
+    /// It is not seen, and a clock names it or it sends by itself.
+    Unseen(Absence),
     /// It is one of two or more clocks of the domain that are their own grandmasters and have a port in MASTER.
     TwoGrandmasters,
     /// It takes time from no clock.
@@ -86,6 +89,7 @@ impl What<'_> {
     /// Its name, which scripts read.
     pub fn name(&self) -> &'static str {
         match self {
+            What::Unseen(unseen) => unseen.name(),
             What::TwoGrandmasters => "two_grandmasters",
             What::NoMaster(_) => "no_master",
             What::GrandmasterNotSeen(_) => "grandmaster_not_seen",
@@ -133,6 +137,16 @@ impl What<'_> {
             | What::IdentityTwice(..) => true,
             What::Degraded(degraded) => matches!(degraded.degradation, Degradation::Degraded),
             _ => false,
+        }
+    }
+}
+
+impl Absence {
+    /// The name of the finding.
+    fn name(self) -> &'static str {
+        match self {
+            Absence::OwnHost => "own_host",
+            Absence::Mute(_) => "mute",
         }
     }
 }
