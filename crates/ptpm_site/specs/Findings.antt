@@ -35,6 +35,7 @@ use Rattle.ptpm_site.specs.Parents.{no_master_port, unseen_parent, wrong_steps}
 use Rattle.ptpm_site.specs.SiteAnswers.{SiteAnswers}
 use Rattle.ptpm_site.specs.Staying.{staying_state, unlocked_port}
 use Rattle.ptpm_site.specs.TaiAndUtc.{followers_off, offset_by_utc}
+use Rattle.ptpm_site.specs.TwoOffsets.{two_offsets}
 use Rattle.ptpm_site.specs.Unseen.{subjects, unseen}
 
 abbrev pub finding : Source → What → Finding
@@ -245,9 +246,13 @@ unfoldable pub twice_reported : SiteAnswers → Source → List Said
 twice_reported site s =
     if list_all is_of_state (contradictions_reported sort.IdentityTwice site s) then [] else contradictions_reported sort.IdentityTwice site s
 
+-- two offsets to one request, in each of two looks
+unfoldable pub offsets_reported : SiteAnswers → Source → List Said
+offsets_reported site s = option_to_list (option_map (λ o. said s (says (what.TwoOffsets o))) (two_offsets (site.currents s)))
+
 -- what its answers lack, and where they differ
 unfoldable pub answers_reported : SiteAnswers → Source → List Said
-answers_reported site s = incomplete_reported site s ++ contradictions_reported sort.Changed site s ++ twice_reported site s
+answers_reported site s = incomplete_reported site s ++ contradictions_reported sort.Changed site s ++ twice_reported site s ++ offsets_reported site s
 
 -- ---- all findings
 

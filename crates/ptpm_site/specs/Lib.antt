@@ -29,5 +29,6 @@ pub mod SiteAnswers
 pub mod Staying
 pub mod TaiAndUtc
 pub mod Tree
+pub mod TwoOffsets
 pub mod Unseen
 pub mod Walks

@@ -13,6 +13,7 @@ use crate::parents::{NoMaster, Steps};
 use crate::source::Source;
 use crate::staying::Unlocked;
 use crate::tai_and_utc::OffByUtc;
+use crate::two_offsets::TwoOffsets;
 use crate::unseen::Absence;
 use ptpm_codec::{ClockIdentity, PortIdentity};
 use ptpm_data::PortState;
@@ -83,6 +84,8 @@ pub enum What<'a> {
     Changed(Option<u16>, Change<'a>),
     /// Answers to one request differ.
     IdentityTwice(Option<u16>, Change<'a>),
+    /// Answers to one request have two offsets, in the last look and in the one before.
+    TwoOffsets(TwoOffsets),
 }
 
 impl What<'_> {
@@ -114,7 +117,7 @@ impl What<'_> {
             What::BetterClock(_) => "better_clock",
             What::Incomplete(_) => "incomplete",
             What::Changed(..) => "changed",
-            What::IdentityTwice(..) => "identity_twice",
+            What::IdentityTwice(..) | What::TwoOffsets(_) => "identity_twice",
         }
     }
 }
@@ -134,7 +137,8 @@ impl What<'_> {
             | What::OffByUtc(_)
             | What::Offset(_)
             | What::UtcOffset(_)
-            | What::IdentityTwice(..) => true,
+            | What::IdentityTwice(..)
+            | What::TwoOffsets(_) => true,
             What::Degraded(degraded) => matches!(degraded.degradation, Degradation::Degraded),
             _ => false,
         }

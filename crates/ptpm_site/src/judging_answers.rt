@@ -4,7 +4,7 @@ ghost use Rattle.std.specs.Prelude.{◌≡◌, ◌++◌, [], ◌∷◌, IfOk, On
 ghost use Rattle.std.specs.List.{flat_map, list_all};
 ghost use Rattle.std.specs.Option.{option_map};
 ghost use Rattle.ptpm_site.specs.Changes.{contradiction, member_change};
-ghost use Rattle.ptpm_site.specs.Findings.{Otherwise, answers_reported, clock_sets_reported, contradictions_reported, incomplete_reported, is_of_state, member_reported, port_set_reported, reported, said, says, set_reported, twice_reported};
+ghost use Rattle.ptpm_site.specs.Findings.{Otherwise, answers_reported, clock_sets_reported, contradictions_reported, incomplete_reported, is_of_state, member_reported, offsets_reported, port_set_reported, reported, said, says, set_reported, twice_reported};
 ghost use Rattle.ptpm_site.specs.Following.{is_own_grandmaster};
 ghost use Rattle.ptpm_site.specs.Site.{site_answers};
 
@@ -15,6 +15,7 @@ use crate::finding::{Finding, What, report};
 use crate::member::{DataSet, Member, Value};
 use crate::site::Site;
 use crate::source::Source;
+use crate::two_offsets::two_offsets;
 use std::alloc::{AllocError, Global};
 
 /// `incomplete`, `changed` and `identity_twice`. `ports` are the clock's ports that answered.
@@ -31,7 +32,23 @@ pub fn judge_answers<'a>(
 {
     judge_missing(alloc, site, source, ports, findings)?;
     judge_contradictions(alloc, site, source, ports, Contradiction::Changed, findings)?;
-    judge_twice(alloc, site, source, ports, findings)
+    judge_twice(alloc, site, source, ports, findings)?;
+    judge_offsets(site, source, findings)
+}
+
+/// `identity_twice`, by two offsets in each of two looks.
+#[tactic(auto, unfolding(crate::specs::Findings::offsets_reported))]
+fn judge_offsets(
+    site: &Site,
+    source: Source,
+    findings: &mut Vec<Finding<'_>>,
+) -> Result<(), AllocError>
+    ensures { OnOk result (reported findings.new.items ≡ reported findings.old.items ++ offsets_reported (site_answers site.now) source) }
+{
+    match two_offsets(site.currents(source)) {
+        Some(offsets) => report(findings, source, What::TwoOffsets(offsets)),
+        None => Ok(()),
+    }
 }
 
 /// `identity_twice`. States of ports may differ by themselves while they change: these alone are no finding.

@@ -49,5 +49,6 @@ mod subjects;
 pub mod tai_and_utc;
 pub mod tree;
 pub mod tree_builder;
+pub mod two_offsets;
 pub mod unseen;
 mod walks;

@@ -145,6 +145,10 @@ fn put_values(
         What::Changed(port, change) | What::IdentityTwice(port, change) => {
             put_change(alloc, map, *port, change)
         }
+        What::TwoOffsets(offsets) => {
+            let both = json!(in alloc; [offsets.first, offsets.second])?;
+            put(map, alloc, "offsets", both)
+        }
     }
 }
 

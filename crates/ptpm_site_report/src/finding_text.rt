@@ -15,6 +15,7 @@ use ptpm_site::member::state_name;
 use ptpm_site::parents::{NoMaster, Steps};
 use ptpm_site::staying::Unlocked;
 use ptpm_site::tai_and_utc::OffByUtc;
+use ptpm_site::two_offsets::TwoOffsets;
 use ptpm_site::unseen::Absence;
 use std::fmt;
 
@@ -74,6 +75,7 @@ impl fmt::Display for Said<'_> {
             What::Incomplete(missing) => write_missing(missing, f),
             What::Changed(port, change) => write_change(*port, change, "then", f),
             What::IdentityTwice(port, change) => write_change(*port, change, "and", f),
+            What::TwoOffsets(offsets) => write_two_offsets(offsets, f),
         }
     }
 }
@@ -160,6 +162,12 @@ fn write_change<W: fmt::Write>(
         after,
     } = change;
     write!(f, " {} {before}, {word} {after}", member.name())
+}
+
+fn write_two_offsets<W: fmt::Write>(offsets: &TwoOffsets, f: &mut fmt::Formatter<W>) -> fmt::Result {
+    let TwoOffsets { first, second } = offsets;
+    let (first, second) = (Whole(*first), Whole(*second));
+    write!(f, " two offsets in one look: {first} ns and {second} ns")
 }
 
 fn write_unlocked<W: fmt::Write>(
