@@ -29,7 +29,7 @@ tied_senders a b = grind (arith, is_eq-slice_cmp)
 tied_numbers : (a b : ℕ) → eq_by_cmp nat_cmp a b ≡ (a == b)
 tied_numbers a b = grind arith
 
-any_tied : {K : Type 0} (e f : K → K → Bool) → ((a b : K) → e a b ≡ f a b) → (xs : List K) (q : K) → list_any (e q) xs ≡ list_any (f q) xs
+pub any_tied : {K : Type 0} (e f : K → K → Bool) → ((a b : K) → e a b ≡ f a b) → (xs : List K) (q : K) → list_any (e q) xs ≡ list_any (f q) xs
 any_tied e f h xs q = λ i. list_any (λ x. h q x i) xs
 
 -- ---- a set has the keys that it was given
@@ -68,7 +68,7 @@ module _ {K : Type 0} (cmp : K → K → Ordering) (exact : CmpEqualImpliesEq cm
   has_more q k [] = refl
   has_more q k (x ∷ xs) = has_at q k x xs (cmp k x) refl (has_more q k xs)
 
-  has_all : (q : K) (ks xs : List K) → has q (fold (insert_key cmp) ks xs) ≡ (has q ks || has q xs)
+  pub has_all : (q : K) (ks xs : List K) → has q (fold (insert_key cmp) ks xs) ≡ (has q ks || has q xs)
   has_all q ks [] = or_none (has q ks)
   has_all q ks (x ∷ xs) =
       has_all q (insert_key cmp ks x) xs ∙ ap (λ b. b || has q xs) (has_more q x ks) ∙ or_left (eq_by_cmp cmp q x) (has q ks) (has q xs)

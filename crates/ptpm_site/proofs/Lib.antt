@@ -19,6 +19,7 @@ pub mod Passing
 pub mod Places
 pub mod Placing
 pub mod Ports
+pub mod Reaching
 pub mod Reports
 pub mod Rows
 pub mod Settling

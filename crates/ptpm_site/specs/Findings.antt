@@ -32,6 +32,7 @@ use Rattle.ptpm_site.specs.Leading.{better_clock, without_source, invalid_offset
 use Rattle.ptpm_site.specs.Loops.{loop_of}
 use Rattle.ptpm_site.specs.Members.{MemberValue, State, current_members, current_says, default_members, default_says, description_members, description_says, is_moving, is_of_grandmaster, parent_members, parent_says, port_members, port_says, time_members, time_says}
 use Rattle.ptpm_site.specs.Parents.{no_master_port, unseen_parent, wrong_steps}
+use Rattle.ptpm_site.specs.Reach.{out_of_reach}
 use Rattle.ptpm_site.specs.SiteAnswers.{SiteAnswers}
 use Rattle.ptpm_site.specs.Staying.{staying_state, unlocked_port}
 use Rattle.ptpm_site.specs.TaiAndUtc.{followers_off, offset_by_utc}
@@ -250,9 +251,13 @@ twice_reported site s =
 unfoldable pub offsets_reported : SiteAnswers → Source → List Said
 offsets_reported site s = option_to_list (option_map (λ o. said s (says (what.TwoOffsets o))) (two_offsets (site.currents s)))
 
--- what its answers lack, and where they differ
+-- the last hop of the requests reached it
+unfoldable pub reach_reported : SiteAnswers → Source → List Said
+reach_reported site s = option_to_list (option_map (λ hops. said s (says (what.OutOfReach hops))) (out_of_reach site s))
+
+-- what its answers lack, how far it is, and where they differ
 unfoldable pub answers_reported : SiteAnswers → Source → List Said
-answers_reported site s = incomplete_reported site s ++ contradictions_reported sort.Changed site s ++ twice_reported site s ++ offsets_reported site s
+answers_reported site s = incomplete_reported site s ++ reach_reported site s ++ contradictions_reported sort.Changed site s ++ twice_reported site s ++ offsets_reported site s
 
 -- ---- all findings
 

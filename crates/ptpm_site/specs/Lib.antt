@@ -24,6 +24,7 @@ pub mod Messages
 pub mod Octets
 pub mod Parents
 pub mod PortStates
+pub mod Reach
 pub mod Site
 pub mod SiteAnswers
 pub mod Staying

@@ -80,6 +80,8 @@ pub enum What<'a> {
     BetterClock(Better),
     /// Not all that it was asked for was answered.
     Incomplete(Missing),
+    /// It was reached by the last of this many boundary hops, and has two ports or more.
+    OutOfReach(u8),
     /// Answers to two requests differ.
     Changed(Option<u16>, Change<'a>),
     /// Answers to one request differ.
@@ -116,6 +118,7 @@ impl What<'_> {
             What::Leap(_) => "leap",
             What::BetterClock(_) => "better_clock",
             What::Incomplete(_) => "incomplete",
+            What::OutOfReach(_) => "out_of_reach",
             What::Changed(..) => "changed",
             What::IdentityTwice(..) | What::TwoOffsets(_) => "identity_twice",
         }

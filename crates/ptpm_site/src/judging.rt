@@ -9,6 +9,7 @@ ghost use Rattle.ptpm_site.specs.Evidence.{IsOf};
 ghost use Rattle.ptpm_site.specs.Findings.{findings_of, found_above, found_at, found_here, found_of, leader_found, reported};
 ghost use Rattle.ptpm_site.specs.Grandmasters.{leading_clocks};
 ghost use Rattle.ptpm_site.specs.Loops.{AreLeast, loop_of};
+ghost use Rattle.ptpm_site.specs.Reach.{IsReach};
 ghost use Rattle.ptpm_site.specs.Site.{site_answers};
 
 use crate::evidence::Evidence;
@@ -24,6 +25,7 @@ use crate::judging_ports::{judge_intervals, judge_locks, judge_ports};
 use crate::judging_unseen::judge_unseen;
 use crate::limits::Limits;
 use crate::marks::is_marked;
+use crate::reach::Reach;
 use crate::site::Site;
 use crate::source::Source;
 use crate::subjects::subjects_of;
@@ -43,11 +45,13 @@ pub fn findings_of<'a>(
     let sources = site.sources(alloc)?;
     let subjects = subjects_of(alloc, site, sources.as_slice())?;
     let evidence = Evidence::of(alloc, site.all_heard())?;
+    let reach = Reach::of(alloc, site.all_heard())?;
     let leading = leading(alloc, site, sources.as_slice())?;
     let given = Given {
         alloc,
         sources: sources.as_slice(),
         evidence: &evidence,
+        reach: &reach,
         leading: leading.as_slice(),
         least,
         limits,
@@ -65,6 +69,8 @@ struct Given<'a> {
     sources: &'a [Source],
     /// What all lines show beside.
     evidence: &'a Evidence,
+    /// How far the GETs went.
+    reach: &'a Reach,
     /// The clocks that lead.
     leading: &'a [Source],
     /// For each clock whether it is the least of a loop.
@@ -83,6 +89,7 @@ fn judge_all<'a>(
     requires sources { given.now.sources.now ≡ (site_answers site.now).clocks }
     requires least { AreLeast (site_answers site.now) given.now.least.now }
     requires of { IsOf (site_answers site.now).heard given.now.evidence.now }
+    requires reach { IsReach (site_answers site.now).heard given.now.reach.now }
     requires ordered { IsStrictlySortedBy source_cmp given.now.sources.now }
     ensures { OnOk result (reported findings.new.items
         ≡ reported findings.old.items ++ flat_map (found_at (site_answers site.now) given.now.limits) subjects.now) }
@@ -104,6 +111,7 @@ fn judge_one<'a>(
     requires sources { given.now.sources.now ≡ (site_answers site.now).clocks }
     requires least { AreLeast (site_answers site.now) given.now.least.now }
     requires of { IsOf (site_answers site.now).heard given.now.evidence.now }
+    requires reach { IsReach (site_answers site.now).heard given.now.reach.now }
     requires ordered { IsStrictlySortedBy source_cmp given.now.sources.now }
     ensures { OnOk result (reported findings.new.items
         ≡ reported findings.old.items ++ found_at (site_answers site.now) given.now.limits subject) }
@@ -140,6 +148,7 @@ fn judge<'a>(
     requires leading { given.now.leading.now ≡ leading_clocks (site_answers site.now) }
     requires least { is_least ≡ is_some (loop_of (site_answers site.now) source) }
     requires sources { given.now.sources.now ≡ (site_answers site.now).clocks }
+    requires reach { IsReach (site_answers site.now).heard given.now.reach.now }
     ensures { OnOk result (reported findings.new.items
         ≡ reported findings.old.items ++ found_of (site_answers site.now) given.now.limits source) }
 {
@@ -149,7 +158,14 @@ fn judge<'a>(
     judge_loop(given.alloc, site, source, is_least, count, findings)?;
     judge_here(site, source, ports.as_slice(), given, findings)?;
     judge_leader(site, source, given.sources, given.limits, findings)?;
-    judge_answers(given.alloc, site, source, ports.as_slice(), findings)?;
+    judge_answers(
+        given.alloc,
+        site,
+        given.reach,
+        source,
+        ports.as_slice(),
+        findings,
+    )?;
     Ok(())
 }
 

@@ -40,6 +40,7 @@ pub mod parents;
 pub mod picture;
 pub mod port_groups;
 pub mod port_states;
+pub mod reach;
 mod sets;
 pub mod site;
 mod site_answers;

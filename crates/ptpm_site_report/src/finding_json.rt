@@ -142,6 +142,7 @@ fn put_values(
         What::Leap(leap) => put_leap(alloc, map, leap),
         What::BetterClock(better) => put_better(alloc, map, better),
         What::Incomplete(missing) => put_missing(alloc, map, missing),
+        What::OutOfReach(hops) => put(map, alloc, "boundaryHops", Value::from(*hops)),
         What::Changed(port, change) | What::IdentityTwice(port, change) => {
             put_change(alloc, map, *port, change)
         }

@@ -73,6 +73,10 @@ impl fmt::Display for Said<'_> {
             What::Leap(leap) => write_leap(leap, f),
             What::BetterClock(better) => write_better(better, f),
             What::Incomplete(missing) => write_missing(missing, f),
+            What::OutOfReach(hops) => {
+                write!(f, " the last of {hops} boundary hops: ")?;
+                f.write_str("clocks behind it are not asked")
+            }
             What::Changed(port, change) => write_change(*port, change, "then", f),
             What::IdentityTwice(port, change) => write_change(*port, change, "and", f),
             What::TwoOffsets(offsets) => write_two_offsets(offsets, f),
@@ -164,7 +168,10 @@ fn write_change<W: fmt::Write>(
     write!(f, " {} {before}, {word} {after}", member.name())
 }
 
-fn write_two_offsets<W: fmt::Write>(offsets: &TwoOffsets, f: &mut fmt::Formatter<W>) -> fmt::Result {
+fn write_two_offsets<W: fmt::Write>(
+    offsets: &TwoOffsets,
+    f: &mut fmt::Formatter<W>,
+) -> fmt::Result {
     let TwoOffsets { first, second } = offsets;
     let (first, second) = (Whole(*first), Whole(*second));
     write!(f, " two offsets in one look: {first} ns and {second} ns")
