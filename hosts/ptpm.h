@@ -245,6 +245,34 @@ enum {
     PTPM_CHANGED_LOG_MIN_PDELAY = PTPM_CHANGED_PORT_LOG_MIN_PDELAY
 };
 
+/* What a device is asked to do (ptpm_clock_ask). All zeros if it is nothing. */
+struct ptpm_question {
+    uint8_t manager[8];                 /* sourcePortIdentity of the request: the clock, and the port */
+    uint16_t manager_port;
+    uint16_t number;                    /* sequenceId */
+    uint16_t id;                        /* managementId */
+    uint16_t port;                      /* portNumber of the target; 0xFFFF is every port */
+    uint16_t size;                      /* of the dataField; 0 for a COMMAND */
+    uint8_t action;                     /* PTPM_SET or PTPM_COMMAND */
+    uint8_t octets[130];                /* the dataField, and zeros after it */
+};
+
+/* What a device says of a request. Any other kind is refused with PTPM_BAD_SAY; 2 is reserved. */
+enum { PTPM_AGREES = 0, PTPM_OBJECTS = 1 };
+
+/* The errors that a device may give (15.5.4.3). */
+enum {
+    PTPM_ERROR_WRONG_VALUE = 4, PTPM_ERROR_NOT_SETABLE = 5, PTPM_ERROR_NOT_SUPPORTED = 6, PTPM_ERROR_GENERAL_ERROR = 0xFFFE
+};
+
+/* What a device says of a datagram (ptpm_clock_handle_said). All zeros: it agrees, or has nothing to say. */
+struct ptpm_say {
+    uint16_t error;                     /* with PTPM_OBJECTS: one of the four */
+    uint16_t size;                      /* reserved: it does not count */
+    uint8_t kind;                       /* PTPM_AGREES or PTPM_OBJECTS */
+    uint8_t octets[1418];               /* reserved, too */
+};
+
 /* A session of a manager, about 1,600 octets at one pointer. All zeros hold no session. */
 struct ptpm_session { void *at; PTPM_TO_EIGHT bool live; uint8_t restored; };
 
@@ -351,6 +379,8 @@ PTPM_HAS_SIZE(ptpm_observed_port, 16);
 PTPM_HAS_SIZE(ptpm_manager_settings, 12);
 PTPM_HAS_SIZE(ptpm_sent, 1476);
 PTPM_HAS_SIZE(ptpm_changed, 12);
+PTPM_HAS_SIZE(ptpm_question, 150);
+PTPM_HAS_SIZE(ptpm_say, 1424);
 PTPM_HAS_SIZE(ptpm_session, 16);
 PTPM_HAS_SIZE(ptpm_session_settings, 26);
 PTPM_HAS_SIZE(ptpm_survey, 16);
@@ -374,7 +404,8 @@ enum { PTPM_MOST_ANSWERS = 512, PTPM_SURVEY_PORT = 65534 };
 /* What calls return. 0 says that the call was done. 1 to 31 say what became of a datagram or of a request. From 32 on the call was
    refused (ptpm_is_refusal). 48 to 63 say why nothing starts, or an observation is refused. 64 to 101 say which member is out of
    its range. 104 to 110 say why a restore is refused. 112 says that a request can't be given up. 113 to 117 say why words are no
-   dataField. 118 and 119 say that something is not saved. 120 says that a handle holds no asker.
+   dataField. 118 and 119 say that something is not saved. 120 says that a handle holds no asker. 121 and 122 say
+   that what a device says is not taken.
 
    Each kind of call has a type for its answers. With -Wenum-compare gcc, g++ and clang++ warn if an answer is compared with a
    name of another kind. A name that several kinds of calls return is a plain number, and compares with each type. Each type has
@@ -474,7 +505,7 @@ enum {
     PTPM_BAD_PEER_DELAY
 };
 
-/* ptpm_clock_handle, ptpm_clock_handle_changed and ptpm_clock_saving. The last returns only PTPM_SAVING, PTPM_NO_CLOCK and
+/* ptpm_clock_handle, ptpm_clock_handle_changed, ptpm_clock_handle_said and ptpm_clock_saving. The last returns only PTPM_SAVING, PTPM_NO_CLOCK and
    PTPM_NO_MEMORY, and the others never PTPM_SAVING or PTPM_NO_MEMORY. */
 __extension__ enum PTPM_FOUR_OCTETS(ptpm_handled) {
     PTPM_HANDLE_OTHER_DOMAIN = PTPM_OTHER_DOMAIN,
@@ -498,7 +529,17 @@ __extension__ enum PTPM_FOUR_OCTETS(ptpm_handled) {
     PTPM_HANDLE_NO_PORT = PTPM_NO_PORT,
     PTPM_HANDLE_NO_ROOM = PTPM_NO_ROOM, /* for fewer than PTPM_MOST_SENT messages */
     PTPM_HANDLE_NO_MEMORY = PTPM_NO_MEMORY,
-    PTPM_HANDLE_UNSAVED = PTPM_UNSAVED
+    PTPM_HANDLE_UNSAVED = PTPM_UNSAVED,
+    PTPM_BAD_SAY = 121,                 /* it is of another kind, or has an error that no device gives */
+    PTPM_CANT_OBJECT = 122              /* a clock that saves (ptpm_clock_saving) takes no objection */
+};
+
+/* ptpm_clock_ask. */
+__extension__ enum PTPM_FOUR_OCTETS(ptpm_asking) {
+    PTPM_ASKED_NOTHING = 0,
+    PTPM_ASKED_CHANGE = 29,             /* a new SET or COMMAND of a manager, which the clock itself does not refuse */
+    PTPM_ASKING_NO_CLOCK = PTPM_NO_CLOCK,
+    PTPM_ASKING_NO_PORT = PTPM_NO_PORT
 };
 
 /* ptpm_clock_observe. */
@@ -710,6 +751,7 @@ PTPM_IS_WIDE(ptpm_restored);
 PTPM_IS_WIDE(ptpm_parsed);
 PTPM_IS_WIDE(ptpm_asker_restored);
 PTPM_IS_WIDE(ptpm_asked);
+PTPM_IS_WIDE(ptpm_asking);
 #undef PTPM_IS_WIDE
 #undef PTPM_FOUR_OCTETS
 
@@ -792,6 +834,30 @@ enum ptpm_handled ptpm_clock_handle(struct ptpm_clock *clock, uint16_t port, con
             ptpm_clock_read reads the new values. */
 enum ptpm_handled ptpm_clock_handle_changed(struct ptpm_clock *clock, uint16_t port, const uint8_t *datagram, size_t size,
                                             struct ptpm_sent *sent, size_t room, size_t *count, struct ptpm_changed *changed);
+
+/* Says what a datagram would have the device do, if it came in now at this port. Nothing changes. Between this call and
+   ptpm_clock_handle_said anything may happen: that call judges the datagram anew.
+   Takes:   the port, counted from 1; size octets.
+   Returns: PTPM_ASKED_CHANGE; PTPM_ASKED_NOTHING for any other datagram; or PTPM_NO_CLOCK or PTPM_NO_PORT. A clock that saves
+            (ptpm_clock_saving) asks nothing while something is unsaved.
+   Writes:  *asked; all zeros unless PTPM_ASKED_CHANGE is returned.
+   Caller:  writes the change to its hardware, if that can do it. It does so in a way that may be done twice: if power fails before
+            the clock is saved, the request comes again, and is new again. */
+enum ptpm_asking ptpm_clock_ask(const struct ptpm_clock *clock, uint16_t port, const uint8_t *datagram, size_t size,
+                                struct ptpm_question *asked);
+
+/* Like ptpm_clock_handle_changed, with what the device says. If it objects where ptpm_clock_ask would return PTPM_ASKED_CHANGE, the
+   request is answered and kept with that error, and no member changes. Each later copy gets that answer. If the device is not
+   asked, what it says does not count.
+   Takes:   what ptpm_clock_handle_changed takes, and *say.
+   Returns: what ptpm_clock_handle returns; or PTPM_BAD_SAY after PTPM_NO_CLOCK, PTPM_NO_PORT and PTPM_NO_ROOM. A clock that saves
+            (ptpm_clock_saving) refuses anything but PTPM_AGREES with PTPM_CANT_OBJECT, before any other reason.
+   Writes:  what ptpm_clock_handle_changed writes.
+   Caller:  does what ptpm_clock_handle_changed asks of it. If it has written to its hardware and the answer is not
+            PTPM_ANSWERED_NEW, it takes that back: another request came in between. */
+enum ptpm_handled ptpm_clock_handle_said(struct ptpm_clock *clock, uint16_t port, const uint8_t *datagram, size_t size,
+                                         const struct ptpm_say *say, struct ptpm_sent *sent, size_t room, size_t *count,
+                                         struct ptpm_changed *changed);
 
 /* Sets exactly what the host observed about its clock and its ports. Judges the data sets as they would be afterwards.
    Takes:   port_count places, from port 1 on: as many as the clock has ports, or fewer, or none.

@@ -5,7 +5,7 @@ use Rattle.ptpm_codec.specs.declared.error.ErrorId.TheVariants.{GeneralError, No
 use Rattle.ptpm_codec.specs.Message.{action_code}
 use Rattle.ptpm_codec.specs.Ordered.{first_of}
 use Rattle.ptpm_agent.specs.Turn.{NumberedRequest}
-use Rattle.ptpm_host.specs.declared.device.Asked.{Asked}
+use Rattle.ptpm_host.specs.declared.device.Question.{Question}
 use Rattle.ptpm_host.specs.declared.device.Say.{Say}
 use Rattle.ptpm_host.specs.declared.refusal.HandleRefusal.TheVariants as handles
 use Rattle.ptpm_host.specs.declared.refusal.SaidRefusal.{SaidRefusal}
@@ -14,7 +14,7 @@ use Rattle.ptpm_host.specs.declared.refusal.SaidRefusal.TheVariants as refusals
 -- ---- what it is asked
 
 -- this request, of whose dataField there is room for 130 octets
-pub record IsAsked (r : NumberedRequest) (a : Asked) : Type 0 where
+pub record IsAsked (r : NumberedRequest) (a : Question) : Type 0 where
   pub manager : a.manager ≡ r.manager.clock.0
   pub manager_port : a.manager_port ≡ r.manager.port
   pub number : a.number ≡ r.number
@@ -24,11 +24,11 @@ pub record IsAsked (r : NumberedRequest) (a : Asked) : Type 0 where
   pub octets : length r.request.octets ≤ 130 → take a.size a.octets ≡ r.request.octets
 
 -- it has no action of a change
-pub record AsksNothing (a : Asked) : Type 0 where
+pub record AsksNothing (a : Question) : Type 0 where
   pub action : a.action ≡ 0
   pub size : a.size ≡ 0
 
-abbrev pub AnswersAsked : Option NumberedRequest → Option Asked → Type 0
+abbrev pub AnswersAsked : Option NumberedRequest → Option Question → Type 0
 AnswersAsked None None = Unit {0}
 AnswersAsked None (Some a) = ⊥
 AnswersAsked (Some r) None = ⊥

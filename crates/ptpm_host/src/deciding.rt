@@ -11,7 +11,7 @@ ghost use Rattle.ptpm_host.specs.Clock.{IsWhole, KeepsBehind, clock_in, messages
 ghost use Rattle.ptpm_host.specs.Device.{AnswersAsked, objection_in, said_refusal};
 
 use crate::clock::{Handled, HostedClock, MOST_SENT};
-use crate::device::{Asked, Say};
+use crate::device::{Question, Say};
 use crate::outbox::Outbox;
 use crate::refusal::{HandleRefusal, SaidRefusal};
 use crate::sent::Sent;
@@ -23,7 +23,7 @@ use ptpm_table::Outgoing;
 impl HostedClock {
     /// What a datagram would have the clock's device do, if it came in now at this port: a new SET or COMMAND of a manager, which
     /// the clock itself does not refuse. Nothing for any other datagram. Changes nothing, and takes no memory.
-    pub fn ask(&self, port: u16, datagram: &[u8]) -> Result<Option<Asked>, HandleRefusal>
+    pub fn ask(&self, port: u16, datagram: &[u8]) -> Result<Option<Question>, HandleRefusal>
         ensures asked { IfOk result
             (AnswersAsked (asked (clock_in self.now) (state_in self.now) datagram.now)) }
         ensures here { OnOk result (IsTrue (has_port port self.now.agent.sets)) }
@@ -33,7 +33,7 @@ impl HostedClock {
             return Err(HandleRefusal::NoPort);
         }
         match ask(&self.agent, datagram) {
-            Some(change) => Ok(Some(Asked::of(&change))),
+            Some(change) => Ok(Some(Question::of(&change))),
             None => Ok(None),
         }
     }

@@ -13,7 +13,7 @@ const MOST_ASKED: usize = 130;
 /// What a device is asked to do. All zeros if it is nothing.
 #[repr(C)]
 #[derive(Clone, Copy)]
-pub struct Asked {
+pub struct Question {
     /// sourcePortIdentity of the request: the clock, and the port.
     pub manager: [u8; 8],
     pub manager_port: u16,
@@ -31,14 +31,14 @@ pub struct Asked {
     pub octets: [u8; MOST_ASKED],
 }
 
-const _: () = prove!(size_of::<Asked>() == 150);
+const _: () = prove!(size_of::<Question>() == 150);
 
-impl Asked {
+impl Question {
     /// Nothing.
-    pub fn nothing() -> Asked
+    pub fn nothing() -> Question
         ensures { AsksNothing result }
     {
-        Asked {
+        Question {
             manager: [0; 8],
             manager_port: 0,
             number: 0,
@@ -51,10 +51,10 @@ impl Asked {
     }
 
     /// This change.
-    pub(crate) fn of(change: &Change<'_>) -> Asked
+    pub(crate) fn of(change: &Change<'_>) -> Question
         ensures { IsAsked change.now result }
     {
-        let mut asked = Asked {
+        let mut asked = Question {
             manager: change.manager.clock.0,
             manager_port: change.manager.port,
             number: change.number,

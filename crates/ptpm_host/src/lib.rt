@@ -43,7 +43,7 @@ pub use answer_names::answer_name;
 pub use asker::HostedAsker;
 pub use asker_settings::AskerSettings;
 pub use clock::{Handled, HostedClock, MOST_SENT};
-pub use device::{Asked, Say};
+pub use device::{Question, Say};
 pub use error_names::error_name;
 pub use handed::{Handed, earlier_number};
 pub use id_names::{NO_ID, id_at, id_name, id_named};
