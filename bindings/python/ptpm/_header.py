@@ -123,6 +123,16 @@ PTPM_CHANGED_LOG_SYNC = 1 << 5
 PTPM_CHANGED_DELAY_MECHANISM = 1 << 6
 PTPM_CHANGED_LOG_MIN_PDELAY = 1 << 7
 
+# What a device says.
+PTPM_AGREES = 0
+PTPM_OBJECTS = 1
+
+# The errors that a device may give.
+PTPM_ERROR_WRONG_VALUE = 4
+PTPM_ERROR_NOT_SETABLE = 5
+PTPM_ERROR_NOT_SUPPORTED = 6
+PTPM_ERROR_GENERAL_ERROR = 0xFFFE
+
 # What may be asked of a clock: the actionField of a request.
 PTPM_GET = 0
 PTPM_SET = 1
@@ -249,6 +259,14 @@ PTPM_HANDLE_NO_PORT = 33
 PTPM_HANDLE_NO_ROOM = 34
 PTPM_HANDLE_NO_MEMORY = 35
 PTPM_HANDLE_UNSAVED = 118
+PTPM_BAD_SAY = 121
+PTPM_CANT_OBJECT = 122
+
+# enum ptpm_asking.
+PTPM_ASKED_NOTHING = 0
+PTPM_ASKED_CHANGE = 29
+PTPM_ASKING_NO_CLOCK = 32
+PTPM_ASKING_NO_PORT = 33
 
 # enum ptpm_observed.
 PTPM_OBSERVED = 0
@@ -579,6 +597,28 @@ class ptpm_changed(Structure):
     ]
 
 
+class ptpm_question(Structure):
+    _fields_ = [
+        ("manager", c_uint8 * 8),
+        ("manager_port", c_uint16),
+        ("number", c_uint16),
+        ("id", c_uint16),
+        ("port", c_uint16),
+        ("size", c_uint16),
+        ("action", c_uint8),
+        ("octets", c_uint8 * 130),
+    ]
+
+
+class ptpm_say(Structure):
+    _fields_ = [
+        ("error", c_uint16),
+        ("size", c_uint16),
+        ("kind", c_uint8),
+        ("octets", c_uint8 * 1418),
+    ]
+
+
 class ptpm_session(Structure):
     _fields_ = [
         ("at", c_void_p),
@@ -693,6 +733,21 @@ CALLS: Dict[str, Tuple[Any, List[Any]]] = {
     "ptpm_clock_handle_changed": (
         c_uint32,
         [POINTER(ptpm_clock), c_uint16, c_char_p, c_size_t, POINTER(ptpm_sent), c_size_t, POINTER(c_size_t), POINTER(ptpm_changed)],
+    ),
+    "ptpm_clock_ask": (c_uint32, [POINTER(ptpm_clock), c_uint16, c_char_p, c_size_t, POINTER(ptpm_question)]),
+    "ptpm_clock_handle_said": (
+        c_uint32,
+        [
+            POINTER(ptpm_clock),
+            c_uint16,
+            c_char_p,
+            c_size_t,
+            POINTER(ptpm_say),
+            POINTER(ptpm_sent),
+            c_size_t,
+            POINTER(c_size_t),
+            POINTER(ptpm_changed),
+        ],
     ),
     "ptpm_clock_observe": (
         c_uint32,

@@ -29,6 +29,7 @@ pub type ptpm_restored = u32;
 pub type ptpm_parsed = u32;
 pub type ptpm_asker_restored = u32;
 pub type ptpm_asked = u32;
+pub type ptpm_asking = u32;
 
 #[repr(C)]
 pub struct ptpm_clock {
@@ -176,6 +177,28 @@ pub struct ptpm_changed {
 }
 
 #[repr(C)]
+#[derive(Clone, Copy)]
+pub struct ptpm_question {
+    pub manager: [u8; 8],
+    pub manager_port: u16,
+    pub number: u16,
+    pub id: u16,
+    pub port: u16,
+    pub size: u16,
+    pub action: u8,
+    pub octets: [u8; 130],
+}
+
+#[repr(C)]
+#[derive(Clone, Copy)]
+pub struct ptpm_say {
+    pub error: u16,
+    pub size: u16,
+    pub kind: u8,
+    pub octets: [u8; 1418],
+}
+
+#[repr(C)]
 pub struct ptpm_session {
     pub at: *mut c_void,
     pub live: bool,
@@ -289,6 +312,18 @@ extern "C" {
         port: u16,
         datagram: *const u8,
         size: usize,
+        sent: *mut ptpm_sent,
+        room: usize,
+        count: *mut usize,
+        changed: *mut ptpm_changed,
+    ) -> ptpm_handled;
+    pub fn ptpm_clock_ask(clock: *const ptpm_clock, port: u16, datagram: *const u8, size: usize, asked: *mut ptpm_question) -> ptpm_asking;
+    pub fn ptpm_clock_handle_said(
+        clock: *mut ptpm_clock,
+        port: u16,
+        datagram: *const u8,
+        size: usize,
+        say: *const ptpm_say,
         sent: *mut ptpm_sent,
         room: usize,
         count: *mut usize,
