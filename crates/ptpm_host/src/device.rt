@@ -1,6 +1,6 @@
 //! What a clock's device is asked, and what it says, as a host in C has them.
 
-ghost use Rattle.std.specs.Prelude.{◌≡◌, ◌≤◌, take};
+ghost use Rattle.std.specs.Prelude.{◌≡◌, ◌≤◌, length, take};
 ghost use Rattle.ptpm_host.specs.Device.{AsksNothing, IsAsked, objection_in};
 
 use crate::refusal::SaidRefusal;
@@ -54,23 +54,30 @@ impl Question {
     pub(crate) fn of(change: &Change<'_>) -> Question
         ensures { IsAsked change.now result }
     {
-        let mut asked = Question {
+        let mut octets = [0; MOST_ASKED];
+        let size = put_field(&mut octets, change.request.octets);
+        Question {
             manager: change.manager.clock.0,
             manager_port: change.manager.port,
             number: change.number,
             id: change.request.id,
             port: change.request.port,
-            size: 0,
+            size,
             action: change.request.action.code(),
-            octets: [0; MOST_ASKED],
-        };
-        let field = change.request.octets;
-        if field.len() <= MOST_ASKED {
-            asked.size = field.len() as u16;
-            asked.octets[..field.len()].copy_from_slice(field);
+            octets,
         }
-        asked
     }
+}
+
+/// Leaves a dataField at the head of a place, and answers how many octets it has; 0 if it doesn't fit.
+fn put_field(place: &mut [u8; MOST_ASKED], field: &[u8]) -> u16
+    ensures { length field.now ≤ 130 → take result place.new ≡ field.now }
+{
+    if MOST_ASKED < field.len() {
+        return 0;
+    }
+    place[..field.len()].copy_from_slice(field);
+    field.len() as u16
 }
 
 /// What a device says of a datagram. All zeros: it agrees, or has nothing to say.
