@@ -20,8 +20,8 @@ use crate::withholding;
 use ptpm_agent::Verdict;
 use ptpm_data::ChangedMembers;
 use ptpm_host::{
-    ASKED_CHANGE, Question, CANT_OBJECT, NO_CLOCK, Say, Sent, handle_number, said_number,
-    verdict_number,
+    ASKED_CHANGE, CANT_OBJECT, HostedClock, NO_CLOCK, Question, Say, Sent, handle_number,
+    said_number, verdict_number,
 };
 use std::alloc::Global;
 
@@ -130,19 +130,45 @@ pub extern "C" fn ptpm_clock_handle_said(
         }
         return refuse_objection(alloc, handle);
     };
+    let number = hand_in(&mut *clock, port, datagram, say, sent, count, members);
+    *handle = Handle::of(kept, Hosted::Clock(clock));
+    number
+}
+
+/// What becomes of a datagram with what the device says: the number of the verdict, or of the refusal, and then nothing is sent.
+/// `members` gets those that a new request has changed.
+#[tactic(auto, using(ptpm_data::proofs::Differing::nothing_changed, ptpm_host::specs::OutboxLaws::kept_by_none))]
+fn hand_in(
+    clock: &mut HostedClock,
+    port: u16,
+    datagram: &[u8],
+    say: &Say,
+    sent: &mut [Sent],
+    count: &mut usize,
+    members: &mut ChangedMembers,
+) -> u32
+    ensures taken { TakesSaid clock.old port datagram.now say.now sent.old result count.new sent.new
+        (Some clock.new) }
+    ensures changed { why_not_said clock.old port sent.old say.now ≡ None
+        → members.new ≡ changed clock.old.agent.sets clock.new.agent.sets }
+    ensures new_alone { result ≢ verdict_number Verdict.AnsweredNew → members.new ≡ no_members }
+    ensures refused { RefusesSaid clock.old port say.now sent.old result count.new sent.new
+        (Some clock.new) }
+    ensures written { AreWritten sent.old count.new sent.new }
+{
+    *count = 0;
+    *members = ChangedMembers::NONE;
     let before = clock.sets().copy();
-    let number = match clock.handle_said(port, datagram, say, sent) {
+    match clock.handle_said(port, datagram, say, sent) {
         Ok(handled) => {
             *count = handled.count;
+            if handled.verdict == Verdict::AnsweredNew {
+                *members = clock.sets().changed_since(&before);
+            }
             verdict_number(handled.verdict)
         }
         Err(refusal) => said_number(refusal),
-    };
-    if number == verdict_number(Verdict::AnsweredNew) {
-        *members = clock.sets().changed_since(&before);
     }
-    *handle = Handle::of(kept, Hosted::Clock(clock));
-    number
 }
 
 /// Why a handle takes no objection: it holds a clock that is saved before it gives anything out, or no clock.
