@@ -836,13 +836,13 @@ enum ptpm_handled ptpm_clock_handle_changed(struct ptpm_clock *clock, uint16_t p
                                             struct ptpm_sent *sent, size_t room, size_t *count, struct ptpm_changed *changed);
 
 /* Says what a datagram would have the device do, if it came in now at this port. Nothing changes. Between this call and
-   ptpm_clock_handle_said anything may happen: that call judges the datagram anew.
+   ptpm_clock_handle_said anything may happen: that call judges the datagram again.
    Takes:   the port, counted from 1; size octets.
    Returns: PTPM_ASKED_CHANGE; PTPM_ASKED_NOTHING for any other datagram; or PTPM_NO_CLOCK or PTPM_NO_PORT. A clock that saves
             (ptpm_clock_saving) asks nothing while something is unsaved.
    Writes:  *asked; all zeros unless PTPM_ASKED_CHANGE is returned.
-   Caller:  writes the change to its hardware, if that can do it. It does so in a way that may be done twice: if power fails before
-            the clock is saved, the request comes again, and is new again. */
+   Caller:  writes the change to its hardware, if that can do it. It does so in a way that may be done twice. If power fails before
+            the clock is saved, the request comes again, and is new. */
 enum ptpm_asking ptpm_clock_ask(const struct ptpm_clock *clock, uint16_t port, const uint8_t *datagram, size_t size,
                                 struct ptpm_question *asked);
 

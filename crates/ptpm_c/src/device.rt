@@ -17,7 +17,6 @@ ghost use Rattle.ptpm_c.specs.Withholding.{RefusesCall, TakesCall};
 use crate::handle::Handle;
 use crate::kept::Hosted;
 use crate::withholding;
-use ptpm_agent::Verdict;
 use ptpm_data::ChangedMembers;
 use ptpm_host::{
     ASKED_CHANGE, CANT_OBJECT, HostedClock, NO_CLOCK, Question, Say, Sent, handle_number,
@@ -25,7 +24,7 @@ use ptpm_host::{
 };
 use std::alloc::Global;
 
-/// Says what a datagram would have the device do, if it came in now at this port: the number of a change, or 0 for nothing; or
+/// Says what a datagram would have the device do, if it came in now at this port. Answers the number of a change, 0 for nothing, or
 /// the number of the refusal. `asked` gets what the device is asked; all zeros if it is nothing. A clock that waits until it is
 /// saved takes no datagram, and so asks nothing. Nothing changes. Takes no memory.
 #[unsafe(no_mangle)]
@@ -75,6 +74,7 @@ pub extern "C" fn ptpm_clock_ask(
 
 /// Does what `ptpm_clock_handle_changed` does, with what the device says. If the device is not asked, that does not count. A clock
 /// that is saved before it gives anything out takes no objection. Takes no memory.
+#[tactic(auto, using(ptpm_host::specs::OutboxLaws::kept_by_none))]
 #[unsafe(no_mangle)]
 pub extern "C" fn ptpm_clock_handle_said(
     alloc: Global,
@@ -137,7 +137,7 @@ pub extern "C" fn ptpm_clock_handle_said(
 
 /// What becomes of a datagram with what the device says: the number of the verdict, or of the refusal, and then nothing is sent.
 /// `members` gets those that a new request has changed.
-#[tactic(auto, using(ptpm_data::proofs::Differing::nothing_changed, ptpm_host::specs::OutboxLaws::kept_by_none))]
+#[tactic(auto, using(crate::proofs::SayingIn::none_unless_new, ptpm_host::specs::OutboxLaws::kept_by_none))]
 fn hand_in(
     clock: &mut HostedClock,
     port: u16,
@@ -162,9 +162,7 @@ fn hand_in(
     match clock.handle_said(port, datagram, say, sent) {
         Ok(handled) => {
             *count = handled.count;
-            if handled.verdict == Verdict::AnsweredNew {
-                *members = clock.sets().changed_since(&before);
-            }
+            *members = clock.sets().changed_since(&before);
             verdict_number(handled.verdict)
         }
         Err(refusal) => said_number(refusal),

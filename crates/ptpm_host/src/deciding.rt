@@ -1,6 +1,6 @@
 //! A clock whose device has a say, as a host keeps it.
 
-ghost use Rattle.std.specs.Prelude.{◌≡◌, ◌≢◌, ◌≤◌, All, IfErr, IfOk, IsTrue, MatchResult, None, Ok, OnErr, OnOk, Option, Some, drop, length, take};
+ghost use Rattle.std.specs.Prelude.{◌≡◌, ◌≢◌, ◌≤◌, All, IfErr, IfOk, MatchResult, None, Ok, OnErr, Option, Some, drop, is_ok, length, take};
 ghost use Rattle.std.specs.List.{AllZip};
 ghost use Rattle.ptpm_codec.specs.declared.error.ErrorId.{ErrorId};
 ghost use Rattle.ptpm_data.specs.Members.{HasPort, has_port};
@@ -21,12 +21,12 @@ use ptpm_device::{ask, handle_said};
 use ptpm_table::Outgoing;
 
 impl HostedClock {
-    /// What a datagram would have the clock's device do, if it came in now at this port: a new SET or COMMAND of a manager, which
-    /// the clock itself does not refuse. Nothing for any other datagram. Changes nothing, and takes no memory.
+    /// What a datagram would have the clock's device do, if it came in now at this port. That is a new SET or COMMAND of a manager,
+    /// which the clock itself does not refuse, and nothing for any other datagram. Changes nothing, and takes no memory.
     pub fn ask(&self, port: u16, datagram: &[u8]) -> Result<Option<Question>, HandleRefusal>
         ensures asked { IfOk result
             (AnswersAsked (asked (clock_in self.now) (state_in self.now) datagram.now)) }
-        ensures here { OnOk result (IsTrue (has_port port self.now.agent.sets)) }
+        ensures here { is_ok result ≡ has_port port self.now.agent.sets }
         ensures refused { IfErr result (λ e. e ≡ HandleRefusal.NoPort) }
     {
         if !self.agent.sets().has_port(port) {
