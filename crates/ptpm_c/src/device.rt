@@ -137,7 +137,7 @@ pub extern "C" fn ptpm_clock_handle_said(
 
 /// What becomes of a datagram with what the device says: the number of the verdict, or of the refusal, and then nothing is sent.
 /// `members` gets those that a new request has changed.
-#[tactic(auto, using(crate::proofs::SayingIn::none_unless_new, ptpm_host::specs::OutboxLaws::kept_by_none))]
+#[tactic(auto, using(ptpm_host::specs::OutboxLaws::kept_by_none))]
 fn hand_in(
     clock: &mut HostedClock,
     port: u16,
