@@ -8,6 +8,7 @@ ghost use Rattle.ptpm_data.specs.Members.{HasPort};
 ghost use Rattle.ptpm_data.specs.Replies.{reply_of};
 ghost use Rattle.ptpm_table.specs.Entries.{is_known};
 ghost use Rattle.ptpm_agent.specs.Agent.{IsTurned, clock_of, state_of};
+ghost use Rattle.ptpm_agent.specs.Turn.{turn};
 ghost use Rattle.ptpm_device.specs.Asking.{asked};
 ghost use Rattle.ptpm_device.specs.Saying.{after_objection, turn_said};
 
@@ -38,7 +39,7 @@ pub fn handle_said<T: SureTable + Drop, O: Outgoing>(
 {
     match say {
         Some(error) => handle_objected(agent, ingress, datagram, error, out),
-        None => agent.handle_into(ingress, datagram, out),
+        None => take_turn(agent, ingress, datagram, out),
     }
 }
 
@@ -61,11 +62,30 @@ fn handle_objected<T: SureTable + Drop, O: Outgoing>(
     match ask(agent, datagram) {
         Some(change) => {
             refuse(agent, &change, error);
-            agent.handle_into(ingress, datagram, out);
+            take_turn(agent, ingress, datagram, out);
             Verdict::AnsweredNew
         }
-        None => agent.handle_into(ingress, datagram, out),
+        None => take_turn(agent, ingress, datagram, out),
     }
+}
+
+/// What `Agent::handle_into` does. Never inlined: so there is one copy of that code, whatever the device says.
+#[inline(never)]
+fn take_turn<T: SureTable + Drop, O: Outgoing>(
+    agent: &mut Agent<T>,
+    ingress: u16,
+    datagram: &[u8],
+    out: &mut O,
+) -> Verdict
+    requires port { HasPort ingress agent.old.sets }
+    requires empty { O.sent out.old ≡ [] }
+    ensures turned { IsTurned (turn
+        (clock_of T.owner agent.old) (state_of T.entries agent.old) ingress datagram.now)
+        result (O.sent out.new) (state_of T.entries agent.new) }
+    ensures grown { O.grown out.old out.new }
+    ensures clock { clock_of T.owner agent.new ≡ clock_of T.owner agent.old }
+{
+    agent.handle_into(ingress, datagram, out)
 }
 
 /// Keeps a request with the device's error as its reply. From then on a copy of it is a repeat, and is sent that reply.

@@ -25,7 +25,7 @@ pub returns-in-Some-clause-turned : goal.returns-in-Some-clause-turned
 returns-in-Some-clause-turned g c =
     turned_objected (clock_of g.T.ReplyTable.owner c.args.agent.now) (state_of g.T.ReplyTable.entries c.args.agent.now)
     c.args.error c.args.ingress c.args.datagram.now c.in-Some.change _ _ _ _ _
-    (sym c.in-Some.ensures.asked) c.in-Some.ensures.number c.refuse.ensures.clock c.refuse.ensures.kept c.handle_into.ensures.turned
+    (sym c.in-Some.ensures.asked) c.in-Some.ensures.number c.refuse.ensures.clock c.refuse.ensures.kept c.take_turn.ensures.turned
 
 pub returns-in-None-clause-turned : goal.returns-in-None-clause-turned
 returns-in-None-clause-turned g c =
