@@ -273,6 +273,14 @@ struct ptpm_say {
     uint8_t octets[1418];               /* reserved, too */
 };
 
+/* The values that the hardware of a device has, of an id at a port (ptpm_limits_say). They are values of the first octet of the
+   dataField of a SET. Value n is bit n % 8 of values[n / 8]. A log_.. of -8 is value 0xF8. */
+struct ptpm_limit {
+    uint16_t id;                        /* managementId */
+    uint16_t port;                      /* portNumber; 0xFFFF is every port */
+    uint8_t values[32];                 /* ptpm_limit_range writes them. All zeros: it has none */
+};
+
 /* A session of a manager, about 1,600 octets at one pointer. All zeros hold no session. */
 struct ptpm_session { void *at; PTPM_TO_EIGHT bool live; uint8_t restored; };
 
@@ -381,6 +389,7 @@ PTPM_HAS_SIZE(ptpm_sent, 1476);
 PTPM_HAS_SIZE(ptpm_changed, 12);
 PTPM_HAS_SIZE(ptpm_question, 150);
 PTPM_HAS_SIZE(ptpm_say, 1424);
+PTPM_HAS_SIZE(ptpm_limit, 36);
 PTPM_HAS_SIZE(ptpm_session, 16);
 PTPM_HAS_SIZE(ptpm_session_settings, 26);
 PTPM_HAS_SIZE(ptpm_survey, 16);
@@ -858,6 +867,21 @@ enum ptpm_asking ptpm_clock_ask(const struct ptpm_clock *clock, uint16_t port, c
 enum ptpm_handled ptpm_clock_handle_said(struct ptpm_clock *clock, uint16_t port, const uint8_t *datagram, size_t size,
                                          const struct ptpm_say *say, struct ptpm_sent *sent, size_t room, size_t *count,
                                          struct ptpm_changed *changed);
+
+/* Writes exactly the values of a range to a limit.
+   Takes:   the least and the most, each from -128 to 255. A number under 0 has the octet of an Integer8. Any other range has no value.
+   Writes:  all of limit->values. */
+void ptpm_limit_range(struct ptpm_limit *limit, int32_t least, int32_t most);
+
+/* Gives the error with which a device objects that has these values. Only limits of the id count, and of them those of a port that
+   the request names. A request for every port names each. An id without a limit is free.
+   Takes:   limit_count limits; and what ptpm_clock_ask wrote.
+   Returns: the first of these that holds:
+            PTPM_ERROR_NOT_SETABLE for a SET, and PTPM_ERROR_NOT_SUPPORTED for a COMMAND, if such a limit has no value;
+            PTPM_ERROR_WRONG_VALUE, if such a limit lacks the value of a SET, unless the id is NULL_PTP_MANAGEMENT, USER_DESCRIPTION or
+            UTC_PROPERTIES, whose first octet is no value;
+            0. */
+uint16_t ptpm_limits_say(const struct ptpm_limit *limits, size_t limit_count, const struct ptpm_question *asked);
 
 /* Sets exactly what the host observed about its clock and its ports. Judges the data sets as they would be afterwards.
    Takes:   port_count places, from port 1 on: as many as the clock has ports, or fewer, or none.
