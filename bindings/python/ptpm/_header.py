@@ -619,6 +619,14 @@ class ptpm_say(Structure):
     ]
 
 
+class ptpm_limit(Structure):
+    _fields_ = [
+        ("id", c_uint16),
+        ("port", c_uint16),
+        ("values", c_uint8 * 32),
+    ]
+
+
 class ptpm_session(Structure):
     _fields_ = [
         ("at", c_void_p),
@@ -749,6 +757,8 @@ CALLS: Dict[str, Tuple[Any, List[Any]]] = {
             POINTER(ptpm_changed),
         ],
     ),
+    "ptpm_limit_range": (None, [POINTER(ptpm_limit), c_int32, c_int32]),
+    "ptpm_limits_say": (c_uint16, [POINTER(ptpm_limit), c_size_t, POINTER(ptpm_question)]),
     "ptpm_clock_observe": (
         c_uint32,
         [POINTER(ptpm_clock), POINTER(ptpm_observed_clock), POINTER(ptpm_observed_port), c_size_t, POINTER(c_uint8)],

@@ -86,7 +86,7 @@ pub use clock::{Clock, Ports, Turn, CLOCK_IMAGE_OCTETS, MOST_READ};
 #[cfg(feature = "alloc")]
 pub use data_field::NoField;
 pub use data_sets::{ClockQuality, CurrentDataSet, DataSet, DefaultDataSet, ParentDataSet, PortDataSet, TimePropertiesDataSet};
-pub use device::{Asked, Objection, Say};
+pub use device::{Asked, Limit, Objection, Say};
 pub use error::Error;
 pub use id::{ManagementErrorId, ManagementId, UnknownId};
 pub use identity::{Identity, NoIdentity, PortIdentity};

@@ -199,6 +199,14 @@ pub struct ptpm_say {
 }
 
 #[repr(C)]
+#[derive(Clone, Copy)]
+pub struct ptpm_limit {
+    pub id: u16,
+    pub port: u16,
+    pub values: [u8; 32],
+}
+
+#[repr(C)]
 pub struct ptpm_session {
     pub at: *mut c_void,
     pub live: bool,
@@ -329,6 +337,8 @@ extern "C" {
         count: *mut usize,
         changed: *mut ptpm_changed,
     ) -> ptpm_handled;
+    pub fn ptpm_limit_range(limit: *mut ptpm_limit, least: i32, most: i32);
+    pub fn ptpm_limits_say(limits: *const ptpm_limit, limit_count: usize, asked: *const ptpm_question) -> u16;
     pub fn ptpm_clock_observe(
         clock: *mut ptpm_clock,
         observed: *const ptpm_observed_clock,

@@ -106,7 +106,7 @@ pub const PTPM_OBJECTS: u8 = 1;
 pub const PTPM_ERROR_WRONG_VALUE: u16 = 4;
 pub const PTPM_ERROR_NOT_SETABLE: u16 = 5;
 pub const PTPM_ERROR_NOT_SUPPORTED: u16 = 6;
-pub const PTPM_ERROR_GENERAL_ERROR: u16 = 0xFFFE;
+pub const PTPM_ERROR_GENERAL_ERROR: u16 = 0xfffe;
 
 // What may be asked of a clock: the actionField of a request.
 pub const PTPM_GET: u8 = 0;
