@@ -29,6 +29,7 @@ mod fields;
 mod handle;
 mod keeping;
 mod kept;
+mod limits;
 mod names;
 mod network;
 mod saving;

@@ -15,6 +15,7 @@ mod handed;
 mod id_names;
 mod judged;
 mod laws;
+mod limits;
 mod managers;
 mod names;
 mod numbers;
@@ -48,6 +49,7 @@ pub use error_names::error_name;
 pub use handed::{Handed, earlier_number};
 pub use id_names::{NO_ID, id_at, id_name, id_named};
 pub use laws::{names_law, passed_on_law, rate_law};
+pub use limits::{Limit, limits_say};
 pub use names::hand_out_name;
 pub use numbers::{
     ASKED_CHANGE, CANT_OBJECT, NO_ASKER, NO_CLOCK, NO_MEMORY, NO_ROOM, NO_SESSION, NO_SURVEY,
