@@ -876,11 +876,9 @@ void ptpm_limit_range(struct ptpm_limit *limit, int32_t least, int32_t most);
 /* Gives the error with which a device objects that has these values. Only limits of the id count, and of them those of a port that
    the request names. A request for every port names each. An id without a limit is free.
    Takes:   limit_count limits; and what ptpm_clock_ask wrote.
-   Returns: the first of these that holds:
-            PTPM_ERROR_NOT_SETABLE for a SET, and PTPM_ERROR_NOT_SUPPORTED for a COMMAND, if such a limit has no value;
-            PTPM_ERROR_WRONG_VALUE, if such a limit lacks the value of a SET, unless the id is NULL_PTP_MANAGEMENT, USER_DESCRIPTION or
-            UTC_PROPERTIES, whose first octet is no value;
-            0. */
+   Returns: PTPM_ERROR_NOT_SETABLE for a SET, and PTPM_ERROR_NOT_SUPPORTED for a COMMAND, if such a limit has no value. Otherwise
+            PTPM_ERROR_WRONG_VALUE if such a limit lacks the value of a SET. Otherwise 0. The first octet is no value of
+            NULL_PTP_MANAGEMENT, USER_DESCRIPTION and UTC_PROPERTIES, so a SET of these is not refused with PTPM_ERROR_WRONG_VALUE. */
 uint16_t ptpm_limits_say(const struct ptpm_limit *limits, size_t limit_count, const struct ptpm_question *asked);
 
 /* Sets exactly what the host observed about its clock and its ports. Judges the data sets as they would be afterwards.

@@ -45,5 +45,5 @@ abbrev pub limits_say : Question → List Limit → ℕ
 limits_say q limits =
     if q.action == 3 then (if is_denied q limits then 6 else 0)
     else if q.action == 1 then
-        (if is_denied q limits then 5 else if has_first_value q.id && is_beyond q limits then 4 else 0)
+    (if is_denied q limits then 5 else if has_first_value q.id && is_beyond q limits then 4 else 0)
     else 0

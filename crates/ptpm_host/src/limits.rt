@@ -8,6 +8,18 @@ use crate::device::Question;
 /// Every port.
 const EVERY_PORT: u16 = 0xffff;
 
+/// The actionField of a SET, and of a COMMAND.
+const SET: u8 = 1;
+
+const COMMAND: u8 = 3;
+
+/// managementErrorIds (IEEE 1588-2019, 15.5.4.3).
+const WRONG_VALUE: u16 = 4;
+
+const NOT_SETABLE: u16 = 5;
+
+const NOT_SUPPORTED: u16 = 6;
+
 /// The values of an id that the hardware has at a port.
 #[repr(C)]
 #[derive(Clone, Copy)]
@@ -78,7 +90,9 @@ fn is_of_range(least: i32, most: i32, octet: usize) -> bool
     ensures { result ≡ is_of_range least most octet }
 {
     let number = octet as i32;
-    is_number(least) && is_number(most) && (least <= number && number <= most || least <= number - 256 && number - 256 <= most)
+    is_number(least)
+        && is_number(most)
+        && (least <= number && number <= most || least <= number - 256 && number - 256 <= most)
 }
 
 /// Whether an octet can be of this number.
@@ -88,15 +102,15 @@ fn is_number(number: i32) -> bool
     -128 <= number && number <= 255
 }
 
-/// The managementErrorId that these limits say of what a device is asked: NOT_SETABLE of a SET, and NOT_SUPPORTED of a COMMAND, if
-/// a limit has no value; WRONG_VALUE if a limit lacks the value of a SET; 0 if they say nothing.
+/// The managementErrorId that these limits say of what a device is asked. It is NOT_SETABLE of a SET, and NOT_SUPPORTED of a COMMAND,
+/// if a limit has no value. Otherwise it is WRONG_VALUE if a limit lacks the value of a SET, and 0 if none does.
 pub fn limits_say(limits: &[Limit], asked: &Question) -> u16
     ensures { result ≡ limits_say asked.now limits.now }
 {
     match asked.action {
-        3 if is_denied(limits, asked) => 6,
-        1 if is_denied(limits, asked) => 5,
-        1 if has_first_value(asked.id) && is_beyond(limits, asked) => 4,
+        COMMAND if is_denied(limits, asked) => NOT_SUPPORTED,
+        SET if is_denied(limits, asked) => NOT_SETABLE,
+        SET if has_first_value(asked.id) && is_beyond(limits, asked) => WRONG_VALUE,
         _ => 0,
     }
 }
@@ -105,7 +119,9 @@ pub fn limits_say(limits: &[Limit], asked: &Question) -> u16
 fn is_denied(limits: &[Limit], asked: &Question) -> bool
     ensures { result ≡ is_denied asked.now limits.now }
 {
-    limits.iter().any(|limit| limit.is_of(asked) && limit.has_none())
+    limits
+        .iter()
+        .any(|limit| limit.is_of(asked) && limit.has_none())
 }
 
 /// Whether a limit of what is asked lacks the value of a SET.

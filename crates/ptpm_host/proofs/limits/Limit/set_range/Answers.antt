@@ -17,15 +17,15 @@ loop-octet-preserved c =
     let of : ℕ → Bool = λ n. is_of_range (to_z w32 (of_z w32 c.args.least)) (to_z w32 (of_z w32 c.args.most)) n in
     elim c.if-is_of_range.branch [
       | then-is_of_range w ↦ record {
-          id = ap (λ (l : Limit). l.id) w.self-is ∙ (w.put.ensures.id ∙ c.loop-octet.invariant.id);
-          port = ap (λ (l : Limit). l.port) w.self-is ∙ (w.put.ensures.port ∙ c.loop-octet.invariant.port);
-          values = λ n small. ap (λ (l : Limit). has_value n l.values) w.self-is
-              ∙ one_more of n c.loop-octet.octet _ _ (c.loop-octet.invariant.values n small) (sym c.is_of_range.ensures ∙ w.if-is_of_range.true) (w.put.ensures.values n small);
-        }
+        id = ap (λ (l : Limit). l.id) w.self-is ∙ (w.put.ensures.id ∙ c.loop-octet.invariant.id);
+        port = ap (λ (l : Limit). l.port) w.self-is ∙ (w.put.ensures.port ∙ c.loop-octet.invariant.port);
+        values = λ n small. ap (λ (l : Limit). has_value n l.values) w.self-is
+            ∙ one_more of n c.loop-octet.octet _ _ (c.loop-octet.invariant.values n small) (sym c.is_of_range.ensures ∙ w.if-is_of_range.true) (w.put.ensures.values n small);
+      }
       | else-is_of_range w ↦ record {
-          id = ap (λ (l : Limit). l.id) w.self-is ∙ c.loop-octet.invariant.id;
-          port = ap (λ (l : Limit). l.port) w.self-is ∙ c.loop-octet.invariant.port;
-          values = λ n small. ap (λ (l : Limit). has_value n l.values) w.self-is
-              ∙ passed_over of n c.loop-octet.octet _ (c.loop-octet.invariant.values n small) (sym c.is_of_range.ensures ∙ w.if-is_of_range.false);
-        }
+        id = ap (λ (l : Limit). l.id) w.self-is ∙ c.loop-octet.invariant.id;
+        port = ap (λ (l : Limit). l.port) w.self-is ∙ c.loop-octet.invariant.port;
+        values = λ n small. ap (λ (l : Limit). has_value n l.values) w.self-is
+            ∙ passed_over of n c.loop-octet.octet _ (c.loop-octet.invariant.values n small) (sym c.is_of_range.ensures ∙ w.if-is_of_range.false);
+      }
     ]
