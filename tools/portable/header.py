@@ -9,7 +9,8 @@ CLOSED = ('ptpm_clock', 'ptpm_session', 'ptpm_survey', 'ptpm_passed_on')
 MOST = {'ptpm_port_settings': 9, 'ptpm_observed_port': 9, 'ptpm_manager_settings': 17}
 # The arrays, with the parameter that has their number. What a call writes is counted by another one than what it reads.
 COUNTS = {'ports': 'port_count', 'managers': 'manager_count', 'sent': 'count'}
-MOST_SIZES = 16
+# More sizes than the header has structs. Any further ones would change no answer: there are too many already.
+MOST_SIZES = 64
 
 
 class Header:
