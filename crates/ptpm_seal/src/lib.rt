@@ -7,5 +7,5 @@ mod places;
 mod sealing;
 
 pub use laws::{crc_law, seal_law, torn_writes_keep_one};
-pub use places::{Newest, newest_image};
+pub use places::{Newest, newest_image, place_count};
 pub use sealing::{SEAL_OCTETS, Sealed, UnsealError, seal, unseal};

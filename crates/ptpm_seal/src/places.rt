@@ -35,6 +35,13 @@ pub fn newest_image(octets: &[u8], size: usize) -> Option<Newest>
     newest
 }
 
+/// How many whole places of a size so many octets are. None are of size 0.
+pub fn place_count(octets: usize, size: usize) -> usize
+    ensures { result ≡ places_of size octets }
+{
+    if size == 0 { 0 } else { octets / size }
+}
+
 /// What a place holds.
 fn held(octets: &[u8], size: usize, place: usize) -> Option<Sealed>
     requires { place < places_of size (length octets.now) }
