@@ -34,6 +34,7 @@ mod names;
 mod network;
 mod saving;
 mod saving_clock;
+mod sealing;
 mod session;
 mod survey;
 mod withholding;

@@ -56,7 +56,7 @@ pub use numbers::{
     OTHER_SIZES, asker_number, begin_number, clock_restore_number, give_up_number, handle_number,
     heard_number, observe_number, outcome_number, parse_number, read_number, report_number,
     restore_number, resume_number, said_number, saved_number, saving_number, send_number,
-    session_number, start_number, surveyed_number, verdict_number,
+    session_number, start_number, surveyed_number, unseal_number, verdict_number,
 };
 pub use observing::{ObservedClock, ObservedPort, left_number};
 pub use parsing::parse_field;
