@@ -74,6 +74,7 @@ pub mod refusals;
 mod report;
 mod saving_clock;
 mod saving_session;
+mod seal;
 mod session;
 mod settings;
 mod survey;
@@ -105,6 +106,7 @@ pub use report::Answer;
 pub use report::{Report, MOST_DATA, MOST_OCTETS};
 pub use saving_clock::{SavingClock, SavingTurn, Unsaved};
 pub use saving_session::{SavingSession, UnsavedSession};
+pub use seal::{newest_image, seal, unseal, Sealed, SEAL_OCTETS};
 pub use session::{Action, Session, SessionSettings, SESSION_IMAGE_OCTETS};
 pub use settings::{ClockSettings, DelayMechanism, Manager, PortSettings, PortState, Rights};
 #[cfg(feature = "alloc")]

@@ -485,6 +485,9 @@ extern "C" {
         error: *mut u16,
     ) -> ptpm_reported;
     pub fn ptpm_asker_stop(asker: *mut ptpm_asker);
+    pub fn ptpm_image_seal_in(octets: *mut u8, room: usize, size: usize, count: u64, sealed: *mut usize) -> ptpm_saved;
+    pub fn ptpm_image_unseal(octets: *const u8, size: usize, count: *mut u64, image: *mut usize) -> ptpm_restored;
+    pub fn ptpm_newest_image_in(octets: *const u8, size: usize, place: usize, count: *mut u64, image: *mut usize) -> usize;
     pub fn ptpm_passed_on_is_first(table: *mut ptpm_passed_on, message: *const u8, size: usize, now: u64, time: u64) -> bool;
     pub fn ptpm_rate_start(rate: *mut ptpm_rate, tokens: u64, now: u64);
     pub fn ptpm_rate_take(rate: *mut ptpm_rate, now: u64) -> bool;

@@ -119,6 +119,7 @@ pub const PTPM_MOST_READ: usize = 130;
 pub const PTPM_MOST_OCTETS: usize = 1472;
 pub const PTPM_SESSION_IMAGE_OCTETS: usize = 1478;
 pub const PTPM_CLOCK_IMAGE_OCTETS: usize = 27185;
+pub const PTPM_SEAL_OCTETS: usize = 16;
 pub const PTPM_MOST_ANSWERS: usize = 512;
 pub const PTPM_SURVEY_PORT: u16 = 65534;
 
