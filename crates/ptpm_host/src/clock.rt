@@ -132,8 +132,7 @@ impl HostedClock {
     /// What becomes of a datagram that comes in at a port: one turn of the clock. What it sends is written into the first places
     /// of `room`. The places after them stay as they are, and so does what follows each message. If it is refused, nothing
     /// changes. The data sets change only with the verdict `AnsweredNew`. A host that acts on what changed keeps a copy of them,
-    /// and then asks `sets` what has changed since. Takes no memory. It is inlined, so that a host's call of it costs nothing.
-    #[inline(always)]
+    /// and then asks `sets` what has changed since. Takes no memory.
     #[tactic(auto, using(crate::specs::OutboxLaws::kept_by_none))]
     pub fn handle(
         &mut self,

@@ -5,21 +5,18 @@ ghost use Rattle.std.specs.List.{AllZip};
 ghost use Rattle.ptpm_codec.specs.declared.error.ErrorId.{ErrorId};
 ghost use Rattle.ptpm_data.specs.Members.{HasPort, has_port};
 ghost use Rattle.ptpm_agent.specs.Agent.{IsTurned};
-ghost use Rattle.ptpm_agent.specs.Turn.{turn};
 ghost use Rattle.ptpm_device.specs.Asking.{asked};
 ghost use Rattle.ptpm_device.specs.Saying.{turn_said};
-ghost use Rattle.ptpm_host.specs.Clock.{IsWhole, KeepsBehind, clock_in, handle_refusal, messages_in, state_in};
+ghost use Rattle.ptpm_host.specs.Clock.{IsWhole, KeepsBehind, clock_in, messages_in, state_in};
 ghost use Rattle.ptpm_host.specs.Device.{AnswersAsked, objection_in, said_refusal};
 
 use crate::clock::{Handled, HostedClock, MOST_SENT};
 use crate::device::{Question, Say};
-use crate::outbox::Outbox;
 use crate::refusal::{HandleRefusal, SaidRefusal};
 use crate::sent::Sent;
 use ptpm_agent::Verdict;
 use ptpm_codec::ErrorId;
-use ptpm_device::{ask, handle_said};
-use ptpm_table::Outgoing;
+use ptpm_device::{ask, object};
 
 impl HostedClock {
     /// What a datagram would have the clock's device do, if it came in now at this port. That is a new SET or COMMAND of a manager,
@@ -79,49 +76,16 @@ impl HostedClock {
             Ok(objection) => objection,
             Err(_) => return Err(SaidRefusal::BadSay),
         };
-        let mut places = Outbox::new(room);
-        let verdict = handle_said(&mut self.agent, port, datagram, objection, &mut places);
-        Ok(Handled {
-            verdict,
-            count: places.count(),
-        })
-    }
-
-    /// What `handle` does, by the code of `handle_said`. A clock whose host says when it was saved is handed its datagrams so.
-    /// Then `handle` has one caller in a library for hosts, and costs no call.
-    #[tactic(auto, using(crate::specs::OutboxLaws::kept_by_none))]
-    pub(crate) fn handle_apart(
-        &mut self,
-        port: u16,
-        datagram: &[u8],
-        room: &mut [Sent],
-    ) -> Result<Handled, HandleRefusal>
-        ensures turned { IfOk result
-            (λ h.
-            IsTurned (turn (clock_in self.old) (state_in self.old) port datagram.now) h.verdict
-            (messages_in (take h.count room.new)) (state_in self.new)) }
-        ensures count { IfOk result (λ h. h.count ≤ length room.new) }
-        ensures whole { IfOk result (λ h. All IsWhole (take h.count room.new)) }
-        ensures places { IfOk result (λ h. drop h.count room.new ≡ drop h.count room.old) }
-        ensures behind { AllZip KeepsBehind room.old room.new }
-        ensures refusal { MatchResult result
-            (λ _. handle_refusal (has_port port self.old.agent.sets) (length room.old) ≡ None)
-            (λ e. handle_refusal (has_port port self.old.agent.sets) (length room.old) ≡ Some e) }
-        ensures unchanged { OnErr result (self.new ≡ self.old) }
-        ensures untouched { OnErr result (room.new ≡ room.old) }
-        ensures clock { clock_in self.new ≡ clock_in self.old }
-    {
-        if !self.agent.sets().has_port(port) {
-            return Err(HandleRefusal::NoPort);
+        let objected = object(&mut self.agent, datagram, objection);
+        let Ok(handled) = self.handle(port, datagram, room) else {
+            unreachable!()
+        };
+        if objected {
+            return Ok(Handled {
+                verdict: Verdict::AnsweredNew,
+                count: handled.count,
+            });
         }
-        if room.len() < MOST_SENT {
-            return Err(HandleRefusal::NoRoom);
-        }
-        let mut places = Outbox::new(room);
-        let verdict = handle_said(&mut self.agent, port, datagram, None, &mut places);
-        Ok(Handled {
-            verdict,
-            count: places.count(),
-        })
+        Ok(handled)
     }
 }
