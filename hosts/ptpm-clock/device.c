@@ -23,17 +23,17 @@ static enum { WAITS, IS_ASKED, IS_DECIDED, IS_TAKEN } state;
 static struct ptpm_say said;            /* of the first */
 static bool is_said;                    /* the device was asked about it */
 
-/* Reads the limits, if the file has changed; whether there is nothing wrong. */
-static bool take_limits(void) {
+/* What the file says, if it has changed: limits, or something that is wrong. */
+static enum { SAYS_NOTHING, SAYS_LIMITS, IS_WRONG } take_limits(void) {
     static struct device_limits found;
-    bool is_right = true;
+    static char empty[1];
+    char *text = empty;
     read_source(&source);
-    if (is_empty_file(&source)) is_right = read_device_limits(&found, 0, source.path, (char[]){ "" });
-    for (char *text; next_text(&source, &text);) {
-        is_right = read_device_limits(&found, ports_of(options), source.path, text);
-        if (is_right) limits = found;
-    }
-    return is_right;
+    bool is_empty = is_empty_file(&source), has_text = next_text(&source, &text);
+    if (!has_text && !is_empty) return SAYS_NOTHING;
+    if (!read_device_limits(&found, ports_of(options), source.path, text)) return IS_WRONG;
+    limits = found;
+    return SAYS_LIMITS;
 }
 
 void start_device(const struct options *given) {
@@ -41,15 +41,19 @@ void start_device(const struct options *given) {
     has_device = options->limits_file != NULL || options->device_program != NULL;
     if (options->limits_file == NULL) return;
     open_file_source(&source, options->limits_file);
-    take_limits();
-    if (limits.count == 0) exit(2);
+    if (take_limits() != SAYS_LIMITS) exit(2);
 }
 
 int limits_event(void) { return options->limits_file != NULL ? source.polled : -1; }
 
 void read_limits(void) {
-    if (!take_limits()) say_at_times("%s: the limits stay as they were", source.path);
-    else if (options->is_verbose) print_line("limits read: %zu", limits.count);
+    switch (take_limits()) {
+    case SAYS_NOTHING: break;
+    case SAYS_LIMITS:
+        if (options->is_verbose) print_line("limits read: %zu", limits.count);
+        break;
+    case IS_WRONG: say_at_times("%s: the limits stay as they were", source.path);
+    }
 }
 
 void follow_limits(void) {
