@@ -159,7 +159,7 @@ static enum ptpm_handled hand_in_said(uint16_t ingress, const struct heard *hear
                                       size_t *count, struct ptpm_changed *changed) {
     enum ptpm_handled answer = ptpm_clock_handle_said(&clock_held, ingress, heard->octets, heard->size, say, places, PTPM_MOST_SENT,
                                                       count, changed);
-    if (answer != PTPM_ANSWERED_NEW) say_at_times("a change of which the device was asked is not made: %s", answer_name(answer));
+    if (answer != PTPM_ANSWERED_NEW) say_at_times("a change to which the device spoke is not made: %s", answer_name(answer));
     return answer;
 }
 
@@ -272,7 +272,7 @@ static unsigned long take_request(struct held *held) {
     return 0;
 }
 
-/* A change of which the device has said what it says. */
+/* A change that the device has decided. */
 static unsigned long take_decided(void) {
     const struct ptpm_say *say;
     struct held *held = take_change(&say);

@@ -16,7 +16,7 @@ static struct source source;
 static struct device_limits limits;
 static struct device_counts counts;
 
-/* Changes that wait, the first of which is asked, decided and taken. A manager has one of them at most. */
+/* Changes that wait. The program is asked about the first, which is then decided and taken. A manager has one of them at most. */
 static struct copy waiting[MANAGERS];
 static size_t first, count;
 static enum { WAITS, IS_ASKED, IS_DECIDED, IS_TAKEN } state;

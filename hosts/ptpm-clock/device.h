@@ -1,5 +1,5 @@
-/* The device's say: whether it can do what a manager asks, by the limits of its hardware (--limits) and by a program of its own
-   (--ask). The program is asked about one change at a time. Other changes wait for it meanwhile, one of each manager. */
+/* The device's say: whether it can do what a manager asks. The limits of its hardware (--limits) say that, and then a program of its
+   own (--ask). The program is asked about one change at a time. Other changes wait for it meanwhile, one of each manager. */
 #ifndef DEVICE_H
 #define DEVICE_H
 

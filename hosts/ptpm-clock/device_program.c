@@ -189,7 +189,7 @@ void check_device_program(void) {
 
 int device_program_event(void) { return beside; }
 
-/* Puts a word after those that are there, with its end; where the next one goes. */
+/* Puts a word after those that are there, with its end; the place of the next one. */
 __attribute__((format(printf, 3, 4))) static size_t put_word(char *words, size_t size, const char *format, ...) {
     va_list values;
     va_start(values, format);

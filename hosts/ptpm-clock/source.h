@@ -28,7 +28,7 @@ struct source {
 /* Opens it, and returns what is to be polled. Ends the program with status 2 if there is no such file or pipe. */
 int open_source(struct source *source, const char *path);
 
-/* The same for a file. Ends the program also if it is a pipe. */
+/* The same for a file. A pipe ends the program too. */
 int open_file_source(struct source *source, const char *path);
 
 /* Watches what leads to it by now: a folder may have been made again, and a link may lead elsewhere. Whether it is another file than
