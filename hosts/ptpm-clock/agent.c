@@ -159,7 +159,7 @@ static enum ptpm_handled hand_in_said(uint16_t ingress, const struct heard *hear
                                       size_t *count, struct ptpm_changed *changed) {
     enum ptpm_handled answer = ptpm_clock_handle_said(&clock_held, ingress, heard->octets, heard->size, say, places, PTPM_MOST_SENT,
                                                       count, changed);
-    if (answer != PTPM_ANSWERED_NEW) say_at_times("a change to which the device spoke is not made: %s", answer_name(answer));
+    if (answer != PTPM_ANSWERED_NEW) say_at_times("a change that the device has decided is not made: %s", answer_name(answer));
     return answer;
 }
 

@@ -5,8 +5,10 @@
 #include "output.h"
 #include "program.h"
 #include "words.h"
+#include <dirent.h>
 #include <errno.h>
 #include <fcntl.h>
+#include <limits.h>
 #include <poll.h>
 #include <signal.h>
 #include <stdarg.h>
@@ -17,7 +19,6 @@
 #include <sys/signalfd.h>
 #include <sys/socket.h>
 #include <sys/stat.h>
-#include <sys/syscall.h>
 #include <sys/wait.h>
 #include <time.h>
 #include <unistd.h>
@@ -53,10 +54,13 @@ _Noreturn static void end_process(void) {
 }
 
 static void close_from(int first) {
-#ifdef SYS_close_range
-    if (syscall(SYS_close_range, (unsigned)first, ~0u, 0u) == 0) return;
-#endif
-    for (int one = first, most = (int)sysconf(_SC_OPEN_MAX); one < most; one++) close(one);
+    DIR *all = opendir("/proc/self/fd");
+    if (all == NULL) give_up("/proc/self/fd");
+    for (const struct dirent *one; (one = readdir(all)) != NULL;) {
+        int number = (int)decimal(one->d_name, INT_MAX);
+        if (number >= first && number != dirfd(all)) close(number);
+    }
+    closedir(all);
 }
 
 static void open_nothing(int stream, int flags) {
