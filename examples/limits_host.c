@@ -50,7 +50,8 @@ static void come_in(uint8_t number, int8_t value) {
     datagram[NUMBER_AT] = number;
     datagram[VALUE_AT] = (uint8_t)value;
     struct ptpm_say say = say_of_device();
-    enum ptpm_handled answer = ptpm_clock_handle_said(&device, 1, datagram, sizeof datagram, &say, sent, PTPM_MOST_SENT, &count, &changed);
+    enum ptpm_handled answer = ptpm_clock_handle_said(&device, 1, datagram, sizeof datagram, &say, sent, PTPM_MOST_SENT, &count,
+                                                      &changed);
     printf("%u, logSyncInterval %d:", (unsigned)number, value);
     print_name(ptpm_answer_name, answer);
     if (count > 0 && sent[0].octets[TLV_TYPE_AT] == ERROR_STATUS) {

@@ -155,8 +155,8 @@ static inline unsigned long hand_on(const struct heard *heard, const struct port
 }
 
 /* A turn with what the device says. A change that its program agreed to is not overtaken, since no other is taken meanwhile. */
-static enum ptpm_handled hand_in_said(uint16_t ingress, const struct heard *heard, const struct ptpm_say *say, struct ptpm_sent *places,
-                                      size_t *count, struct ptpm_changed *changed) {
+static enum ptpm_handled hand_in_said(uint16_t ingress, const struct heard *heard, const struct ptpm_say *say,
+                                      struct ptpm_sent *places, size_t *count, struct ptpm_changed *changed) {
     enum ptpm_handled answer = ptpm_clock_handle_said(&clock_held, ingress, heard->octets, heard->size, say, places, PTPM_MOST_SENT,
                                                       count, changed);
     if (answer != PTPM_ANSWERED_NEW) say_at_times("a change that the device has decided is not made: %s", answer_name(answer));
@@ -164,8 +164,8 @@ static enum ptpm_handled hand_in_said(uint16_t ingress, const struct heard *hear
 }
 
 /* A turn with lines of what became of it and what it changed. To find that costs more than the turn does. */
-static unsigned long take_verbose_turn(const struct heard *heard, const struct port *port, uint16_t ingress, const struct ptpm_say *say,
-                                       struct ptpm_sent *places) {
+static unsigned long take_verbose_turn(const struct heard *heard, const struct port *port, uint16_t ingress,
+                                       const struct ptpm_say *say, struct ptpm_sent *places) {
     struct ptpm_changed changed;
     size_t count, left;
     enum ptpm_handled answer = say != NULL ? hand_in_said(ingress, heard, say, places, &count, &changed)
@@ -205,7 +205,8 @@ static unsigned long take_turn(struct heard *heard, const struct port *port, con
     if (options->is_verbose) return take_verbose_turn(heard, port, ingress, say, places);
     struct ptpm_clock *clock = is_saving ? &clock_before : &clock_held;
     enum ptpm_handled answer = say != NULL ? hand_in_said(ingress, heard, say, places, &count, &changed)
-                                           : ptpm_clock_handle(clock, ingress, heard->octets, heard->size, places, PTPM_MOST_SENT, &count);
+                                           : ptpm_clock_handle(clock, ingress, heard->octets, heard->size, places, PTPM_MOST_SENT,
+                                                               &count);
     if (is_saving && answer == PTPM_ANSWERED_NEW) return count;         /* nobody is shown what is not saved */
     return hand_on(heard, port, ingress, answer, places, count, &left);
 }

@@ -19,12 +19,15 @@ static struct device_counts counts;
 /* Changes that wait. The program is asked about the first, which is then decided and taken. A manager has one of them at most. */
 static struct copy waiting[MANAGERS];
 static size_t first, count;
-static enum { WAITS, IS_ASKED, IS_DECIDED, IS_TAKEN } state;
-static struct ptpm_say said;            /* of the first */
-static bool is_said;                    /* the device was asked about it */
+enum state { WAITS, IS_ASKED, IS_DECIDED, IS_TAKEN };
+static enum state state;                /* of the first */
+static struct ptpm_say said;            /* and what the device says of it, if it was asked */
+static bool is_said;
 
 /* What the file says, if it has changed: limits, or something that is wrong. */
-static enum { SAYS_NOTHING, SAYS_LIMITS, IS_WRONG } take_limits(void) {
+enum file_says { SAYS_NOTHING, SAYS_LIMITS, IS_WRONG };
+
+static enum file_says take_limits(void) {
     static struct device_limits found;
     static char empty[1];
     char *text = empty;
@@ -89,7 +92,7 @@ void wait_for_program(const struct held *change) {
     else copy_held(&waiting[(first + count++) % MANAGERS], &change->heard, change->port);
 }
 
-static struct held *first_in(int wanted) { return count > 0 && (int)state == wanted ? &waiting[first].held : NULL; }
+static struct held *first_in(enum state wanted) { return count > 0 && state == wanted ? &waiting[first].held : NULL; }
 
 const struct held *change_to_ask(void) { return first_in(WAITS); }
 
@@ -132,7 +135,9 @@ static void refuse_change(const struct run *run) {
     object(&say, error);
     decide_change(&say);
     if (run->end == RUN_NOT_STARTED) say_at_times("%s: %s", options->device_program, strerror(run->number));
-    else if (error == PTPM_ERROR_GENERAL_ERROR) say_at_times("%s ended with status %d: GENERAL_ERROR", options->device_program, run->number);
+    else if (error == PTPM_ERROR_GENERAL_ERROR) {
+        say_at_times("%s ended with status %d: GENERAL_ERROR", options->device_program, run->number);
+    }
     if (options->is_verbose) print_line("the device objects: %s", error_name(error));
 }
 

@@ -50,7 +50,8 @@ void hear_program(void);
 /* Whether a change is decided and not taken yet; which one. */
 const struct held *decided_change(void);
 
-/* Takes it, with what the device says; that is NULL if it was not asked. The change stays until it is let go of. NULL if there is none. */
+/* Takes it, with what the device says; that is NULL if it was not asked. The change stays until it is let go of. NULL if there is
+   none. */
 struct held *take_change(const struct ptpm_say **say);
 
 /* A change that was taken waits no more. Does nothing if none was. */

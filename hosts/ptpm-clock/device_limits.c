@@ -37,7 +37,8 @@ static bool read_octet(uint16_t id, const char *word, uint8_t *octet) {
     uint8_t octets[PTPM_MOST_READ];
     size_t count, member;
     if (id == PTPM_ID_USER_DESCRIPTION) return false;           /* a text */
-    if (ptpm_field_parse(id, word, strlen(word) + 1, octets, sizeof octets, &count, &member) != PTPM_PARSED || count == 0) return false;
+    enum ptpm_parsed answer = ptpm_field_parse(id, word, strlen(word) + 1, octets, sizeof octets, &count, &member);
+    if (answer != PTPM_PARSED || count == 0) return false;
     *octet = octets[0];
     return true;
 }
@@ -84,7 +85,8 @@ static void read_values(struct reading *reading, struct ptpm_limit *limit, const
     if (is_never) word = next_word(reading);
     if (is_never && word != NULL) fault(reading, "%s never %s: nothing goes with never", id, word);
     for (; word != NULL && !is_never; word = next_word(reading)) {
-        if (!add_word(limit, word)) fault(reading, "%s %s: it is neither a value of the id, nor a range such as -4..1, nor never", id, word);
+        if (add_word(limit, word)) continue;
+        fault(reading, "%s %s: it is neither a value of the id, nor a range such as -4..1, nor never", id, word);
     }
 }
 

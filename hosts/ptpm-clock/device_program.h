@@ -8,7 +8,8 @@
 #include "ptpm.h"
 #include <stdbool.h>
 
-/* What became of a run. It exited with a status, a signal ended it, or its time was up. Or it could not be started, as an errno says. */
+/* What became of a run. It exited with a status, a signal ended it, or its time was up. Or it could not be started, as an errno
+   says. */
 enum run_end { RUN_EXITED, RUN_KILLED, RUN_TOOK_TOO_LONG, RUN_NOT_STARTED };
 
 struct run { enum run_end end; int number; };

@@ -29,7 +29,8 @@ static const struct option names[] = {
     { "no-forward", no_argument, NULL, NO_FORWARD },
     { "any-source", no_argument, NULL, ANY_SOURCE }, { "user", required_argument, NULL, USER },
     { "unix-group", required_argument, NULL, UNIX_GROUP }, { "unix-mode", required_argument, NULL, UNIX_MODE },
-    { "limits", required_argument, NULL, LIMITS }, { "ask", required_argument, NULL, ASK }, { "ask-time", required_argument, NULL, ASK_TIME },
+    { "limits", required_argument, NULL, LIMITS }, { "ask", required_argument, NULL, ASK },
+    { "ask-time", required_argument, NULL, ASK_TIME },
     { "no-filter", no_argument, NULL, NO_FILTER }, { "state", required_argument, NULL, 's' }, { "help", no_argument, NULL, 'h' },
     { "version", no_argument, NULL, VERSION }, { NULL, 0, NULL, 0 },
 };

@@ -225,7 +225,8 @@ bool next_text(struct source *source, char **text) {
     } while (source->taken > 0 && let_go_text(source));
     if (source->taken > 0) {
         *text = source->held + source->first;
-        (*text)[source->taken < source->size ? source->taken - 1 : source->taken] = '\0';     /* over the end of an empty line, or after all */
+        size_t end = source->taken < source->size ? source->taken - 1 : source->taken;     /* over the end of an empty line, or after all */
+        (*text)[end] = '\0';
         return true;
     }
     if (source->is_ended) source->is_ended = source->is_too_long = false;

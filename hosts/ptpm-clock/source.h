@@ -21,8 +21,8 @@ struct source {
     ino_t file_read;                    /* what was read last */
     bool is_ended, is_too_long;         /* its end has come; its head was dropped */
     size_t first, size, searched, taken;
-    char held[SOURCE_ROOM + 1];         /* what has come in and is not taken yet: `size` octets from `first` on. `searched` of them have no
-                                           empty line, and `taken` were the latest text */
+    char held[SOURCE_ROOM + 1];         /* what has come in and is not taken yet: `size` octets from `first` on. `searched` of them
+                                           have no empty line, and `taken` were the latest text */
 };
 
 /* Opens it, and returns what is to be polled. Ends the program with status 2 if there is no such file or pipe. */
