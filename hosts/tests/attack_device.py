@@ -11,6 +11,7 @@ from attacking import MANAGER, ME, SLOW, Clock, Peer, check, get, pause, path, r
 
 SECOND_MANAGER = "0011223344556688"
 PROGRAM = os.path.join(work, "program")
+LONG = f"300.{os.getpid()}"               # seconds, and a word that no other process has
 WRONG_VALUE, NOT_SETABLE, NOT_SUPPORTED, GENERAL_ERROR = 4, 5, 6, 0xFFFE
 
 
@@ -191,17 +192,17 @@ def programs_that_say_nothing():
     check("and is said", "was ended by a signal, and the change counts as lost\n" in clock.text())
     write("says", "exit 0\n")
     check("the change that comes again is asked about again", asked(peer, set_of(1, 100)) == (1, "value", 100) and len(runs()) == 2)
-    write("says", "sleep 300.25 & sleep 300.25\n")
+    write("says", f"sleep {LONG} & sleep {LONG}\n")
     began = time.monotonic()
     peer.ask(set_of(2, 50))
-    check("it runs, with what it has started", wait_until(lambda: processes_with("300.25") == 2))
+    check("it runs, with what it has started", wait_until(lambda: processes_with(LONG) == 2))
     check("others are answered meanwhile", [asked(other, message(number, STRANGER, ME)) for number in range(5)] == [(number, "value", 100) for number in range(5)])
     check("so is another manager", asked(other, message(1, SECOND_MANAGER, ME)) == (1, "value", 100))
     check("it is ended once its time is up, and said", wait_until(lambda: "took too long, and the change counts as lost\n" in clock.text()))
     check("after a second", 0.9 < time.monotonic() - began < 2 * SLOW)
-    check("with what it has started", wait_until(lambda: processes_with("300.25") == 0, 1) and answer_at(peer, 0.2) is None)
-    write("says", "sleep 300.25 & exit 5\n")
-    check("so is what it leaves when it exits", asked(peer, set_of(2, 50)) == (2, "error", NOT_SETABLE) and processes_with("300.25") == 0)
+    check("with what it has started", wait_until(lambda: processes_with(LONG) == 0, 1) and answer_at(peer, 0.2) is None)
+    write("says", f"sleep {LONG} & exit 5\n")
+    check("so is what it leaves when it exits", asked(peer, set_of(2, 50)) == (2, "error", NOT_SETABLE) and processes_with(LONG) == 0)
     check("it ends in order", clock.end()[0] == 0 and "the device said nothing: 2\n" in clock.text())
     peer.close(), other.close()
 
@@ -265,14 +266,14 @@ def kills_while_a_program_runs():
     """The change comes again, and is made once; the program of the run before is gone by then. A kill between its end and the save is
     as one before."""
     saved = os.path.join(work, "saved")
-    words = ("-s", saved, "--ask", program("sleep 300.25\n"))
+    words = ("-s", saved, "--ask", program(f"sleep {LONG}\n"))
     clock, peer = device_clock(*words), Peer("peer")
     for number in [signal.SIGKILL, signal.SIGTERM]:
         peer.ask(set_of(7, 100))
-        check("it runs", wait_until(lambda: processes_with("300.25") == 1))
+        check("it runs", wait_until(lambda: processes_with(LONG) == 1))
         status, took = clock.end(number)
         check(f"the clock ends at once by {number.name}: {status}", took < 2 * SLOW and status == (0 if number == signal.SIGTERM else -number))
-        check("and its program with it", wait_until(lambda: processes_with("300.25") == 0, 1) and processes_with(PROGRAM) == 0)
+        check("and its program with it", wait_until(lambda: processes_with(LONG) == 0, 1) and processes_with(PROGRAM) == 0)
         clock = device_clock(*words)
     write("says", "exit 0\n")
     check("the change was not made", asked(peer, message(1, STRANGER, ME)) == (1, "value", 128))
@@ -281,12 +282,12 @@ def kills_while_a_program_runs():
     clock = device_clock(*words)
     check("and its next copy is none", asked(peer, set_of(7, 100)) == (7, "value", 100) and len(runs()) == 3)
     beside = [one for one in filter(str.isdigit, os.listdir("/proc")) if is_child(one, clock.process.pid)]
-    write("says", "sleep 300.25\n")
+    write("says", f"exec sleep {LONG}\n")
     peer.ask(set_of(8, 50))
-    check("it runs", len(beside) == 1 and wait_until(lambda: processes_with("300.25") == 1))
+    check("it runs", len(beside) == 1 and wait_until(lambda: processes_with(LONG) == 1))
     os.kill(int(beside[0]), signal.SIGKILL)
     check("without the process between, the clock ends, and says so", clock.end(None)[0] == 2 and "the process that runs it is gone\n" in clock.text())
-    check("and its program with it", wait_until(lambda: processes_with(PROGRAM) == 0, 1))
+    check("and its program with it", wait_until(lambda: processes_with(LONG) == 0, 1))
     peer.close()
 
 
