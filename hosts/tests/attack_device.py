@@ -2,12 +2,14 @@
 answered meanwhile, and what becomes of a change if the clock, the program or the process between them is killed."""
 import ast
 import os
+import shutil
 import signal
 import time
 
 from attack_limits import set_of
+from attack_saves import FAILING, SLOWLY, Disk
 from attack_wire import STRANGER, Wire, message
-from attacking import MANAGER, ME, SLOW, Clock, Peer, check, get, pause, path, read, wait_until, work, write
+from attacking import MANAGER, ME, SLOW, TRACED, Clock, Peer, check, get, pause, path, read, wait_until, work, write
 
 SECOND_MANAGER = "0011223344556688"
 PROGRAM = os.path.join(work, "program")
@@ -291,6 +293,28 @@ def kills_while_a_program_runs():
     peer.close()
 
 
+def changes_that_are_not_saved():
+    """A change to which the program agreed is lost if the clock is killed before it is saved, or can't save it. It comes again, the
+    program is run again, and it is made once."""
+    words = ("-s", os.path.join(work, "saved"), "-u", path, "-m", MANAGER + "/1", "--ask", program("exit 0\n"), ME)
+    clock, peer = Clock(*words, env=TRACED), Peer("peer")
+    disk = Disk(clock, SLOWLY)
+    peer.ask(set_of(7, 100))
+    check("it runs", wait_until(lambda: len(runs()) == 1))
+    check("nothing is answered before it is saved", answer_at(peer, 0.1) is None)
+    clock.end(signal.SIGKILL)
+    disk.mend()
+    clock = Clock(*words, env=TRACED)
+    check("a change that was not saved was not made", asked(peer, message(1, STRANGER, ME)) == (1, "value", 128))
+    check("it comes again and is made", asked(peer, set_of(7, 100)) == (7, "value", 100) and len(runs()) == 2)
+    disk = Disk(clock, FAILING)
+    check("one that can't be saved is not answered", asked(peer, set_of(8, 60), 0.7) is None and len(runs()) == 3)
+    disk.mend()
+    check("and is made once it can", asked(peer, set_of(8, 60)) == (8, "value", 60) and len(runs()) == 4)
+    check("it ends in order", clock.end()[0] == 0)
+    peer.close()
+
+
 def is_child(process, parent):
     try:
         with open(f"/proc/{process}/stat") as file:
@@ -301,3 +325,5 @@ def is_child(process, parent):
 
 ATTACKS = [limits_of_hardware, limits_that_are_wrong, what_a_program_says, what_a_program_inherits, programs_that_say_nothing,
            changes_that_wait, floods_while_a_program_runs, kills_while_a_program_runs]
+if shutil.which("strace") is not None:
+    ATTACKS.append(changes_that_are_not_saved)
