@@ -170,8 +170,9 @@ def make(home):
     """The scene, over what is built and installed; None if it can't be made."""
     if not cover(home) or not connect():
         return None
-    with open("/usr/local/bin/sudo", "w", encoding="utf-8") as file:
-        file.write('#!/bin/sh\nexec "$@"\n')
-    os.chmod("/usr/local/bin/sudo", 0o755)
+    for path, text in [("/usr/local/bin/sudo", 'exec "$@"'), ("/usr/local/lib/device", "exit 0")]:     # which a clock asks
+        with open(path, "w", encoding="utf-8") as file:
+            file.write(f"#!/bin/sh\n{text}\n")
+        os.chmod(path, 0o755)
     done = shell("make -s -C hosts install PREFIX=/usr/local", cwd=home)
     return Scene(home) if done.returncode == 0 else sys.exit(f"tools/commands: {done.stdout}")
