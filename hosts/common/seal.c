@@ -8,7 +8,7 @@ static const uint8_t mark[MARK_OCTETS] = { 'p', 't', 'p', 's' };
 /* Of IEEE 802.3, with its bits in reverse order. */
 static const uint32_t polynomial = 0xedb88320;
 
-static uint32_t crc_of(const uint8_t *octets, size_t size) {
+uint32_t crc_of(const uint8_t *octets, size_t size) {
     uint32_t crc = UINT32_MAX;
     for (size_t place = 0; place < size; place++) {
         crc ^= octets[place];

@@ -11,6 +11,9 @@ enum { SEAL_OCTETS = 16 };
 
 enum seal { SEALED, NO_SEAL, BROKEN_SEAL };
 
+/* The CRC-32 of IEEE 802.3 over these octets. */
+uint32_t crc_of(const uint8_t *octets, size_t size);
+
 /* Writes the seal after these octets; how many octets there are then. There is room for it. */
 size_t write_seal(uint8_t *octets, size_t size, uint64_t saves);
 

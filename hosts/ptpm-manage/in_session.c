@@ -21,11 +21,9 @@ enum { GOES_ON = -1 };
 enum tag { LEFT, OWN };
 
 struct run {
-    struct ptpm_asker asker;
+    struct kept_session session;
     struct driver driver;
     const struct task *task;
-    struct earlier earlier;
-    bool has_file;
     enum unanswered what;           /* what is sent: the request LEFT or OWN, or a question before it */
     bool is_reported;               /* its answer is */
     int status;
@@ -33,7 +31,7 @@ struct run {
 
 /* What the asker is asked about if there is no answer. */
 static const struct task *task_of(const struct run *run) {
-    return run->what == EARLIER_REQUEST || run->what == EARLIER_ELSEWHERE ? &run->earlier.task : run->task;
+    return run->what == EARLIER_REQUEST || run->what == EARLIER_ELSEWHERE ? &run->session.earlier.task : run->task;
 }
 
 /* From now on this is sent. */
@@ -53,8 +51,8 @@ static int give_up(struct run *run) {
 
 /* The request of this run is begun. */
 static int note_begun(struct run *run) {
-    if (!run->has_file) complain("%s is new: the session begins at number %u", session_path(), run->driver.handed.number);
-    run->has_file = true;
+    if (!run->session.has_file) complain("%s is new: the session begins at number %u", session_path(), run->driver.handed.number);
+    run->session.has_file = true;
     begin(run, REQUEST);
     say_noted(&run->driver);
     return GOES_ON;
@@ -64,8 +62,8 @@ static int note_begun(struct run *run) {
 static int note_answer(struct run *run) {
     static struct answer answer;
     bool is_own = run->driver.handed.tag == OWN;
-    answer.outcome = ptpm_asker_report(&run->asker, answer.octets, sizeof answer.octets, &answer.size, &answer.error);
-    run->status = is_own ? print_report(run->task, &answer) : say_settled(&run->earlier, run->task, &answer);
+    answer.outcome = ptpm_asker_report(&run->session.asker, answer.octets, sizeof answer.octets, &answer.size, &answer.error);
+    run->status = is_own ? print_report(run->task, &answer) : say_settled(&run->session.earlier, run->task, &answer);
     if (run->status == NOT_WRITTEN) return NOT_WRITTEN;
     run->is_reported = is_own;
     say_noted(&run->driver);
@@ -75,8 +73,8 @@ static int note_answer(struct run *run) {
 /* Keeps the session. A request that can't be kept is not sent. */
 static int save(struct run *run) {
     bool is_unsent = run->driver.is_unsent;
-    if (save_session(&run->asker)) return say_saved(&run->driver) ? run->status : GOES_ON;
-    if (!run->is_reported && !is_unsent) refuse_place();
+    if (save_session(&run->session)) return say_saved(&run->driver) ? run->status : GOES_ON;
+    if (!run->is_reported && !is_unsent) refuse_place(run->session.file);
     complain("%s: %s: the next run asks this again", session_path(), strerror(errno));
     return is_unsent ? give_up(run) : run->status;
 }
@@ -102,15 +100,15 @@ static int carry_out(struct run *run) {
 }
 
 static int let_go(struct run *run) {
-    enum ptpm_asked refusal = ptpm_asker_let_go(&run->asker, &run->driver.handed);
-    if (refusal != PTPM_ASKED) refuse_to_let_go(refusal, &run->earlier, run->task);
-    say_let_go(&run->earlier, run->task);
+    enum ptpm_asked refusal = ptpm_asker_let_go(&run->session.asker, &run->driver.handed);
+    if (refusal != PTPM_ASKED) refuse_to_let_go(refusal, &run->session.earlier, run->task);
+    say_let_go(&run->session.earlier, run->task);
     return carry_out(run);
 }
 
 static int settle_earlier(struct run *run) {
-    bool is_here = run->earlier.task.settings.domain == run->task->settings.domain;
-    if (!run->earlier.is_left) return ANSWERED;
+    bool is_here = run->session.earlier.task.settings.domain == run->task->settings.domain;
+    if (!run->session.earlier.is_left) return ANSWERED;
     begin(run, is_here ? EARLIER_REQUEST : EARLIER_ELSEWHERE);
     if (run->task->is_letting_go) return let_go(run);
     settle_request(&run->driver, LEFT, run->task->settings.domain);
@@ -118,7 +116,7 @@ static int settle_earlier(struct run *run) {
 }
 
 static int ask_once(struct run *run) {
-    begin(run, run->has_file ? NUMBER : FIRST_NUMBER);
+    begin(run, run->session.has_file ? NUMBER : FIRST_NUMBER);
     ask_request(&run->driver, OWN, run->task);
     return carry_out(run);
 }
@@ -138,11 +136,11 @@ static int ask_clock(struct run *run) {
 int ask_in_session(const struct task *task) {
     static struct run run;
     run.task = task;
-    run.driver = (struct driver){ .asker = &run.asker, .task = task };
-    run.has_file = open_session(&run.asker, task, &run.earlier);
+    run.driver = (struct driver){ .asker = &run.session.asker, .task = task };
+    open_session(&run.session, task);
     open_transport(task);
     int status = settle_earlier(&run);
     if (status == ANSWERED) status = ask_clock(&run);
-    ptpm_asker_stop(&run.asker);
+    ptpm_asker_stop(&run.session.asker);
     return status;
 }
