@@ -116,7 +116,8 @@ static void read_steps(struct plan *plan) {
 static void read_id(struct plan *plan, const char *lead) {
     const char *found = plan->text.text == NULL ? NULL : strstr(plan->text.text, lead);
     if (found == NULL) refuse("nothing was sent: ptpm plan prints no id of a plan");
-    snprintf(plan->id, sizeof plan->id, "%s", found + strlen(lead));
+    found += strlen(lead);
+    snprintf(plan->id, sizeof plan->id, "%s", found + strspn(found, " :\""));
 }
 
 /* As an object of JSON. It is of the same plan, unless the file has changed in between. */
@@ -125,7 +126,7 @@ static void take_json(struct plan *plan, const struct task *task, const struct p
     memcpy(id, plan->id, sizeof id);
     free(plan->text.text);
     run_plan(task, "--json", lines, &plan->text);
-    read_id(plan, "\"plan\":\"");
+    read_id(plan, "\"plan\"");
     if (strcmp(id, plan->id) != 0) refuse("nothing was sent: %s has changed meanwhile", task->plan.word);
 }
 
@@ -144,7 +145,7 @@ int make_plan(struct plan *plan, const struct task *task) {
     if (status == ANSWERED || status == NOT_ANSWERED) {
         status = run_plan(task, "--steps", &lines, &plan->text);
         if (plan->text.text != NULL) {
-            read_id(plan, "plan ");
+            read_id(plan, "plan");
             read_steps(plan);
         }
         if (plan->text.text != NULL && task->is_json) take_json(plan, task, &lines);
