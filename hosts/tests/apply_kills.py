@@ -10,7 +10,7 @@ import time
 import zlib
 from collections import Counter
 
-from apply_network import ANSWERED_NEW, HOME, SET, Clock, Network
+from apply_network import ANSWERED_NEW, HOME, MANAGER, SET, Clock, Network
 
 IDENTITIES = [f"02c0fffffe00010{number}" for number in (1, 2, 3)]
 VALUES = {"PRIORITY1": (0, 255), "PRIORITY2": (0, 255), "CLOCK_ACCURACY": (0x17, 0x31)}
@@ -60,7 +60,7 @@ class Observed:
 
     def sets(self):
         """The SETs that it took as new since the last `count`: the id and the dataField."""
-        asked = [request for request in list(self.network.middle.passed) if request.target in (self.clock.identity, "f" * 16)]
+        asked = [request for request in list(self.network.middle.passed) if (request.source, request.target) == (MANAGER, self.clock.identity)]
         answers = self.clock.answers()
         if len(asked) != len(answers):
             raise Broken(f"{self.clock.name}: {len(asked)} requests passed, and {len(answers)} were judged")

@@ -17,7 +17,7 @@ GET, SET = 0, 1
 TUNSETIFF, IFF_TAP, IFF_NO_PI = 0x400454CA, 2, 0x1000
 HEADERS = 42                        # of Ethernet, IPv4 and UDP
 ANSWERED_NEW = "5"
-OWN_ANSWERS = "56789"               # of a clock to what names it or every clock
+NUMBERED = "5678"                   # answers of a clock to what a manager of it asks it by itself
 
 
 def run(*words, **more):
@@ -43,6 +43,7 @@ class Request:
     def __init__(self, frame):
         message = frame[HEADERS:]
         self.whole = len(frame) - HEADERS
+        self.source = f"{message[20:28].hex()}/{int.from_bytes(message[28:30], 'big')}"
         self.number = int.from_bytes(message[30:32], "big")
         self.target = message[34:42].hex()
         self.action = message[46] & 15
@@ -102,10 +103,10 @@ class Clock:
         self.process = self.log = self.namespace = None
 
     def answers(self):
-        """The answers to what named this clock, and how many octets each of these requests had."""
+        """The answers to what a manager asked this clock by itself, and how many octets each of these requests had."""
         with open(self.log) as log:
             lines = [re.match(r"port 1, (\d+) octets: (\d+) ", line) for line in log]
-        return [(found[2], int(found[1])) for found in lines if found and found[2] in OWN_ANSWERS]
+        return [(found[2], int(found[1])) for found in lines if found and found[2] in NUMBERED]
 
 
 class Network:
