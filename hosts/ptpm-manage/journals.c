@@ -51,7 +51,7 @@ static void read_it(struct journal *journal, const char *path) {
     switch (read_journal(journal, path)) {
     case FOUND_JOURNAL: return;
     case NO_JOURNAL: refuse("nothing was sent: %s: there is no such journal", path);
-    case DAMAGED_JOURNAL: refuse("nothing was sent: DAMAGED: %s: octets of the journal were lost or changed", path);
+    case DAMAGED_JOURNAL: refuse("nothing was sent: DAMAGED: %s: octets of the journal were lost or changed; without it no apply is open", path);
     case UNREADABLE_JOURNAL: refuse_folder(path);
     }
 }

@@ -38,8 +38,10 @@ void refuse_mark(const char *session) {
     struct kept_file mark;
     char journal[PATH_MAX];
     enum kept_found found = find_mark(&mark, session) ? read_mark(&mark, journal) : KEPT_NONE;
+    bool is_past = found == KEPT_FILE && !is_own(journal) && !may_be_open(journal);
+    if (is_past) unlinkat(mark.folder, mark.name, 0);
     if (mark.folder >= 0) close(mark.folder);
-    if (found == KEPT_NONE || (found == KEPT_FILE && (is_own(journal) || !may_be_open(journal)))) return;
+    if (is_past || found == KEPT_NONE || (found == KEPT_FILE && is_own(journal))) return;
     if (found != KEPT_FILE) refuse("nothing was asked: %s.apply: it can't be read: an apply may be open", session);
     refuse("nothing was asked: the apply of %s is open: ptpm-manage resume goes on with it", journal);
 }

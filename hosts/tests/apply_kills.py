@@ -18,7 +18,8 @@ PORT_VALUES = {"LOG_SYNC_INTERVAL": (-8, 1), "ANNOUNCE_RECEIPT_TIMEOUT": (2, 10)
 REFUSED_ID, REFUSED_FIELD = 0x6001, "f700"          # LOG_MIN_PDELAY_REQ_INTERVAL, -9: below the profile's range
 LOSS, REPEAT = 0.30, 0.20
 MOST_LIVES, PATIENT_AFTER, PATIENCE = 400, 60, 60
-SETTLED = 0.1                                       # by then what was on its way has come in
+SETTLED = 0.1                                       # by then what was on its way has come in,
+MOST_SAVING = 10                                    # and a clock has saved, and judged it
 
 
 class Broken(Exception):
@@ -58,10 +59,17 @@ class Observed:
     def __init__(self, network, clock):
         self.network, self.clock, self.counted = network, clock, 0
 
+    def asked(self):
+        passed = list(self.network.middle.passed)
+        return [request for request in passed if (request.source, request.target) == (MANAGER, self.clock.identity)]
+
     def sets(self):
         """The SETs that it took as new since the last `count`: the id and the dataField."""
-        asked = [request for request in list(self.network.middle.passed) if (request.source, request.target) == (MANAGER, self.clock.identity)]
-        answers = self.clock.answers()
+        end = time.monotonic() + MOST_SAVING
+        asked, answers = self.asked(), self.clock.answers()
+        while len(asked) != len(answers) and time.monotonic() < end:
+            time.sleep(0.05)
+            asked, answers = self.asked(), self.clock.answers()
         if len(asked) != len(answers):
             raise Broken(f"{self.clock.name}: {len(asked)} requests passed, and {len(answers)} were judged")
         found = []
