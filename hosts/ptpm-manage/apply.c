@@ -117,7 +117,7 @@ static void take_up(const struct task *task, struct journal *journal) {
     if (!mark_sessions()) exit(NOT_WRITTEN);
 }
 
-/* Ends it without an answer to the step in doubt. */
+/* Ends it without an answer to the uncertain step. */
 static int give_up_apply(const struct task *task, struct journal *journal) {
     if (!note_begun_step(journal) || !end_journal(journal, GIVEN_UP, journal->begun)) return NOT_WRITTEN;
     if (journal->begun != NO_STEP) complain("step %ld may have been carried out", journal->begun + 1);
@@ -166,7 +166,7 @@ static void take_back(struct journal *back, const struct journal *journal) {
     free(steps);
 }
 
-/* An apply that is open is ended: its step in doubt is settled first. ANSWERED, or the program's status. */
+/* An apply that is open is ended: its uncertain step is settled first. ANSWERED, or the program's status. */
 static int close_apply(const struct task *task, struct journal *journal) {
     take_up(task, journal);
     int status = settle_begun_step(journal);

@@ -44,7 +44,7 @@ static struct told told_of(const struct step *step, const struct answer *answer)
     return told;
 }
 
-/* Notes the answer to a step. That to another program's request is said; NO_STEP may also be a step that is told already. */
+/* Notes the answer to a step. That to another program's request is said. NO_STEP is also a step whose answer is noted already. */
 static bool note_answer(struct desk *desk, struct journal *journal, long step, bool is_anothers) {
     static struct answer answer;
     answer.outcome = ptpm_asker_report(&desk->session.asker, answer.octets, sizeof answer.octets, &answer.size, &answer.error);
@@ -56,7 +56,7 @@ static bool note_answer(struct desk *desk, struct journal *journal, long step, b
 
 /* ---- what is asked */
 
-/* No answer came. A step of which no message left was not begun: the session was saved without it. */
+/* No answer came. If no message of a step left, it was not begun: the session was saved without it. */
 static int no_answer_to(struct desk *desk, struct journal *journal, long step) {
     char clock[IDENTITY_TEXT];
     const struct driver *driver = &desk->driver;
@@ -109,7 +109,7 @@ static int settle(struct desk *desk, struct journal *journal, long step, uint8_t
     return carry_out(desk, journal, step, is_anothers);
 }
 
-/* A clock that has carried a SET of DOMAIN out hears what is sent in the new domain alone. So a step without an answer is sent there too. */
+/* A clock that has carried a SET of DOMAIN out hears only what is sent in the new domain. So a step without an answer is sent there too. */
 static int settle_move(struct desk *desk, struct journal *journal, long step, int status) {
     const struct step *move = &journal->steps[step];
     if (status != NOT_ANSWERED || move->id != PTPM_ID_DOMAIN || journal->begun != step) return status;

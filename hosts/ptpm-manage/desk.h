@@ -24,7 +24,7 @@ void open_desk(struct desk *desk, const struct task *task, const struct step *fi
    ends, and then it is said why. */
 int see_to_desk(struct desk *desk, struct journal *journal);
 
-/* Finds where the step stands that was begun last, and notes it if it never was begun. Nothing is sent. */
+/* Finds whether the step that was begun last was never sent, and notes it then. Nothing is sent. */
 bool note_standing(struct desk *desk, struct journal *journal);
 
 /* Asks a step until it is answered, and notes what the answer is. ANSWERED, or the program's status. */

@@ -47,7 +47,7 @@ struct journal {
 /* Makes the steps' places. Ends the program with status 2 if there is no memory. */
 void give_steps(struct journal *journal, const struct step *steps, size_t count);
 
-/* Makes the file whole, with the steps alone; whether it could. If not, errno says why. */
+/* Makes the file whole, with only the steps; whether it could. If not, errno says why. */
 bool make_journal(struct journal *journal);
 
 enum found_journal { FOUND_JOURNAL, NO_JOURNAL, DAMAGED_JOURNAL, UNREADABLE_JOURNAL };
@@ -67,10 +67,10 @@ bool note_not_begun(struct journal *journal);
 bool note_told(struct journal *journal, long step, const struct told *told);
 bool note_end(struct journal *journal, enum ending ending, long step);
 
-/* The next step to be asked; NO_STEP if all are done, or one is told and is not done. */
+/* The next step to be asked; NO_STEP if all are done, or one was answered and is not done. */
 long next_step(const struct journal *journal);
 
-/* The step that is told and is not done, or NO_STEP. */
+/* The step that was answered and is not done, or NO_STEP. */
 long failed_step(const struct journal *journal);
 
 const char *ending_name(enum ending ending);

@@ -1,5 +1,5 @@
 /* The mark of an apply beside the file of a session, FILE.apply, which names the apply's journal. While that is open no other run may ask
-   in the session: it would settle a step and print an answer that the journal then lacks. */
+   in the session. It would settle a step and print an answer that the journal then lacks. */
 #ifndef MARKS_H
 #define MARKS_H
 

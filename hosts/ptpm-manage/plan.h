@@ -15,8 +15,9 @@ struct plan {
     size_t count;
 };
 
-/* Opens the transport, asks the clocks, and has the plan made. The status of `ptpm plan`: 0 if it can be applied, 1 if something can't be
-   set, 2 if the file is refused, 3 if something is not reached. Or that of the program, if the clocks could not be asked. */
+/* Opens the transport, asks the clocks, and has the plan made. The status is that of `ptpm plan`. It is 0 if it can be applied, and 1 if
+   something can't be set. It is 2 if the file is refused, and 3 if something is not reached. Or it is that of the program, if the clocks
+   could not be asked. */
 int make_plan(struct plan *plan, const struct task *task);
 
 /* Prints it. */

@@ -13,7 +13,7 @@ enum { FIRST_OF_NOBODY = 61440 };
 /* The portNumber with which this process asks in no session. For a GET it is even, and for a SET or a COMMAND odd. */
 uint16_t port_of_nobody(uint8_t action);
 
-/* Begins a GET of this id, at the task's clock and port, which is sent as often as the attempts say at most; whether it is begun. Its
+/* Begins a GET of this id, at the task's clock and port; whether it is begun. It is sent as often as the attempts say at most. Its
    session takes the place of the one that the handle holds. The first number is drawn, and each other one is the next. */
 bool begin_reading(struct ptpm_session *session, const struct task *task, uint16_t id, uint8_t attempts);
 

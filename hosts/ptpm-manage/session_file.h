@@ -27,8 +27,8 @@ enum found_session { NO_SESSION_FILE, SESSION_FILE, BROKEN_SESSION_FILE };
 /* Takes the file at this path only for this run, and reads what is before its seal, or all if it has none. If there is no file,
    none is made, but the call makes sure that one can be. The file's folder is made if it is missing. A manager has one request on
    its way at a time. So runs take turns, by a lock on the file PATH.lock, which stays if there is a file at the end. Ends the
-   program, status 2, if the file is a link or no file, if its turn does not come within a minute, or if an apply has marked it
-   (marks.h). It also ends if a signal comes in before. `is_named` says that the command line names the file. */
+   program, status 2, if the file is a link or no file, or if its turn does not come within a minute. So it does if an apply has marked
+   the file (marks.h), or if a signal comes in before. `is_named` says that the command line names the file. */
 enum found_session open_session_file(struct session_file **opened_file, const char *path, bool is_named,
                                      uint8_t octets[MOST_SESSION_OCTETS], size_t *size);
 
@@ -46,7 +46,7 @@ _Noreturn void refuse_place(const struct session_file *file);
 /* The path of the file that was opened last. */
 const char *session_path(void);
 
-/* The folder of the files that no command line names, which is made with the first of them; those above it are made if they are
+/* The folder of the files that no command line names, and it is made with the first of them. Those above it are made if they are
    missing. Ends the program with status 2 if there is no such folder. The text is there until the next call of this or the next. */
 const char *state_folder(void);
 

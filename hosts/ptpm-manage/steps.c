@@ -41,7 +41,7 @@ static void allow_files(void) {
     setrlimit(RLIMIT_NOFILE, &files);
 }
 
-/* The first step of each clock that is not told counts: its port is asked first. */
+/* The first step of each clock without an answer counts: its port is asked first. */
 void take_sessions(const struct task *task, const struct journal *journal) {
     allow_files();
     for (size_t i = 0; i < journal->count; i++) {
@@ -133,7 +133,7 @@ static int verify(const struct task *task, struct journal *journal) {
     return end_with(journal, COMPLETE, NO_STEP);
 }
 
-/* Of the moves among these steps each is read in the domain in which it is asked, and so are the other members of its clock. */
+/* Each move is read in the domain in which it is asked, and so are the other members of its clock. */
 static uint8_t domain_at_begin(const struct journal *journal, const struct step *step) {
     for (size_t i = 0; i < journal->count && step->id != PTPM_ID_DOMAIN; i++) {
         const struct step *move = &journal->steps[i];

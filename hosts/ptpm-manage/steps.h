@@ -11,11 +11,11 @@ void take_sessions(const struct task *task, const struct journal *journal);
 /* Makes the marks; whether all are made, which is said otherwise. */
 bool mark_sessions(void);
 
-/* Sees to what an earlier run left, asks the steps that are not told, and reads at last what was set. ANSWERED if the journal has an end
+/* Sees to what an earlier run left, asks the steps that have no answer, and reads at last what was set. ANSWERED if the journal has an end
    then. Otherwise it stays open, and the answer is the program's status. */
 int carry_out_steps(const struct task *task, struct journal *journal);
 
-/* Sees to the step that was begun and is not told. ANSWERED, or the program's status. */
+/* Sees to the step that was begun and has no answer. ANSWERED, or the program's status. */
 int settle_begun_step(struct journal *journal);
 
 /* Finds whether the step that was begun last was never sent, and notes it then. Nothing is sent. Whether it could. */
