@@ -1,5 +1,6 @@
-"""Runs of ptpm-manage that are killed while they change three clocks, for hosts/tests/apply: over a link that loses 30 and repeats 20 of a
-hundred frames each way, until `resume` has ended each apply. After each kill what the clocks took as new is set beside the journal."""
+"""Runs of ptpm-manage that are killed while they change three clocks, for hosts/tests/apply: at random times, over a link that loses 30 and
+repeats 20 of a hundred frames each way, or at each call by which they save and send. `resume` ends each apply. After each kill what the
+clocks took as new is set beside the journal."""
 import glob
 import json
 import os
@@ -87,12 +88,12 @@ class Observed:
         self.counted = len(self.sets())
 
 
-class Kills:
-    """Plans that are applied, killed, resumed and rolled back."""
+class Changes:
+    """Plans for three clocks, and what is checked of what became of them."""
 
-    def __init__(self, work, seed):
+    def __init__(self, work, seed, loss=0.0, repeat=0.0):
         self.work, self.chance = work, random.Random(seed)
-        self.network = Network(work, [Clock(f"c{place}", identity) for place, identity in enumerate(IDENTITIES)], None, LOSS, REPEAT, seed)
+        self.network = Network(work, [Clock(f"c{place}", identity) for place, identity in enumerate(IDENTITIES)], None, loss, repeat, seed)
         self.observed = [Observed(self.network, clock) for clock in self.network.clocks.values()]
         self.counts, self.places = Counter(), Counter()
 
@@ -115,13 +116,65 @@ class Kills:
     def journals(self):
         return set(glob.glob(os.path.join(self.work, "state/ptpm/apply/*.journal")))
 
-    def life(self, words, seconds, before):
-        """A run, killed this long after its journal is there; its status, or None if it was killed."""
-        environment = {**os.environ, "XDG_STATE_HOME": os.path.join(self.work, "state")}
+    def check(self, journal):
+        """The steps that are told are the first ones. The clocks took these, each once and in order, or these and the one that is begun."""
+        if sorted(journal.told) != list(range(len(journal.told))):
+            raise Broken(f"told {sorted(journal.told)} of {len(journal.steps)}")
+        for clock in self.observed:
+            own = [place for place, step in enumerate(journal.steps) if step["clock"] == clock.clock.identity]
+            told = [self.change(journal, place) for place in own if place in journal.told]
+            also = [self.change(journal, place) for place in own if place == journal.begun]
+            new = clock.new()
+            if new != told and new != told + also:
+                raise Broken(f"{clock.clock.name} took {new}; told {told}, begun {also}, journal {journal.place()}")
+        for place, note in journal.told.items():
+            self.check_outcome(journal.steps[place], note)
+
+    def change(self, journal, place):
+        return journal.steps[place]["id"], journal.steps[place]["after"]
+
+    def check_outcome(self, step, note):
+        is_refused = (step["id"], step["after"]) == (REFUSED_ID, REFUSED_FIELD)
+        if note["outcome"] != ("refused WRONG_VALUE" if is_refused else "done") or (not is_refused and note["octets"] != step["after"]):
+            raise Broken(f"{step} is told as {note}")
+
+    def check_end(self, journal):
+        is_whole = len(journal.told) == len(journal.steps)
+        is_refused = any(note["outcome"] != "done" for note in journal.told.values())
+        if journal.begun is not None or journal.end != ("refused" if is_refused else "complete") or (not is_refused and not is_whole):
+            raise Broken(f"it ended as {journal.end}, with {len(journal.told)} of {len(journal.steps)} told")
+        for path in glob.glob(os.path.join(self.work, "state/ptpm/*.apply")):
+            with open(path) as mark:
+                if not Journal(mark.read().strip()).end:        # one that ended may have been killed before it removed its marks
+                    raise Broken(f"{path} names an apply that is open")
+        self.counts[f"{journal.end}"] += 1
+        self.counts["steps told"] += len(journal.told)
+        for clock in self.observed:
+            clock.count()
+
+    def start(self, words, **environment):
+        """A run of the program."""
+        environment = {**os.environ, "XDG_STATE_HOME": os.path.join(self.work, "state"), **environment}
         with open(os.path.join(self.work, "said"), "a") as said:
-            process = subprocess.Popen(
+            return subprocess.Popen(
                 ["ip", "netns", "exec", self.network.near, os.path.join(HOME, "manage"), "-i", "e1", "-w", "100", "-t", "40", *words],
                 stdout=said, stderr=said, env=environment)
+
+    def end(self, began):
+        counted = ", ".join(f"{what} {count}" for what, count in sorted(self.counts.items()))
+        killed = ", ".join(f"{place} {count}" for place, count in sorted(self.places.items()))
+        print(f"{counted}; killed at: {killed}; {time.monotonic() - began:.0f} s")
+
+
+class Kills(Changes):
+    """They are applied, killed at random times, resumed and rolled back."""
+
+    def __init__(self, work, seed):
+        super().__init__(work, seed, LOSS, REPEAT)
+
+    def life(self, words, seconds, before):
+        """A run, killed this long after its journal is there; its status, or None if it was killed."""
+        process = self.start(words)
         end = time.monotonic() + PATIENCE
         while process.poll() is None and time.monotonic() < end and (words[0] != "resume" and self.journals() == before):
             time.sleep(0.002)
@@ -153,40 +206,6 @@ class Kills:
                 words = ["resume"]
         raise Broken(f"{words} did not end in {MOST_LIVES} runs")
 
-    def check(self, journal):
-        """The steps that are told are the first ones. The clocks took these, each once and in order, or these and the one that is begun."""
-        if sorted(journal.told) != list(range(len(journal.told))):
-            raise Broken(f"told {sorted(journal.told)} of {len(journal.steps)}")
-        for clock in self.observed:
-            own = [place for place, step in enumerate(journal.steps) if step["clock"] == clock.clock.identity]
-            told = [self.change(journal, place) for place in own if place in journal.told]
-            also = [self.change(journal, place) for place in own if place == journal.begun]
-            new = clock.new()
-            if new != told and new != told + also:
-                raise Broken(f"{clock.clock.name} took {new}; told {told}, begun {also}, journal {journal.place()}")
-        for place, note in journal.told.items():
-            self.check_outcome(journal.steps[place], note)
-
-    def change(self, journal, place):
-        return journal.steps[place]["id"], journal.steps[place]["after"]
-
-    def check_outcome(self, step, note):
-        is_refused = (step["id"], step["after"]) == (REFUSED_ID, REFUSED_FIELD)
-        if note["outcome"] != ("refused WRONG_VALUE" if is_refused else "done") or (not is_refused and note["octets"] != step["after"]):
-            raise Broken(f"{step} is told as {note}")
-
-    def check_end(self, journal):
-        is_whole = len(journal.told) == len(journal.steps)
-        is_refused = any(note["outcome"] != "done" for note in journal.told.values())
-        if journal.begun is not None or journal.end != ("refused" if is_refused else "complete") or (not is_refused and not is_whole):
-            raise Broken(f"it ended as {journal.end}, with {len(journal.told)} of {len(journal.steps)} told")
-        if glob.glob(os.path.join(self.work, "state/ptpm/*.apply")):
-            raise Broken("a mark is left")
-        self.counts[f"{journal.end}"] += 1
-        self.counts["steps told"] += len(journal.told)
-        for clock in self.observed:
-            clock.count()
-
     def round(self):
         before = self.journals()
         journal = self.until_end(["apply", self.plan()])
@@ -208,6 +227,42 @@ class Kills:
                 self.round()
         finally:
             self.network.end()
-        counted = ", ".join(f"{what} {count}" for what, count in sorted(self.counts.items()))
-        killed = ", ".join(f"{place} {count}" for place, count in sorted(self.places.items()))
-        print(f"{counted}; killed at: {killed}; {time.monotonic() - began:.0f} s")
+        self.end(began)
+
+
+class Points(Changes):
+    """Each apply is killed at one of the calls by which it saves and sends, the first one at the first, and so on to its end. Its first
+    `resume` is killed at another one, and the second is not."""
+
+    def killed_at(self, words, call, start):
+        """Whether a run was killed at this call."""
+        process = self.start(words, LD_PRELOAD=os.path.join(HOME, "dies.so"), DIES_AT=str(call), DIES_FROM="start" if start else "")
+        return process.wait(PATIENCE) in (-signal.SIGKILL, 128 + signal.SIGKILL)
+
+    def point(self, call):
+        """Whether the apply was killed at this call, and so goes on beyond it."""
+        before = self.journals()
+        is_killed = self.killed_at(["apply", self.plan()], call, False)
+        made = self.journals() - before
+        if not made:
+            return True
+        for words, start in ((None, None), (["resume"], self.chance.randrange(1, 40)), (["resume"], 0)):
+            if words is not None:
+                self.counts["kills"] += self.killed_at(words, start, True)
+            time.sleep(SETTLED)
+            journal = Journal(next(iter(made)))
+            self.places[journal.place()] += 1
+            self.check(journal)
+        self.counts["kills"] += is_killed
+        self.check_end(journal)
+        return is_killed
+
+    def run(self):
+        began, call = time.monotonic(), 1
+        try:
+            while self.point(call):
+                call += 1
+        finally:
+            self.network.end()
+        self.counts["calls"] = call - 1
+        self.end(began)
