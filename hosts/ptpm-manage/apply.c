@@ -40,7 +40,8 @@ static int show_plan(const struct task *task) {
 /* No session is kept of a port that no clock of ptpm has. */
 static void judge_ports(const struct step *steps, size_t count) {
     for (size_t i = 0; i < count; i++) {
-        if (is_beyond_session(steps[i].port)) refuse("nothing was sent: change %zu: no session is kept of a port above %d", i + 1, SESSION_PORTS);
+        if (!is_beyond_session(steps[i].port)) continue;
+        refuse("nothing was sent: change %zu: no session is kept of a port above %d", i + 1, SESSION_PORTS);
     }
 }
 

@@ -26,7 +26,8 @@ static void make_folder(const char *path) {
 void take_journals(void) {
     char path[PATH_MAX];
     const char *state = state_folder();
-    if ((size_t)snprintf(folder, sizeof folder, "%s/apply", state) >= sizeof folder) refuse("nothing was sent: %s: the path is too long", state);
+    int size = snprintf(folder, sizeof folder, "%s/apply", state);
+    if ((size_t)size >= sizeof folder) refuse("nothing was sent: %s: the path is too long", state);
     make_folder(state);
     make_folder(folder);
     snprintf(path, sizeof path, "%s/lock", folder);
@@ -37,13 +38,22 @@ void take_journals(void) {
     refuse("nothing was sent: another apply, process %ld, has %s", (long)kept_lock_owner(lock), path);
 }
 
-/* Whether a name in the folder ends so. What was written of a journal and never got its place is removed. */
+static bool ends_with(const char *name, const char *end) {
+    size_t size = strlen(name), most = JOURNAL_NAME + strlen(end);
+    return size > strlen(end) && size < most && strcmp(name + size - strlen(end), end) == 0;
+}
+
+/* The path of a file in the folder. */
+static void write_path(char path[PATH_MAX], const char *name) {
+    snprintf(path, PATH_MAX, "%s/%.*s", folder, JOURNAL_NAME + 15, name);
+}
+
+/* Whether a file in the folder is a journal. What was written of one that never got its place is removed. */
 static bool is_journal(const char *name) {
     char path[PATH_MAX];
-    size_t size = strlen(name), end = sizeof ending - 1;
-    if (size > end && size < JOURNAL_NAME + end && strcmp(name + size - end, ending) == 0) return true;
-    if (size < JOURNAL_NAME + 16 && strstr(name, ".journal.new") != NULL && snprintf(path, sizeof path, "%s/%s", folder, name) > 0) unlink(path);
-    return false;
+    write_path(path, name);
+    if (ends_with(name, ".journal.new")) unlink(path);
+    return ends_with(name, ending);
 }
 
 /* Reads one that is there. */
@@ -51,7 +61,8 @@ static void read_it(struct journal *journal, const char *path) {
     switch (read_journal(journal, path)) {
     case FOUND_JOURNAL: return;
     case NO_JOURNAL: refuse("nothing was sent: %s: there is no such journal", path);
-    case DAMAGED_JOURNAL: refuse("nothing was sent: DAMAGED: %s: octets of the journal were lost or changed; without it no apply is open", path);
+    case DAMAGED_JOURNAL:
+        refuse("nothing was sent: DAMAGED: %s: octets of the journal were lost or changed; without it no apply is open", path);
     case UNREADABLE_JOURNAL: refuse_folder(path);
     }
 }
@@ -63,7 +74,7 @@ bool find_open_journal(struct journal *journal) {
     if (names == NULL) refuse_folder(folder);
     for (struct dirent *one; !is_found && (one = readdir(names)) != NULL;) {
         if (!is_journal(one->d_name)) continue;
-        snprintf(path, sizeof path, "%s/%.*s", folder, JOURNAL_NAME + 15, one->d_name);
+        write_path(path, one->d_name);
         read_it(journal, path);
         is_found = journal->ending == IS_OPEN;
         if (!is_found) leave_journal(journal);

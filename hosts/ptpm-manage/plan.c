@@ -52,7 +52,8 @@ static int find_asks(const struct task *task, struct collected *what, struct dom
     *what = (struct collected){ 0 };
     *domains = (struct domains){ 0 };
     int status = run_plan(task, "--asks", NULL, &asks);
-    for (char *line = status == 0 && asks.text != NULL ? strtok_r(asks.text, "\n", &rest) : NULL; line != NULL; line = strtok_r(NULL, "\n", &rest)) {
+    if (status != 0 || asks.text == NULL) return status;
+    for (char *line = strtok_r(asks.text, "\n", &rest); line != NULL; line = strtok_r(NULL, "\n", &rest)) {
         if (!take_ask(what, domains, line)) refuse("nothing was asked: ptpm plan --asks prints %s", line);
     }
     free(asks.text);

@@ -166,7 +166,8 @@ static const struct option options[] = {
     { "wait", required_argument, NULL, 'w' }, { "attempts", required_argument, NULL, 'a' },
     { "timeout", required_argument, NULL, 't' }, { "times", required_argument, NULL, 'n' },
     { "give-up", no_argument, NULL, GIVE_UP }, { "listen", required_argument, NULL, LISTEN }, { "json", no_argument, NULL, JSON },
-    { "names", required_argument, NULL, NAMES }, { "expect", required_argument, NULL, EXPECT }, { "draw", no_argument, NULL, DRAW }, { "html", no_argument, NULL, HTML },
+    { "names", required_argument, NULL, NAMES }, { "expect", required_argument, NULL, EXPECT }, { "draw", no_argument, NULL, DRAW },
+    { "html", no_argument, NULL, HTML },
     { "openmetrics", no_argument, NULL, OPENMETRICS }, { "nagios", no_argument, NULL, NAGIOS },
     { "output", required_argument, NULL, OUTPUT }, { "max-offset", required_argument, NULL, MAX_OFFSET },
     { "max-delay", required_argument, NULL, MAX_DELAY }, { "tai-utc", required_argument, NULL, TAI_UTC },
@@ -294,7 +295,8 @@ static void take_interface(struct task *task, const char *name) {
 
 /* The id of a plan, eight hexadecimal digits. */
 static void take_expected(struct plan_options *plan, const char *text) {
-    if (strlen(text) != PLAN_DIGITS || strspn(text, "0123456789abcdef") != PLAN_DIGITS) refuse("--expect %s: it takes the eight digits of a plan", text);
+    bool is_id = strlen(text) == PLAN_DIGITS && strspn(text, "0123456789abcdef") == PLAN_DIGITS;
+    if (!is_id) refuse("--expect %s: it takes the eight digits of a plan", text);
     plan->expected = text;
 }
 
@@ -535,8 +537,10 @@ void read_task(struct task *task, int argc, char **argv) {
         if (strcmp(argv[i], "--nagios") == 0) be_plugin();
     }
     read_words(task, &words, argc, argv);
-    if (words.count == 0) refuse("it takes get, set, command or survey and a managementId, or collect, status, plan, apply, resume or rollback; see ptpm-manage "
-                                   "--help");
+    if (words.count == 0) {
+        refuse("it takes get, set, command or survey and a managementId, or collect, status, plan, apply, resume or rollback; see "
+               "ptpm-manage --help");
+    }
     read_verb(task, words.at[0]);
     read_every_port(task, &words);
     read_asked(task, &words);
