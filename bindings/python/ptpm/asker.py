@@ -4,7 +4,6 @@ from __future__ import annotations
 
 import ctypes
 import os
-from enum import IntEnum
 from typing import Any, Callable, Optional, Tuple
 
 from . import _header as header
@@ -18,28 +17,6 @@ from .session_image import Request
 
 # How many octets are drawn for the question whether a number is new.
 _DRAWN = 26
-
-
-class Next(IntEnum):
-    """What an asker hands out. After BEGUN, SAVE and ANSWER it hands out nothing else before that is done."""
-
-    NOTHING = header.PTPM_NOTHING
-    BEGUN = header.PTPM_NOTE_BEGUN
-    SAVE = header.PTPM_SAVE_IT
-    SEND = header.PTPM_SEND_IT
-    READ = header.PTPM_SEND_READ
-    WAIT = header.PTPM_WAIT
-    ANSWER = header.PTPM_NOTE_ANSWER
-    FAILED = header.PTPM_FAILED
-
-
-class Left(IntEnum):
-    """What an earlier run left under way."""
-
-    NOTHING = header.PTPM_NOTHING_LEFT
-    QUESTION = header.PTPM_QUESTION_LEFT
-    GET = header.PTPM_GET_LEFT
-    CHANGE = header.PTPM_CHANGE_LEFT
 
 
 class Asker(Handle):
@@ -64,14 +41,14 @@ class Asker(Handle):
         done(self._call(call, *words, ctypes.byref(self._handed)))
 
     @property
-    def next(self) -> Next:
-        """What is to be done next."""
-        return Next(self._handed.what)
+    def next(self) -> int:
+        """What is to be done next: PTPM_SAVE_IT, or another name of the header."""
+        return int(self._handed.what)
 
     def take(self) -> None:
         """What was handed out is sent, or is waited for."""
         self._wake_at = self._handed.time
-        self._handed.what = Next.NOTHING
+        self._handed.what = header.PTPM_NOTHING
 
     @property
     def time_outs(self) -> int:
@@ -125,11 +102,10 @@ class Asker(Handle):
         """The session's image."""
         return written(self._call, library.ptpm_asker_image, header.PTPM_SESSION_IMAGE_OCTETS)
 
-    def earlier(self, domain: int) -> Tuple[Left, int]:
-        """What an earlier run left, and in which domain it is settled if this run asks in that one."""
+    def earlier(self, domain: int) -> Tuple[int, int]:
+        """What an earlier run left, PTPM_QUESTION_LEFT or another. And in which domain it is settled if this run asks in that one."""
         there = ctypes.c_uint8()
-        left = Left(self._call(library.ptpm_asker_earlier, domain, ctypes.byref(there)))
-        return left, there.value
+        return self._call(library.ptpm_asker_earlier, domain, ctypes.byref(there)), there.value
 
     def report(self, request: Request) -> Report:
         """What the answer to a request says."""

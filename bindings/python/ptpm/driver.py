@@ -5,7 +5,8 @@ from __future__ import annotations
 import time
 from typing import Callable, Optional
 
-from .asker import Asker, Next
+from . import _header as header
+from .asker import Asker
 from .named_port import NamedPort
 from .transport import Transport
 
@@ -14,40 +15,43 @@ class Driver:
     """One request of an asker, over a transport. `save` saves the session. It decides nothing: the library's asker does."""
 
     def __init__(
-        self, asker: Asker, way: Transport, port: NamedPort, timeout: float, wait: float, save: Callable[[Asker], None]
+        self,
+        asker: Asker,
+        way: Transport,
+        port: NamedPort,
+        timeout: float,
+        wait: float,
+        save: Callable[[Asker], None],
+        is_begun: bool,
     ) -> None:
         self._asker, self._way, self._port, self._save = asker, way, port, save
         self._timeout, self._wait = timeout, wait
         self._due = 0.0
-        self.is_begun = False
-        """Whether the request itself is begun, and no question before it."""
+        self.is_begun = is_begun
+        """Whether the request itself is begun, and not only the question before it."""
         self.sent = 0
-        """How many messages of it, or of the question, left."""
+        """How many messages of it, or else of the question, left."""
         self.why: Optional[OSError] = None
         """Why there is no way for its first message."""
 
     def run(self) -> bool:
         """Whether there is an answer. It is to be noted then."""
-        while self._asker.next not in (Next.ANSWER, Next.FAILED):
+        while self._asker.next not in (header.PTPM_NOTE_ANSWER, header.PTPM_FAILED):
             self._step(self._asker.next)
-        return self._asker.next == Next.ANSWER
+        return self._asker.next == header.PTPM_NOTE_ANSWER
 
-    def _step(self, what: Next) -> None:
-        if what == Next.BEGUN:
-            self.begin()
+    def _step(self, what: int) -> None:
+        if what == header.PTPM_NOTE_BEGUN:
+            self.is_begun, self.sent = True, 0
             self._asker.noted()
-        elif what == Next.SAVE:
+        elif what == header.PTPM_SAVE_IT:
             self._save(self._asker)
-        elif what in (Next.SEND, Next.READ):
-            self._send(what == Next.READ)
-        elif what == Next.WAIT:
+        elif what in (header.PTPM_SEND_IT, header.PTPM_SEND_READ):
+            self._send(what == header.PTPM_SEND_READ)
+        elif what == header.PTPM_WAIT:
             self._wait_for(self._wait)
         elif not self._hears_before(self._due):
             self._asker.wake()
-
-    def begin(self) -> None:
-        """From now on the request itself is sent."""
-        self.is_begun, self.sent = True, 0
 
     def _wait_for(self, seconds: float) -> None:
         self._due = time.monotonic() + seconds
@@ -62,7 +66,7 @@ class Driver:
         except OSError as error:
             is_out = False
             self.why = None if self.sent else error
-        if self._asker.next != Next.NOTHING:
+        if self._asker.next != header.PTPM_NOTHING:
             return  # it was answered while it waited for room
         if not is_out and self.sent == 0:
             self._asker.unsent()
@@ -81,12 +85,12 @@ class Driver:
 
     def _hears_before(self, until: float) -> bool:
         """Whether what comes in before a time has the asker hand something out."""
-        while self._asker.next == Next.NOTHING:
+        while self._asker.next == header.PTPM_NOTHING:
             datagram = self._way.receive(until)
             if datagram is None:
                 return False
             for heard in self._port.comes_in(datagram):
                 self._asker.hear(heard)
-                if self._asker.next != Next.NOTHING:
+                if self._asker.next != header.PTPM_NOTHING:
                     break
         return True

@@ -45,19 +45,14 @@ def first_number(image: bytes) -> int:
     return _number_at(image, _FIRST)
 
 
+def latest_number(image: bytes) -> int:
+    """The sequenceId of the latest one."""
+    return (first_number(image) + _number_at(image, _ISSUED, 8) - 1) % 65536
+
+
 def domain_of(image: bytes) -> int:
     """The domain in which an image's session asks."""
     return image[_DOMAIN]
-
-
-def in_domain(image: bytes, domain: int) -> bytes:
-    """The image of the same session, if it asks in this domain."""
-    return image[:_DOMAIN] + bytes([domain]) + image[_DOMAIN + 1 :]
-
-
-def issued(image: bytes) -> int:
-    """How many requests were begun in an image's session."""
-    return _number_at(image, _ISSUED, 8)
 
 
 def unanswered(image: bytes) -> Optional[Request]:
@@ -66,6 +61,13 @@ def unanswered(image: bytes) -> Optional[Request]:
         return None
     port, size = _number_at(image, _PORT), _number_at(image, _SIZE)
     return Request(image[_ACTION], _number_at(image, _ID), 0 if port == EVERY_PORT else port, image[_DATA : _DATA + size])
+
+
+def is_same(image: bytes, other: bytes) -> bool:
+    """Whether two images are of the same session. In another domain it is the same if it has nothing under way there."""
+    if unanswered(image) is None:
+        return image[:_DOMAIN] + image[_DOMAIN + 1 :] == other[:_DOMAIN] + other[_DOMAIN + 1 :]
+    return image == other
 
 
 def number_of_line(octets: bytes, manager: PortIdentity, target: Identity) -> Optional[int]:
