@@ -20,8 +20,8 @@ _DRAWN = 26
 
 
 class Asker(Handle):
-    """One manager asks one clock. After each call `next` is what is to be done. Times are counted in time-outs: whoever has this
-    asker says how long one is, and may have another for each request."""
+    """One manager asks one clock. After each call `next` is what is to be done. Its time is counted in time-outs. So each
+    request may have a time-out of its own."""
 
     def __init__(self, settings: SessionSettings, image: Optional[bytes] = None) -> None:
         """With the session that a file has, or a new one."""

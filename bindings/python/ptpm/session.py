@@ -44,20 +44,21 @@ class Session(Requests):
         octets = None if file is None else file.octets
         self._asking = threading.RLock()
         self._asker: Optional[Asker] = None  # it has the session, unless calls of Requests changed that one
-        self._saved: Optional[bytes] = None  # what another run would go on from, once the session has a number
+        self._saved: Optional[bytes] = None  # what another run would go on from; None if the next number is not known
         self._told: Optional[Report] = None
         self._file = file
         self._wait = wait
-        self._is_known = settings.first is not None or octets is not None
         self.is_under_way = False
         """Whether a request of an earlier run has no answer yet."""
         self.earlier: Optional[Report] = None
         """What came of it."""
         self.earlier_domain = settings.domain
         """The domain in which it is sent again."""
-        super().__init__(replace(settings, first=settings.first if self._is_known else draw()))
+        super().__init__(replace(settings, first=draw()) if settings.first is None else settings)
         if octets is not None:
             self._open(octets)
+        elif settings.first is not None:
+            self._saved = self._image()
         if file is not None:
             file.keep_for(self)
 
@@ -73,9 +74,10 @@ class Session(Requests):
             if error.number != header.PTPM_NOT_AN_IMAGE or number is None:
                 raise
             self._start(replace(settings, first=number))
+            self._saved = self._image()
             return
-        self._go_on_from(octets)
         self._saved = octets
+        self._go_on_from(octets)
         self.is_under_way = left in (header.PTPM_GET_LEFT, header.PTPM_CHANGE_LEFT)
         if self.is_under_way:
             self.earlier_domain = there
@@ -102,8 +104,9 @@ class Session(Requests):
             if self._file is not None and self._file.is_open and self._saved is not None:
                 if self._asker is not None:
                     self._note(self._asker)
-                if not is_same(self._image(), self._saved) and not self.is_busy():
-                    self._file.write(self.image())
+                image = self._image()
+                if unanswered(image) is None and not is_same(image, self._saved):
+                    self._file.write(image)  # calls of Requests changed it
             self._leave_file()
             super().close()
 
@@ -119,8 +122,8 @@ class Session(Requests):
         settings = self.settings if attempts is None else replace(self.settings, attempts=attempts)
         asker, image = self._asker, self._image()
         if asker is None or asker.attempts != settings.attempts or not is_same(image, asker.image()):
-            self._is_known = self._is_known or unanswered(image) is not None
-            self._saved = image if self._is_known else None
+            if self._saved is not None or unanswered(image) is not None:
+                self._saved = image
             self._asker = asker = Asker(settings, self._saved)
         return asker
 
@@ -154,7 +157,7 @@ class Session(Requests):
         image = asker.image()
         if self._file is not None:
             self._file.write(image)
-        self._saved, self._is_known = image, True
+        self._saved = image
         asker.saved()
 
     def _note(self, asker: Asker) -> None:
