@@ -19,7 +19,6 @@ from typing import Dict, List, Optional, Sequence, Tuple
 import ptpm
 
 from . import CLOCK, MANAGER, TOP, Folder
-from .test_library import request
 
 Ran = Tuple[List[Tuple[bytes, bytes]], int, str, bytes]
 
@@ -79,31 +78,29 @@ def octets_of(path: str) -> bytes:
     return Path(path).read_bytes() if os.path.exists(path) else b""
 
 
-NUMBERS = [request(1900, f"{CLOCK}ffff", 1, 0, "2005")]  # 100 after the number that is drawn, 1,799 and a question
-
-# The runs of a name are one after another, in one session with clocks that have had some messages before.
-RUNS: Dict[str, Tuple[Sequence[bytes], Sequence[Run]]] = {
-    "a new session, whose SET is answered by its second copy": ((), [Run("set PRIORITY1 100", "ANA"), Run("get PRIORITY1", "AA")]),
-    "a port, and a value that the clock refuses": (
-        (), [Run("-p 1 set LOG_SYNC_INTERVAL -2", "AA"), Run("-p 1 set LOG_SYNC_INTERVAL -9", "AA"), Run("-p 2 command DISABLE_PORT", "AA")]
-    ),
-    "a number that is not new": (NUMBERS, [Run("set PRIORITY1 100", "AAAA"), Run("get PRIORITY1", "AA")]),
-    "four numbers without an answer": ((), [Run("set PRIORITY1 100", "L" * 8), Run("set PRIORITY1 100", "AA")]),
-    "a SET without an answer": ((), [Run("set PRIORITY1 100", "ALL"), Run("get PRIORITY1", "AAA")]),
-    "killed between the save and the message": ((), [Run("set PRIORITY1 100", "A", 2), Run("get PRIORITY1", "AAA")]),
-    "killed before the answer": ((), [Run("set PRIORITY1 100", "AN", 3), Run("set PRIORITY1 101", "AAA")]),
-    "killed before the question": ((), [Run("set PRIORITY1 1", "AA"), Run("-p 2 get PRIORITY1", "", 1), Run("-p 2 get PRIORITY1", "AA")]),
-    "let go": ((), [Run("set PRIORITY1 100", "A", 2), Run("--give-up set PRIORITY2 101", "AA"), Run("get PRIORITY1", "AA")]),
-    "a SET of another domain": ((), [Run("set PRIORITY1 100", "A", 2), Run("-d 4 get PRIORITY1", "AAA")]),
-    "a GET of another domain": ((), [Run("-d 4 get PRIORITY1", "A", 2), Run("get PRIORITY1", "AAA")]),
-    "a question at a port that the clock lacks": (
-        (), [Run("set PRIORITY1 1", "AA"), Run("-p 5 get PRIORITY1", "", 1), Run("-p 1 get PRIORITY1", "AA"), Run("get PRIORITY1", "AA")]
-    ),
-    "no way for a SET": ((), [Run("set PRIORITY1 1", "AA"), Run("set PRIORITY1 100", "G"), Run("set PRIORITY2 7", "AA")]),
-    "no way for the SET of a new session": ((), [Run("set PRIORITY1 1", "G"), Run("set PRIORITY2 7", "AA")]),
-    "no way for a question": ((), [Run("set PRIORITY1 1", "AA"), Run("set PRIORITY1 2", None), Run("set PRIORITY1 3", "AA")]),
-    "the number of an earlier version": ((), [Run("number 65535", None), Run("set PRIORITY1 1", "AA"), Run("get PRIORITY1", "AA")]),
-    "other hops": ((), [Run("set PRIORITY1 1", "AA"), Run("-b 3 get PRIORITY1", "AA"), Run("-b 3 get PRIORITY1", "AA")]),
+# The runs of a name are one after another, in one session.
+RUNS: Dict[str, Sequence[Run]] = {
+    "a new session, whose SET is answered by its second copy": [Run("set PRIORITY1 100", "ANA"), Run("get PRIORITY1", "AA")],
+    "a port, and a value that the clock refuses": [
+        Run("-p 1 set LOG_SYNC_INTERVAL -2", "AA"), Run("-p 1 set LOG_SYNC_INTERVAL -9", "AA"), Run("-p 2 command DISABLE_PORT", "AA"),
+    ],
+    "a number that is not new": [Run("set PRIORITY1 100", "LLAA"), Run("get PRIORITY1", "AA")],
+    "four numbers without an answer": [Run("set PRIORITY1 100", "L" * 8), Run("set PRIORITY1 100", "AA")],
+    "a SET without an answer": [Run("set PRIORITY1 100", "ALL"), Run("get PRIORITY1", "AAA")],
+    "killed between the save and the message": [Run("set PRIORITY1 100", "A", 2), Run("get PRIORITY1", "AAA")],
+    "killed before the answer": [Run("set PRIORITY1 100", "AN", 3), Run("set PRIORITY1 101", "AAA")],
+    "killed before the question": [Run("set PRIORITY1 1", "AA"), Run("-p 2 get PRIORITY1", "", 1), Run("-p 2 get PRIORITY1", "AA")],
+    "let go": [Run("set PRIORITY1 100", "A", 2), Run("--give-up set PRIORITY2 101", "AA"), Run("get PRIORITY1", "AA")],
+    "a SET of another domain": [Run("set PRIORITY1 100", "A", 2), Run("-d 4 get PRIORITY1", "AAA")],
+    "a GET of another domain": [Run("-d 4 get PRIORITY1", "A", 2), Run("get PRIORITY1", "AAA")],
+    "a question at a port that the clock lacks": [
+        Run("set PRIORITY1 1", "AA"), Run("-p 5 get PRIORITY1", "", 1), Run("-p 1 get PRIORITY1", "AA"), Run("get PRIORITY1", "AA"),
+    ],
+    "no way for a SET": [Run("set PRIORITY1 1", "AA"), Run("set PRIORITY1 100", "G"), Run("set PRIORITY2 7", "AA")],
+    "no way for the SET of a new session": [Run("set PRIORITY1 1", "G"), Run("set PRIORITY2 7", "AA")],
+    "no way for a question": [Run("set PRIORITY1 1", "AA"), Run("set PRIORITY1 2", None), Run("set PRIORITY1 3", "AA")],
+    "the number of an earlier version": [Run("number 65535", None), Run("set PRIORITY1 1", "AA"), Run("get PRIORITY1", "AA")],
+    "other hops": [Run("set PRIORITY1 1", "AA"), Run("-b 3 get PRIORITY1", "AA"), Run("-b 3 get PRIORITY1", "AA")],
 }
 
 
@@ -122,7 +119,8 @@ class Hosts(Folder):
             Path(file).write_text(run.words.split()[1], encoding="ascii")
             return [], 0, "", b""
         link = None if run.fates is None else Link(path, file, clocks, run.fates)
-        words = [*program, "-u", path, "-m", MANAGER, "-k", file, "-T", CLOCK, "-w", "0", "-t", "500", "-a", "2", *run.words.split()]
+        timeout = "1000" if set(run.fates or "") & set("LN") else "10000"  # what is answered is waited for on a busy machine, too
+        words = [*program, "-u", path, "-m", MANAGER, "-k", file, "-T", CLOCK, "-w", "0", "-t", timeout, "-a", "2", *run.words.split()]
         fixed = {"LD_PRELOAD": self.fixed, "KILLED_BEFORE": str(run.killed_before)}
         try:
             ended = subprocess.run(words, env={**os.environ, **fixed}, capture_output=True, text=True, timeout=60, check=False)
@@ -137,15 +135,12 @@ class Hosts(Folder):
         return heard, ended.returncode, ended.stdout, octets_of(file)
 
     def all_ran(self, name: str, program: Sequence[str]) -> List[Ran]:
-        before, runs = RUNS[name]
         folder = f"{self.folder}/{os.path.basename(program[0])}"
         ports, managers = [ptpm.PortSettings()] * 2, [ptpm.Manager(MANAGER)]
         clocks = [ptpm.Clock(ptpm.ClockSettings(CLOCK, domain=domain), ports, managers) for domain in (0, 4)]
-        for message in before:
-            clocks[0].handle(1, message)
         os.mkdir(folder)
         try:
-            return [self.ran(program, run, f"{folder}/clock", clocks) for run in runs]
+            return [self.ran(program, run, f"{folder}/clock", clocks) for run in RUNS[name]]
         finally:
             shutil.rmtree(folder)
 
