@@ -234,6 +234,19 @@ class Points(Changes):
     """Each apply is killed at one of the calls by which it saves and sends, the first one at the first, and so on to its end. Its first
     `resume` is killed at another one, and the second is not."""
 
+    def plan(self):
+        """Three changes at two clocks, of values that these have not; each fourth plan has one that is refused too."""
+        self.counts["plans"] += 1
+        value, path = self.counts["plans"] % 100, os.path.join(self.work, "plan.toml")
+        changes = [[f"PRIORITY1 = {value}"], [f"PRIORITY2 = {value}", "[[clock.port]]", "number = 1", f"LOG_SYNC_INTERVAL = {-value % 2 - 2}"]]
+        if value % 4 == 0:
+            changes[1].append("LOG_MIN_PDELAY_REQ_INTERVAL = -9")
+        with open(path, "w") as file:
+            file.write("version = 1\n")
+            for identity, lines in zip(IDENTITIES, changes):
+                file.write("\n".join(["[[clock]]", f'identity = "{identity}"', *lines]) + "\n")
+        return path
+
     def killed_at(self, words, call, start):
         """Whether a run was killed at this call."""
         process = self.start(words, LD_PRELOAD=os.path.join(HOME, "dies.so"), DIES_AT=str(call), DIES_FROM="start" if start else "")
