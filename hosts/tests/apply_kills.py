@@ -11,7 +11,7 @@ import time
 import zlib
 from collections import Counter
 
-from apply_network import ANSWERED_NEW, HOME, MANAGER, SET, Clock, Network
+from apply_network import ANSWERED_NEW, HOME, MANAGER, SET, Clock, Network, within
 
 IDENTITIES = [f"02c0fffffe00010{number}" for number in (1, 2, 3)]
 VALUES = {"PRIORITY1": (0, 255), "PRIORITY2": (0, 255), "CLOCK_ACCURACY": (0x17, 0x31)}
@@ -157,7 +157,7 @@ class Changes:
         environment = {**os.environ, "XDG_STATE_HOME": os.path.join(self.work, "state"), **environment}
         with open(os.path.join(self.work, "said"), "a") as said:
             return subprocess.Popen(
-                ["ip", "netns", "exec", self.network.near, os.path.join(HOME, "manage"), "-i", "e1", "-w", "100", "-t", "40", *words],
+                [*within(self.network.near), os.path.join(HOME, "manage"), "-i", "e1", "-w", "100", "-t", "40", *words],
                 stdout=said, stderr=said, env=environment)
 
     def end(self, began):
@@ -231,29 +231,53 @@ class Kills(Changes):
 
 
 class Points(Changes):
-    """Each apply is killed at one of the calls by which it saves and sends, the first one at the first, and so on to its end. Its first
-    `resume` is killed at another one, and the second is not."""
+    """An apply of three steps, or four with one that is refused, whose journal is made here. Its first `resume` is killed at one of the calls
+    by which it saves and sends: at the first, in the next apply at the second, and so on. The next one is killed at another, and the last
+    is not."""
 
-    def killed_at(self, words, call, start):
-        """Whether a run was killed at this call."""
-        process = self.start(words, LD_PRELOAD=os.path.join(HOME, "dies.so"), DIES_AT=str(call), DIES_FROM="start" if start else "")
-        return process.wait(PATIENCE) in (-signal.SIGKILL, 128 + signal.SIGKILL)
+    def __init__(self, work, seed):
+        super().__init__(work, seed)
+        self.folder = os.path.join(work, "state/ptpm/apply")
+        os.makedirs(self.folder)
+        self.has = {(0, 0, 0x2005): "8000", (1, 0, 0x2006): "8000", (1, 1, 0x200B): "0000", (1, 1, REFUSED_ID): "0000"}
+
+    def step(self, place, port, number, after):
+        before = self.has[place, port, number]
+        if after != REFUSED_FIELD:
+            self.has[place, port, number] = after
+        return {"clock": IDENTITIES[place], "domain": 0, "port": port, "id": number, "before": before, "after": after}
+
+    def make(self, call):
+        """The path of a new journal."""
+        value = f"{call % 100:02x}00"
+        steps = [self.step(0, 0, 0x2005, value), self.step(1, 0, 0x2006, value), self.step(1, 1, 0x200B, f"{254 + call % 2:02x}00")]
+        if call % 4 == 0:
+            steps.append(self.step(1, 1, REFUSED_ID, REFUSED_FIELD))
+        name = f"20260101-000000-{call:08x}-0000"
+        text = json.dumps({"version": 1, "name": name, "manager": MANAGER, "steps": steps}, separators=(",", ":"))
+        path = os.path.join(self.folder, name + ".journal")
+        with open(path, "w") as file:
+            file.write(f"{zlib.crc32(text.encode()):08x} {text}\n")
+        return path
+
+    def is_killed_at(self, call):
+        """Whether a `resume` was killed at this call; 0 is none."""
+        process = self.start(["resume"], LD_PRELOAD=os.path.join(HOME, "dies.so"), DIES_AT=str(call), DIES_FROM="start")
+        is_killed = process.wait(PATIENCE) in (-signal.SIGKILL, 128 + signal.SIGKILL)
+        self.counts["kills"] += is_killed
+        return is_killed
 
     def point(self, call):
         """Whether the apply was killed at this call, and so goes on beyond it."""
-        before = self.journals()
-        is_killed = self.killed_at(["apply", self.plan()], call, False)
-        made = self.journals() - before
-        if not made:
-            return True
-        for words, start in ((None, None), (["resume"], self.chance.randrange(1, 40)), (["resume"], 0)):
-            if words is not None:
-                self.counts["kills"] += self.killed_at(words, start, True)
+        path = self.make(call)
+        is_killed = self.is_killed_at(call)
+        for at in (None, self.chance.randrange(1, 40), 0):
+            if at is not None:
+                self.is_killed_at(at)
             time.sleep(SETTLED)
-            journal = Journal(next(iter(made)))
+            journal = Journal(path)
             self.places[journal.place()] += 1
             self.check(journal)
-        self.counts["kills"] += is_killed
         self.check_end(journal)
         return is_killed
 

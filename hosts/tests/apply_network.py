@@ -24,6 +24,11 @@ def run(*words, **more):
     return subprocess.run(words, stdout=subprocess.PIPE, stderr=subprocess.PIPE, text=True, timeout=120, **more)
 
 
+def within(namespace):
+    """The words before those of a program that runs there. Unlike `ip netns exec` it mounts nothing, which takes seconds on a busy machine."""
+    return ["nsenter", f"--net=/var/run/netns/{namespace}"]
+
+
 def must(*words):
     done = run(*words)
     if done.returncode:
@@ -172,7 +177,7 @@ class Network:
         managers = ["-m", OTHER] + (["-m", MANAGER] if clock.has_rights else [])
         with open(clock.log, "a") as log:
             clock.process = subprocess.Popen(
-                ["ip", "netns", "exec", clock.namespace, os.path.join(HOME, "clock"), "-v", "--user", "root", "-s", lead + ".state", "-o",
+                [*within(clock.namespace), os.path.join(HOME, "clock"), "-v", "--user", "root", "-s", lead + ".state", "-o",
                  lead + ".observed", *managers, clock.identity] + [f"e{port}" for port in range(1, clock.ports + 1)],
                 stdout=log, stderr=log)
         while "managers" not in open(clock.log).read() and "1 manager" not in open(clock.log).read():
@@ -189,7 +194,7 @@ class Network:
         where = self.near if namespace is None else namespace
         top = os.path.dirname(HOME)
         environment = {**os.environ, "XDG_STATE_HOME": os.path.join(self.work, state), "PATH": os.environ["PATH"] + ":" + top}
-        return run("ip", "netns", "exec", where, os.path.join(HOME, "manage"), "-i", "e1", *words, env=environment, **more)
+        return run(*within(where), os.path.join(HOME, "manage"), "-i", "e1", *words, env=environment, **more)
 
     def set(self, name, number, *words):
         """Another manager has the clock carry a SET out. `number` is the port, 0 if it is none."""

@@ -1,6 +1,6 @@
 /* dies.so, for hosts/tests/apply: LD_PRELOAD of a program that saves and sends. With DIES_AT=N in the environment it is killed right
-   before the N-th call by which it writes, synchronizes, renames or sends, counted from the rename of a journal on, or from its start
-   if DIES_FROM is `start`. Of a write that counts, half is written first: so a line is torn. */
+   before the N-th call by which it writes, synchronizes, renames or sends. Calls are counted from the rename of a journal on, or from
+   its start if DIES_FROM is `start`. Of a write that counts, half is written first: so a line is torn. */
 #define _GNU_SOURCE
 #include <signal.h>
 #include <stdbool.h>
