@@ -93,7 +93,7 @@ static void take_turn(void) {
 
 /* Whether there is room for a session. */
 static void see_to_room(void) {
-    static const uint8_t octets[PTPM_SESSION_IMAGE_OCTETS + SEAL_OCTETS];
+    static const uint8_t octets[PTPM_SESSION_IMAGE_OCTETS + PTPM_SEAL_OCTETS];
     if (!try_room(&file, octets, sizeof octets)) refuse_place();
 }
 
@@ -103,7 +103,7 @@ enum session_file open_session_file(const char *at_path, bool is_named, uint8_t 
     open_folder();
     take_turn();
     switch (read_kept(&file, octets, MOST_SESSION_OCTETS, size, &file.before)) {
-    case KEPT_FILE: return take_seal(octets, size, &saves) == BROKEN_SEAL ? BROKEN_SESSION_FILE : SESSION_FILE;
+    case KEPT_FILE: return take_seal(octets, size, &saves) == PTPM_DAMAGED ? BROKEN_SESSION_FILE : SESSION_FILE;
     case KEPT_LINK: refuse_session_file("it is a link");
     case KEPT_OTHER: refuse_session_file("it is no file");
     case KEPT_UNREADABLE: refuse_place();

@@ -9,9 +9,9 @@
 #include <stdint.h>
 
 /* A file with a session has fewer octets, its seal among them; of a larger one these are read. */
-enum { MOST_SESSION_OCTETS = PTPM_SESSION_IMAGE_OCTETS + SEAL_OCTETS + 1 };
+enum { MOST_SESSION_OCTETS = PTPM_SESSION_IMAGE_OCTETS + PTPM_SEAL_OCTETS + 1 };
 
-/* What is at a path: a file whose octets are not those that were saved has a broken seal. */
+/* What is at a path: a file whose octets are not those that were saved is broken. */
 enum session_file { NO_SESSION_FILE, SESSION_FILE, BROKEN_SESSION_FILE };
 
 /* Takes the file at this path only for this run, and reads what is before its seal, or all if it has none. If there is no file,

@@ -302,7 +302,7 @@ def seals():
         bits = [name_of(other) for other in flips(whole)]
         cut = [whole[:size] for size in range(len(whole)) if size != len(content)]
         wrong = [other.hex() for other in cut if name_of(other) != ("NOT_AN_IMAGE" if len(other) < 12 else "DAMAGED")]
-        check("a session's file with another bit is refused", bits == ["DAMAGED"] * len(bits))
+        check("a session's file with another bit is refused", bits == ["NOT_AN_IMAGE"] * 32 + ["DAMAGED"] * (len(bits) - 32))
         check(f"one that is cut is refused, except {wrong}", wrong == [])
         more = [whole + b"\0", whole + whole, whole + whole[-16:], sealed(whole), sealed(content + b"\0"), sealed(content[:-1])]
         check("and one to which octets were added", [name_of(other) for other in more] == ["DAMAGED"] * len(more))
