@@ -1256,7 +1256,7 @@ enum ptpm_reported ptpm_asker_report(const struct ptpm_asker *asker, uint8_t *oc
 void ptpm_asker_stop(struct ptpm_asker *asker);
 
 /* Seals an image: writes `ptps`, the count of saves and the CRC-32 of all before it after the image. By them damage is found.
-   Takes:   room octets, of which the first size are the image; and the count, one more at each save.
+   Takes:   room octets: the image is the first size octets. And the count, one more at each save.
    Returns: PTPM_SAVED; or PTPM_NO_ROOM if room is less than size and PTPM_SEAL_OCTETS, and then no octet is written.
    Writes:  *sealed: how many octets image and seal have, 0 if the call is refused; and the PTPM_SEAL_OCTETS octets after the image. */
 enum ptpm_saved ptpm_image_seal_in(uint8_t *octets, size_t room, size_t size, uint64_t count, size_t *sealed);

@@ -1,5 +1,5 @@
-"""The seal of an image: 16 octets after it, by which damage is found. ptpm-manage and ptpm-clock seal their files so, and a device the
-images that it keeps in the places of a flash memory."""
+"""The seal of an image: 16 octets after it, by which damage is found. ptpm-manage and ptpm-clock seal their files so. A device seals
+the images in the places of its flash memory."""
 
 from __future__ import annotations
 
@@ -32,8 +32,8 @@ def unsealed(octets: bytes) -> Tuple[bytes, int]:
 
 
 def newest_image(octets: bytes, place: int) -> Optional[Tuple[int, bytes, int]]:
-    """Of places that have so many octets each: which has the newest image that is whole, counted from 0, the image, and how often it
-    was saved. None if no place has one."""
+    """The newest whole image of several places, each of `place` octets: its place, counted from 0, the image, and how often it was
+    saved. None if no place has one."""
     if place == 0:
         return None
     count, size = ctypes.c_uint64(), ctypes.c_size_t()

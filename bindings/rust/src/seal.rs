@@ -39,7 +39,7 @@ pub fn unseal(octets: &[u8]) -> Result<Sealed<'_>, Error> {
     Ok(Sealed { image: &octets[..size], count })
 }
 
-/// Of places that have so many octets each, the one with the newest whole image, counted from 0, and that image.
+/// The newest whole image of several places, each of `place` octets: its place, counted from 0, and the image.
 pub fn newest_image(octets: &[u8], place: usize) -> Option<(usize, Sealed<'_>)> {
     let places = octets.len().checked_div(place)?;
     let (mut count, mut size) = (0, 0);

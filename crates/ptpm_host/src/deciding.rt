@@ -77,7 +77,7 @@ impl HostedClock {
             Err(_) => return Err(SaidRefusal::BadSay),
         };
         let objected = object(&mut self.agent, datagram, objection);
-        let Ok(handled) = self.handle(port, datagram, room) else {
+        let Ok(handled) = self.handle_apart(port, datagram, room) else {
             unreachable!()
         };
         if objected {

@@ -1,5 +1,5 @@
--- The CRC-32 of octets (IEEE 802.3, 3.2.9): the remainder of their division by a polynomial, bits in the order in which a line sends
--- them, lowest first.
+-- The CRC-32 of octets (IEEE 802.3, 3.2.9): the remainder of their division by a polynomial. Of each octet the lowest bit comes
+-- first, as on a line.
 use Rattle.std.specs.Prelude.{◌<◌, ℕ, ◌-◌, ◌/◌, ◌%◌, ◌^◌, ◌==◌, List, [], ◌∷◌, bit_xor, if◌then◌else◌}
 
 -- the polynomial without its highest power, the lowest power in the highest bit

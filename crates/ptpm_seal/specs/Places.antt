@@ -15,7 +15,8 @@ place_at size octets i = take size (drop (i * size) octets)
 abbrev pub held_in : ℕ → List ℕ → Held
 held_in size octets = λ i. unsealed (place_at size octets i)
 
--- of the first so many places this one holds this image, and none of them holds one of more saves; of as many, none before it
+-- this place holds this image. Of the first N places none holds one that was saved more often, and none before it one that was
+-- saved as often
 pub record IsNewest (held : Held) (places i : ℕ) (s : Sealed) : Type 0 where
   pub within : i < places
   pub is : held i ≡ Ok s

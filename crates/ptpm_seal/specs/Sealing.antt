@@ -1,5 +1,4 @@
--- An image that is sealed: 16 octets after it, by which damage to it is found. And places for images, of which one is written while
--- the others stay (this project's profile).
+-- An image that is sealed: 16 octets after it, by which damage to it is found (this project's profile).
 use Rattle.std.specs.Prelude.{◌+◌, ◌==◌, ◌&&◌, not, nat_le, Bool, ℕ, List, ◌++◌, length, take, drop, codes, bytes_eq, Result, Ok, Err, if◌then◌else◌}
 use Rattle.byteorder.specs.Endian.{big_bytes, big_number}
 use Rattle.ptpm_manager.specs.Image.{mark}

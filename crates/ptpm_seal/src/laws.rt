@@ -12,7 +12,7 @@ pub fn seal_law()
         → unsealed ((image ++ seal_of image count) ++ rest) ≡ Ok (record { size = length image; count = count }) }
 {}
 
-/// Octets of which one was changed have another CRC-32.
+/// A change of one octet changes the CRC-32.
 pub fn crc_law()
     ensures { (front rest : List ℕ) (octet other : ℕ) → AreOctets front → AreOctets rest → octet < 2 ^ 8 → other < 2 ^ 8
         → octet ≢ other

@@ -14,8 +14,9 @@ pub struct Newest {
     pub sealed: Sealed,
 }
 
-/// Which of the places that octets are, each of this size, holds the newest image that is whole: that of the most saves, and of as
-/// many the first. Octets after the last whole place do not count. `None` if no place holds one, or the size is 0. Takes no memory.
+/// The newest whole image of the places that octets are, each of this size. It was saved most often, and if several were saved as
+/// often, it is the first. Octets after the last whole place do not count. `None` if no place holds one, or the size is 0. Takes no
+/// memory.
 pub fn newest_image(octets: &[u8], size: usize) -> Option<Newest>
     ensures { IsNewestOf (held_in size octets.now) (places_of size (length octets.now)) result }
 {
@@ -35,7 +36,7 @@ pub fn newest_image(octets: &[u8], size: usize) -> Option<Newest>
     newest
 }
 
-/// How many whole places of a size so many octets are. None are of size 0.
+/// How many whole places of a size these octets are; none of size 0.
 pub fn place_count(octets: usize, size: usize) -> usize
     ensures { result ≡ places_of size octets }
 {
@@ -55,7 +56,7 @@ fn held(octets: &[u8], size: usize, place: usize) -> Option<Sealed>
     }
 }
 
-/// Whether an image of so many saves is newer than the newest one before it.
+/// Whether an image that was saved this often is newer than the newest one before it.
 fn is_newer(newest: Option<Newest>, count: u64) -> bool
     ensures { result ≡ is_newer newest count }
 {

@@ -1,4 +1,4 @@
-/* The seal of an image, and places of which one has the newest image. */
+/* The seal of an image, and the newest image of several places. */
 #include "commands.h"
 #include "words.h"
 #include "../../ptpm.h"

@@ -13,17 +13,17 @@ returns-then-objected-clause-turned c = λ o is.
     let said : objection_in c.args.say.now ≡ Ok c.in-Ok.objection = sym c.objection.ensures ∙ c.in-Ok.is in
     let same : c.in-Ok.objection ≡ o = cc in
     subst (λ (p : Option ErrorId). IsTurned (turn_said (clock_in c.args.self.now) (state_in c.args.self.now) p c.args.port c.args.datagram.now)
-    verdicts.AnsweredNew (messages_in (take c.in-Ok-handle.handled.count c.handle.new.room)) (state_in c.handle.new.self)) same
+    verdicts.AnsweredNew (messages_in (take c.in-Ok-handle_apart.handled.count c.handle_apart.new.room)) (state_in c.handle_apart.new.self)) same
     (turned_counted (clock_in c.args.self.now) (state_in c.args.self.now) c.in-Ok.objection c.args.port c.args.datagram.now _ _ _ _ _
     (sym c.object-objected.ensures.counts ∙ c.if-objected.true) (c.object-objected.ensures.number c.if-objected.true)
-    c.object-objected.ensures.clock c.object-objected.ensures.kept c.in-Ok-handle.ensures.turned)
+    c.object-objected.ensures.clock c.object-objected.ensures.kept c.in-Ok-handle_apart.ensures.turned)
 
 pub returns-clause-turned : goal.returns-clause-turned
 returns-clause-turned c = λ o is.
     let said : objection_in c.args.say.now ≡ Ok c.in-Ok.objection = sym c.objection.ensures ∙ c.in-Ok.is in
     let same : c.in-Ok.objection ≡ o = cc in
     subst (λ (p : Option ErrorId). IsTurned (turn_said (clock_in c.args.self.now) (state_in c.args.self.now) p c.args.port c.args.datagram.now)
-    c.in-Ok-handle.handled.verdict (messages_in (take c.in-Ok-handle.handled.count c.handle.new.room)) (state_in c.handle.new.self)) same
+    c.in-Ok-handle_apart.handled.verdict (messages_in (take c.in-Ok-handle_apart.handled.count c.handle_apart.new.room)) (state_in c.handle_apart.new.self)) same
     (turned_uncounted (clock_in c.args.self.now) (state_in c.args.self.now) c.in-Ok.objection c.args.port c.args.datagram.now _ _ _ _ _
     (sym c.object-objected.ensures.counts ∙ c.if-objected.false)
-    c.object-objected.ensures.clock c.object-objected.ensures.kept c.in-Ok-handle.ensures.turned)
+    c.object-objected.ensures.clock c.object-objected.ensures.kept c.in-Ok-handle_apart.ensures.turned)
