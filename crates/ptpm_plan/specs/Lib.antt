@@ -1,0 +1,2 @@
+pub mod PlannedId
+pub mod Surveyed
