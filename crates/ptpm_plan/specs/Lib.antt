@@ -1,2 +1,4 @@
 pub mod PlannedId
 pub mod Surveyed
+pub mod Answers
+pub mod After
