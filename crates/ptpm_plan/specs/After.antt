@@ -1,5 +1,5 @@
 -- The dataField that a plan asks for (IEEE 1588-2019, 15.5.3; how a member is typed is this project's profile).
-use Rattle.std.specs.Prelude.{ℕ, ◌+◌, ◌*◌, ◌==◌, not, bit_and, List, [], ◌∷◌, codes, ℤ, Option, Some, None, Result}
+use Rattle.std.specs.Prelude.{ℕ, ◌==◌, not, bit_and, List, [], ◌∷◌, codes, ℤ, Option, Some, None, Result}
 use Rattle.std.specs.Fmt.{signed_decimal}
 use Rattle.std.specs.Int.{w16, cast_signed}
 use Rattle.ptpm_data.specs.SetField.{octet}
@@ -10,6 +10,7 @@ use Rattle.ptpm_plan.specs.declared.change.PlannedId.{PlannedId}
 use Rattle.ptpm_plan.specs.declared.wish.UtcWish.{UtcWish}
 use Rattle.ptpm_plan.specs.declared.wish.Wished.{Wished}
 use Rattle.ptpm_plan.specs.declared.wish.Wished.TheVariants as wished
+use Rattle.ptpm_plan.specs.Octets.{pair_at}
 use Rattle.ptpm_plan.specs.PlannedId.{number_of}
 
 -- what is typed for a member, or else what it is
@@ -19,7 +20,7 @@ typed_or (Some typed) kept = typed
 
 -- currentUtcOffset, and a flag, in the dataField of UTC_PROPERTIES (15.5.3.6.2)
 unfoldable pub offset_of : List ℕ → ℤ
-offset_of field = cast_signed w16 (octet 0 field * 256 + octet 1 field)
+offset_of field = cast_signed w16 (pair_at 0 field)
 
 unfoldable pub flag_of : ℕ → List ℕ → List ℕ
 flag_of mask field = flag_name (not (bit_and (octet 2 field) mask == 0))

@@ -1,4 +1,6 @@
 pub mod PlannedId
 pub mod Surveyed
 pub mod Answers
+pub mod Octets
 pub mod After
+pub mod Verdicts

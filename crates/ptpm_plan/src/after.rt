@@ -1,12 +1,11 @@
 //! The dataField that a SET is to have.
 
-ghost use Rattle.std.specs.Prelude.{◌≡◌, IfOk, option_map};
-ghost use Rattle.ptpm_data.specs.SetField.{octet};
+ghost use Rattle.std.specs.Prelude.{◌≡◌, IfOk};
 ghost use Rattle.ptpm_members.specs.Parsed.{octets_or};
-ghost use Rattle.ptpm_members.specs.ValueText.{flag_name};
 ghost use Rattle.ptpm_plan.specs.After.{after, flag_of, offset_of, typed_or, utc_after, utc_parsed};
 
 use crate::change::PlannedId;
+use crate::octets::{octet, pair_at};
 use crate::text::Text;
 use crate::wish::{UtcWish, Wished};
 use ptpm_data::Value;
@@ -92,7 +91,7 @@ fn typed_or<'a>(typed: &'a Option<Text>, kept: &'a str) -> &'a str
 fn offset_of(field: &[u8]) -> i16
     ensures { result ≡ offset_of field.now }
 {
-    (u16::from(octet(field, 0)) * 256 + u16::from(octet(field, 1))).cast_signed()
+    pair_at(field, 0).cast_signed()
 }
 
 /// A flag in the dataField of UTC_PROPERTIES, as a text.
@@ -105,11 +104,4 @@ fn flag_of(field: &[u8], mask: u8) -> &'static str
     } else {
         "false"
     }
-}
-
-/// The octet at a place; 0 past the end.
-fn octet(octets: &[u8], place: usize) -> u8
-    ensures { result ≡ octet place octets.now }
-{
-    if place < octets.len() { octets[place] } else { 0 }
 }

@@ -81,7 +81,7 @@ fn field_said(id: u16, octets: &[u8]) -> Option<Said>
 }
 
 /// Octets as a dataField.
-fn value_of(octets: &[u8]) -> Value
+pub(crate) fn value_of(octets: &[u8]) -> Value
     requires { length octets.now ≤ 130 }
     ensures { result.items ≡ octets.now }
 {

@@ -5,8 +5,11 @@ mod after;
 mod answer;
 mod answers;
 mod change;
+mod octets;
+mod subject;
 mod surveyed;
 mod text;
+mod verdict;
 mod wish;
 
 pub use answer::{Answer, Said};
