@@ -4,3 +4,4 @@ pub mod Answers
 pub mod Octets
 pub mod After
 pub mod Verdicts
+pub mod Rows

@@ -1,5 +1,5 @@
 -- What becomes of a member that a plan asks for.
-use Rattle.std.specs.Prelude.{ℕ, ◌==◌, nat_lt, Bool, false, ◌&&◌, not, if◌then◌else◌, bytes_eq, List, [], Option, Some, None, Result, Ok, Err}
+use Rattle.std.specs.Prelude.{ℕ, ◌==◌, nat_lt, Bool, true, false, ◌&&◌, not, if◌then◌else◌, bytes_eq, List, [], Option, Some, None, Result, Ok, Err}
 use Rattle.ptpm_members.specs.FieldText.{field_text}
 use Rattle.ptpm_members.specs.declared.parsing.ParseFault.{ParseFault}
 use Rattle.ptpm_plan.specs.After.{after}
@@ -64,3 +64,15 @@ verdict_of_answer answers s wished (Some a) = verdict_of_said s.id wished a.said
 abbrev pub verdict_of : List Answer → Subject → Wished → Verdict
 verdict_of answers s wished =
     verdict_of_answer answers s wished (last_answer s.domain s.clock s.port (number_of s.id) answers)
+
+-- ---- two of them
+
+-- two tables that ask for one member ask for the same, or both for no value of it
+abbrev pub is_alike : Verdict → Verdict → Bool
+is_alike verdicts.NotReached verdicts.NotReached = true
+is_alike verdicts.NoPort verdicts.NoPort = true
+is_alike (verdicts.GetRefused one) (verdicts.GetRefused two) = one == two
+is_alike (verdicts.NoValue one) (verdicts.NoValue two) = true
+is_alike (verdicts.Stays one) (verdicts.Stays two) = bytes_eq one.items two.items
+is_alike (verdicts.Changes before one) (verdicts.Changes again two) = bytes_eq one.items two.items
+is_alike _ _ = false

@@ -5,7 +5,7 @@ use crate::wish::Wished;
 use ptpm_codec::ClockIdentity;
 
 /// A member of a clock, or of one of its ports.
-#[derive(Clone, Copy, Debug, PartialEq, Eq)]
+#[derive(Clone, Copy, Debug)]
 pub struct Subject {
     /// domainNumber of the clock.
     pub domain: u8,

@@ -36,6 +36,25 @@ pub enum Verdict {
     Changes(Value, Value),
 }
 
+impl Verdict {
+    ghost use Rattle.ptpm_plan.specs.Verdicts.{is_alike};
+
+    /// Whether two tables that ask for one member ask for the same.
+    pub fn is_alike(&self, other: &Verdict) -> bool
+        ensures { result ≡ is_alike self.now other.now }
+    {
+        match (self, other) {
+            (Verdict::NotReached, Verdict::NotReached)
+            | (Verdict::NoPort, Verdict::NoPort)
+            | (Verdict::NoValue(_), Verdict::NoValue(_)) => true,
+            (Verdict::GetRefused(one), Verdict::GetRefused(two)) => one == two,
+            (Verdict::Stays(one), Verdict::Stays(two)) => one.as_slice() == two.as_slice(),
+            (Verdict::Changes(_, one), Verdict::Changes(_, two)) => one.as_slice() == two.as_slice(),
+            _ => false,
+        }
+    }
+}
+
 /// What becomes of a member, by the answers of its clock.
 pub fn verdict_of(
     alloc: Global,
