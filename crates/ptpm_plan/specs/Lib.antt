@@ -1,7 +1,13 @@
 pub mod PlannedId
 pub mod Surveyed
 pub mod Answers
+pub mod Surveying
 pub mod Octets
 pub mod After
 pub mod Verdicts
 pub mod Rows
+pub mod Naming
+pub mod Asking
+pub mod Plans
+pub mod Digest
+pub mod Outcome

@@ -1,5 +1,5 @@
 -- The ids that a plan may set (IEEE 1588-2019, 15.5.2.3; which of them is this project's profile).
-use Rattle.std.specs.Prelude.{ℕ, Bool, true, false}
+use Rattle.std.specs.Prelude.{ℕ, Bool, true, false, List, codes}
 use Rattle.ptpm_plan.specs.declared.change.PlannedId.{PlannedId}
 use Rattle.ptpm_plan.specs.declared.change.PlannedId.TheVariants as ids
 
@@ -30,3 +30,17 @@ is_of_port ids.Priority1 = false
 is_of_port ids.Priority2 = false
 is_of_port ids.ClockAccuracy = false
 is_of_port ids.Domain = false
+
+-- the standard's name
+abbrev pub name_of : PlannedId → List ℕ
+name_of ids.UserDescription = codes "USER_DESCRIPTION"
+name_of ids.UtcProperties = codes "UTC_PROPERTIES"
+name_of ids.Priority1 = codes "PRIORITY1"
+name_of ids.Priority2 = codes "PRIORITY2"
+name_of ids.ClockAccuracy = codes "CLOCK_ACCURACY"
+name_of ids.Domain = codes "DOMAIN"
+name_of ids.AnnounceReceiptTimeout = codes "ANNOUNCE_RECEIPT_TIMEOUT"
+name_of ids.LogAnnounceInterval = codes "LOG_ANNOUNCE_INTERVAL"
+name_of ids.LogSyncInterval = codes "LOG_SYNC_INTERVAL"
+name_of ids.DelayMechanism = codes "DELAY_MECHANISM"
+name_of ids.LogMinPdelayReqInterval = codes "LOG_MIN_PDELAY_REQ_INTERVAL"

@@ -1,8 +1,8 @@
 //! What becomes of each member that a plan asks for, a row each.
 
-ghost use Rattle.std.specs.Prelude.{◌≡◌, IfOk};
+ghost use Rattle.std.specs.Prelude.{◌≡◌, IfOk, OnOk};
 ghost use Rattle.std.specs.Option.{option_copied};
-ghost use Rattle.ptpm_plan.specs.Rows.{AddsRow, is_row_of, row_in, row_of};
+ghost use Rattle.ptpm_plan.specs.Rows.{AddsRow, is_row_of, row_in, row_of, with_row};
 
 use crate::answers::Answers;
 use crate::file_fault::FileFault;
@@ -52,7 +52,8 @@ fn is_row_of(row: &Row, subject: Subject) -> bool
 
 /// Adds a row. One that says the same as that of the same member is left out; one that says something else is a fault.
 pub(crate) fn add_row(rows: &mut Vec<Row>, row: Row) -> Result<(), FileFault>
-    ensures { AddsRow rows.old.items row result rows.new.items }
+    ensures adds { AddsRow rows.old.items row result rows.new.items }
+    ensures rows { OnOk result (rows.new.items ≡ with_row rows.old.items row) }
 {
     if let Some(there) = row_in(row.subject, rows.as_slice()) {
         return if there.verdict.is_alike(&row.verdict) {
