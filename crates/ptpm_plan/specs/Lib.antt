@@ -1,2 +1,4 @@
+pub mod BestClock
+pub mod Order
 pub mod PlannedId
 pub mod Surveyed
