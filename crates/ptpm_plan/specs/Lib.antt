@@ -1,3 +1,5 @@
+pub mod BestClock
+pub mod Order
 pub mod PlannedId
 pub mod Surveyed
 pub mod Answers

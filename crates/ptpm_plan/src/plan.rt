@@ -7,10 +7,12 @@ ghost use Rattle.ptpm_plan.specs.Plans.{change_of};
 use crate::answer::value_of;
 use crate::answers::Answers;
 use crate::asking::{Of, ask_clock};
+use crate::best_clock::{BestClocks, best_clocks};
 use crate::change::Change;
 use crate::every::ask_every;
 use crate::file_fault::FileFault;
 use crate::naming::{Named, clock_named};
+use crate::order::in_order;
 use crate::rows::Row;
 use crate::surveyed::Surveyed;
 use crate::verdict::Verdict;
@@ -26,6 +28,8 @@ pub struct Plan {
     pub changes: Vec<Change>,
     /// The tables whose description is not that of one clock.
     pub unnamed: Vec<Unnamed>,
+    /// The best clock of each domain in which a rank changes.
+    pub best: Vec<BestClocks>,
 }
 
 /// A table of the file whose description is not that of one clock.
@@ -45,11 +49,14 @@ impl Plan {
         let unnamed = ask_clocks(alloc, file.clocks.as_slice(), answers, &surveyed, &mut rows)?;
         ask_every(alloc, file, answers, &surveyed, &mut rows)?;
         let changes = changes_of(alloc, rows.as_slice())?;
+        let changes = in_order(alloc, changes, &surveyed)?;
+        let best = best_clocks(alloc, changes.as_slice(), &surveyed)?;
         Ok(Plan {
             surveyed,
             rows,
             changes,
             unnamed,
+            best,
         })
     }
 }

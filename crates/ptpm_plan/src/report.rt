@@ -31,7 +31,8 @@ impl Report<'_> {
         self.print_changes(alloc, out)?;
         self.print_staying(alloc, out)?;
         self.print_refused(out)?;
-        self.print_not_reached(alloc, out)
+        self.print_not_reached(alloc, out)?;
+        self.print_best(out)
     }
 
     fn print_head<O: Write>(&self, alloc: Global, out: &mut O) -> Result<(), Fault> {
@@ -96,6 +97,20 @@ impl Report<'_> {
         for line in lines.as_slice() {
             writeln!(out, "{head}  {line}")?;
             head = "";
+        }
+        Ok(())
+    }
+
+    fn print_best<O: Write>(&self, out: &mut O) -> Result<(), Fault> {
+        for best in self.plan.best.as_slice() {
+            write!(out, "best clock of domain {}: {}", best.domain, best.first)?;
+            if best.alterations.is_empty() {
+                write!(out, " stays")?;
+            }
+            for altered in best.alterations.as_slice() {
+                write!(out, ", after change {} {}", altered.after, altered.clock)?;
+            }
+            writeln!(out)?;
         }
         Ok(())
     }
