@@ -1,5 +1,5 @@
 -- What comes of a plan.
-use Rattle.std.specs.Prelude.{ℕ, Bool, true, false, if◌then◌else◌, List, [], ◌∷◌}
+use Rattle.std.specs.Prelude.{ℕ, Bool, true, false, List, [], ◌∷◌}
 use Rattle.std.specs.List.{list_any}
 use Rattle.ptpm_plan.specs.declared.plan.Unnamed.{Unnamed}
 use Rattle.ptpm_plan.specs.declared.rows.Row.{Row}
@@ -25,7 +25,12 @@ is_not_reached r = says_not_reached r.verdict
 abbrev pub is_refused : Row → Bool
 is_refused r = says_refused r.verdict
 
+abbrev pub status_of_rows : Bool → Bool → ℕ
+status_of_rows true refused = 3
+status_of_rows false true = 1
+status_of_rows false false = 0
+
 -- 3 if a table names no clock, or a clock gave no answer; else 1 if something can't be set; else 0
 abbrev pub status_of : List Row → List Unnamed → ℕ
-status_of rows [] = if list_any is_not_reached rows then 3 else if list_any is_refused rows then 1 else 0
+status_of rows [] = status_of_rows (list_any is_not_reached rows) (list_any is_refused rows)
 status_of rows (u ∷ us) = 3

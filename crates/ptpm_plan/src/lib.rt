@@ -16,6 +16,7 @@ mod every_table;
 mod file;
 mod file_fault;
 mod file_fault_text;
+mod json;
 mod naming;
 mod octets;
 mod order;

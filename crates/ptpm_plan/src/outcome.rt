@@ -1,7 +1,8 @@
 //! What comes of a plan: what can't be set, who is not reached, and the exit status.
 
 ghost use Rattle.std.specs.Prelude.{◌≡◌, ◌<◌, length};
-ghost use Rattle.ptpm_plan.specs.Outcome.{is_not_reached, is_refused, status_of};
+ghost use Rattle.std.specs.List.{list_any};
+ghost use Rattle.ptpm_plan.specs.Outcome.{is_not_reached, is_refused, status_of, status_of_rows};
 
 use crate::plan::{Plan, Unnamed};
 use crate::rows::Row;
@@ -17,13 +18,35 @@ use std::fmt;
 pub(crate) fn status_of(rows: &[Row], unnamed: &[Unnamed]) -> u8
     ensures { result ≡ status_of rows.now unnamed.now }
 {
-    if !unnamed.is_empty() || rows.iter().any(|row| is_not_reached(row)) {
+    match unnamed {
+        [] => status_of_rows(has_not_reached(rows), has_refused(rows)),
+        _ => 3,
+    }
+}
+
+/// The status, by whether some row is not reached, and whether one can't be set.
+fn status_of_rows(not_reached: bool, refused: bool) -> u8
+    ensures { result ≡ status_of_rows not_reached refused }
+{
+    if not_reached {
         3
-    } else if rows.iter().any(|row| is_refused(row)) {
+    } else if refused {
         1
     } else {
         0
     }
+}
+
+fn has_not_reached(rows: &[Row]) -> bool
+    ensures { result ≡ list_any is_not_reached rows.now }
+{
+    rows.iter().any(|row| is_not_reached(row))
+}
+
+fn has_refused(rows: &[Row]) -> bool
+    ensures { result ≡ list_any is_refused rows.now }
+{
+    rows.iter().any(|row| is_refused(row))
 }
 
 /// Whether the clock gave no answer for a member.
@@ -67,7 +90,7 @@ impl fmt::Display for Why {
             Why::NoPort => f.write_str("it has no such port"),
             Why::GetRefused(number) => match ErrorId::from_number(number) {
                 Some(error) => write!(f, "GET is refused: {error}"),
-                None => write!(f, "GET is refused: error {number}"),
+                None => write!(f, "GET is refused: 0x{number:04x}"),
             },
             Why::NoValue(ParseFault::NoValue(member)) => {
                 write!(f, "the value is none of {}", member.name())

@@ -16,6 +16,8 @@ use std::io::{Read, Write};
 #[derive(Clone, Copy, Debug)]
 pub enum Form {
     Text,
+    /// One object.
+    Json,
     /// The text, an empty line, and a line for each change with its dataFields.
     Steps,
 }
@@ -61,10 +63,13 @@ pub fn print_plan<R: Read + Drop, O: Write>(
         file: &file,
         answers: &answers,
     };
-    report.print(alloc, out)?;
     match form {
-        Form::Text => {}
-        Form::Steps => report.print_steps(alloc, out)?,
+        Form::Text => report.print(alloc, out)?,
+        Form::Json => report.print_json(alloc, out)?,
+        Form::Steps => {
+            report.print(alloc, out)?;
+            report.print_steps(alloc, out)?;
+        }
     }
     Ok(status_of(plan.rows.as_slice(), plan.unnamed.as_slice()))
 }

@@ -177,7 +177,7 @@ fn who_of(change: &Change) -> Who {
     }
 }
 
-fn who_of_row(row: &Row) -> Who {
+pub(crate) fn who_of_row(row: &Row) -> Who {
     Who {
         clock: row.subject.clock,
         port: row.subject.port,
