@@ -1,13 +1,12 @@
--- The rows of one wish more, and of one port more.
+-- The rows of one wish more, and of one table more.
 use Rattle.std.proofs.Common.{◌≡◌, ℕ, ◌+◌, ◌<◌, List, [], ◌∷◌, ◌++◌, length, take, get_or, map, flat_map, fold, ap, sym, refl, ◌∙◌, append_assoc, append-nil}
 use Rattle.std.proofs.lemmas.List.{take_more}
 use Rattle.std.proofs.lemmas.List.Sums.{fold_push, fold-append}
-use Rattle.ptpm_plan.specs.Asking.{row_for, rows_of_port, rows_of_ports, rows_of_wishes}
+use Rattle.ptpm_plan.specs.Asking.{row_for, rows_of_wishes}
 use Rattle.ptpm_plan.specs.Rows.{with_row}
 use Rattle.ptpm_plan.specs.declared.answer.Answer.{Answer}
 use Rattle.ptpm_plan.specs.declared.asking.Of.{Of}
 use Rattle.ptpm_plan.specs.declared.rows.Row.{Row}
-use Rattle.ptpm_plan.specs.declared.wish.PortWishes.{PortWishes}
 use Rattle.ptpm_plan.specs.declared.wish.Wish.{Wish}
 
 map_push : {A B : Type 0} (f : A → B) (xs : List A) (x : A) → map f (xs ++ x ∷ []) ≡ map f xs ++ f x ∷ []
@@ -28,12 +27,11 @@ flat_map_push : {A B : Type 0} (f : A → List B) (xs : List A) (x : A) → flat
 flat_map_push f [] x = append-nil (f x)
 flat_map_push f (y ∷ ys) x = ap (λ zs. f y ++ zs) (flat_map_push f ys x) ∙ sym (append_assoc (f y) (flat_map f ys) (f x))
 
-pub ports_more : (answers : List Answer) (of : Of) (rows : List Row) (ps : List PortWishes) (i : ℕ) (p : PortWishes)
-    → i < length ps → p ≡ get_or ps i p
-    → fold with_row rows (rows_of_ports answers of (take (i + 1) ps))
-    ≡ fold with_row (fold with_row rows (rows_of_ports answers of (take i ps))) (rows_of_port answers of p)
-ports_more answers of rows ps i p below is =
-    let more : take (i + 1) ps ≡ take i ps ++ p ∷ [] = take_more ps i p below ∙ ap (λ x. take i ps ++ x ∷ []) (sym is) in
-    ap (λ xs. fold with_row rows (flat_map (rows_of_port answers of) xs)) more
-    ∙ ap (fold with_row rows) (flat_map_push (rows_of_port answers of) (take i ps) p)
-    ∙ fold-append with_row rows (flat_map (rows_of_port answers of) (take i ps)) (rows_of_port answers of p)
+pub flat_more : {A : Type 0} (f : A → List Row) (rows : List Row) (xs : List A) (i : ℕ) (x : A)
+    → i < length xs → x ≡ get_or xs i x
+    → fold with_row rows (flat_map f (take (i + 1) xs)) ≡ fold with_row (fold with_row rows (flat_map f (take i xs))) (f x)
+flat_more f rows xs i x below is =
+    let more : take (i + 1) xs ≡ take i xs ++ x ∷ [] = take_more xs i x below ∙ ap (λ y. take i xs ++ y ∷ []) (sym is) in
+    ap (λ ys. fold with_row rows (flat_map f ys)) more
+    ∙ ap (fold with_row rows) (flat_map_push f (take i xs) x)
+    ∙ fold-append with_row rows (flat_map f (take i xs)) (f x)

@@ -6,16 +6,20 @@ use Rattle.ptpm_codec.specs.Identity.{clock_identity_text}
 use Rattle.ptpm_plan.specs.PlannedId.{number_of}
 use Rattle.ptpm_plan.specs.declared.change.Change.{Change}
 
--- a change as an object in JSON; dataFields are in hexadecimal
-unfoldable pub change_text : Change → List ℕ
-change_text c =
-    codes "{\"clock\": \"" ++ clock_identity_text c.clock.0
-    ++ codes "\", \"domain\": " ++ decimal c.domain
-    ++ codes ", \"port\": " ++ decimal c.port
-    ++ codes ", \"id\": " ++ decimal (number_of c.id)
-    ++ codes ", \"before\": \"" ++ encode_lower c.before.items
-    ++ codes "\", \"after\": \"" ++ encode_lower c.after.items
-    ++ codes "\"}"
+-- a change as an object in JSON: which clock, which member of it, and the dataFields in hexadecimal
+unfoldable pub clock_text : Change → List ℕ
+clock_text c = codes "{\"clock\": \"" ++ clock_identity_text c.clock.0 ++ codes "\", \"domain\": " ++ decimal c.domain
+
+unfoldable pub member_text : Change → List ℕ
+member_text c = codes ", \"port\": " ++ decimal c.port ++ codes ", \"id\": " ++ decimal (number_of c.id)
+
+unfoldable pub fields_text : Change → List ℕ
+fields_text c =
+    codes ", \"before\": \"" ++ encode_lower c.before.items
+    ++ codes "\", \"after\": \"" ++ encode_lower c.after.items ++ codes "\"}"
+
+abbrev pub change_text : Change → List ℕ
+change_text c = clock_text c ++ member_text c ++ fields_text c
 
 abbrev pub next_text : Change → List ℕ
 next_text c = codes ", " ++ change_text c

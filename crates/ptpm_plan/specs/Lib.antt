@@ -13,3 +13,4 @@ pub mod Asking
 pub mod Plans
 pub mod Digest
 pub mod Outcome
+pub mod Planned

@@ -1,5 +1,7 @@
 -- Which clock of a domain a table of the file names: by its identity, or by the description that it alone has there.
-use Rattle.std.specs.Prelude.{ℕ, ◌==◌, Bool, false, ◌&&◌, bytes_eq, List, [], ◌∷◌, filter, length, map, Option, Some, None}
+use Rattle.std.specs.Prelude.{ℕ, ◌==◌, Bool, false, ◌&&◌, if◌then◌else◌, bytes_eq, count_by, List, Option, Some, None}
+use Rattle.std.specs.List.{find}
+use Rattle.std.specs.Option.{option_map}
 use Rattle.ptpm_codec.specs.declared.identity.ClockIdentity.{ClockIdentity}
 use Rattle.ptpm_plan.specs.Answers.{description_by}
 use Rattle.ptpm_plan.specs.declared.answer.Answer.{Answer}
@@ -16,16 +18,13 @@ is_text text (Some description) = bytes_eq description text
 abbrev pub is_called : List Answer → ℕ → List ℕ → SurveyedClock → Bool
 is_called answers domain text c = (c.domain == domain) && is_text text (description_by domain c.identity answers)
 
--- the clocks of a domain that have a description
-abbrev pub called : List SurveyedClock → List Answer → ℕ → List ℕ → List ClockIdentity
-called clocks answers domain text = map (λ (c : SurveyedClock). c.identity) (filter (is_called answers domain text) clocks)
-
--- a description names a clock if one has it, and no other
-abbrev pub named_of : List ClockIdentity → Named
-named_of (clock ∷ []) = names.One clock
-named_of [] = names.Other 0
-named_of (one ∷ two ∷ more) = names.Other (length (one ∷ two ∷ more))
+-- a description names the first clock that has it, if no other has
+abbrev pub named_of : ℕ → Option ClockIdentity → Named
+named_of count None = names.Other count
+named_of count (Some clock) = if count == 1 then names.One clock else names.Other count
 
 abbrev pub clock_named : List SurveyedClock → List Answer → ℕ → Target → Named
 clock_named clocks answers domain (targets.Identity clock) = names.One clock
-clock_named clocks answers domain (targets.Description text) = named_of (called clocks answers domain text)
+clock_named clocks answers domain (targets.Description text) =
+    named_of (count_by (is_called answers domain text) clocks)
+    (option_map (λ (c : SurveyedClock). c.identity) (find (is_called answers domain text) clocks))

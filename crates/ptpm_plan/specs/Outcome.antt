@@ -1,7 +1,7 @@
 -- What comes of a plan.
 use Rattle.std.specs.Prelude.{ℕ, Bool, true, false, List, [], ◌∷◌}
 use Rattle.std.specs.List.{list_any}
-use Rattle.ptpm_plan.specs.declared.plan.Unnamed.{Unnamed}
+use Rattle.ptpm_plan.specs.declared.asking.Unnamed.{Unnamed}
 use Rattle.ptpm_plan.specs.declared.rows.Row.{Row}
 use Rattle.ptpm_plan.specs.declared.verdict.Verdict.{Verdict}
 use Rattle.ptpm_plan.specs.declared.verdict.Verdict.TheVariants as verdicts

@@ -86,7 +86,7 @@ fn answer_in(datagram: &[u8]) -> Option<Answer>
 }
 
 /// Whether an answer is of a clock of a domain.
-fn is_answer_of(answer: &Answer, domain: u8, clock: ClockIdentity) -> bool
+pub(crate) fn is_answer_of(answer: &Answer, domain: u8, clock: ClockIdentity) -> bool
     ensures { result ≡ is_answer_of domain clock answer.now }
 {
     answer.domain == domain && answer.source.clock == clock

@@ -1,13 +1,15 @@
 //! What the tables of a plan file ask for, member by member.
 
 ghost use Rattle.std.specs.Prelude.{◌≡◌, OnOk, fold};
-ghost use Rattle.ptpm_plan.specs.Asking.{rows_of_clock, rows_of_ports, rows_of_wishes, subject_of};
+ghost use Rattle.ptpm_plan.specs.Asking.{of_clock, rows_of_clock, rows_of_clocks, rows_of_ports, rows_of_table, rows_of_wishes, row_for, subject_of, unnamed_of};
 ghost use Rattle.ptpm_plan.specs.Rows.{with_row};
 
 use crate::answers::Answers;
 use crate::file_fault::FileFault;
+use crate::naming::{Named, clock_named};
 use crate::rows::{Row, add_row, row_of};
 use crate::subject::{Asked, Subject};
+use crate::surveyed::SurveyedClock;
 use crate::wish::{ClockWishes, PortWishes, Wish};
 use ptpm_codec::ClockIdentity;
 use std::alloc::Global;
@@ -18,6 +20,15 @@ pub(crate) struct Of {
     pub(crate) place: usize,
     pub(crate) domain: u8,
     pub(crate) clock: ClockIdentity,
+}
+
+/// A table of the file whose description is not that of one clock.
+#[derive(Clone, Copy, Debug)]
+pub struct Unnamed {
+    /// The place of the table among the clocks of the file, from 0.
+    pub place: usize,
+    /// How many clocks have the description.
+    pub count: usize,
 }
 
 /// Adds the rows of what is wished of a clock, or of one of its ports.
@@ -33,11 +44,25 @@ pub(crate) fn ask_wishes(
     ensures { OnOk result (rows.new.items ≡ fold with_row rows.old.items (rows_of_wishes answers.now.list.items of port wishes.now)) }
 {
     for wish in wishes {
-        let asked = asked_for(of, port, wish);
-        let row = row_of(alloc, answers, &asked)?;
-        add_row(rows, row)?;
+        ask_wish(alloc, answers, of, port, wish, rows)?;
     }
     Ok(())
+}
+
+/// Adds the row of a wish.
+fn ask_wish(
+    alloc: Global,
+    answers: &Answers,
+    of: Of,
+    port: u16,
+    wish: &Wish,
+    rows: &mut Vec<Row>,
+) -> Result<(), FileFault>
+    ensures { OnOk result (rows.new.items ≡ with_row rows.old.items (row_for answers.now.list.items of port wish.now)) }
+{
+    let asked = asked_for(of, port, wish);
+    let row = row_of(alloc, answers, &asked)?;
+    add_row(rows, row)
 }
 
 fn asked_for<'a>(of: Of, port: u16, wish: &'a Wish) -> Asked<'a>
@@ -59,7 +84,7 @@ fn asked_for<'a>(of: Of, port: u16, wish: &'a Wish) -> Asked<'a>
 }
 
 /// Adds the rows of what is wished of some ports of a clock.
-#[tactic(auto, using(crate::proofs::AskingLemmas::ports_more))]
+#[tactic(auto, using(crate::proofs::AskingLemmas::flat_more))]
 fn ask_ports(
     alloc: Global,
     answers: &Answers,
@@ -76,7 +101,7 @@ fn ask_ports(
 }
 
 /// Adds the rows of what is wished of a clock.
-pub(crate) fn ask_clock(
+fn ask_clock(
     alloc: Global,
     answers: &Answers,
     of: Of,
@@ -87,4 +112,65 @@ pub(crate) fn ask_clock(
 {
     ask_wishes(alloc, answers, of, 0, clock.wishes.as_slice(), rows)?;
     ask_ports(alloc, answers, of, clock.ports.as_slice(), rows)
+}
+
+/// Adds the rows of a clock's table, if it names a clock.
+fn ask_table(
+    alloc: Global,
+    answers: &Answers,
+    clocks: &[SurveyedClock],
+    table: &ClockWishes,
+    rows: &mut Vec<Row>,
+) -> Result<(), FileFault>
+    ensures { OnOk result (rows.new.items ≡ fold with_row rows.old.items (rows_of_table answers.now.list.items clocks.now table.now)) }
+{
+    match clock_named(clocks, answers, table.domain, &table.target) {
+        Named::One(clock) => ask_clock(alloc, answers, of_clock(table, clock), table, rows),
+        Named::Other(_) => Ok(()),
+    }
+}
+
+/// The clock that a table is of.
+fn of_clock(table: &ClockWishes, clock: ClockIdentity) -> Of
+    ensures { result ≡ of_clock table.now clock }
+{
+    Of {
+        place: table.place,
+        domain: table.domain,
+        clock,
+    }
+}
+
+/// Adds the rows of the clocks of a file.
+#[tactic(auto, using(crate::proofs::AskingLemmas::flat_more))]
+pub(crate) fn ask_clocks(
+    alloc: Global,
+    answers: &Answers,
+    clocks: &[SurveyedClock],
+    tables: &[ClockWishes],
+    rows: &mut Vec<Row>,
+) -> Result<(), FileFault>
+    ensures { OnOk result (rows.new.items ≡ fold with_row rows.old.items (rows_of_clocks answers.now.list.items clocks.now tables.now)) }
+{
+    for table in tables {
+        ask_table(alloc, answers, clocks, table, rows)?;
+    }
+    Ok(())
+}
+
+/// What a table is, if its description is not that of one clock.
+pub(crate) fn unnamed_of(
+    answers: &Answers,
+    clocks: &[SurveyedClock],
+    table: &ClockWishes,
+) -> Option<Unnamed>
+    ensures { result ≡ unnamed_of answers.now.list.items clocks.now table.now }
+{
+    match clock_named(clocks, answers, table.domain, &table.target) {
+        Named::One(_) => None,
+        Named::Other(count) => Some(Unnamed {
+            place: table.place,
+            count,
+        }),
+    }
 }

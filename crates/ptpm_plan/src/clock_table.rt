@@ -29,6 +29,7 @@ pub(crate) fn read_clock(
     let wishes = read_wishes(alloc, table, Owner::Clock, &CLOCK_KEYS, place)?;
     let ports = read_ports(alloc, table, number)?;
     Ok(ClockWishes {
+        place: number,
         target,
         alias,
         domain,

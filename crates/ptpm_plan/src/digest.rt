@@ -1,7 +1,7 @@
 //! The id of a plan: eight hexadecimal digits of the SHA-256 of its changes.
 
 ghost use Rattle.std.specs.Prelude.{◌≡◌, ◌++◌, IfOk, OnOk, string_bytes, flat_map};
-ghost use Rattle.ptpm_plan.specs.Digest.{change_text, changes_text, digest_of, next_text};
+ghost use Rattle.ptpm_plan.specs.Digest.{change_text, changes_text, clock_text, digest_of, fields_text, member_text, next_text};
 
 use crate::change::Change;
 use sha2::{Digest, Sha256};
@@ -57,15 +57,40 @@ fn push_change(alloc: Global, change: &Change, text: &mut String) -> Result<(), 
 }
 
 /// A change as an object in JSON.
-#[tactic(auto, unfolding(crate::specs::Digest::change_text))]
 fn change_text(alloc: Global, change: &Change) -> Result<String, AllocError>
     ensures { IfOk result (λ t. string_bytes t ≡ change_text change.now) }
 {
+    let mut text = clock_text(alloc, change)?;
+    let member = member_text(alloc, change)?;
+    text.push_str(member.as_str())?;
+    let fields = fields_text(alloc, change)?;
+    text.push_str(fields.as_str())?;
+    Ok(text)
+}
+
+#[tactic(auto, unfolding(crate::specs::Digest::clock_text))]
+fn clock_text(alloc: Global, change: &Change) -> Result<String, AllocError>
+    ensures { IfOk result (λ t. string_bytes t ≡ clock_text change.now) }
+{
     let clock = change.clock;
     let domain = change.domain;
+    format!(in alloc; "{{\"clock\": \"{clock}\", \"domain\": {domain}")
+}
+
+#[tactic(auto, unfolding(crate::specs::Digest::member_text))]
+fn member_text(alloc: Global, change: &Change) -> Result<String, AllocError>
+    ensures { IfOk result (λ t. string_bytes t ≡ member_text change.now) }
+{
     let port = change.port;
     let id = change.id.number();
+    format!(in alloc; ", \"port\": {port}, \"id\": {id}")
+}
+
+#[tactic(auto, unfolding(crate::specs::Digest::fields_text))]
+fn fields_text(alloc: Global, change: &Change) -> Result<String, AllocError>
+    ensures { IfOk result (λ t. string_bytes t ≡ fields_text change.now) }
+{
     let before = hex::encode(alloc, change.before.as_slice())?;
     let after = hex::encode(alloc, change.after.as_slice())?;
-    format!(in alloc; "{{\"clock\": \"{clock}\", \"domain\": {domain}, \"port\": {port}, \"id\": {id}, \"before\": \"{before}\", \"after\": \"{after}\"}}")
+    format!(in alloc; ", \"before\": \"{before}\", \"after\": \"{after}\"}}")
 }

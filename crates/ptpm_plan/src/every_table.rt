@@ -12,19 +12,21 @@ use toml::{Table, Value};
 /// The keys of `every` that are no managementId.
 const EVERY_KEYS: [&str; 3] = ["domain", "except", "port"];
 
-/// Reads a table of every clock. `except` may name the aliases of these clocks.
+/// Reads the table of every clock that comes after so many. `except` may name the aliases of these clocks.
 pub(crate) fn read_every(
     alloc: Global,
     value: &Value,
-    place: Place,
+    number: usize,
     clocks: &[ClockWishes],
 ) -> Result<EveryWishes, FileFault> {
+    let place = Place::Every(number);
     let table = shaped(value, "every", place)?;
     let domain = domain_at(table, place)?;
     let except = read_except(alloc, table, place, clocks)?;
     let wishes = read_wishes(alloc, table, Owner::EveryClock, &EVERY_KEYS, place)?;
     let port_wishes = read_port_wishes(alloc, table, place)?;
     Ok(EveryWishes {
+        place: clocks.len().saturating_add(number),
         domain,
         except,
         wishes,

@@ -88,8 +88,8 @@ fn read_everies(
 ) -> Result<Vec<EveryWishes>, FileFault> {
     let mut every = Vec::new(alloc);
     for value in tables_at(table, "every", Place::File)? {
-        let place = Place::Every(every.len());
-        every.push(read_every(alloc, value, place, clocks)?)?;
+        let number = every.len();
+        every.push(read_every(alloc, value, number, clocks)?)?;
     }
     Ok(every)
 }

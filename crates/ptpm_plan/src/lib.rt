@@ -38,11 +38,12 @@ mod wishes_table;
 
 pub use answer::{Answer, Said};
 pub use answers::Answers;
+pub use asking::Unnamed;
 pub use best_clock::{Alteration, BestClocks, Rank, RankedClock, best_clocks};
 pub use change::{Change, PlannedId};
 pub use file_fault::{FileFault, Place, TableFault};
 pub use order::{OrderKey, Turn, in_order};
-pub use plan::{Plan, Unnamed};
+pub use plan::Plan;
 pub use planning::{Form, PlanFault, print_plan, print_questions};
 pub use rows::Row;
 pub use subject::{Asked, Subject};

@@ -1,14 +1,14 @@
 //! Which clock of a domain a table of the file names.
 
-ghost use Rattle.std.specs.Prelude.{◌≡◌, IfOk};
+ghost use Rattle.std.specs.Prelude.{◌≡◌, count_by};
+ghost use Rattle.std.specs.List.{find};
 ghost use Rattle.std.specs.Option.{option_map};
-ghost use Rattle.ptpm_plan.specs.Naming.{called, is_called, clock_named, named_of};
+ghost use Rattle.ptpm_plan.specs.Naming.{clock_named, is_called, named_of};
 
 use crate::answers::Answers;
 use crate::surveyed::SurveyedClock;
 use crate::wish::Target;
 use ptpm_codec::ClockIdentity;
-use std::alloc::{AllocError, Global};
 
 /// Which clock a table names.
 #[derive(Clone, Copy, Debug)]
@@ -20,38 +20,46 @@ pub enum Named {
 
 /// The clock that a target names among those that answered in a domain.
 pub(crate) fn clock_named(
-    alloc: Global,
     clocks: &[SurveyedClock],
     answers: &Answers,
     domain: u8,
     target: &Target,
-) -> Result<Named, AllocError>
-    ensures { IfOk result (λ n. n ≡ clock_named clocks.now answers.now.list.items domain target.now) }
+) -> Named
+    ensures { result ≡ clock_named clocks.now answers.now.list.items domain target.now }
 {
     match target {
-        Target::Identity(identity) => Ok(Named::One(*identity)),
+        Target::Identity(identity) => Named::One(*identity),
         Target::Description(text) => {
-            let called = called(alloc, clocks, answers, domain, text.as_str().as_bytes())?;
-            Ok(named_of(called.as_slice()))
+            let text = text.as_str().as_bytes();
+            let first = first_called(clocks, answers, domain, text);
+            named_of(count_called(clocks, answers, domain, text), first)
         }
     }
 }
 
-/// The clocks of a domain that have a description.
-fn called(
-    alloc: Global,
-    clocks: &[SurveyedClock],
-    answers: &Answers,
-    domain: u8,
-    text: &[u8],
-) -> Result<Vec<ClockIdentity>, AllocError>
-    ensures { IfOk result (λ v. v.items ≡ called clocks.now answers.now.list.items domain text.now) }
+/// How many clocks of a domain have a description.
+fn count_called(clocks: &[SurveyedClock], answers: &Answers, domain: u8, text: &[u8]) -> usize
+    ensures { result ≡ count_by (is_called answers.now.list.items domain text.now) clocks.now }
 {
     clocks
         .iter()
         .filter(|clock| is_called(answers, domain, text, clock))
-        .map(|clock| clock.identity)
-        .collect(alloc)
+        .count()
+}
+
+/// The first clock of a domain that has a description.
+fn first_called(
+    clocks: &[SurveyedClock],
+    answers: &Answers,
+    domain: u8,
+    text: &[u8],
+) -> Option<ClockIdentity>
+    ensures { result ≡ option_map (λ c. c.identity) (find (is_called answers.now.list.items domain text.now) clocks.now) }
+{
+    let first = clocks
+        .iter()
+        .find(|clock| is_called(answers, domain, text, clock))?;
+    Some(first.identity)
 }
 
 /// Whether a clock is of a domain and has a description.
@@ -67,12 +75,12 @@ fn is_called(answers: &Answers, domain: u8, text: &[u8], clock: &SurveyedClock) 
     }
 }
 
-/// The clock that is named, if it is one.
-fn named_of(clocks: &[ClockIdentity]) -> Named
-    ensures { result ≡ named_of clocks.now }
+/// The clock that is named, if it alone has the description.
+fn named_of(count: usize, first: Option<ClockIdentity>) -> Named
+    ensures { result ≡ named_of count first }
 {
-    match clocks {
-        [one] => Named::One(*one),
-        others => Named::Other(others.len()),
+    match first {
+        Some(clock) if count == 1 => Named::One(clock),
+        _ => Named::Other(count),
     }
 }

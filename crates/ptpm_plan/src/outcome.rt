@@ -4,7 +4,8 @@ ghost use Rattle.std.specs.Prelude.{◌≡◌, ◌<◌, length};
 ghost use Rattle.std.specs.List.{list_any};
 ghost use Rattle.ptpm_plan.specs.Outcome.{is_not_reached, is_refused, status_of, status_of_rows};
 
-use crate::plan::{Plan, Unnamed};
+use crate::asking::Unnamed;
+use crate::plan::Plan;
 use crate::rows::Row;
 use crate::verdict::Verdict;
 use crate::wish::{PlanFile, Target};

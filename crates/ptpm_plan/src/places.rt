@@ -38,7 +38,7 @@ impl fmt::Display for Arrow<'_> {
             if before == after {
                 continue;
             }
-            f.write_str(between)?;
+            write!(f, "{between}")?;
             if has_more_members(self.id) {
                 write!(f, "{name} ")?;
             }
@@ -61,11 +61,11 @@ impl fmt::Display for Values<'_> {
         let mut between = "";
         for line in self.lines.lines() {
             let (name, value) = split_line(line);
-            f.write_str(between)?;
+            write!(f, "{between}")?;
             if has_more_members(self.id) {
                 write!(f, "{name} ")?;
             }
-            f.write_str(value)?;
+            write!(f, "{value}")?;
             between = ", ";
         }
         Ok(())

@@ -1,20 +1,21 @@
 //! A plan: what becomes of each member that a file asks for, and the changes in the order in which they are asked.
 
-ghost use Rattle.std.specs.Prelude.{◌≡◌, IfOk};
+ghost use Rattle.std.specs.Prelude.{◌≡◌, [], IfOk, fold};
 ghost use Rattle.std.specs.List.{filter_map};
+ghost use Rattle.ptpm_plan.specs.Asking.{rows_of_file, unnamed_of};
 ghost use Rattle.ptpm_plan.specs.Plans.{change_of};
+ghost use Rattle.ptpm_plan.specs.Rows.{with_row};
 
 use crate::answer::value_of;
 use crate::answers::Answers;
-use crate::asking::{Of, ask_clock};
+use crate::asking::{Unnamed, ask_clocks, unnamed_of};
 use crate::best_clock::{BestClocks, best_clocks};
 use crate::change::Change;
-use crate::every::ask_every;
+use crate::every::ask_all;
 use crate::file_fault::FileFault;
-use crate::naming::{Named, clock_named};
 use crate::order::in_order;
 use crate::rows::Row;
-use crate::surveyed::Surveyed;
+use crate::surveyed::{Surveyed, SurveyedClock};
 use crate::verdict::Verdict;
 use crate::wish::{ClockWishes, PlanFile};
 use std::alloc::{AllocError, Global};
@@ -32,22 +33,16 @@ pub struct Plan {
     pub best: Vec<BestClocks>,
 }
 
-/// A table of the file whose description is not that of one clock.
-#[derive(Clone, Copy, Debug)]
-pub struct Unnamed {
-    /// The place of the table among the clocks of the file, from 0.
-    pub place: usize,
-    /// How many clocks have the description.
-    pub count: usize,
-}
-
 impl Plan {
+    ghost use Rattle.ptpm_plan.specs.Planned.{IsPlanOf};
+
     /// The plan of a file, by the answers of a survey.
-    pub fn of(alloc: Global, file: &PlanFile, answers: &Answers) -> Result<Plan, FileFault> {
+    pub fn of(alloc: Global, file: &PlanFile, answers: &Answers) -> Result<Plan, FileFault>
+        ensures { IfOk result (IsPlanOf file.now answers.now.list.items) }
+    {
         let surveyed = answers.surveyed(alloc)?;
-        let mut rows = Vec::new(alloc);
-        let unnamed = ask_clocks(alloc, file.clocks.as_slice(), answers, &surveyed, &mut rows)?;
-        ask_every(alloc, file, answers, &surveyed, &mut rows)?;
+        let rows = rows_of_file(alloc, file, answers, &surveyed)?;
+        let unnamed = all_unnamed(alloc, answers, surveyed.clocks.as_slice(), file.clocks.as_slice())?;
         let changes = changes_of(alloc, rows.as_slice())?;
         let changes = in_order(alloc, changes, &surveyed)?;
         let best = best_clocks(alloc, changes.as_slice(), &surveyed)?;
@@ -61,32 +56,35 @@ impl Plan {
     }
 }
 
-/// Adds the rows of the clocks of a file. The tables that name no clock are the result.
-fn ask_clocks(
+/// What becomes of each member that a file asks for.
+fn rows_of_file(
     alloc: Global,
-    clocks: &[ClockWishes],
+    file: &PlanFile,
     answers: &Answers,
     surveyed: &Surveyed,
-    rows: &mut Vec<Row>,
-) -> Result<Vec<Unnamed>, FileFault> {
-    let mut unnamed = Vec::new(alloc);
-    for place in 0..clocks.len() {
-        let clock = &clocks[place];
-        let domain = clock.domain;
-        let known = surveyed.clocks.as_slice();
-        match clock_named(alloc, known, answers, domain, &clock.target)? {
-            Named::One(identity) => {
-                let of = Of {
-                    place,
-                    domain,
-                    clock: identity,
-                };
-                ask_clock(alloc, answers, of, clock, rows)?;
-            }
-            Named::Other(count) => unnamed.push(Unnamed { place, count })?,
-        }
-    }
-    Ok(unnamed)
+) -> Result<Vec<Row>, FileFault>
+    ensures { IfOk result (λ v. v.items ≡ fold with_row [] (rows_of_file answers.now.list.items surveyed.now file.now)) }
+{
+    let mut rows = Vec::new(alloc);
+    let clocks = surveyed.clocks.as_slice();
+    ask_clocks(alloc, answers, clocks, file.clocks.as_slice(), &mut rows)?;
+    ask_all(alloc, answers, surveyed, file.every.as_slice(), &mut rows)?;
+    Ok(rows)
+}
+
+/// The tables that name no clock.
+fn all_unnamed(
+    alloc: Global,
+    answers: &Answers,
+    clocks: &[SurveyedClock],
+    tables: &[ClockWishes],
+) -> Result<Vec<Unnamed>, AllocError>
+    ensures { IfOk result (λ v. v.items ≡ filter_map (unnamed_of answers.now.list.items clocks.now) tables.now) }
+{
+    tables
+        .iter()
+        .filter_map(|table| unnamed_of(answers, clocks, table))
+        .collect(alloc)
 }
 
 /// The changes among rows.

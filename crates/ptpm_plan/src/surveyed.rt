@@ -46,15 +46,40 @@ impl Surveyed {
     pub fn clock(&self, domain: u8, identity: ClockIdentity) -> Option<&SurveyedClock>
         ensures { option_copied result ≡ clock_in domain identity self.now.clocks.items }
     {
-        self.clocks.iter().find(|clock| clock.domain == domain && clock.identity == identity)
+        clock_in(self.clocks.as_slice(), domain, identity)
     }
 
     /// A port of a clock, if its PORT_DATA_SET was answered.
     pub fn port(&self, domain: u8, clock: ClockIdentity, number: u16) -> Option<&SurveyedPort>
         ensures { option_copied result ≡ port_in domain clock number self.now.ports.items }
     {
-        self.ports.iter().find(|port| {
-            port.domain == domain && port.clock == clock && port.number == number
-        })
+        port_in(self.ports.as_slice(), domain, clock, number)
     }
+}
+
+/// A clock of a domain among these.
+pub(crate) fn clock_in(
+    clocks: &[SurveyedClock],
+    domain: u8,
+    identity: ClockIdentity,
+) -> Option<&SurveyedClock>
+    ensures { option_copied result ≡ clock_in domain identity clocks.now }
+{
+    clocks
+        .iter()
+        .find(|clock| clock.domain == domain && clock.identity == identity)
+}
+
+/// A port of a clock among these.
+pub(crate) fn port_in(
+    ports: &[SurveyedPort],
+    domain: u8,
+    clock: ClockIdentity,
+    number: u16,
+) -> Option<&SurveyedPort>
+    ensures { option_copied result ≡ port_in domain clock number ports.now }
+{
+    ports.iter().find(|port| {
+        port.domain == domain && port.clock == clock && port.number == number
+    })
 }

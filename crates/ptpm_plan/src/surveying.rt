@@ -1,12 +1,14 @@
 //! What the answers of a survey say of its clocks and ports.
 
-ghost use Rattle.std.specs.Prelude.{◌≡◌};
-ghost use Rattle.ptpm_plan.specs.Surveying.{precedence_in};
+ghost use Rattle.std.specs.Prelude.{◌≡◌, IfOk, OnOk};
+ghost use Rattle.std.specs.List.{All};
+ghost use Rattle.std.specs.Option.{option_map};
+ghost use Rattle.ptpm_plan.specs.Surveying.{IsClockOf, IsPortOf, IsSurvey, clock_from, field_by, hops_by, port_from, precedence_in};
 
 use crate::answer::{Answer, Said};
-use crate::answers::Answers;
+use crate::answers::{Answers, is_answer_of};
 use crate::octets::{octet, pair_at};
-use crate::surveyed::{Surveyed, SurveyedClock, SurveyedPort};
+use crate::surveyed::{Surveyed, SurveyedClock, SurveyedPort, clock_in, port_in};
 use ptpm_codec::ClockIdentity;
 use ptpm_data::{ClockPrecedence, PortState};
 use std::alloc::{AllocError, Global};
@@ -16,42 +18,66 @@ const DEFAULT_DATA_SET: u16 = 0x2000;
 const PORT_DATA_SET: u16 = 0x2004;
 
 impl Answers {
-    /// The clocks that answered, and the ports whose PORT_DATA_SET they answered, each in the order of its first answer.
-    pub fn surveyed(&self, alloc: Global) -> Result<Surveyed, AllocError> {
+    /// The clocks that answered, and the ports whose PORT_DATA_SET they answered, ascending.
+    pub fn surveyed(&self, alloc: Global) -> Result<Surveyed, AllocError>
+        ensures { IfOk result (IsSurvey self.now.list.items) }
+    {
+        let mut surveyed = self.found(alloc)?;
+        surveyed
+            .clocks
+            .sort_by_key(|clock| (clock.domain, clock.identity))?;
+        surveyed
+            .ports
+            .sort_by_key(|port| (port.domain, port.clock, port.number))?;
+        Ok(surveyed)
+    }
+
+    /// The same, each in the order of its first answer.
+    fn found(&self, alloc: Global) -> Result<Surveyed, AllocError>
+        ensures { IfOk result (IsSurvey self.now.list.items) }
+    {
         let mut surveyed = Surveyed {
             clocks: Vec::new(alloc),
             ports: Vec::new(alloc),
         };
         for answer in self.list.as_slice() {
-            self.survey_clock(answer, &mut surveyed)?;
-            self.survey_port(answer, &mut surveyed)?;
+            self.add_clock(answer, &mut surveyed.clocks)?;
+            self.add_port(answer, &mut surveyed.ports)?;
         }
         Ok(surveyed)
     }
 
     /// Adds the clock of an answer, unless it is there.
-    fn survey_clock(&self, answer: &Answer, surveyed: &mut Surveyed) -> Result<(), AllocError> {
-        let clock = answer.source.clock;
-        if surveyed.clock(answer.domain, clock).is_none() {
-            surveyed.clocks.push(self.clock_from(answer.domain, clock))?;
+    fn add_clock(&self, answer: &Answer, clocks: &mut Vec<SurveyedClock>) -> Result<(), AllocError>
+        requires { All (IsClockOf self.now.list.items) clocks.old.items }
+        ensures { OnOk result (All (IsClockOf self.now.list.items) clocks.new.items) }
+    {
+        let (domain, clock) = (answer.domain, answer.source.clock);
+        if clock_in(clocks.as_slice(), domain, clock).is_none() {
+            clocks.push(self.clock_from(domain, clock))?;
         }
         Ok(())
     }
 
-    /// Adds the port that an answer is of, if it is one with PORT_DATA_SET, unless it is there.
-    fn survey_port(&self, answer: &Answer, surveyed: &mut Surveyed) -> Result<(), AllocError> {
-        let (clock, number) = (answer.source.clock, answer.source.port);
-        if answer.id != PORT_DATA_SET || surveyed.port(answer.domain, clock, number).is_some() {
+    /// Adds the port that an answer is of, if it is one to PORT_DATA_SET, unless it is there.
+    fn add_port(&self, answer: &Answer, ports: &mut Vec<SurveyedPort>) -> Result<(), AllocError>
+        requires { All (IsPortOf self.now.list.items) ports.old.items }
+        ensures { OnOk result (All (IsPortOf self.now.list.items) ports.new.items) }
+    {
+        let (domain, clock, number) = (answer.domain, answer.source.clock, answer.source.port);
+        if answer.id != PORT_DATA_SET || port_in(ports.as_slice(), domain, clock, number).is_some() {
             return Ok(());
         }
-        if let Some(port) = self.port_from(answer.domain, clock, number) {
-            surveyed.ports.push(port)?;
+        if let Some(port) = self.port_from(domain, clock, number) {
+            ports.push(port)?;
         }
         Ok(())
     }
 
     /// What its answers say of a clock.
-    fn clock_from(&self, domain: u8, identity: ClockIdentity) -> SurveyedClock {
+    fn clock_from(&self, domain: u8, identity: ClockIdentity) -> SurveyedClock
+        ensures { result ≡ clock_from self.now.list.items domain identity }
+    {
         let field = self.field(domain, identity, 0, DEFAULT_DATA_SET);
         SurveyedClock {
             domain,
@@ -74,7 +100,9 @@ impl Answers {
         domain: u8,
         clock: ClockIdentity,
         number: u16,
-    ) -> Option<SurveyedPort> {
+    ) -> Option<SurveyedPort>
+        ensures { result ≡ port_from self.now.list.items domain clock number }
+    {
         let field = self.field(domain, clock, number, PORT_DATA_SET)?;
         Some(SurveyedPort {
             domain,
@@ -93,7 +121,9 @@ impl Answers {
         clock: ClockIdentity,
         port: u16,
         id: u16,
-    ) -> Option<&[u8]> {
+    ) -> Option<&[u8]>
+        ensures { option_map (λ f. f.now) result ≡ field_by domain clock port id self.now.list.items }
+    {
         match &self.last(domain, clock, port, id)?.said {
             Said::Is(field) => Some(field.as_slice()),
             Said::Refused(_) => None,
@@ -101,10 +131,14 @@ impl Answers {
     }
 
     /// How many boundary clocks the last answer of a clock passed.
-    fn hops(&self, domain: u8, clock: ClockIdentity) -> u8 {
-        let last = self.list.iter().rev().find(|answer| {
-            answer.domain == domain && answer.source.clock == clock
-        });
+    fn hops(&self, domain: u8, clock: ClockIdentity) -> u8
+        ensures { result ≡ hops_by domain clock self.now.list.items }
+    {
+        let last = self
+            .list
+            .iter()
+            .rev()
+            .find(|answer| is_answer_of(answer, domain, clock));
         match last {
             Some(answer) => answer.hops,
             None => 0,

@@ -42,6 +42,8 @@ pub enum Target {
 /// A clock of the file.
 #[derive(Debug, Drop)]
 pub struct ClockWishes {
+    /// Its place among the clocks of the file, from 0.
+    pub place: usize,
     pub target: Target,
     /// What it is called in what is printed.
     pub alias: Option<Text>,
@@ -60,6 +62,8 @@ pub struct PortWishes {
 /// What the file asks of each clock of a domain, but for some.
 #[derive(Debug, Drop)]
 pub struct EveryWishes {
+    /// Its place in the file, after all clocks.
+    pub place: usize,
     pub domain: u8,
     pub except: Vec<Target>,
     pub wishes: Vec<Wish>,
