@@ -3,6 +3,7 @@
 
 mod best_clock;
 mod change;
+pub mod laws;
 mod order;
 mod surveyed;
 
