@@ -2,3 +2,4 @@ pub mod BestClock
 pub mod Order
 pub mod PlannedId
 pub mod Surveyed
+pub mod Warnings

@@ -9,7 +9,7 @@ ghost use Rattle.ptpm_plan.specs.Order.{order_key};
 
 use crate::order::OrderKey;
 
-/// If each clock of a domain has one change of its rank at most, the best clock of the domain changes once at most along the order.
+/// If each clock of a domain has one change of its rank at most, its best clock changes once at most along the order.
 /// So it changes from the present one straight to the final one.
 pub fn best_clock_once_law()
     ensures { (s : Surveyed) (given asked : List Change) (domain : ℕ)
