@@ -1,6 +1,6 @@
 -- Which clock of a domain is the best one, by what a survey says and by the changes that are done (IEEE 1588-2019, 9.3.4).
-use Rattle.std.specs.Prelude.{ℕ, ◌+◌, ◌==◌, ◌&&◌, zero, suc, List, [], ◌∷◌, ◌++◌, map, take, length, Option, None, Some, if◌then◌else◌, Bool, true, false}
-use Rattle.std.specs.List.{filter_map, fold, list_any}
+use Rattle.std.specs.Prelude.{ℕ, ◌≡◌, ◌≤◌, ◌+◌, ◌==◌, ◌&&◌, zero, suc, List, [], ◌++◌, map, take, length, Option, None, Some, if◌then◌else◌, Bool, true, false}
+use Rattle.std.specs.List.{All, count_by, filter_map, find, fold, list_any}
 use Rattle.std.specs.Option.{option_map, option_to_list}
 use Rattle.std.specs.Ordering.{is_lt, nat_cmp, ord_min, ordering_then}
 use Rattle.std.specs.declared.cmp.Ordering.{Ordering}
@@ -57,7 +57,7 @@ is_of_rank ids.Priority2 = true
 is_of_rank ids.ClockAccuracy = true
 is_of_rank _ = false
 
--- the rank of which an id's member has this value
+-- a rank with another value of an id's member
 abbrev pub rank_with : PlannedId → ℕ → Rank → Rank
 rank_with ids.Priority1 value r = record r { priority1 = value }
 rank_with ids.Priority2 value r = record r { priority2 = value }
@@ -89,7 +89,7 @@ better_of (Some best) r = Some (ord_min rank_cmp best r)
 abbrev pub best_in : ℕ → List RankedClock → Option Rank
 best_in domain ranks = fold (λ (best : Option Rank) (r : RankedClock). if r.domain == domain then better_of best r.rank else best) None ranks
 
--- the best clock after the first changes, so many
+-- the best clock after the first n changes
 abbrev pub best_after : ℕ → List Change → List RankedClock → ℕ → Option Rank
 best_after domain changes ranks n = best_in domain (ranks_after (take n changes) ranks)
 
@@ -99,7 +99,7 @@ altered number (Some was) (Some is) = if same_clock is.identity was.identity the
 altered number (Some was) None = None
 altered number None is = None
 
--- among the first changes, so many, each that alters which clock is the best one
+-- among the first n changes, each that alters which clock is the best one
 abbrev pub alterations : ℕ → List Change → List RankedClock → ℕ → List Alteration
 alterations domain changes ranks zero = []
 alterations domain changes ranks (suc n) =
@@ -118,14 +118,24 @@ pub record Said : Type 0 where
 abbrev pub shown : BestClocks → Said
 shown b = record { domain = b.domain; first = b.first; alterations = b.alterations.items }
 
--- it is said of a domain where a clock has a rank, and where there is a change of a rank
+-- it is said of a domain if a clock in it has a rank, and if there is a change of a rank in it
 abbrev pub best_clocks_in : List Change → List RankedClock → ℕ → Option Said
 best_clocks_in changes ranks domain =
     if list_any (is_rank_change_in domain) changes
     then option_map (λ best. record { domain = domain; first = best.identity; alterations = alterations domain changes ranks (length changes) }) (best_in domain ranks)
     else None
 
--- of the first domains, so many
+-- of the domains below n
 unfoldable pub best_clocks : List Change → List RankedClock → ℕ → List Said
 best_clocks changes ranks zero = []
 best_clocks changes ranks (suc n) = best_clocks changes ranks n ++ option_to_list (best_clocks_in changes ranks n)
+
+-- ---- one change each
+
+-- no clock is there twice: a look-up of a clock finds this one
+abbrev pub AreApart : List RankedClock → Type 0
+AreApart ranks = All (λ (r : RankedClock). find (is_ranked r.domain r.rank.identity) ranks ≡ Some r) ranks
+
+-- each clock of a domain has one change of its rank at most
+abbrev pub HaveOneEach : ℕ → List RankedClock → List Change → Type 0
+HaveOneEach domain ranks changes = All (λ (r : RankedClock). r.domain ≡ domain → count_by (changes_rank r) changes ≤ 1) ranks

@@ -14,3 +14,4 @@ pub mod Plans
 pub mod Digest
 pub mod Outcome
 pub mod Planned
+pub mod Warnings

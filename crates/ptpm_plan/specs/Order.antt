@@ -1,5 +1,5 @@
 -- In which order the changes of a plan are asked (this project's profile).
-use Rattle.std.specs.Prelude.{ℕ, ◌==◌, nat_lt, int_lt, List, find, Option, None, Some, if◌then◌else◌, Bool, true, false}
+use Rattle.std.specs.Prelude.{ℕ, nat_lt, int_lt, List, find, Option, None, Some, if◌then◌else◌, Bool, true, false}
 use Rattle.std.specs.Option.{option_map, option_map_or}
 use Rattle.ptpm_codec.specs.Identity.{same_clock}
 use Rattle.ptpm_codec.specs.Layout.{octet}

@@ -85,7 +85,7 @@ impl Rank {
         }
     }
 
-    /// The rank of which an id's member has this value.
+    /// This rank with another value of an id's member.
     fn with(self, id: PlannedId, value: u8) -> Rank
         ensures { result ≡ rank_with id value self }
     {

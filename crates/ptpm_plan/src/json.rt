@@ -34,7 +34,7 @@ impl Report<'_> {
         put(&mut map, alloc, "cannotBeSet", refused_value(alloc, rows)?)?;
         put(&mut map, alloc, "notReached", self.not_reached_value(alloc)?)?;
         put(&mut map, alloc, "bestClock", best_value(alloc, self.plan.best.as_slice())?)?;
-        put(&mut map, alloc, "warnings", Value::Array(Vec::new(alloc)))?;
+        put(&mut map, alloc, "warnings", self.warnings_value(alloc)?)?;
         Ok(Value::Object(map))
     }
 
@@ -45,7 +45,16 @@ impl Report<'_> {
         }
         Ok(Value::Array(lines))
     }
+
+    fn warnings_value(&self, alloc: Global) -> Result<Value, AllocError> {
+        let mut lines = Vec::new(alloc);
+        for warning in self.plan.warnings.as_slice() {
+            lines.push(Value::String(format!(in alloc; "{warning}")?))?;
+        }
+        Ok(Value::Array(lines))
+    }
 }
+
 
 fn changes_value(alloc: Global, changes: &[Change]) -> Result<Value, AllocError> {
     let mut values = Vec::new(alloc);

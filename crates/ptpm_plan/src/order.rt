@@ -1,5 +1,5 @@
-//! In which order the changes of a plan are asked, so that no port is left without its master, and the best clock of a domain is
-//! another one once at most.
+//! In which order the changes of a plan are asked. A port that receives is to keep its master meanwhile, and the best clock of a
+//! domain is to change once at most.
 
 ghost use Rattle.std.specs.Prelude.{◌≡◌, IfOk, List, Option, Some};
 ghost use Rattle.std.specs.List.Sorted.{IsPermutation, IsSortedByKey, IsStableByKey};

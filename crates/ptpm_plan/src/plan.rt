@@ -17,6 +17,8 @@ use crate::order::in_order;
 use crate::rows::Row;
 use crate::surveyed::{Surveyed, SurveyedClock};
 use crate::verdict::Verdict;
+use crate::warning::Warning;
+use crate::warnings::warnings_of;
 use crate::wish::{ClockWishes, PlanFile};
 use std::alloc::{AllocError, Global};
 
@@ -31,6 +33,7 @@ pub struct Plan {
     pub unnamed: Vec<Unnamed>,
     /// The best clock of each domain in which a rank changes.
     pub best: Vec<BestClocks>,
+    pub warnings: Vec<Warning>,
 }
 
 impl Plan {
@@ -46,12 +49,14 @@ impl Plan {
         let changes = changes_of(alloc, rows.as_slice())?;
         let changes = in_order(alloc, changes, &surveyed)?;
         let best = best_clocks(alloc, changes.as_slice(), &surveyed)?;
+        let warnings = warnings_of(alloc, changes.as_slice(), &surveyed)?;
         Ok(Plan {
             surveyed,
             rows,
             changes,
             unnamed,
             best,
+            warnings,
         })
     }
 }

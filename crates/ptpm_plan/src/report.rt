@@ -32,7 +32,11 @@ impl Report<'_> {
         self.print_staying(alloc, out)?;
         self.print_refused(out)?;
         self.print_not_reached(alloc, out)?;
-        self.print_best(out)
+        self.print_best(out)?;
+        for warning in self.plan.warnings.as_slice() {
+            writeln!(out, "warning: {warning}")?;
+        }
+        Ok(())
     }
 
     fn print_head<O: Write>(&self, alloc: Global, out: &mut O) -> Result<(), Fault> {
