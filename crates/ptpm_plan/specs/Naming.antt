@@ -18,13 +18,17 @@ is_text text (Some description) = bytes_eq description text
 abbrev pub is_called : List Answer → ℕ → List ℕ → SurveyedClock → Bool
 is_called answers domain text c = (c.domain == domain) && is_text text (description_by domain c.identity answers)
 
--- a description names the first clock that has it, if no other has
+-- the first clock that has it, if no other has
 abbrev pub named_of : ℕ → Option ClockIdentity → Named
 named_of count None = names.Other count
 named_of count (Some clock) = if count == 1 then names.One clock else names.Other count
 
-abbrev pub clock_named : List SurveyedClock → List Answer → ℕ → Target → Named
-clock_named clocks answers domain (targets.Identity clock) = names.One clock
-clock_named clocks answers domain (targets.Description text) =
+-- the clock of a domain that alone has a description
+unfoldable pub clock_called : List SurveyedClock → List Answer → ℕ → List ℕ → Named
+clock_called clocks answers domain text =
     named_of (count_by (is_called answers domain text) clocks)
     (option_map (λ (c : SurveyedClock). c.identity) (find (is_called answers domain text) clocks))
+
+abbrev pub clock_named : List SurveyedClock → List Answer → ℕ → Target → Named
+clock_named clocks answers domain (targets.Identity clock) = names.One clock
+clock_named clocks answers domain (targets.Description text) = clock_called clocks answers domain text

@@ -1,9 +1,12 @@
 //! The id of a plan: eight hexadecimal digits of the SHA-256 of its changes.
 
-ghost use Rattle.std.specs.Prelude.{◌≡◌, ◌++◌, IfOk, OnOk, string_bytes, flat_map};
+ghost use Rattle.std.specs.Prelude.{◌≡◌, ◌++◌, IfOk, OnOk, decimal, flat_map, string_bytes};
+ghost use Rattle.hex.specs.Hex.{encode_lower};
+ghost use Rattle.ptpm_codec.specs.Identity.{clock_identity_text};
 ghost use Rattle.ptpm_plan.specs.Digest.{change_text, changes_text, clock_text, digest_of, fields_text, member_text, next_text};
 
 use crate::change::Change;
+use ptpm_codec::ClockIdentity;
 use sha2::{Digest, Sha256};
 use std::alloc::{AllocError, Global};
 
@@ -72,25 +75,54 @@ fn change_text(alloc: Global, change: &Change) -> Result<String, AllocError>
 fn clock_text(alloc: Global, change: &Change) -> Result<String, AllocError>
     ensures { IfOk result (λ t. string_bytes t ≡ clock_text change.now) }
 {
-    let clock = change.clock;
-    let domain = change.domain;
-    format!(in alloc; "{{\"clock\": \"{clock}\", \"domain\": {domain}")
+    let mut text = String::from_str(alloc, "{\"clock\": \"")?;
+    push_clock(alloc, change.clock, &mut text)?;
+    text.push_str("\", \"domain\": ")?;
+    push_number(alloc, u16::from(change.domain), &mut text)?;
+    Ok(text)
 }
 
 #[tactic(auto, unfolding(crate::specs::Digest::member_text))]
 fn member_text(alloc: Global, change: &Change) -> Result<String, AllocError>
     ensures { IfOk result (λ t. string_bytes t ≡ member_text change.now) }
 {
-    let port = change.port;
-    let id = change.id.number();
-    format!(in alloc; ", \"port\": {port}, \"id\": {id}")
+    let mut text = String::from_str(alloc, ", \"port\": ")?;
+    push_number(alloc, change.port, &mut text)?;
+    text.push_str(", \"id\": ")?;
+    push_number(alloc, change.id.number(), &mut text)?;
+    Ok(text)
 }
 
 #[tactic(auto, unfolding(crate::specs::Digest::fields_text))]
 fn fields_text(alloc: Global, change: &Change) -> Result<String, AllocError>
     ensures { IfOk result (λ t. string_bytes t ≡ fields_text change.now) }
 {
-    let before = hex::encode(alloc, change.before.as_slice())?;
-    let after = hex::encode(alloc, change.after.as_slice())?;
-    format!(in alloc; ", \"before\": \"{before}\", \"after\": \"{after}\"}}")
+    let mut text = String::from_str(alloc, ", \"before\": \"")?;
+    push_octets(alloc, change.before.as_slice(), &mut text)?;
+    text.push_str("\", \"after\": \"")?;
+    push_octets(alloc, change.after.as_slice(), &mut text)?;
+    text.push_str("\"}")?;
+    Ok(text)
+}
+
+fn push_clock(alloc: Global, clock: ClockIdentity, text: &mut String) -> Result<(), AllocError>
+    ensures { OnOk result (string_bytes text.new ≡ string_bytes text.old ++ clock_identity_text clock.0) }
+{
+    let clock = format!(in alloc; "{clock}")?;
+    text.push_str(clock.as_str())
+}
+
+fn push_number(alloc: Global, number: u16, text: &mut String) -> Result<(), AllocError>
+    ensures { OnOk result (string_bytes text.new ≡ string_bytes text.old ++ decimal number) }
+{
+    let number = format!(in alloc; "{number}")?;
+    text.push_str(number.as_str())
+}
+
+/// Adds octets in hexadecimal.
+fn push_octets(alloc: Global, octets: &[u8], text: &mut String) -> Result<(), AllocError>
+    ensures { OnOk result (string_bytes text.new ≡ string_bytes text.old ++ encode_lower octets.now) }
+{
+    let digits = hex::encode(alloc, octets)?;
+    text.push_str(digits.as_str())
 }

@@ -3,7 +3,7 @@
 ghost use Rattle.std.specs.Prelude.{◌≡◌, count_by};
 ghost use Rattle.std.specs.List.{find};
 ghost use Rattle.std.specs.Option.{option_map};
-ghost use Rattle.ptpm_plan.specs.Naming.{clock_named, is_called, named_of};
+ghost use Rattle.ptpm_plan.specs.Naming.{clock_called, clock_named, is_called, named_of};
 
 use crate::answers::Answers;
 use crate::surveyed::SurveyedClock;
@@ -30,11 +30,18 @@ pub(crate) fn clock_named(
     match target {
         Target::Identity(identity) => Named::One(*identity),
         Target::Description(text) => {
-            let text = text.as_str().as_bytes();
-            let first = first_called(clocks, answers, domain, text);
-            named_of(count_called(clocks, answers, domain, text), first)
+            clock_called(clocks, answers, domain, text.as_str().as_bytes())
         }
     }
+}
+
+/// The clock of a domain that alone has a description.
+#[tactic(auto, unfolding(crate::specs::Naming::clock_called))]
+fn clock_called(clocks: &[SurveyedClock], answers: &Answers, domain: u8, text: &[u8]) -> Named
+    ensures { result ≡ clock_called clocks.now answers.now.list.items domain text.now }
+{
+    let first = first_called(clocks, answers, domain, text);
+    named_of(count_called(clocks, answers, domain, text), first)
 }
 
 /// How many clocks of a domain have a description.

@@ -31,22 +31,36 @@ pub(crate) struct Arrow<'a> {
 
 impl fmt::Display for Arrow<'_> {
     fn fmt<W: fmt::Write>(&self, f: &mut fmt::Formatter<W>) -> fmt::Result {
-        let mut between = "";
-        for (before, after) in self.before.lines().zip(self.after.lines()) {
-            let (name, before) = split_line(before);
-            let (_, after) = split_line(after);
-            if before == after {
-                continue;
+        let mut is_first = true;
+        let mut lines_after = self.after.lines();
+        for before in self.before.lines() {
+            let after = lines_after.next().unwrap_or("");
+            if before != after {
+                write_change(self.id, is_first, before, after, f)?;
+                is_first = false;
             }
-            write!(f, "{between}")?;
-            if has_more_members(self.id) {
-                write!(f, "{name} ")?;
-            }
-            write!(f, "{before} -> {after}")?;
-            between = ", ";
         }
         Ok(())
     }
+}
+
+/// Writes how a member changes, by its line before and after.
+fn write_change<W: fmt::Write>(
+    id: PlannedId,
+    is_first: bool,
+    before: &str,
+    after: &str,
+    f: &mut fmt::Formatter<W>,
+) -> fmt::Result {
+    let (name, before) = split_line(before);
+    let (_, after) = split_line(after);
+    if !is_first {
+        f.write_str(", ")?;
+    }
+    if has_more_members(id) {
+        write!(f, "{name} ")?;
+    }
+    write!(f, "{before} -> {after}")
 }
 
 /// The values of a dataField by its lines: of the sole member, or of each after its name.
@@ -58,15 +72,17 @@ pub(crate) struct Values<'a> {
 
 impl fmt::Display for Values<'_> {
     fn fmt<W: fmt::Write>(&self, f: &mut fmt::Formatter<W>) -> fmt::Result {
-        let mut between = "";
+        let mut is_first = true;
         for line in self.lines.lines() {
             let (name, value) = split_line(line);
-            write!(f, "{between}")?;
+            if !is_first {
+                f.write_str(", ")?;
+            }
             if has_more_members(self.id) {
                 write!(f, "{name} ")?;
             }
             write!(f, "{value}")?;
-            between = ", ";
+            is_first = false;
         }
         Ok(())
     }

@@ -1,8 +1,9 @@
 //! What the answers of a survey say of its clocks and ports.
 
-ghost use Rattle.std.specs.Prelude.{◌≡◌, IfOk, OnOk};
-ghost use Rattle.std.specs.List.{All};
-ghost use Rattle.std.specs.Option.{option_map};
+ghost use Rattle.std.specs.Prelude.{◌≡◌, IfOk, OnOk, reverse};
+ghost use Rattle.std.specs.List.{All, find};
+ghost use Rattle.std.specs.Option.{option_copied, option_map};
+ghost use Rattle.ptpm_plan.specs.Answers.{is_answer_of};
 ghost use Rattle.ptpm_plan.specs.Surveying.{IsClockOf, IsPortOf, IsSurvey, clock_from, field_by, hops_by, port_from, precedence_in};
 
 use crate::answer::{Answer, Said};
@@ -134,15 +135,20 @@ impl Answers {
     fn hops(&self, domain: u8, clock: ClockIdentity) -> u8
         ensures { result ≡ hops_by domain clock self.now.list.items }
     {
-        let last = self
-            .list
-            .iter()
-            .rev()
-            .find(|answer| is_answer_of(answer, domain, clock));
-        match last {
+        match self.last_of_clock(domain, clock) {
             Some(answer) => answer.hops,
             None => 0,
         }
+    }
+
+    /// The last answer of a clock.
+    fn last_of_clock(&self, domain: u8, clock: ClockIdentity) -> Option<&Answer>
+        ensures { option_copied result ≡ find (is_answer_of domain clock) (reverse self.now.list.items) }
+    {
+        self.list
+            .iter()
+            .rev()
+            .find(|answer| is_answer_of(answer, domain, clock))
     }
 }
 

@@ -1,6 +1,6 @@
-use Rattle.std.proofs.Common.{◌×◌, All}
+use Rattle.std.proofs.Common.{All}
 use Rattle.ptpm_plan.specs.Surveying.{IsClockOf, IsPortOf}
-use Rattle.ptpm_plan.proofs.surveying.Answers.found.Given as goal
+use Rattle.ptpm_plan.proofs.answers.Answers.found.Given as goal
 
 -- what was found so far is as the answers say
 abbrev pub invariant-loop-answer : goal.invariant-loop-answer
