@@ -3,10 +3,9 @@
 use ptpm_commands::Fault;
 use ptpm_plan::{Form, PlanFault, print_plan, print_questions};
 use std::alloc::Global;
-use std::fs;
-use std::io;
 use std::io::{Read, Write};
 use std::rt::Files;
+use std::{fs, io};
 
 /// What `plan` is asked for.
 #[derive(Clone, Copy)]

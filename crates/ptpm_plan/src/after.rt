@@ -17,7 +17,9 @@ const UTC_PROPERTIES: u16 = 0x2011;
 
 /// The bits of the flags of UTC_PROPERTIES (15.5.3.6.2).
 const LEAP61: u8 = 1;
+
 const LEAP59: u8 = 2;
+
 const VALID: u8 = 4;
 
 /// The dataField that is wished, of an id whose dataField is this before. Members that are left out stay.

@@ -70,7 +70,9 @@ fn text_said(said: &Said) -> Option<&[u8]>
     ensures { option_map (λ t. t.now) result ≡ text_said said.now }
 {
     match said {
-        Said::Is(field) if is_ptp_text(field.as_slice()) => Some(text_of_ptp_text(field.as_slice())),
+        Said::Is(field) if is_ptp_text(field.as_slice()) => Some(text_of_ptp_text(
+            field.as_slice(),
+        )),
         _ => None,
     }
 }
@@ -96,5 +98,7 @@ pub(crate) fn is_answer_of(answer: &Answer, domain: u8, clock: ClockIdentity) ->
 fn is_of(answer: &Answer, domain: u8, clock: ClockIdentity, port: u16, id: u16) -> bool
     ensures { result ≡ is_of domain clock port id answer.now }
 {
-    is_answer_of(answer, domain, clock) && answer.id == id && (port == 0 || answer.source.port == port)
+    is_answer_of(answer, domain, clock)
+        && answer.id == id
+        && (port == 0 || answer.source.port == port)
 }

@@ -95,7 +95,14 @@ fn ask_ports(
     ensures { OnOk result (rows.new.items ≡ fold with_row rows.old.items (rows_of_ports answers.now.list.items of ports.now)) }
 {
     for port in ports {
-        ask_wishes(alloc, answers, of, port.number, port.wishes.as_slice(), rows)?;
+        ask_wishes(
+            alloc,
+            answers,
+            of,
+            port.number,
+            port.wishes.as_slice(),
+            rows,
+        )?;
     }
     Ok(())
 }

@@ -60,7 +60,11 @@ impl PlanFile {
 }
 
 fn clock_names(clock: &ClockWishes, id: PlannedId) -> bool {
-    have(clock.wishes.as_slice(), id) || clock.ports.iter().any(|port| have(port.wishes.as_slice(), id))
+    have(clock.wishes.as_slice(), id)
+        || clock
+            .ports
+            .iter()
+            .any(|port| have(port.wishes.as_slice(), id))
 }
 
 fn every_names(every: &EveryWishes, id: PlannedId) -> bool {

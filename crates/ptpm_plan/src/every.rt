@@ -124,7 +124,14 @@ fn ask_port(
     ensures { OnOk result (rows.new.items ≡ fold with_row rows.old.items (rows_of_every_port answers.now.list.items of table.now port.now)) }
 {
     if is_port_of(of, port) {
-        ask_wishes(alloc, answers, of, port.number, table.port_wishes.as_slice(), rows)
+        ask_wishes(
+            alloc,
+            answers,
+            of,
+            port.number,
+            table.port_wishes.as_slice(),
+            rows,
+        )
     } else {
         Ok(())
     }

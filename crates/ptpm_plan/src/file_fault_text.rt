@@ -29,9 +29,18 @@ impl fmt::Display for Place {
             Place::File => Ok(()),
             Place::Clock(clock) => write!(f, "clock {}: ", counted(clock)),
             Place::Port(clock, port) => {
-                write!(f, "clock {}, table {} of its ports: ", counted(clock), counted(port))
+                write!(
+                    f,
+                    "clock {}, table {} of its ports: ",
+                    counted(clock),
+                    counted(port)
+                )
             }
-            Place::NumberedPort(clock, port) => write!(f, "clock {}, port {port}: ", counted(clock)),
+            Place::NumberedPort(clock, port) => write!(
+                f,
+                "clock {}, port {port}: ",
+                counted(clock)
+            ),
             Place::Every(every) => write!(f, "every {}: ", counted(every)),
             Place::EveryPort(every) => write!(f, "every {}, port: ", counted(every)),
         }
@@ -56,13 +65,21 @@ impl fmt::Display for TableFault {
                 write!(f, "{} is of a port: write it in a table port", id.name())
             }
             TableFault::OfClock(id) => {
-                write!(f, "{} is of the clock: write it in the clock's table", id.name())
+                write!(
+                    f,
+                    "{} is of the clock: write it in the clock's table",
+                    id.name()
+                )
             }
             TableFault::OneClocks => f.write_str("USER_DESCRIPTION is of one clock"),
             TableFault::NotOneName => f.write_str("it takes one of identity and description"),
             TableFault::AliasTwice(alias) => write!(f, "alias {:?} is given twice", alias.as_str()),
             TableFault::UnknownClock(name) => {
-                write!(f, "except: {:?} is neither an alias nor an identity", name.as_str())
+                write!(
+                    f,
+                    "except: {:?} is neither an alias nor an identity",
+                    name.as_str()
+                )
             }
             TableFault::Takes(key, what) => write!(f, "{key} takes {what}"),
             TableFault::IdTakes(id, what) => write!(f, "{} takes {what}", id.name()),

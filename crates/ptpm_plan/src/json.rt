@@ -28,12 +28,27 @@ impl Report<'_> {
         let mut map = Map::new(alloc);
         let id = id_text(alloc, self.plan.changes.as_slice())?;
         put(&mut map, alloc, "plan", Value::String(id))?;
-        put(&mut map, alloc, "changes", changes_value(alloc, self.plan.changes.as_slice())?)?;
+        put(
+            &mut map,
+            alloc,
+            "changes",
+            changes_value(alloc, self.plan.changes.as_slice())?,
+        )?;
         let rows = self.plan.rows.as_slice();
         put(&mut map, alloc, "stays", staying_value(alloc, rows)?)?;
         put(&mut map, alloc, "cannotBeSet", refused_value(alloc, rows)?)?;
-        put(&mut map, alloc, "notReached", self.not_reached_value(alloc)?)?;
-        put(&mut map, alloc, "bestClock", best_value(alloc, self.plan.best.as_slice())?)?;
+        put(
+            &mut map,
+            alloc,
+            "notReached",
+            self.not_reached_value(alloc)?,
+        )?;
+        put(
+            &mut map,
+            alloc,
+            "bestClock",
+            best_value(alloc, self.plan.best.as_slice())?,
+        )?;
         put(&mut map, alloc, "warnings", self.warnings_value(alloc)?)?;
         Ok(Value::Object(map))
     }
@@ -54,7 +69,6 @@ impl Report<'_> {
         Ok(Value::Array(lines))
     }
 }
-
 
 fn changes_value(alloc: Global, changes: &[Change]) -> Result<Value, AllocError> {
     let mut values = Vec::new(alloc);
@@ -85,7 +99,12 @@ fn change_value(alloc: Global, number: usize, change: &Change) -> Result<Value, 
 fn subject_map(alloc: Global, subject: Subject) -> Result<Map<String, Value>, AllocError> {
     let mut map = Map::new(alloc);
     put(&mut map, alloc, "domainNumber", Value::from(subject.domain))?;
-    put(&mut map, alloc, "clockIdentity", clock_value(alloc, subject.clock)?)?;
+    put(
+        &mut map,
+        alloc,
+        "clockIdentity",
+        clock_value(alloc, subject.clock)?,
+    )?;
     let port = if subject.port == 0 {
         Value::Null
     } else {
@@ -128,12 +147,24 @@ fn best_value(alloc: Global, best: &[BestClocks]) -> Result<Value, AllocError> {
     let mut values = Vec::new(alloc);
     for of_domain in best {
         let mut map = Map::new(alloc);
-        put(&mut map, alloc, "domainNumber", Value::from(of_domain.domain))?;
-        put(&mut map, alloc, "clockIdentity", clock_value(alloc, of_domain.first)?)?;
+        put(
+            &mut map,
+            alloc,
+            "domainNumber",
+            Value::from(of_domain.domain),
+        )?;
+        put(
+            &mut map,
+            alloc,
+            "clockIdentity",
+            clock_value(alloc, of_domain.first)?,
+        )?;
         let mut changes = Vec::new(alloc);
         for altered in of_domain.alterations.as_slice() {
             let clock = clock_value(alloc, altered.clock)?;
-            changes.push(json!(in alloc; {"after": altered.after as u64, "clockIdentity": clock})?)?;
+            changes.push(
+                json!(in alloc; {"after": altered.after as u64, "clockIdentity": clock})?,
+            )?;
         }
         put(&mut map, alloc, "changes", Value::Array(changes))?;
         values.push(Value::Object(map))?;
@@ -154,22 +185,33 @@ fn members_value(alloc: Global, id: PlannedId, field: &[u8]) -> Result<Value, Al
     let mut map = Map::new(alloc);
     match id {
         PlannedId::UtcProperties => put_utc(alloc, field, &mut map)?,
-        _ => put(&mut map, alloc, member_name(id), member_value(alloc, id, field)?)?,
+        _ => put(
+            &mut map,
+            alloc,
+            member_name(id),
+            member_value(alloc, id, field)?,
+        )?,
     }
     Ok(Value::Object(map))
 }
 
 /// Puts the members of UTC_PROPERTIES (15.5.3.6.2).
-fn put_utc(
-    alloc: Global,
-    field: &[u8],
-    map: &mut Map<String, Value>,
-) -> Result<(), AllocError> {
+fn put_utc(alloc: Global, field: &[u8], map: &mut Map<String, Value>) -> Result<(), AllocError> {
     let flags = octet(field, 2);
-    put(map, alloc, "currentUtcOffset", Value::from(pair_at(field, 0).cast_signed()))?;
+    put(
+        map,
+        alloc,
+        "currentUtcOffset",
+        Value::from(pair_at(field, 0).cast_signed()),
+    )?;
     put(map, alloc, "leap61", Value::Bool(flags & 1 != 0))?;
     put(map, alloc, "leap59", Value::Bool(flags & 2 != 0))?;
-    put(map, alloc, "currentUtcOffsetValid", Value::Bool(flags & 4 != 0))
+    put(
+        map,
+        alloc,
+        "currentUtcOffsetValid",
+        Value::Bool(flags & 4 != 0),
+    )
 }
 
 /// The standard's name of an id's sole member.

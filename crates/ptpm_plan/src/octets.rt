@@ -8,7 +8,11 @@ ghost use Rattle.ptpm_plan.specs.Octets.{pair_at};
 pub(crate) fn octet(octets: &[u8], place: usize) -> u8
     ensures { result ≡ octet place octets.now }
 {
-    if place < octets.len() { octets[place] } else { 0 }
+    if place < octets.len() {
+        octets[place]
+    } else {
+        0
+    }
 }
 
 /// The two octets from a place, the higher first.

@@ -128,9 +128,8 @@ fn is_told(rows: &[Row], place: usize) -> bool
 {
     let row = &rows[place];
     let (earlier, _) = rows.split_at(place);
-    earlier
-        .iter()
-        .any(|other| is_not_reached(other) && is_of(other, row.subject.domain, row.subject.clock))
+    earlier.iter().any(|other| is_not_reached(other)
+        && is_of(other, row.subject.domain, row.subject.clock))
 }
 
 fn is_of(row: &Row, domain: u8, clock: ClockIdentity) -> bool {
@@ -158,9 +157,7 @@ fn unnamed_line(
             let text = text.as_str();
             let domain = table.domain;
             let have = Have(unnamed.count);
-            Ok(Some(
-                format!(in alloc; "{text:?}: {have} this description in domain {domain}")?,
-            ))
+            Ok(Some(format!(in alloc; "{text:?}: {have} this description in domain {domain}")?))
         }
     }
 }

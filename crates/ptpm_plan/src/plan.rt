@@ -45,7 +45,12 @@ impl Plan {
     {
         let surveyed = answers.surveyed(alloc)?;
         let rows = rows_of_file(alloc, file, answers, &surveyed)?;
-        let unnamed = all_unnamed(alloc, answers, surveyed.clocks.as_slice(), file.clocks.as_slice())?;
+        let unnamed = all_unnamed(
+            alloc,
+            answers,
+            surveyed.clocks.as_slice(),
+            file.clocks.as_slice(),
+        )?;
         let changes = changes_of(alloc, rows.as_slice())?;
         let changes = in_order(alloc, changes, &surveyed)?;
         let best = best_clocks(alloc, changes.as_slice(), &surveyed)?;

@@ -124,11 +124,19 @@ impl Report<'_> {
         writeln!(out)?;
         let mut number = 1usize;
         for change in self.plan.changes.as_slice() {
-            let Change { domain, clock, port, .. } = change;
+            let Change {
+                domain,
+                clock,
+                port,
+                ..
+            } = change;
             let id = change.id.number();
             let before = hex::encode(alloc, change.before.as_slice()).map_err(no_memory)?;
             let after = hex::encode(alloc, change.after.as_slice()).map_err(no_memory)?;
-            write!(out, "step {number} {domain} {clock} {port} {id:04x} {before} {after} ")?;
+            write!(
+                out,
+                "step {number} {domain} {clock} {port} {id:04x} {before} {after} "
+            )?;
             write!(out, "{} ", who_of(change))?;
             print_change(alloc, change, out)?;
             number = number.saturating_add(1);

@@ -20,11 +20,7 @@ pub struct Row {
 }
 
 /// The row of a member, by the answers of its clock.
-pub(crate) fn row_of(
-    alloc: Global,
-    answers: &Answers,
-    asked: &Asked<'_>,
-) -> Result<Row, AllocError>
+pub(crate) fn row_of(alloc: Global, answers: &Answers, asked: &Asked<'_>) -> Result<Row, AllocError>
     ensures { IfOk result (λ r. r ≡ row_of answers.now.list.items asked.now.place asked.now.subject asked.now.wished.now) }
 {
     Ok(Row {

@@ -65,9 +65,7 @@ pub(crate) fn clock_in(
 ) -> Option<&SurveyedClock>
     ensures { option_copied result ≡ clock_in domain identity clocks.now }
 {
-    clocks
-        .iter()
-        .find(|clock| clock.domain == domain && clock.identity == identity)
+    clocks.iter().find(|clock| clock.domain == domain && clock.identity == identity)
 }
 
 /// A port of a clock among these.

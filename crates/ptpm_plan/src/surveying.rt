@@ -16,6 +16,7 @@ use std::alloc::{AllocError, Global};
 
 /// managementIds of DEFAULT_DATA_SET and PORT_DATA_SET.
 const DEFAULT_DATA_SET: u16 = 0x2000;
+
 const PORT_DATA_SET: u16 = 0x2004;
 
 impl Answers {
@@ -66,7 +67,9 @@ impl Answers {
         ensures { OnOk result (All (IsPortOf self.now.list.items) ports.new.items) }
     {
         let (domain, clock, number) = (answer.domain, answer.source.clock, answer.source.port);
-        if answer.id != PORT_DATA_SET || port_in(ports.as_slice(), domain, clock, number).is_some() {
+        if answer.id != PORT_DATA_SET
+            || port_in(ports.as_slice(), domain, clock, number).is_some()
+        {
             return Ok(());
         }
         if let Some(port) = self.port_from(domain, clock, number) {
@@ -96,12 +99,7 @@ impl Answers {
     }
 
     /// What PORT_DATA_SET says of a port, if the last answer has it.
-    fn port_from(
-        &self,
-        domain: u8,
-        clock: ClockIdentity,
-        number: u16,
-    ) -> Option<SurveyedPort>
+    fn port_from(&self, domain: u8, clock: ClockIdentity, number: u16) -> Option<SurveyedPort>
         ensures { result ≡ port_from self.now.list.items domain clock number }
     {
         let field = self.field(domain, clock, number, PORT_DATA_SET)?;
@@ -116,13 +114,7 @@ impl Answers {
     }
 
     /// The dataField that a clock answered last for an id, if it did not refuse it.
-    fn field(
-        &self,
-        domain: u8,
-        clock: ClockIdentity,
-        port: u16,
-        id: u16,
-    ) -> Option<&[u8]>
+    fn field(&self, domain: u8, clock: ClockIdentity, port: u16, id: u16) -> Option<&[u8]>
         ensures { option_map (λ f. f.now) result ≡ field_by domain clock port id self.now.list.items }
     {
         match &self.last(domain, clock, port, id)?.said {

@@ -37,9 +37,6 @@ pub(crate) fn domain_at(table: &Table, place: Place) -> Result<u8, FileFault> {
     };
     match value.as_integer() {
         Some(number) if 0 <= number && number <= 0xff => Ok(number as u8),
-        _ => Err(FileFault::at(
-            place,
-            TableFault::Takes("domain", "a number from 0 to 255"),
-        )),
+        _ => Err(FileFault::at(place, TableFault::Takes("domain", "a number from 0 to 255"))),
     }
 }

@@ -49,7 +49,8 @@ impl Verdict {
             | (Verdict::NoValue(_), Verdict::NoValue(_)) => true,
             (Verdict::GetRefused(one), Verdict::GetRefused(two)) => one == two,
             (Verdict::Stays(one), Verdict::Stays(two)) => one.as_slice() == two.as_slice(),
-            (Verdict::Changes(_, one), Verdict::Changes(_, two)) => one.as_slice() == two.as_slice(),
+            (Verdict::Changes(_, one), Verdict::Changes(_, two)) => one.as_slice()
+                == two.as_slice(),
             _ => false,
         }
     }
@@ -122,12 +123,7 @@ fn verdict_of_said(
 }
 
 /// What becomes of a member that is to be this.
-fn changed(
-    alloc: Global,
-    id: PlannedId,
-    before: &[u8],
-    after: Value,
-) -> Result<Verdict, AllocError>
+fn changed(alloc: Global, id: PlannedId, before: &[u8], after: Value) -> Result<Verdict, AllocError>
     requires { length before.now ≤ 130 }
     ensures { IfOk result (λ v. v ≡ changed id before.now after.items) }
 {
@@ -141,12 +137,7 @@ fn changed(
 
 /// Whether two dataFields of an id have members of the same values: reserved octets and bits do not count.
 #[tactic(auto, unfolding(crate::specs::Verdicts::is_same))]
-fn is_same(
-    alloc: Global,
-    id: PlannedId,
-    before: &[u8],
-    after: &[u8],
-) -> Result<bool, AllocError>
+fn is_same(alloc: Global, id: PlannedId, before: &[u8], after: &[u8]) -> Result<bool, AllocError>
     ensures { IfOk result (λ b. b ≡ is_same id before.now after.now) }
 {
     let before = text_of(alloc, id, before)?;

@@ -99,10 +99,7 @@ fn read_wished(
     match id {
         PlannedId::UtcProperties => {
             let Some(table) = value.as_table() else {
-                return Err(FileFault::at(
-                    place,
-                    TableFault::IdTakes(id, "a table of its members"),
-                ));
+                return Err(FileFault::at(place, TableFault::IdTakes(id, "a table of its members")));
             };
             Ok(Wished::UtcProperties(read_utc(alloc, table, place)?))
         }
@@ -112,8 +109,11 @@ fn read_wished(
 
 /// The names of the members of UTC_PROPERTIES.
 const OFFSET: &str = "currentUtcOffset";
+
 const LEAP61: &str = "leap61";
+
 const LEAP59: &str = "leap59";
+
 const VALID: &str = "currentUtcOffsetValid";
 
 /// What the members of UTC_PROPERTIES are to be.
@@ -150,12 +150,7 @@ fn member_at(
 }
 
 /// A value as a person types it.
-fn typed(
-    alloc: Global,
-    id: PlannedId,
-    value: &Value,
-    place: Place,
-) -> Result<Text, FileFault> {
+fn typed(alloc: Global, id: PlannedId, value: &Value, place: Place) -> Result<Text, FileFault> {
     match text_of(alloc, value)? {
         Some(text) => Ok(text),
         None => Err(FileFault::at(
