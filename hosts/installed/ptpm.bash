@@ -39,7 +39,7 @@ _ptpm_last() {
 
 _ptpm() {
     local before=${COMP_WORDS[COMP_CWORD - 1]} command
-    local -a commands=(answer show ids make run check schedule draw site)
+    local -a commands=(answer show ids make run check schedule draw site plan)
     command=$(_ptpm_last "${commands[*]}")
     case $command,$before,${COMP_WORDS[COMP_CWORD]} in
     ,*) _ptpm_offer "${commands[@]}" --help --version ;;
