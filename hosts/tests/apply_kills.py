@@ -19,6 +19,7 @@ PORT_VALUES = {"LOG_SYNC_INTERVAL": (-8, 1), "ANNOUNCE_RECEIPT_TIMEOUT": (2, 10)
 REFUSED_ID, REFUSED_FIELD = 0x6001, "f700"          # LOG_MIN_PDELAY_REQ_INTERVAL, -9: below the profile's range
 LOSS, REPEAT = 0.30, 0.20
 MOST_LIVES, PATIENT_AFTER, PATIENCE = 400, 60, 60
+MOST_CALLS = 25                                      # of a step and what comes before it
 SETTLED = 0.1                                       # by then what was on its way has come in,
 MOST_SAVING = 10                                    # and a clock has saved, and judged it
 
@@ -232,8 +233,8 @@ class Kills(Changes):
 
 class Points(Changes):
     """An apply of three steps, or four with one that is refused, whose journal is made here. Its first `resume` is killed at one of the calls
-    by which it saves and sends: at the first, in the next apply at the second, and so on. The next one is killed at another, and the last
-    is not."""
+    by which it saves and sends: at the first, in the next apply at the second, and so on. The next three are killed at others, and the
+    last is not."""
 
     def __init__(self, work, seed):
         super().__init__(work, seed)
@@ -271,7 +272,7 @@ class Points(Changes):
         """Whether the apply was killed at this call, and so goes on beyond it."""
         path = self.make(call)
         is_killed = self.is_killed_at(call)
-        for at in (None, self.chance.randrange(1, 40), 0):
+        for at in (None, *(self.chance.randrange(1, MOST_CALLS) for _ in range(3)), 0):
             if at is not None:
                 self.is_killed_at(at)
             time.sleep(SETTLED)
