@@ -85,7 +85,7 @@ fn takes(setting: PortSetting, field: &Value) -> bool
     }
 }
 
-/// Adds the domains of which the best clock changes more than once.
+/// Adds the domains whose best clock changes more than once.
 fn add_best_clocks(best: &[BestClocks], found: &mut Vec<Warning>) -> Result<(), AllocError> {
     for clocks in best {
         let times = clocks.alterations.len();

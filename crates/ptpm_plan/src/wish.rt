@@ -59,7 +59,7 @@ pub struct PortWishes {
     pub wishes: Vec<Wish>,
 }
 
-/// What the file asks of each clock of a domain, but for some.
+/// What the file asks of each clock of a domain, except some.
 #[derive(Debug, Drop)]
 pub struct EveryWishes {
     /// Its place in the file, after all clocks.
