@@ -144,6 +144,7 @@ PTPM_MOST_READ = 130
 PTPM_MOST_OCTETS = 1472
 PTPM_SESSION_IMAGE_OCTETS = 1478
 PTPM_CLOCK_IMAGE_OCTETS = 27185
+PTPM_SEAL_OCTETS = 16
 PTPM_MOST_ANSWERS = 512
 PTPM_SURVEY_PORT = 65534
 
@@ -619,6 +620,14 @@ class ptpm_say(Structure):
     ]
 
 
+class ptpm_limit(Structure):
+    _fields_ = [
+        ("id", c_uint16),
+        ("port", c_uint16),
+        ("values", c_uint8 * 32),
+    ]
+
+
 class ptpm_session(Structure):
     _fields_ = [
         ("at", c_void_p),
@@ -749,6 +758,8 @@ CALLS: Dict[str, Tuple[Any, List[Any]]] = {
             POINTER(ptpm_changed),
         ],
     ),
+    "ptpm_limit_range": (None, [POINTER(ptpm_limit), c_int32, c_int32]),
+    "ptpm_limits_say": (c_uint16, [POINTER(ptpm_limit), c_size_t, POINTER(ptpm_question)]),
     "ptpm_clock_observe": (
         c_uint32,
         [POINTER(ptpm_clock), POINTER(ptpm_observed_clock), POINTER(ptpm_observed_port), c_size_t, POINTER(c_uint8)],
@@ -825,6 +836,9 @@ CALLS: Dict[str, Tuple[Any, List[Any]]] = {
     "ptpm_asker_earlier": (c_uint32, [POINTER(ptpm_asker), c_uint8, POINTER(c_uint8)]),
     "ptpm_asker_report": (c_uint32, [POINTER(ptpm_asker), POINTER(c_uint8), c_size_t, POINTER(c_size_t), POINTER(c_uint16)]),
     "ptpm_asker_stop": (None, [POINTER(ptpm_asker)]),
+    "ptpm_image_seal_in": (c_uint32, [POINTER(c_uint8), c_size_t, c_size_t, c_uint64, POINTER(c_size_t)]),
+    "ptpm_image_unseal": (c_uint32, [c_char_p, c_size_t, POINTER(c_uint64), POINTER(c_size_t)]),
+    "ptpm_newest_image_in": (c_size_t, [c_char_p, c_size_t, c_size_t, POINTER(c_uint64), POINTER(c_size_t)]),
     "ptpm_passed_on_is_first": (c_bool, [POINTER(ptpm_passed_on), c_char_p, c_size_t, c_uint64, c_uint64]),
     "ptpm_rate_start": (None, [POINTER(ptpm_rate), c_uint64, c_uint64]),
     "ptpm_rate_take": (c_bool, [POINTER(ptpm_rate), c_uint64]),

@@ -10,6 +10,7 @@ use crate::session::Action;
 use crate::sys;
 use core::fmt;
 use core::mem::MaybeUninit;
+use core::ops::RangeInclusive;
 
 /// The most octets of the dataField of a SET that a device is asked about.
 const MOST_ASKED: usize = 130;
@@ -80,6 +81,65 @@ pub enum Objection {
     GeneralError = sys::PTPM_ERROR_GENERAL_ERROR,
 }
 
+impl Objection {
+    /// The objection of this managementErrorId.
+    const fn of_number(number: u16) -> Option<Self> {
+        match number {
+            sys::PTPM_ERROR_WRONG_VALUE => Some(Self::WrongValue),
+            sys::PTPM_ERROR_NOT_SETABLE => Some(Self::NotSetable),
+            sys::PTPM_ERROR_NOT_SUPPORTED => Some(Self::NotSupported),
+            sys::PTPM_ERROR_GENERAL_ERROR => Some(Self::GeneralError),
+            _ => None,
+        }
+    }
+}
+
+/// The values that the hardware of a device has, of an id at a port. They are values of the first octet of the dataField of a SET.
+#[derive(Clone, Copy)]
+#[repr(transparent)]
+pub struct Limit {
+    limit: sys::ptpm_limit,
+}
+
+impl Limit {
+    /// No value: at this port the id can't be set, and its COMMAND is not supported. The port 0xFFFF is every port.
+    pub const fn none(id: ManagementId, port: u16) -> Self {
+        Self { limit: sys::ptpm_limit { id: id.0, port, values: [0; 32] } }
+    }
+
+    /// Exactly the values of a range, which is within -128 to 255. Any other range has no value. A number below 0 has the octet of
+    /// an Integer8.
+    pub fn of_range(id: ManagementId, port: u16, values: RangeInclusive<i32>) -> Self {
+        let mut limit = Self::none(id, port);
+        // SAFETY: the limit may be written.
+        unsafe { sys::ptpm_limit_range(&mut limit.limit, *values.start(), *values.end()) };
+        limit
+    }
+
+    /// Whether it has this octet among its values.
+    pub const fn has(&self, octet: u8) -> bool {
+        self.limit.values[octet as usize / 8] >> (octet % 8) & 1 == 1
+    }
+
+    /// The error with which a device objects that has these values. Only limits of the id count, and of a port that is named. If one
+    /// of them has no value, a SET is NOT_SETABLE, and a COMMAND is NOT_SUPPORTED. If one lacks the value of a SET, that is a
+    /// WRONG_VALUE.
+    pub fn objection(limits: &[Self], asked: &Asked) -> Option<Objection> {
+        // SAFETY: the limits and the question may be read. A limit is laid out as that of the library.
+        Objection::of_number(unsafe { sys::ptpm_limits_say(limits.as_ptr().cast(), limits.len(), &asked.question) })
+    }
+}
+
+impl fmt::Debug for Limit {
+    fn fmt(&self, to: &mut fmt::Formatter<'_>) -> fmt::Result {
+        to.debug_struct("Limit")
+            .field("id", &ManagementId(self.limit.id))
+            .field("port", &self.limit.port)
+            .field("values", &self.limit.values)
+            .finish()
+    }
+}
+
 /// What a device says of a datagram.
 #[derive(Clone, Copy, Debug, Default, PartialEq, Eq, Hash)]
 pub enum Say {
@@ -88,6 +148,12 @@ pub enum Say {
     Agrees,
     /// It can't do what it is asked.
     Objects(Objection),
+}
+
+impl From<Option<Objection>> for Say {
+    fn from(objection: Option<Objection>) -> Self {
+        objection.map_or(Self::Agrees, Self::Objects)
+    }
 }
 
 impl Say {
@@ -120,9 +186,8 @@ impl Clock {
             octets: [0; MOST_ASKED],
         };
         // SAFETY: the datagram may be read, and the question may be written.
-        let number = judged(unsafe {
-            sys::ptpm_clock_ask(self.handle_ref(), port, datagram.as_ptr(), datagram.len(), &mut question)
-        })?;
+        let number =
+            judged(unsafe { sys::ptpm_clock_ask(self.handle_ref(), port, datagram.as_ptr(), datagram.len(), &mut question) })?;
         Ok((number == sys::PTPM_ASKED_CHANGE).then_some(Asked { question }))
     }
 

@@ -27,7 +27,7 @@ pub(crate) enum PlanShown {
 /// No more is read of a plan file: one octet more than it may have, so that a longer one is refused.
 const MOST_OCTETS: u64 = 262_145;
 
-/// Prints what is asked for, and answers the exit status of the plan. If the file is refused, it is 2, with a line on `err`.
+/// Prints what is asked for, and answers the exit status. That is the plan's, or 2 if the file is refused, with a line on `err`.
 pub(crate) fn plan<F: Files, R: Read, O: Write, E: Write>(
     alloc: Global,
     files: &F,

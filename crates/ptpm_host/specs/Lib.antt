@@ -29,3 +29,4 @@ pub mod SavingClock
 pub mod SessionStanding
 pub mod SavingSession
 pub mod Device
+pub mod Limits

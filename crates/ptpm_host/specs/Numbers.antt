@@ -27,6 +27,8 @@ use Rattle.ptpm_manager.specs.declared.receiving.Surveyed.{Surveyed}
 use Rattle.ptpm_manager.specs.declared.receiving.Surveyed.TheVariants as surveyed
 use Rattle.ptpm_saved.specs.declared.error.RestoreError.{RestoreError as ClockImageError}
 use Rattle.ptpm_saved.specs.declared.error.RestoreError.TheVariants as images
+use Rattle.ptpm_seal.specs.declared.sealing.UnsealError.{UnsealError}
+use Rattle.ptpm_seal.specs.declared.sealing.UnsealError.TheVariants as unseals
 use Rattle.ptpm_host.specs.declared.refusal.AskerRefusal.{AskerRefusal}
 use Rattle.ptpm_host.specs.declared.refusal.AskerRefusal.TheVariants as askers
 use Rattle.ptpm_host.specs.declared.refusal.ClockRestoreRefusal.{ClockRestoreRefusal}
@@ -260,6 +262,11 @@ image_number images.OtherKind = 106
 image_number images.Damaged = 107
 image_number images.OtherClock = 108
 image_number images.OtherPorts = 109
+
+-- why octets are no image that is whole
+abbrev pub unseal_number : UnsealError → ℕ
+unseal_number unseals.NotAnImage = 104
+unseal_number unseals.Damaged = 107
 
 -- why a clock is not restored
 abbrev pub clock_restore_number : ClockRestoreRefusal → ℕ

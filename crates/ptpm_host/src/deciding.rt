@@ -12,13 +12,11 @@ ghost use Rattle.ptpm_host.specs.Device.{AnswersAsked, objection_in, said_refusa
 
 use crate::clock::{Handled, HostedClock, MOST_SENT};
 use crate::device::{Question, Say};
-use crate::outbox::Outbox;
 use crate::refusal::{HandleRefusal, SaidRefusal};
 use crate::sent::Sent;
 use ptpm_agent::Verdict;
 use ptpm_codec::ErrorId;
-use ptpm_device::{ask, handle_said};
-use ptpm_table::Outgoing;
+use ptpm_device::{ask, object};
 
 impl HostedClock {
     /// What a datagram would have the clock's device do, if it came in now at this port. That is a new SET or COMMAND of a manager,
@@ -78,11 +76,16 @@ impl HostedClock {
             Ok(objection) => objection,
             Err(_) => return Err(SaidRefusal::BadSay),
         };
-        let mut places = Outbox::new(room);
-        let verdict = handle_said(&mut self.agent, port, datagram, objection, &mut places);
-        Ok(Handled {
-            verdict,
-            count: places.count(),
-        })
+        let objected = object(&mut self.agent, datagram, objection);
+        let Ok(handled) = self.handle_apart(port, datagram, room) else {
+            unreachable!()
+        };
+        if objected {
+            return Ok(Handled {
+                verdict: Verdict::AnsweredNew,
+                count: handled.count,
+            });
+        }
+        Ok(handled)
     }
 }

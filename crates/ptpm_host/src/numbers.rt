@@ -7,7 +7,7 @@
 //! refusals of a restore, and those from 112 on are further refusals of a call.
 
 ghost use Rattle.std.specs.Prelude.{◌≡◌, ◌≤◌};
-ghost use Rattle.ptpm_host.specs.Numbers.{asker_number, begin_number, cause_number, clock_restore_number, give_up_number, handle_number, heard_number, image_number, managers_number, member_number, observe_number, parse_number, read_number, reason_number, report_number, restore_number, resume_number, said_number, saved_number, saving_number, send_number, session_number, start_number, surveyed_number, outcome_number, values_number, verdict_number};
+ghost use Rattle.ptpm_host.specs.Numbers.{asker_number, begin_number, cause_number, clock_restore_number, give_up_number, handle_number, heard_number, image_number, managers_number, member_number, observe_number, parse_number, read_number, reason_number, report_number, restore_number, resume_number, said_number, saved_number, saving_number, send_number, session_number, start_number, surveyed_number, outcome_number, unseal_number, values_number, verdict_number};
 
 use crate::refusal::{
     AskerRefusal, ClockRestoreRefusal, HandleRefusal, ParseRefusal, ReadRefusal, ReportRefusal,
@@ -19,6 +19,7 @@ use ptpm_agent::Verdict;
 use ptpm_codec::DecodeError;
 use ptpm_data::{Member, ObservationError, StartError};
 use ptpm_manager::{BeginError, GiveUpRefusal, Reason, RestoreError, SendError, Surveyed};
+use ptpm_seal::UnsealError;
 use ptpm_table::TableError;
 
 /// A handle holds no clock.
@@ -371,6 +372,17 @@ fn image_number(fault: ptpm_saved::RestoreError) -> u32
         ptpm_saved::RestoreError::Damaged => 107,
         ptpm_saved::RestoreError::OtherClock => 108,
         ptpm_saved::RestoreError::OtherPorts => 109,
+    }
+}
+
+/// Why octets are no image that is whole, 104 or 107.
+pub fn unseal_number(error: UnsealError) -> u32
+    ensures number { result ≡ unseal_number error }
+    ensures some { 1 ≤ result }
+{
+    match error {
+        UnsealError::NotAnImage => 104,
+        UnsealError::Damaged => 107,
     }
 }
 

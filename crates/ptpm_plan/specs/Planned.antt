@@ -9,8 +9,8 @@ use Rattle.ptpm_plan.specs.declared.answer.Answer.{Answer}
 use Rattle.ptpm_plan.specs.declared.plan.Plan.{Plan}
 use Rattle.ptpm_plan.specs.declared.wish.PlanFile.{PlanFile}
 
--- Its clocks and ports are as the answers say. Its rows are those that the file asks for, one for each member. Its changes are the rows
--- that change, each once. It lists the tables that name no clock.
+-- Its clocks and ports are as the answers say. Its rows are those that the file asks for, one for each member. Its changes are the
+-- rows that change, each once. And it has the tables that name no clock.
 pub record IsPlanOf (file : PlanFile) (answers : List Answer) (p : Plan) : Type 0 where
   pub surveyed : IsSurvey answers p.surveyed
   pub rows : p.rows.items ≡ fold with_row [] (rows_of_file answers p.surveyed file)

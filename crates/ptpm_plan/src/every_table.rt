@@ -12,7 +12,7 @@ use toml::{Table, Value};
 /// The keys of `every` that are no managementId.
 const EVERY_KEYS: [&str; 3] = ["domain", "except", "port"];
 
-/// Reads the table of every clock that has this number, from 0. `except` may name the aliases of these clocks.
+/// Reads a table of every clock, which comes after these tables of clocks. `except` may name their aliases.
 pub(crate) fn read_every(
     alloc: Global,
     value: &Value,

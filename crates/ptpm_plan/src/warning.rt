@@ -10,7 +10,7 @@ use std::fmt;
 pub enum Warning {
     /// A clock with this project's agent refuses the value of this setting of a port.
     Refused(PortIdentity, PlannedId, PortSetting),
-    /// The best clock of a domain changes N times.
+    /// The best clock of a domain changes this often.
     BestClock(u8, usize),
     /// From a change on a port waits for less than two Announces, and may lose its master.
     Impatient(usize, PortIdentity),

@@ -136,26 +136,6 @@ static void run_in_said(char *words) {
     run_datagram(words, port, &said, places);
 }
 
-/* `ask-device PORT OCTETS`. What the device is asked is said as the fields of its request. */
-static void run_ask_device(char *words) {
-    static const struct ptpm_question nothing;
-    static struct octets datagram;
-    struct ptpm_question asked;
-    uint16_t port = (uint16_t)next_number(&words, 0);
-    read_octets(&words, &datagram);
-    memset(&asked, 0xee, sizeof asked);
-    uint32_t answer = ptpm_clock_ask(&clock_of_page, port, datagram.at, datagram.size, &asked);
-    say("%s\n", answer_name(answer, "ASKED_NOTHING"));
-    if (answer != PTPM_ASKED_CHANGE) {
-        if (memcmp(&asked, &nothing, offsetof(struct ptpm_question, octets) + sizeof asked.octets) != 0) say("it writes what is not asked\n");
-        return;
-    }
-    say_octets(asked.manager, sizeof asked.manager);
-    say(" %04x %04x %02x %04x %04x ", asked.manager_port, asked.number, asked.action, asked.port, asked.id);
-    say_octets(asked.octets, asked.size);
-    say("\n");
-}
-
 /* The members whose bits are set, by the names that the refusals of a start give them after BAD_. */
 static void say_members(uint32_t members, uint32_t first) {
     for (uint32_t bit = 0; bit < 32; bit++) {
@@ -272,8 +252,8 @@ static void run_stop(char *words) {
 }
 
 const struct command clock_commands[] = {
-    { "clock", run_start }, { "in", run_in }, { "in-said", run_in_said },
-    { "ask-device", run_ask_device }, { "changed", run_changed }, { "observe", run_observe }, { "read", run_read },
+    { "clock", run_start }, { "in", run_in }, { "in-said", run_in_said }, { "changed", run_changed }, { "observe", run_observe },
+    { "read", run_read },
     { "image", run_image }, { "restore", run_restore }, { "saving", run_saving }, { "image-of", run_image_of }, { "saved", run_saved },
     { "stop", run_stop }, { NULL, NULL },
 };

@@ -106,7 +106,7 @@ pub const PTPM_OBJECTS: u8 = 1;
 pub const PTPM_ERROR_WRONG_VALUE: u16 = 4;
 pub const PTPM_ERROR_NOT_SETABLE: u16 = 5;
 pub const PTPM_ERROR_NOT_SUPPORTED: u16 = 6;
-pub const PTPM_ERROR_GENERAL_ERROR: u16 = 0xFFFE;
+pub const PTPM_ERROR_GENERAL_ERROR: u16 = 0xfffe;
 
 // What may be asked of a clock: the actionField of a request.
 pub const PTPM_GET: u8 = 0;
@@ -119,6 +119,7 @@ pub const PTPM_MOST_READ: usize = 130;
 pub const PTPM_MOST_OCTETS: usize = 1472;
 pub const PTPM_SESSION_IMAGE_OCTETS: usize = 1478;
 pub const PTPM_CLOCK_IMAGE_OCTETS: usize = 27185;
+pub const PTPM_SEAL_OCTETS: usize = 16;
 pub const PTPM_MOST_ANSWERS: usize = 512;
 pub const PTPM_SURVEY_PORT: u16 = 65534;
 
