@@ -49,13 +49,10 @@ class Driver:
         elif what in (header.PTPM_SEND_IT, header.PTPM_SEND_READ):
             self._send(what == header.PTPM_SEND_READ)
         elif what == header.PTPM_WAIT:
-            self._wait_for(self._wait)
+            self._asker.take()
+            self._due = time.monotonic() + self._wait
         elif not self._hears_before(self._due):
             self._asker.wake()
-
-    def _wait_for(self, seconds: float) -> None:
-        self._due = time.monotonic() + seconds
-        self._asker.take()
 
     def _send(self, is_read: bool) -> None:
         """Sends what is handed out. Its answer is waited for from when it left."""
@@ -72,7 +69,7 @@ class Driver:
             self._asker.unsent()
             return
         self.sent += is_out and not is_read
-        self._wait_for(time_outs * self._timeout)
+        self._due = time.monotonic() + time_outs * self._timeout
 
     def _is_out(self, message: bytes) -> bool:
         """Whether a message goes out. For the first one it is waited for room, as long as for answers."""

@@ -44,7 +44,8 @@ class Session(Requests):
         octets = None if file is None else file.octets
         self._asking = threading.RLock()
         self._asker: Optional[Asker] = None  # it has the session, unless calls of Requests changed that one
-        self._saved: Optional[bytes] = None  # what another run would go on from; None if the next number is not known
+        self._saved: Optional[bytes] = None  # what it goes on from after a failure; None if the next number is not known
+        self._in_file: Optional[bytes] = None
         self._told: Optional[Report] = None
         self._file = file
         self._wait = wait
@@ -74,9 +75,9 @@ class Session(Requests):
             if error.number != header.PTPM_NOT_AN_IMAGE or number is None:
                 raise
             self._start(replace(settings, first=number))
-            self._saved = self._image()
+            self._saved = self._in_file = self._image()
             return
-        self._saved = octets
+        self._saved = self._in_file = octets
         self._go_on_from(octets)
         self.is_under_way = left in (header.PTPM_GET_LEFT, header.PTPM_CHANGE_LEFT)
         if self.is_under_way:
@@ -101,11 +102,11 @@ class Session(Requests):
     def close(self) -> None:
         """Stops it. A file then has it without the request whose answer was reported."""
         with self._asking:
-            if self._file is not None and self._file.is_open and self._saved is not None:
+            if self._file is not None and self._file.is_open:
                 if self._asker is not None:
                     self._note(self._asker)
                 image = self._image()
-                if unanswered(image) is None and not is_same(image, self._saved):
+                if self._in_file is not None and unanswered(image) is None and not is_same(image, self._in_file):
                     self._file.write(image)  # calls of Requests changed it
             self._leave_file()
             super().close()
@@ -157,6 +158,7 @@ class Session(Requests):
         image = asker.image()
         if self._file is not None:
             self._file.write(image)
+            self._in_file = image
         self._saved = image
         asker.saved()
 

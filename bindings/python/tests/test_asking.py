@@ -459,6 +459,7 @@ class Asking(Folder):
             session.ask(self.way, ptpm.Action.SET, "PRIORITY1", 3, timeout=1)  # a question before it
             session.begin(ptpm.Action.GET, "PRIORITY1")
             session.give_up()
+            self.assertRaisesRegex(ptpm.Error, "IDLE", session.let_go)
         with ptpm.SessionFile(MANAGER, CLOCK) as file:
             later = ptpm.Session(settings, file)
             self.assertEqual((later.is_under_way, later.next_number), (False, (number + 4) % 65536))
