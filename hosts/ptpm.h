@@ -245,6 +245,42 @@ enum {
     PTPM_CHANGED_LOG_MIN_PDELAY = PTPM_CHANGED_PORT_LOG_MIN_PDELAY
 };
 
+/* What a device is asked to do (ptpm_clock_ask). All zeros if it is nothing. */
+struct ptpm_question {
+    uint8_t manager[8];                 /* sourcePortIdentity of the request: the clock, and the port */
+    uint16_t manager_port;
+    uint16_t number;                    /* sequenceId */
+    uint16_t id;                        /* managementId */
+    uint16_t port;                      /* portNumber of the target; 0xFFFF is every port */
+    uint16_t size;                      /* of the dataField; 0 for a COMMAND */
+    uint8_t action;                     /* PTPM_SET or PTPM_COMMAND */
+    uint8_t octets[130];                /* the dataField, and zeros after it */
+};
+
+/* What a device says of a request. Any other kind is refused with PTPM_BAD_SAY; 2 is reserved. */
+enum { PTPM_AGREES = 0, PTPM_OBJECTS = 1 };
+
+/* The errors that a device may give (15.5.4.3). */
+enum {
+    PTPM_ERROR_WRONG_VALUE = 4, PTPM_ERROR_NOT_SETABLE = 5, PTPM_ERROR_NOT_SUPPORTED = 6, PTPM_ERROR_GENERAL_ERROR = 0xFFFE
+};
+
+/* What a device says of a datagram (ptpm_clock_handle_said). All zeros: it agrees, or has nothing to say. */
+struct ptpm_say {
+    uint16_t error;                     /* with PTPM_OBJECTS: one of the four */
+    uint16_t size;                      /* reserved: it does not count */
+    uint8_t kind;                       /* PTPM_AGREES or PTPM_OBJECTS */
+    uint8_t octets[1418];               /* reserved, too */
+};
+
+/* The values that the hardware of a device has, of an id at a port (ptpm_limits_say). They are values of the first octet of the
+   dataField of a SET. Value n is bit n % 8 of values[n / 8]. A log_.. of -8 is value 0xF8. */
+struct ptpm_limit {
+    uint16_t id;                        /* managementId */
+    uint16_t port;                      /* portNumber; 0xFFFF is every port */
+    uint8_t values[32];                 /* ptpm_limit_range writes them. All zeros: it has none */
+};
+
 /* A session of a manager, about 1,600 octets at one pointer. All zeros hold no session. */
 struct ptpm_session { void *at; PTPM_TO_EIGHT bool live; uint8_t restored; };
 
@@ -351,6 +387,9 @@ PTPM_HAS_SIZE(ptpm_observed_port, 16);
 PTPM_HAS_SIZE(ptpm_manager_settings, 12);
 PTPM_HAS_SIZE(ptpm_sent, 1476);
 PTPM_HAS_SIZE(ptpm_changed, 12);
+PTPM_HAS_SIZE(ptpm_question, 150);
+PTPM_HAS_SIZE(ptpm_say, 1424);
+PTPM_HAS_SIZE(ptpm_limit, 36);
 PTPM_HAS_SIZE(ptpm_session, 16);
 PTPM_HAS_SIZE(ptpm_session_settings, 26);
 PTPM_HAS_SIZE(ptpm_survey, 16);
@@ -368,13 +407,17 @@ PTPM_HAS_SIZE(ptpm_handed, 24);
 enum { PTPM_MOST_SENT = 15, PTPM_MOST_READ = 130, PTPM_MOST_OCTETS = 1472, PTPM_SESSION_IMAGE_OCTETS = 1478 };
 enum { PTPM_CLOCK_IMAGE_OCTETS = 27185 };
 
+/* How many octets a seal has. It comes after an image. */
+enum { PTPM_SEAL_OCTETS = 16 };
+
 /* The most ports whose answers a survey keeps. The portNumber that a survey has if its host gives none. */
 enum { PTPM_MOST_ANSWERS = 512, PTPM_SURVEY_PORT = 65534 };
 
 /* What calls return. 0 says that the call was done. 1 to 31 say what became of a datagram or of a request. From 32 on the call was
    refused (ptpm_is_refusal). 48 to 63 say why nothing starts, or an observation is refused. 64 to 101 say which member is out of
    its range. 104 to 110 say why a restore is refused. 112 says that a request can't be given up. 113 to 117 say why words are no
-   dataField. 118 and 119 say that something is not saved. 120 says that a handle holds no asker.
+   dataField. 118 and 119 say that something is not saved. 120 says that a handle holds no asker. 121 and 122 say
+   that what a device says is not taken.
 
    Each kind of call has a type for its answers. With -Wenum-compare gcc, g++ and clang++ warn if an answer is compared with a
    name of another kind. A name that several kinds of calls return is a plain number, and compares with each type. Each type has
@@ -474,7 +517,7 @@ enum {
     PTPM_BAD_PEER_DELAY
 };
 
-/* ptpm_clock_handle, ptpm_clock_handle_changed and ptpm_clock_saving. The last returns only PTPM_SAVING, PTPM_NO_CLOCK and
+/* ptpm_clock_handle, ptpm_clock_handle_changed, ptpm_clock_handle_said and ptpm_clock_saving. The last returns only PTPM_SAVING, PTPM_NO_CLOCK and
    PTPM_NO_MEMORY, and the others never PTPM_SAVING or PTPM_NO_MEMORY. */
 __extension__ enum PTPM_FOUR_OCTETS(ptpm_handled) {
     PTPM_HANDLE_OTHER_DOMAIN = PTPM_OTHER_DOMAIN,
@@ -498,7 +541,17 @@ __extension__ enum PTPM_FOUR_OCTETS(ptpm_handled) {
     PTPM_HANDLE_NO_PORT = PTPM_NO_PORT,
     PTPM_HANDLE_NO_ROOM = PTPM_NO_ROOM, /* for fewer than PTPM_MOST_SENT messages */
     PTPM_HANDLE_NO_MEMORY = PTPM_NO_MEMORY,
-    PTPM_HANDLE_UNSAVED = PTPM_UNSAVED
+    PTPM_HANDLE_UNSAVED = PTPM_UNSAVED,
+    PTPM_BAD_SAY = 121,                 /* it is of another kind, or has an error that no device gives */
+    PTPM_CANT_OBJECT = 122              /* a clock that saves (ptpm_clock_saving) takes no objection */
+};
+
+/* ptpm_clock_ask. */
+__extension__ enum PTPM_FOUR_OCTETS(ptpm_asking) {
+    PTPM_ASKED_NOTHING = 0,
+    PTPM_ASKED_CHANGE = 29,             /* a new SET or COMMAND of a manager, which the clock itself does not refuse */
+    PTPM_ASKING_NO_CLOCK = PTPM_NO_CLOCK,
+    PTPM_ASKING_NO_PORT = PTPM_NO_PORT
 };
 
 /* ptpm_clock_observe. */
@@ -623,16 +676,17 @@ __extension__ enum PTPM_FOUR_OCTETS(ptpm_reported) {
     PTPM_REPORT_NO_ASKER = PTPM_NO_ASKER
 };
 
-/* ptpm_session_image, _image_of and _saved, and ptpm_clock_image, _image_of and _saved. */
+/* ptpm_session_image, _image_of and _saved, ptpm_clock_image, _image_of and _saved, and ptpm_image_seal. */
 __extension__ enum PTPM_FOUR_OCTETS(ptpm_saved) {
     PTPM_SAVED = 0,
     PTPM_SAVE_NO_CLOCK = PTPM_NO_CLOCK,
-    PTPM_SAVE_NO_ROOM = PTPM_NO_ROOM,   /* for fewer octets than the image has, or for fewer than PTPM_MOST_SENT messages */
+    PTPM_SAVE_NO_ROOM = PTPM_NO_ROOM,   /* for fewer octets than the image has, or than both have with its seal; or for fewer than
+                                           PTPM_MOST_SENT messages */
     PTPM_SAVE_NO_SESSION = PTPM_NO_SESSION,
     PTPM_OTHER_IMAGE = 119              /* it was changed since that image */
 };
 
-/* ptpm_session_restore and ptpm_clock_restore. */
+/* ptpm_session_restore, ptpm_clock_restore and ptpm_image_unseal. */
 __extension__ enum PTPM_FOUR_OCTETS(ptpm_restored) {
     PTPM_RESTORED = 0,
     PTPM_RESTORE_NO_MEMORY = PTPM_NO_MEMORY,
@@ -710,6 +764,7 @@ PTPM_IS_WIDE(ptpm_restored);
 PTPM_IS_WIDE(ptpm_parsed);
 PTPM_IS_WIDE(ptpm_asker_restored);
 PTPM_IS_WIDE(ptpm_asked);
+PTPM_IS_WIDE(ptpm_asking);
 #undef PTPM_IS_WIDE
 #undef PTPM_FOUR_OCTETS
 
@@ -792,6 +847,43 @@ enum ptpm_handled ptpm_clock_handle(struct ptpm_clock *clock, uint16_t port, con
             ptpm_clock_read reads the new values. */
 enum ptpm_handled ptpm_clock_handle_changed(struct ptpm_clock *clock, uint16_t port, const uint8_t *datagram, size_t size,
                                             struct ptpm_sent *sent, size_t room, size_t *count, struct ptpm_changed *changed);
+
+/* Says what a datagram would have the device do, if it came in now at this port. Nothing changes. Between this call and
+   ptpm_clock_handle_said anything may happen: that call judges the datagram again.
+   Takes:   the port, counted from 1; size octets.
+   Returns: PTPM_ASKED_CHANGE; PTPM_ASKED_NOTHING for any other datagram; or PTPM_NO_CLOCK or PTPM_NO_PORT. A clock that saves
+            (ptpm_clock_saving) asks nothing while something is unsaved.
+   Writes:  *asked; all zeros unless PTPM_ASKED_CHANGE is returned.
+   Caller:  writes the change to its hardware, if that can do it. It does so in a way that may be done twice. If power fails before
+            the clock is saved, the request comes again, and is new. */
+enum ptpm_asking ptpm_clock_ask(const struct ptpm_clock *clock, uint16_t port, const uint8_t *datagram, size_t size,
+                                struct ptpm_question *asked);
+
+/* Like ptpm_clock_handle_changed, with what the device says. If it objects where ptpm_clock_ask would return PTPM_ASKED_CHANGE, the
+   request is answered and kept with that error, and no member changes. Each later copy gets that answer. If the device is not
+   asked, what it says does not count.
+   Takes:   what ptpm_clock_handle_changed takes, and *say.
+   Returns: what ptpm_clock_handle returns; or PTPM_BAD_SAY after PTPM_NO_CLOCK, PTPM_NO_PORT and PTPM_NO_ROOM. A clock that saves
+            (ptpm_clock_saving) refuses anything but PTPM_AGREES with PTPM_CANT_OBJECT, before any other reason.
+   Writes:  what ptpm_clock_handle_changed writes.
+   Caller:  does what ptpm_clock_handle_changed asks of it. If it has written to its hardware and the answer is not
+            PTPM_ANSWERED_NEW, it takes that back: another request came in between. */
+enum ptpm_handled ptpm_clock_handle_said(struct ptpm_clock *clock, uint16_t port, const uint8_t *datagram, size_t size,
+                                         const struct ptpm_say *say, struct ptpm_sent *sent, size_t room, size_t *count,
+                                         struct ptpm_changed *changed);
+
+/* Writes exactly the values of a range to a limit.
+   Takes:   the least and the most, each from -128 to 255. A number under 0 has the octet of an Integer8. Any other range has no value.
+   Writes:  all of limit->values. */
+void ptpm_limit_range(struct ptpm_limit *limit, int32_t least, int32_t most);
+
+/* Gives the error with which a device objects that has these values. Only limits of the id count, and of them those of a port that
+   the request names. A request for every port names each. An id without a limit is free.
+   Takes:   limit_count limits; and what ptpm_clock_ask wrote.
+   Returns: PTPM_ERROR_NOT_SETABLE for a SET, and PTPM_ERROR_NOT_SUPPORTED for a COMMAND, if such a limit has no value. Otherwise
+            PTPM_ERROR_WRONG_VALUE if such a limit lacks the value of a SET. Otherwise 0. The first octet is no value of
+            NULL_PTP_MANAGEMENT, USER_DESCRIPTION and UTC_PROPERTIES, so a SET of these is not refused with PTPM_ERROR_WRONG_VALUE. */
+uint16_t ptpm_limits_say(const struct ptpm_limit *limits, size_t limit_count, const struct ptpm_question *asked);
 
 /* Sets exactly what the host observed about its clock and its ports. Judges the data sets as they would be afterwards.
    Takes:   port_count places, from port 1 on: as many as the clock has ports, or fewer, or none.
@@ -1162,6 +1254,38 @@ enum ptpm_reported ptpm_asker_report(const struct ptpm_asker *asker, uint8_t *oc
 
 /* Ends what the handle holds, if it holds anything. The handle then holds nothing, and may be started again. */
 void ptpm_asker_stop(struct ptpm_asker *asker);
+
+/* Seals an image: writes `ptps`, the count of saves and the CRC-32 of all before it after the image. By them damage is found.
+   Takes:   room octets: the image is the first size octets. And the count, one more at each save.
+   Returns: PTPM_SAVED; or PTPM_NO_ROOM if room is less than size and PTPM_SEAL_OCTETS, and then no octet is written.
+   Writes:  *sealed: how many octets image and seal have, 0 if the call is refused; and the PTPM_SEAL_OCTETS octets after the image. */
+enum ptpm_saved ptpm_image_seal_in(uint8_t *octets, size_t room, size_t size, uint64_t count, size_t *sealed);
+
+static inline enum ptpm_saved ptpm_image_seal(uint8_t *octets, size_t size, size_t room, uint64_t count, size_t *sealed) {
+    return ptpm_image_seal_in(octets, room, size, count, sealed);
+}
+
+/* Finds the image with its seal that octets begin with. How long it is its head says, so what comes after the seal does not matter.
+   An image without a seal is taken too if nothing comes after it: a release that made no seals wrote it.
+   Takes:   size octets, what a file or a place of a flash memory has.
+   Returns: PTPM_RESTORED; PTPM_NOT_AN_IMAGE; or PTPM_DAMAGED if octets are missing, the seal is missing, or octets are not those that
+            were sealed. What the image is of, the restore judges.
+   Writes:  *image: how many octets it has, from the first on; and *count, how often it was saved, 0 without a seal. If the call is
+            refused, both are 0. */
+enum ptpm_restored ptpm_image_unseal(const uint8_t *octets, size_t size, uint64_t *count, size_t *image);
+
+/* Finds the newest image of several places, each of as many octets. A host that writes only the oldest place has one image at any
+   moment, whenever its power fails (docs/flash.md).
+   Takes:   the octets of all places, one after the other; how many octets a place has, and how many places there are.
+   Returns: the place of the image with the highest count, counted from 0; of as many, the first. The number of places if no place
+            holds an image that ptpm_image_unseal takes.
+   Writes:  *count and *image, as ptpm_image_unseal does for that place. */
+size_t ptpm_newest_image_in(const uint8_t *octets, size_t size, size_t place, uint64_t *count, size_t *image);
+
+static inline size_t ptpm_newest_image(const uint8_t *octets, size_t place, size_t places, uint64_t *count, size_t *image) {
+    size_t newest = ptpm_newest_image_in(octets, place * places, place, count, image);
+    return place == 0 ? places : newest;
+}
 
 /* Says whether a message is to be forwarded, and if it is, records it. It is if none is recorded that has its
    sourcePortIdentity, sequenceId, targetPortIdentity, actionField and managementId, and there is a place to record it. So a

@@ -8,8 +8,9 @@ import sys
 import tempfile
 import time
 
-# Folders that commands write to. What they write is in memory, and seen by these commands alone.
-COVERED = ["/usr/local", "/etc", "/var/lib"]
+# Folders that commands write to. What they write is in memory, and seen by these commands alone. PAGES is that of a web server.
+COVERED = ["/usr/local", "/etc", "/var"]
+PAGES = "/var/www/html"
 
 # In all networks: a bridge for each segment, and hosts, each with its MACs, one for each segment that it is in.
 HOSTS = {"manager": {0: "02:00:00:00:00:10"}, "neighbour": {0: "02:00:00:00:00:20"},
@@ -170,8 +171,10 @@ def make(home):
     """The scene, over what is built and installed; None if it can't be made."""
     if not cover(home) or not connect():
         return None
-    with open("/usr/local/bin/sudo", "w", encoding="utf-8") as file:
-        file.write('#!/bin/sh\nexec "$@"\n')
-    os.chmod("/usr/local/bin/sudo", 0o755)
+    for path, text in [("/usr/local/bin/sudo", 'exec "$@"'), ("/usr/local/lib/device", "exit 0")]:     # which a clock asks
+        with open(path, "w", encoding="utf-8") as file:
+            file.write(f"#!/bin/sh\n{text}\n")
+        os.chmod(path, 0o755)
+    os.makedirs(PAGES, exist_ok=True)
     done = shell("make -s -C hosts install PREFIX=/usr/local", cwd=home)
     return Scene(home) if done.returncode == 0 else sys.exit(f"tools/commands: {done.stdout}")

@@ -29,6 +29,13 @@ size_t read_octets(const char **text, uint8_t *octets, size_t most) {
     return count;
 }
 
+bool is_ascii(const char *line) {
+    for (; *line != '\0'; line++) {
+        if ((*line < ' ' || *line > '~') && *line != '\t' && *line != '\r') return false;
+    }
+    return true;
+}
+
 const char *identity_at(const char *text, uint8_t identity[8]) {
     size_t first = read_octets(&text, identity, 3);
     if (*text != '.') return first == 3 && read_octets(&text, identity + 3, 5) == 5 ? text : NULL;

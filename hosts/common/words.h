@@ -3,6 +3,7 @@
 #ifndef WORDS_H
 #define WORDS_H
 
+#include <stdbool.h>
 #include <stddef.h>
 #include <stdint.h>
 
@@ -14,6 +15,9 @@ long decimal(const char *text, long most);
 
 /* Reads octets of two hexadecimal digits each, in either case, at most `most`; how many octets they are. */
 size_t read_octets(const char **text, uint8_t *octets, size_t most);
+
+/* Whether a line has only printed characters of ASCII, blanks, tabs and returns. */
+bool is_ascii(const char *line);
 
 /* A clockIdentity: sixteen hexadecimal digits in either case, also with a dot after the sixth and the tenth. The rest of the
    text; NULL if it does not begin with one. */

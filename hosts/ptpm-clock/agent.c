@@ -1,6 +1,7 @@
 #define _GNU_SOURCE
 #include "agent.h"
 #include "counts.h"
+#include "device.h"
 #include "field_text.h"
 #include "held.h"
 #include "names.h"
@@ -153,13 +154,23 @@ static inline unsigned long hand_on(const struct heard *heard, const struct port
     return lost;
 }
 
+/* A turn with what the device says. A change that its program agreed to is not overtaken, since no other is taken meanwhile. */
+static enum ptpm_handled hand_in_said(uint16_t ingress, const struct heard *heard, const struct ptpm_say *say,
+                                      struct ptpm_sent *places, size_t *count, struct ptpm_changed *changed) {
+    enum ptpm_handled answer = ptpm_clock_handle_said(&clock_held, ingress, heard->octets, heard->size, say, places, PTPM_MOST_SENT,
+                                                      count, changed);
+    if (answer != PTPM_ANSWERED_NEW) say_at_times("a change that the device has decided is not made: %s", answer_name(answer));
+    return answer;
+}
+
 /* A turn with lines of what became of it and what it changed. To find that costs more than the turn does. */
 static unsigned long take_verbose_turn(const struct heard *heard, const struct port *port, uint16_t ingress,
-                                    struct ptpm_sent *places) {
+                                       const struct ptpm_say *say, struct ptpm_sent *places) {
     struct ptpm_changed changed;
     size_t count, left;
-    enum ptpm_handled answer = ptpm_clock_handle_changed(&clock_held, ingress, heard->octets, heard->size, places, PTPM_MOST_SENT,
-                                                         &count, &changed);
+    enum ptpm_handled answer = say != NULL ? hand_in_said(ingress, heard, say, places, &count, &changed)
+                                           : ptpm_clock_handle_changed(&clock_held, ingress, heard->octets, heard->size, places,
+                                                                       PTPM_MOST_SENT, &count, &changed);
     unsigned long lost = hand_on(heard, port, ingress, answer, places, count, &left);
     bool is_done = save_changes(&clock_held);
     lost += is_done ? send_all() : drop_round();
@@ -177,20 +188,25 @@ static bool copy_clock(void) {
                                  options->manager_count, image, size, &gone) == PTPM_RESTORED;
 }
 
-/* What becomes of a datagram; port is NULL for the Unix socket. How many messages were not taken. During a save it is for the clock
-   before the save, which only managers could change, and their requests wait. */
-static unsigned long take_turn(struct heard *heard, const struct port *port) {
+static uint16_t ingress_of(const struct port *port) { return port == NULL ? 1 : (uint16_t)(port - ports + 1); }
+
+/* What becomes of a datagram, with what the device says of it, or NULL. Port is NULL for the Unix socket. How many messages were not
+   taken. During a save it is for the clock before the save, which only managers could change, and their requests wait. */
+static unsigned long take_turn(struct heard *heard, const struct port *port, const struct ptpm_say *say) {
+    struct ptpm_changed changed;
     size_t count, left;
-    uint16_t ingress = port == NULL ? 1 : (uint16_t)(port - ports + 1);
+    uint16_t ingress = ingress_of(port);
     lower_hops(heard);
     struct ptpm_sent *places = places_to_send();
     if (places == NULL) {
         count_dropped(send_saved());
         places = places_to_send();
     }
-    if (options->is_verbose) return take_verbose_turn(heard, port, ingress, places);
+    if (options->is_verbose) return take_verbose_turn(heard, port, ingress, say, places);
     struct ptpm_clock *clock = is_saving ? &clock_before : &clock_held;
-    enum ptpm_handled answer = ptpm_clock_handle(clock, ingress, heard->octets, heard->size, places, PTPM_MOST_SENT, &count);
+    enum ptpm_handled answer = say != NULL ? hand_in_said(ingress, heard, say, places, &count, &changed)
+                                           : ptpm_clock_handle(clock, ingress, heard->octets, heard->size, places, PTPM_MOST_SENT,
+                                                               &count);
     if (is_saving && answer == PTPM_ANSWERED_NEW) return count;         /* nobody is shown what is not saved */
     return hand_on(heard, port, ingress, answer, places, count, &left);
 }
@@ -217,7 +233,7 @@ static void take_all(size_t count) {
         if (port == NULL || admit_datagram(&heard_now[i], port)) admitted[left++] = &heard_now[i];
     }
     size_t firsts = part_round(admitted, left, first, last);
-    for (size_t i = 0; i < firsts; i++) lost += take_turn(first[i], first[i]->port);
+    for (size_t i = 0; i < firsts; i++) lost += take_turn(first[i], first[i]->port, NULL);
     lost += send_saved();
     for (size_t i = 0; i < left - firsts; i++) {
         const struct port *port = last[i]->port;
@@ -235,15 +251,53 @@ void take_unicast_round(void) { take_all(hear_unicast(heard_now)); }
 static void send_taken(unsigned long lost) {
     count_dropped(lost);
     let_go_of_held(taken);
+    let_go_of_change();
+}
+
+static bool is_asked(const struct held *held, struct ptpm_question *asked) {
+    return ptpm_clock_ask(&clock_held, ingress_of(held->port), held->heard.octets, held->heard.size, asked) == PTPM_ASKED_CHANGE;
+}
+
+/* A manager's request. The device is asked about a change, which waits if its program is to be asked. Nothing else of its manager
+   is taken then, so that no later request overtakes it. How many messages were not taken. */
+static unsigned long take_request(struct held *held) {
+    struct ptpm_question asked;
+    if (has_device && is_manager_waiting(&held->heard)) {
+        count_passed_over();
+        return 0;
+    }
+    if (!has_device || !is_asked(held, &asked)) return take_turn(&held->heard, held->port, NULL);
+    const struct ptpm_say *objection = objection_of_limits(&asked);
+    if (objection != NULL || !has_program()) return take_turn(&held->heard, held->port, objection);
+    wait_for_program(held);
+    return 0;
+}
+
+/* A change that the device has decided. */
+static unsigned long take_decided(void) {
+    const struct ptpm_say *say;
+    struct held *held = take_change(&say);
+    return held == NULL ? 0 : take_turn(&held->heard, held->port, say);
+}
+
+/* Asks the device's program about the change that is next. By now the clock, or a limit, may refuse it. */
+static void ask_about_next(void) {
+    struct ptpm_question asked;
+    const struct held *held = change_to_ask();
+    if (held == NULL) return;
+    bool is_change = is_asked(held, &asked);
+    const struct ptpm_say *objection = is_change ? objection_of_limits(&asked) : NULL;
+    if (is_change && objection == NULL) ask_program(&asked);
+    else decide_change(objection);
 }
 
 /* Takes as many as one save does for. What they send waits for it, and a thread waits for the disk. */
 static void take_held(void) {
     bool is_copied = options->state != NULL && !options->is_verbose && !is_unsaved && copy_clock();
-    unsigned long lost = 0, of_peers = 0;
+    unsigned long lost = take_decided(), of_peers = 0;
     for (taken = 0; taken < held_count() && of_peers < PEERS_A_SAVE && places_to_send() != NULL; taken++) {
         of_peers += held_at(taken)->port == NULL;
-        lost += take_turn(&held_at(taken)->heard, held_at(taken)->port);
+        lost += take_request(held_at(taken));
     }
     if (!is_unsaved || !is_copied || !begin_save(&clock_held)) {
         send_taken(lost + send_saved());
@@ -259,9 +313,17 @@ void take_saved(void) {
     send_taken(is_done ? send_all() : drop_round());
 }
 
+static bool is_waiting(void) { return held_count() > 0 || decided_change() != NULL; }
+
+static bool is_peer_waiting(void) {
+    const struct held *decided = decided_change();
+    return has_held_peer() || (decided != NULL && decided->port == NULL);
+}
+
 long take_waiting(void) {
-    while (!is_saving && held_count() > 0 && (has_held_peer() || may_save())) take_held();
-    return !is_saving && held_count() > 0 ? NEXT_SAVE : -1;
+    while (!is_saving && is_waiting() && (is_peer_waiting() || may_save())) take_held();
+    if (!is_saving) ask_about_next();
+    return !is_saving && is_waiting() ? NEXT_SAVE : -1;
 }
 
 static void tell_left(uint8_t left) {

@@ -8,6 +8,8 @@
 #define _GNU_SOURCE
 #include "agent.h"
 #include "counts.h"
+#include "device.h"
+#include "device_program.h"
 #include "held.h"
 #include "monotonic.h"
 #include "netlink.h"
@@ -32,15 +34,16 @@ enum { SECOND = 1000 };
 const char program[] = "ptpm-clock";
 
 static struct options options;
+static struct source observations;
 static int unix_socket = -1, source = -1, signals, links, timer;
 
 static void observe_all(void) {
-    source = read_source();
-    for (char *text; next_text(&text);) observe(text);
+    source = read_source(&observations);
+    for (char *text; next_text(&observations, &text);) observe(text);
 }
 
 /* What is polled. The ports come first. */
-enum { UNIX_SOCKET = PORTS, UNICAST, SOURCE, SIGNALS, LINKS, TIMER, SAVED, WAITS };
+enum { UNIX_SOCKET = PORTS, UNICAST, SOURCE, LIMITS, SIGNALS, LINKS, TIMER, SAVED, RUNS, WAITS };
 
 static int polled = -1;
 static unsigned long polled_openings[PORTS];    /* which socket of each port is polled */
@@ -56,10 +59,12 @@ static void wait_at_all(void) {
     wait_at(unix_socket, UNIX_SOCKET);
     wait_at(unicast_socket(), UNICAST);
     wait_at(source, SOURCE);
+    wait_at(limits_event(), LIMITS);
     wait_at(signals, SIGNALS);
     wait_at(links, LINKS);
     wait_at(timer, TIMER);
     wait_at(saving_event(), SAVED);
+    wait_at(device_program_event(), RUNS);
 }
 
 /* Programs of this host wait while there is no room for what they ask, and lose nothing. */
@@ -90,10 +95,12 @@ static bool take_event(uint32_t what) {
         observe_all();
         wait_at(source, SOURCE);
         break;
+    case LIMITS: read_limits(); break;
     case SIGNALS: asked = read_signal(signals); break;
     case LINKS: hear_of_links(); break;
     case TIMER: read_timer(); break;
     case SAVED: take_saved(); break;
+    case RUNS: hear_program(); break;
     default:
         if (ports[what].socket >= 0) take_round(&ports[what], ports[what].socket);
     }
@@ -101,14 +108,15 @@ static bool take_event(uint32_t what) {
     return asked != END_ASKED;
 }
 
-/* Once a second: what came in at a socket that was at the path for a moment. Then the source, if it moved, and who has UDP port
-   320. */
+/* Once a second: what came in at a socket that was at the path for a moment. Then the source and the limits, if they moved, and who
+   has UDP port 320. */
 static void look_around(int64_t now) {
     static int64_t next;
     if (now < next) return;
     next = now + SECOND;
     for (size_t i = 0; unix_socket >= 0 && i < WAYS_BACK; i++) take_round(NULL, way_back_socket(i));
-    if (source >= 0 && follow_source()) observe_all();
+    if (source >= 0 && follow_source(&observations)) observe_all();
+    follow_limits();
     renew_unicast();
     wait_at(unicast_socket(), UNICAST);
 }
@@ -155,6 +163,7 @@ static enum needs needs(void) {
 
 static void end_in_order(void) {
     report_stopping();
+    close_device_program();
     stop_clock();
     close_ports();
     close_unicast();
@@ -166,11 +175,14 @@ static void end_in_order(void) {
 int main(int argc, char **argv) {
     hold_streams();
     read_options(&options, argc, argv);
+    if (options.device_program != NULL) open_device_program(options.device_program, options.device_seconds, &options.privileges);
     start_clock(&options);
     open_all();
     report_twin();
     let_go_of_rights(&options.privileges, needs());
-    if (options.source != NULL) source = open_source(options.source);
+    if (options.source != NULL) source = open_source(&observations, options.source);
+    start_device(&options);
+    check_device_program();
     start_limits(&options.limits);
     filter_calls(&options.privileges);
     save_clock();

@@ -1,5 +1,6 @@
 #define _GNU_SOURCE
 #include "counts.h"
+#include "device.h"
 #include "network_limits.h"
 #include "output.h"
 #include "saving.h"
@@ -35,6 +36,7 @@ static void print_saves(const struct saves *saves) {
 
 void print_counts(void) {
     const struct kept_back *kept_back = kept_back_so_far();
+    const struct device_counts *device = device_counts_so_far();
     for (int i = 0; i < ANSWERS; i++) {
         if (answers[i] > 0) print_line("answer %d: %llu", i, answers[i]);
     }
@@ -45,6 +47,10 @@ void print_counts(void) {
     print_count("not answered over the rate", kept_back->unanswered);
     print_count("not taken of managers over their rate", kept_back->managers);
     print_saves(saves_so_far());
+    print_count("the device agreed", device->agreed);
+    print_count("the device objected", device->objected);
+    print_count("the device said nothing", device->silent);
+    print_count("not taken while the device was asked", device->passed_over);
     print_count("observed", observed);
     print_count("not observed", not_observed);
     print_count("lines not printed", lines_lost());

@@ -1,25 +1,25 @@
 #define _GNU_SOURCE
 #include "held.h"
-#include "ethernet.h"
 #include <string.h>
 
 enum { MOST_OF_PORTS = ROUND, MOST_HELD = MOST_OF_PORTS + ROUND };
 
-/* What a datagram is copied to. The places are used by turns. */
-struct copy { struct held held; uint8_t octets[MOST_HEARD], station[STATION]; };
-
+/* The places are used by turns. */
 static struct copy copies[MOST_HELD];
 static size_t first, count;
 
-bool hold(const struct heard *heard, const struct port *port) {
-    if (count >= (port == NULL ? MOST_HELD : MOST_OF_PORTS)) return false;
-    struct copy *copy = &copies[(first + count++) % MOST_HELD];
+void copy_held(struct copy *copy, const struct heard *heard, const struct port *port) {
     copy->held = (struct held){ *heard, port };
     memcpy(copy->octets, heard->octets, heard->size);
     copy->held.heard.octets = copy->octets;
-    if (heard->station == NULL) return true;
+    if (heard->station == NULL) return;
     memcpy(copy->station, heard->station, STATION);
     copy->held.heard.station = copy->station;
+}
+
+bool hold(const struct heard *heard, const struct port *port) {
+    if (count >= (port == NULL ? MOST_HELD : MOST_OF_PORTS)) return false;
+    copy_held(&copies[(first + count++) % MOST_HELD], heard, port);
     return true;
 }
 

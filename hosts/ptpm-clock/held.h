@@ -3,13 +3,20 @@
 #ifndef HELD_H
 #define HELD_H
 
+#include "ethernet.h"
 #include "ports.h"
 #include "rounds.h"
 #include <stdbool.h>
 
 struct held { struct heard heard; const struct port *port; };
 
-/* Copies a datagram after those that wait; whether there is room. `port` is NULL for the Unix socket. */
+/* What a datagram is copied to. */
+struct copy { struct held held; uint8_t octets[MOST_HEARD], station[STATION]; };
+
+/* Copies a datagram there. `port` is NULL for the Unix socket. */
+void copy_held(struct copy *copy, const struct heard *heard, const struct port *port);
+
+/* Copies a datagram after those that wait; whether there is room. */
 bool hold(const struct heard *heard, const struct port *port);
 
 /* Whether there is room for a round of the Unix socket, to whose programs some room is kept. */

@@ -6,6 +6,7 @@
 #include "words.h"
 #include <getopt.h>
 #include <grp.h>
+#include <limits.h>
 #include <net/if.h>
 #include <pwd.h>
 #include <stdarg.h>
@@ -16,10 +17,11 @@
 #include <sys/un.h>
 #include <unistd.h>
 
-enum { SECOND = 1000, HOPS_AT_FIRST = 8, RATE_AT_FIRST = 1000, MANAGER_RATE_AT_FIRST = 100, MOST_RATE = 1000000, MODE_AT_FIRST = 0660 };
+enum { SECOND = 1000, HOPS_AT_FIRST = 8, RATE_AT_FIRST = 1000, MANAGER_RATE_AT_FIRST = 100, MOST_RATE = 1000000, MODE_AT_FIRST = 0660,
+       ASK_TIME_AT_FIRST = 10, MOST_ASK_TIME = 3600 };
 
 /* Options without a letter of their own. */
-enum { VERSION = 256, HOPS, RATE, MANAGER_RATE, NO_FORWARD, ANY_SOURCE, USER, UNIX_GROUP, UNIX_MODE, NO_FILTER };
+enum { VERSION = 256, HOPS, RATE, MANAGER_RATE, NO_FORWARD, ANY_SOURCE, USER, UNIX_GROUP, UNIX_MODE, NO_FILTER, LIMITS, ASK, ASK_TIME };
 
 static const struct option names[] = {
     { "ipv6", no_argument, NULL, '6' }, { "ethernet", no_argument, NULL, '2' }, { "hops", required_argument, NULL, HOPS },
@@ -27,6 +29,8 @@ static const struct option names[] = {
     { "no-forward", no_argument, NULL, NO_FORWARD },
     { "any-source", no_argument, NULL, ANY_SOURCE }, { "user", required_argument, NULL, USER },
     { "unix-group", required_argument, NULL, UNIX_GROUP }, { "unix-mode", required_argument, NULL, UNIX_MODE },
+    { "limits", required_argument, NULL, LIMITS }, { "ask", required_argument, NULL, ASK },
+    { "ask-time", required_argument, NULL, ASK_TIME },
     { "no-filter", no_argument, NULL, NO_FILTER }, { "state", required_argument, NULL, 's' }, { "help", no_argument, NULL, 'h' },
     { "version", no_argument, NULL, VERSION }, { NULL, 0, NULL, 0 },
 };
@@ -59,6 +63,11 @@ static const char help[] =
     "  -s, --state FILE    the clock is saved to FILE before it answers, and goes on from FILE at its next start\n"
     "  -o FILE             what the clock observes, like a servo: a file, which is read at the start and whenever it is\n"
     "                      written, or a pipe. Lines are for example: offset_from_master 98304, or: port 1 state 9\n"
+    "  --limits FILE       the values that the hardware has: what managers set beside them is refused. It is read like -o.\n"
+    "                      Lines are for example: LOG_SYNC_INTERVAL -4..1, or: port 2 DELAY_MECHANISM E2E, or: DOMAIN never\n"
+    "  --ask PROGRAM       a program of the device, which is run for each change that a manager asks for, and agrees by\n"
+    "                      status 0. Its words are MANAGER NUMBER set|command ID NAME PORT|all OCTETS [MEMBER VALUE]..\n"
+    "  --ask-time SECONDS  how long it may take (10); then the change counts as lost\n"
     "  -n SECONDS          it ends by itself then\n"
     "  -v                  a line for each datagram that it hears, and one for what it changed\n"
     "  --user NAME         the user that it becomes once its sockets are open. Root becomes ptpm if there is such a user,\n"
@@ -147,6 +156,11 @@ static struct ptpm_manager_settings read_manager(const char *text) {
     return manager;
 }
 
+static const char *program_path(void) {
+    if (strlen(optarg) >= PATH_MAX) refuse_command_line("--ask: the path is too long");
+    return optarg;
+}
+
 /* Options of what the host is to do. */
 static void take_limit(struct options *options, int option) {
     switch (option) {
@@ -159,6 +173,9 @@ static void take_limit(struct options *options, int option) {
     case UNIX_GROUP: options->meeting.group = group_named(); break;
     case UNIX_MODE: options->meeting.mode = mode(); break;
     case NO_FILTER: options->privileges.is_unfiltered = true; break;
+    case LIMITS: options->limits_file = optarg; break;
+    case ASK: options->device_program = program_path(); break;
+    case ASK_TIME: options->device_seconds = number("--ask-time", 1, MOST_ASK_TIME); break;
     default: usage();
     }
 }
@@ -225,6 +242,7 @@ void read_options(struct options *options, int argc, char **argv) {
     bool has_two = false, has_six = false;
     ptpm_clock_defaults(&options->settings);
     options->limits = (struct limits){ .hops = HOPS_AT_FIRST, .rate = RATE_AT_FIRST, .manager_rate = MANAGER_RATE_AT_FIRST, .is_passed_on = true };
+    options->device_seconds = ASK_TIME_AT_FIRST;
     options->meeting = (struct meeting){ .mode = MODE_AT_FIRST, .group = (gid_t)-1 };
     for (int option; (option = getopt_long(argc, argv, "26fu:m:d:s:o:n:vh", names, NULL)) != -1;) {
         has_two |= option == '2';

@@ -24,6 +24,9 @@ struct options {
     struct privileges privileges;
     const char *state;                  /* the file that the clock is saved to, or NULL */
     bool has_domain;                    /* -d is given */
+    const char *limits_file;            /* the values that the hardware has, or NULL */
+    const char *device_program;         /* the program that is asked for each change, or NULL, and how many seconds it may take */
+    long device_seconds;
     const char *source;                 /* what the clock observes: a file, a pipe, or NULL */
     bool is_verbose;                    /* a line for each datagram */
     int64_t end;                        /* when it ends by itself, in milliseconds; 0 if it doesn't */

@@ -17,7 +17,7 @@
 enum { NOT_STARTED = 1, NOT_OPENED = 2, IDENTITY = 12 };
 
 /* Octets of a file, and of one that has more than that. */
-enum { ROOM = PTPM_CLOCK_IMAGE_OCTETS + SEAL_OCTETS, MOST_STATE_OCTETS = ROOM + 1, LOCK_TRIES = 100 };
+enum { ROOM = PTPM_CLOCK_IMAGE_OCTETS + PTPM_SEAL_OCTETS, MOST_STATE_OCTETS = ROOM + 1, LOCK_TRIES = 100 };
 enum { JOINED = 5 };        /* requests of managers for which there is one save */
 
 static struct kept_file file = { .folder = -1, .mode = 0600 };
@@ -110,9 +110,10 @@ _Noreturn static void refuse_octets(enum ptpm_restored refusal) {
 /* The clock of the octets that were read; how many managers it had that are not configured any more. */
 static size_t restore(struct ptpm_clock *clock, size_t size) {
     size_t gone = 0;
-    if (take_seal(octets, &size, &saves_of_file) == BROKEN_SEAL) refuse_octets(PTPM_DAMAGED);
-    enum ptpm_restored answer = ptpm_clock_restore(clock, options->settings.identity, ports_of(options), options->managers,
-                                                   options->manager_count, octets, size, &gone);
+    enum ptpm_restored answer = take_seal(octets, &size, &saves_of_file);
+    if (answer != PTPM_RESTORED) refuse_octets(answer);
+    answer = ptpm_clock_restore(clock, options->settings.identity, ports_of(options), options->managers, options->manager_count,
+                                octets, size, &gone);
     if (answer != PTPM_RESTORED) refuse_octets(answer);
     return gone;
 }

@@ -5,8 +5,6 @@
 #include <errno.h>
 #include <fcntl.h>
 #include <libgen.h>
-#include <limits.h>
-#include <stdbool.h>
 #include <stdlib.h>
 #include <string.h>
 #include <sys/inotify.h>
@@ -14,26 +12,7 @@
 #include <time.h>
 #include <unistd.h>
 
-enum { MOST_HELD = 65536 };
-
-/* What has come in and is not taken yet: `size` octets from `first` on. How much of it has no empty line, and how much was the
-   latest text. Whether its end has come, and whether its head was dropped. */
-static char held[MOST_HELD + 1];
-static size_t first, size, searched, taken;
-static bool is_ended, is_too_long;
-
-static int polled;
-static bool is_pipe, is_first = true;
-static const char *path;
-
-/* A folder whose changes are polled, and the name in it that counts: that of the path, or of the file to which links lead. */
-struct watch { char folder[PATH_MAX], name[PATH_MAX]; int number; };
-
-static struct watch of_path = { .number = -1 }, of_target = { .number = -1 };
-static dev_t device_read;
-static ino_t file_read;         /* what was read last */
-
-static void complain(const char *what) { say_at_times("%s: %s", path, what); }
+static void complain(const struct source *source, const char *what) { say_at_times("%s: %s", source->path, what); }
 
 /* The owner of a name in a folder, or of the folder, may let the path lead anywhere. So another's file is read only if everybody
    may read it. */
@@ -41,7 +20,7 @@ static bool may_choose(const struct stat *owned, const struct stat *file) {
     return owned->st_uid == 0 || owned->st_uid == geteuid() || owned->st_uid == file->st_uid;
 }
 
-static bool is_readable(int file, struct stat *found) {
+static bool is_readable(const char *path, int file, struct stat *found) {
     char folder[PATH_MAX];
     struct stat name, parent;
     if (strlen(path) >= sizeof folder || fstat(file, found) || lstat(path, &name)) return false;
@@ -49,16 +28,16 @@ static bool is_readable(int file, struct stat *found) {
     return (found->st_mode & S_IROTH) != 0 || (may_choose(&name, found) && may_choose(&parent, found));
 }
 
-static int open_file(struct stat *found) {
+static int open_file(const char *path, struct stat *found) {
     int file = open(path, O_RDONLY | O_NONBLOCK | O_CLOEXEC);
-    if (file < 0 || is_readable(file, found)) return file;
+    if (file < 0 || is_readable(path, file, found)) return file;
     close(file);
     errno = EACCES;
     return -1;
 }
 
 /* What is watched of a folder is the same as before, or the folder that has its name by now. */
-static void watch_folder(struct watch *watch, const char *whole) {
+static void watch_folder(int polled, struct watch *watch, const char *whole) {
     if (strlen(whole) >= sizeof watch->folder) return;
     strcpy(watch->name, whole);
     strcpy(watch->name, basename(watch->name));
@@ -68,28 +47,48 @@ static void watch_folder(struct watch *watch, const char *whole) {
     watch->number = number;
 }
 
-static void watch_folders(void) {
+static void watch_folders(struct source *source) {
     char target[PATH_MAX];
-    watch_folder(&of_path, path);
-    if (realpath(path, target) != NULL) watch_folder(&of_target, target);
+    watch_folder(source->polled, &source->of_path, source->path);
+    if (realpath(source->path, target) != NULL) watch_folder(source->polled, &source->of_target, target);
 }
 
-int open_source(const char *name) {
+_Noreturn static void refuse(const struct source *source, const char *what) {
+    complain(source, what);
+    exit(2);
+}
+
+/* Opens it as whatever it is; what that is. */
+static mode_t start_source(struct source *source, const char *path) {
     struct stat found;
-    path = name;
-    polled = open_file(&found);
-    if (polled < 0) give_up(path);
-    is_pipe = S_ISFIFO(found.st_mode);
-    if (is_pipe) return polled;
-    close(polled);
-    if (!S_ISREG(found.st_mode)) {
-        complain("it is neither a file nor a pipe");
-        exit(2);
-    }
-    polled = inotify_init1(IN_NONBLOCK | IN_CLOEXEC);
-    if (polled >= 0) watch_folders();
-    if (polled < 0 || of_path.number < 0) give_up(path);
-    return polled;
+    source->path = path;
+    source->is_first = true;
+    source->of_path.number = source->of_target.number = -1;
+    source->polled = open_file(path, &found);
+    if (source->polled < 0) give_up(path);
+    source->is_pipe = S_ISFIFO(found.st_mode);
+    return found.st_mode;
+}
+
+/* Polls a file that can be read for its changes. */
+static int watch_file(struct source *source) {
+    close(source->polled);
+    source->polled = inotify_init1(IN_NONBLOCK | IN_CLOEXEC);
+    if (source->polled >= 0) watch_folders(source);
+    if (source->polled < 0 || source->of_path.number < 0) give_up(source->path);
+    return source->polled;
+}
+
+int open_source(struct source *source, const char *path) {
+    mode_t mode = start_source(source, path);
+    if (source->is_pipe) return source->polled;
+    if (!S_ISREG(mode)) refuse(source, "it is neither a file nor a pipe");
+    return watch_file(source);
+}
+
+int open_file_source(struct source *source, const char *path) {
+    if (!S_ISREG(start_source(source, path))) refuse(source, "it is no file");
+    return watch_file(source);
 }
 
 static bool is_of(const struct watch *watch, const struct inotify_event *event) {
@@ -97,14 +96,14 @@ static bool is_of(const struct watch *watch, const struct inotify_event *event) 
 }
 
 /* Reads what became of it: whether a program that wrote to the file has closed it, or another was moved there. */
-static bool read_events(void) {
+static bool read_events(struct source *source) {
     _Alignas(struct inotify_event) char events[4096];
-    bool is_written = is_first;
-    is_first = false;
-    for (ssize_t count; (count = read(polled, events, sizeof events)) > 0;) {
+    bool is_written = source->is_first;
+    source->is_first = false;
+    for (ssize_t count; (count = read(source->polled, events, sizeof events)) > 0;) {
         for (char *next = events; next < events + count;) {
             const struct inotify_event *event = (const void *)next;
-            is_written |= (event->mask & IN_Q_OVERFLOW) != 0 || is_of(&of_path, event) || is_of(&of_target, event);
+            is_written |= (event->mask & IN_Q_OVERFLOW) != 0 || is_of(&source->of_path, event) || is_of(&source->of_target, event);
             next += sizeof *event + event->len;
         }
     }
@@ -112,120 +111,125 @@ static bool read_events(void) {
 }
 
 /* Whether another file is at the path than the one that was read last, and has been left alone for a second. */
-static bool is_other(void) {
+static bool is_other(const struct source *source) {
     struct stat found;
     struct timespec now;
     clock_gettime(CLOCK_REALTIME, &now);
-    return stat(path, &found) == 0 && S_ISREG(found.st_mode) && (found.st_dev != device_read || found.st_ino != file_read)
+    return stat(source->path, &found) == 0 && S_ISREG(found.st_mode)
+           && (found.st_dev != source->device_read || found.st_ino != source->file_read)
            && llabs((long long)now.tv_sec - found.st_mtim.tv_sec) > 1;
 }
 
-bool follow_source(void) {
-    if (is_pipe) return false;
-    watch_folders();
-    return is_other();
+bool follow_source(struct source *source) {
+    if (source->is_pipe) return false;
+    watch_folders(source);
+    return is_other(source);
 }
 
-static void read_file(void) {
+static void read_file(struct source *source) {
     struct stat found;
-    int file = open_file(&found);
+    int file = open_file(source->path, &found);
     ssize_t count = -1;
-    first = size = searched = taken = 0;
-    while (file >= 0 && (count = read(file, held + size, MOST_HELD - size)) > 0) size += (size_t)count;
-    if (count < 0) complain(strerror(errno));
-    else if (size == MOST_HELD) complain("it has over 65,535 octets");
-    is_ended = count >= 0 && size < MOST_HELD;
-    if (!is_ended) size = 0;
-    if (file >= 0 || stat(path, &found) == 0) {
-        device_read = found.st_dev;
-        file_read = found.st_ino;
+    size_t size = 0;
+    while (file >= 0 && (count = read(file, source->held + size, SOURCE_ROOM - size)) > 0) size += (size_t)count;
+    if (count < 0) complain(source, strerror(errno));
+    else if (size == SOURCE_ROOM) complain(source, "it has over 65,535 octets");
+    source->is_ended = count >= 0 && size < SOURCE_ROOM;
+    source->first = source->searched = source->taken = 0;
+    source->size = source->is_ended ? size : 0;
+    if (file >= 0 || stat(source->path, &found) == 0) {
+        source->device_read = found.st_dev;
+        source->file_read = found.st_ino;
     }
     if (file >= 0) close(file);
-    watch_folders();
+    watch_folders(source);
 }
 
 /* If another thing, or nothing, is at the path by now, there is nothing to poll any more. */
-static void open_again(void) {
+static void open_again(struct source *source) {
     struct stat found;
-    int again = open_file(&found);
+    int again = open_file(source->path, &found);
     bool is_there = again >= 0 && S_ISFIFO(found.st_mode);
-    if (!is_there) complain("the pipe is gone, and nothing more is observed");
+    if (!is_there) complain(source, "the pipe is gone, and nothing more is observed");
     if (!is_there && again >= 0) close(again);
-    close(polled);
-    polled = is_there ? again : -1;
+    close(source->polled);
+    source->polled = is_there ? again : -1;
 }
 
 /* The pipe is opened again for the next program that writes to it, and is never without a reader. */
-static void read_pipe(void) {
-    memmove(held, held + first, size);
-    first = 0;
-    ssize_t count = read(polled, held + size, MOST_HELD - size);
-    if (count > 0) size += (size_t)count;
+static void read_pipe(struct source *source) {
+    memmove(source->held, source->held + source->first, source->size);
+    source->first = 0;
+    ssize_t count = read(source->polled, source->held + source->size, SOURCE_ROOM - source->size);
+    if (count > 0) source->size += (size_t)count;
     if (count != 0) return;
-    is_ended = true;
-    open_again();
+    source->is_ended = true;
+    open_again(source);
 }
 
-int read_source(void) {
-    size_t before = is_pipe ? size : 0;
-    if (is_pipe) read_pipe();
-    else if (read_events() || is_other()) read_file();
-    for (size_t k = before; k < size; k++) {
-        if (held[k] == '\0') held[k] = 1;       /* which is no text either */
+int read_source(struct source *source) {
+    size_t before = source->is_pipe ? source->size : 0;
+    if (source->is_pipe) read_pipe(source);
+    else if (read_events(source) || is_other(source)) read_file(source);
+    for (size_t k = before; k < source->size; k++) {
+        if (source->held[k] == '\0') source->held[k] = 1;       /* which is no text either */
     }
-    return polled;
+    return source->polled;
 }
+
+bool is_empty_file(const struct source *source) { return !source->is_pipe && source->is_ended && source->size == 0; }
 
 /* Empty lines at the head, which are dropped together. */
-static size_t blank_lines(void) {
+static size_t blank_lines(const struct source *source) {
     size_t count = 0;
-    while (count < size && held[first + count] == '\n') count++;
+    while (count < source->size && source->held[source->first + count] == '\n') count++;
     return count;
 }
 
 /* How much of what is held is the next text: up to an empty line, of a pipe, or to the end. */
-static size_t size_of_text(void) {
-    size_t behind = searched > 0 ? searched - 1 : 0;
-    const char *next = held + first;
-    if (is_pipe && size > 0 && *next == '\n') return blank_lines();
-    const char *end = is_pipe ? memmem(next + behind, size - behind, "\n\n", 2) : NULL;
+static size_t size_of_text(struct source *source) {
+    size_t behind = source->searched > 0 ? source->searched - 1 : 0;
+    const char *next = source->held + source->first;
+    if (source->is_pipe && source->size > 0 && *next == '\n') return blank_lines(source);
+    const char *end = source->is_pipe ? memmem(next + behind, source->size - behind, "\n\n", 2) : NULL;
     if (end != NULL) return (size_t)(end - next) + 2;
-    searched = size;
-    return is_ended ? size : 0;
+    source->searched = source->size;
+    return source->is_ended ? source->size : 0;
 }
 
 /* Whether the text that was found is dropped: it is the rest of one that is too long, or empty lines. */
-static bool let_go_text(void) {
-    bool is_rest = is_too_long;
-    is_too_long = false;
-    return is_rest || (is_pipe && held[first] == '\n');
+static bool let_go_text(struct source *source) {
+    bool is_rest = source->is_too_long;
+    source->is_too_long = false;
+    return is_rest || (source->is_pipe && source->held[source->first] == '\n');
 }
 
 /* More of it than there is room for, and no end. */
-static void let_go_all(void) {
-    complain("what came in at once has over 65,535 octets");
-    size = searched = 0;
-    is_too_long = true;
+static void let_go_all(struct source *source) {
+    complain(source, "what came in at once has over 65,535 octets");
+    source->size = source->searched = 0;
+    source->is_too_long = true;
 }
 
 /* Drops the latest text. */
-static void go_behind(void) {
-    first += taken;
-    size -= taken;
-    if (taken > 0) searched = 0;
+static void go_behind(struct source *source) {
+    source->first += source->taken;
+    source->size -= source->taken;
+    if (source->taken > 0) source->searched = 0;
 }
 
-bool next_text(char **text) {
+bool next_text(struct source *source, char **text) {
     do {
-        go_behind();
-        taken = size_of_text();
-    } while (taken > 0 && let_go_text());
-    if (taken > 0) {
-        held[first + (taken < size ? taken - 1 : taken)] = '\0';      /* over the end of an empty line, or after all */
-        *text = held + first;
+        go_behind(source);
+        source->taken = size_of_text(source);
+    } while (source->taken > 0 && let_go_text(source));
+    if (source->taken > 0) {
+        *text = source->held + source->first;
+        size_t end = source->taken < source->size ? source->taken - 1 : source->taken;     /* over the end of an empty line, or after all */
+        (*text)[end] = '\0';
         return true;
     }
-    if (is_ended) is_ended = is_too_long = false;
-    if (size == MOST_HELD) let_go_all();
+    if (source->is_ended) source->is_ended = source->is_too_long = false;
+    if (source->size == SOURCE_ROOM) let_go_all(source);
     return false;
 }

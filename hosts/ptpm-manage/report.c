@@ -10,8 +10,8 @@
 /* Findings that a change may make for a moment. The answers of a clock are not of one time, and a change goes from clock to
    clock. */
 static const char *const passing[] = {
-    "two_grandmasters", "no_master", "grandmaster_not_seen", "parent_not_seen", "parent_not_master", "steps", "grandmaster_differs",
-    "loop", "off_by_utc", "offset", "delay", "utc", "gm_holdover", "gm_degraded", "gm_free_running", "not_traceable", "utc_invalid",
+    "mute", "two_grandmasters", "no_master", "grandmaster_not_seen", "parent_not_seen", "parent_not_master", "steps",
+    "grandmaster_differs", "loop", "off_by_utc", "offset", "delay", "utc", "gm_holdover", "gm_degraded", "gm_free_running", "not_traceable", "utc_invalid",
     "utc_offset", "better_clock", "identity_twice",
 };
 
@@ -33,6 +33,17 @@ static bool is_one_of(const struct finding *finding, const char *const *names, s
 }
 
 static bool is_passing(const struct finding *finding) { return is_one_of(finding, passing, sizeof passing / sizeof *passing); }
+
+/* Whether a line says that clocks of one identity have two offsets. These are other ones each time. */
+static bool has_two_offsets(const struct finding *finding) {
+    static const char words[] = "identity_twice two offsets ";
+    const char *name = finding->key[NAME_PART].at, *end = finding->whole.at + finding->whole.size;
+    return (size_t)(end - name) >= sizeof words - 1 && memcmp(name, words, sizeof words - 1) == 0;
+}
+
+static bool is_moving(const struct finding *finding) {
+    return is_one_of(finding, moving, sizeof moving / sizeof *moving) || has_two_offsets(finding);
+}
 
 /* Without memory for one the program ends: a report that lacks a finding would say that less is wrong. */
 static void add_finding(struct report *report, const struct finding *finding) {
@@ -194,6 +205,13 @@ static int by_key(const void *one, const void *other) {
     return order;
 }
 
+/* The same, with two offsets apart from what else shows two clocks of one identity. */
+static int by_kind(const void *one, const void *other) {
+    const struct finding *first = *(const struct finding *const *)one, *second = *(const struct finding *const *)other;
+    int order = by_key(one, other);
+    return order != 0 ? order : has_two_offsets(first) - has_two_offsets(second);
+}
+
 static int by_text(const void *one, const void *other) {
     return compare_pieces(&(*(const struct finding *const *)one)->whole, &(*(const struct finding *const *)other)->whole);
 }
@@ -265,14 +283,14 @@ static void print_change(FILE *to, const char *lead, char sign, const struct fin
    other ones each time. Of those that report a change it prints all that came, and none that went. */
 static void print_lacking(FILE *to, const char *lead, char sign, const struct report *report, const struct report *other,
                           const char *colour) {
-    struct sorted keys = sort_findings(other, by_key), texts = sort_findings(other, by_text);
+    struct sorted kinds = sort_findings(other, by_kind), texts = sort_findings(other, by_text);
     for (size_t i = 0; i < report->count; i++) {
         const struct finding *finding = &report->findings[i];
-        bool is_moving = is_one_of(finding, moving, sizeof moving / sizeof *moving);
-        bool is_in_other = is_piece(&finding->key[NAME_PART], changed) ? sign == '-' : has_finding(is_moving ? &keys : &texts, finding);
+        const struct sorted *same = is_moving(finding) ? &kinds : &texts;
+        bool is_in_other = is_piece(&finding->key[NAME_PART], changed) ? sign == '-' : has_finding(same, finding);
         if (!finding->is_left_out && !is_in_other) print_change(to, lead, sign, finding, colour);
     }
-    free(keys.at);
+    free(kinds.at);
     free(texts.at);
 }
 

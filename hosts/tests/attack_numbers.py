@@ -262,23 +262,30 @@ def answers_to_others(port):
 
 
 class TwoManagers:
-    """A clock, its manager, whose SET of PRIORITY2 to 50 is made again and again, and another one who sets 60 in between."""
+    """A clock, its manager, whose SET of PRIORITY2 to 50 is made again and again, and another one who sets 60 in between. The manager waits
+    for each answer twice as long as a whole run has taken at most, or longer: a busy machine takes its time."""
 
     def __init__(self):
         self.clock = Clock("-m", MANAGER + "/1", "-m", OTHER + "/1", "-u", path, ME)
         self.number = os.path.join(work, "number")
         self.last, self.said = None, ""         # the status of its last run, and what that printed
+        self.wait = 30 * SLOW                   # milliseconds
+        self.value()
 
     def value(self):
         """What the clock has, read by nobody."""
-        return run(PROGRAM, "-u", path, "--target", ME, "get", "PRIORITY2").stdout.strip()
+        began = time.monotonic()
+        found = run(PROGRAM, "-u", path, "--target", ME, "get", "PRIORITY2").stdout.strip()
+        if found:
+            self.wait = max(self.wait, round(2000 * (time.monotonic() - began)))
+        return found
 
     def other_sets(self):
         done = run(PROGRAM, "-m", OTHER + "/1", "-w", "0", "-u", path, "--target", ME, "set", "PRIORITY2", "60")
         return done.returncode == 0 and self.value() == "priority2 60"
 
     def sets(self, *words):
-        return manage("-u", path, "-k", self.number, "-a", "3", "-t", str(30 * SLOW), *words, "set", "PRIORITY2", "50")
+        return manage("-u", path, "-k", self.number, "-a", "3", "-t", str(self.wait), *words, "set", "PRIORITY2", "50")
 
     def is_honest(self, *words):
         """Whether what a run reports is so: status 0 and the value that the clock has; or a failure, and it has what it had."""
@@ -302,7 +309,7 @@ def seals():
         bits = [name_of(other) for other in flips(whole)]
         cut = [whole[:size] for size in range(len(whole)) if size != len(content)]
         wrong = [other.hex() for other in cut if name_of(other) != ("NOT_AN_IMAGE" if len(other) < 12 else "DAMAGED")]
-        check("a session's file with another bit is refused", bits == ["DAMAGED"] * len(bits))
+        check("a session's file with another bit is refused", bits == ["NOT_AN_IMAGE"] * 32 + ["DAMAGED"] * (len(bits) - 32))
         check(f"one that is cut is refused, except {wrong}", wrong == [])
         more = [whole + b"\0", whole + whole, whole + whole[-16:], sealed(whole), sealed(content + b"\0"), sealed(content[:-1])]
         check("and one to which octets were added", [name_of(other) for other in more] == ["DAMAGED"] * len(more))
@@ -391,7 +398,7 @@ def kills():
         print("attack: strace is missing")
         return
     two = TwoManagers()
-    words = [PROGRAM, "-k", two.number, "-m", MANAGER + "/1", "-w", "0", "-u", path, "-a", "3", "-t", str(30 * SLOW),
+    words = [PROGRAM, "-k", two.number, "-m", MANAGER + "/1", "-w", "0", "-u", path, "-a", "3", "-t", str(two.wait),
              "--target", ME, "set", "PRIORITY2", "50"]
     for is_new in [True, False]:
         run("strace", "-qq", "-o", os.path.join(work, "trace"), *words)

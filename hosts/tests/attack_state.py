@@ -45,13 +45,13 @@ def is_refused(status, why, *words, user=None):
 
 def sets(number, *words):
     """A run of the manager that sets PRIORITY1: whether the clock answers it, and has the value."""
-    status, said, _ = manage("-u", path, "-k", session, "-t", "40", "-a", "4", *words, "set", "PRIORITY1", str(number))
+    status, said, _ = manage("-u", path, "-k", session, *words, "set", "PRIORITY1", str(number))
     return status == 0 and said.splitlines()[-1:] == [f"priority1 {number}"] and value() == number
 
 
 def value():
     """What the clock has, read by nobody; None where it does not answer."""
-    said = run(os.path.join(HOME, "manage"), "-u", path, "-a", "3", "-t", "40", "--target", ME, "get", "PRIORITY1").stdout
+    said = run(os.path.join(HOME, "manage"), "-u", path, "-a", "10", "--target", ME, "get", "PRIORITY1").stdout
     return int(said.split()[1]) if said.startswith("priority1 ") else None
 
 
@@ -135,7 +135,7 @@ def damages():
     wrong = [content.hex() for content in more if name_of(content) != "DAMAGED"]
     check(f"what follows a seal, or is sealed and no image, is refused, except {wrong[:3]}", wrong == [])
     bits = [name_of(content) for content in flips(whole)]
-    check("a file with another bit is refused", bits == ["DAMAGED"] * len(bits))
+    check("a file with another bit is refused", bits == ["NOT_AN_IMAGE"] * 32 + ["DAMAGED"] * (len(bits) - 32))
     print(f"a state of {len(whole)} octets: {len(cut)} beginnings and {len(bits)} other bits, and {bits.count(None)} of these are not refused")
     for name, content in [("NOT_AN_IMAGE", b"7\n"), ("OTHER_VERSION", image[:5] + b"\2" + image[6:]), ("OTHER_KIND", image[:4] + b"\2" + image[5:])]:
         check(f"a seal makes no state of {name}", name_of(sealed(content)) == name)

@@ -350,6 +350,26 @@ static void managers(void) {
           "the port of a manager");
 }
 
+/* What a device is asked, what it says, and the values that it has. */
+static void devices(void) {
+    uint8_t octets[PTPM_MOST_OCTETS];
+    struct ptpm_clock_settings s = own_values();
+    struct ptpm_question asked;
+    struct ptpm_say say = { .error = PTPM_ERROR_GENERAL_ERROR, .kind = PTPM_OBJECTS };
+    struct ptpm_limit limit = { 0x200b, 2, { 0 } };
+    struct ptpm_changed changed;
+    size_t size = octets_of(message(0x2a, MANAGER "0922", 0x1234, ME "0002", 0, PTPM_SET, "0001" "0004" "200b" "fc00"), octets);
+    check(start(&s) == PTPM_STARTED && ptpm_clock_ask(&clock_held, 1, octets, size, &asked) == PTPM_ASKED_CHANGE
+          && is_text(asked.manager, 8, MANAGER) && asked.manager_port == 0x0922 && asked.number == 0x1234 && asked.id == 0x200b
+          && asked.port == 2 && asked.action == PTPM_SET && asked.size == 2 && is_text(asked.octets, 2, "fc00"), "what a device is asked");
+    ptpm_limit_range(&limit, -4, 1);
+    check(limit.values[0] == 0x03 && limit.values[31] == 0xf0 && ptpm_limits_say(&limit, 1, &asked) == 0, "the values of a range");
+    limit.values[31] = 0xe0;
+    check(ptpm_limits_say(&limit, 1, &asked) == PTPM_ERROR_WRONG_VALUE, "a value that is lacking");
+    check(ptpm_clock_handle_said(&clock_held, 1, octets, size, &say, sent, PTPM_MOST_SENT, &count, &changed) == PTPM_ANSWERED_NEW
+          && count == 1 && is_text(sent[0].octets + 48, 12, "0002" "0008" "fffe" "200b" "00000000"), "the error of a device");
+}
+
 /* The longest message fills its place, and its size counts no octet past the place. */
 static void longest(void) {
     uint8_t octets[PTPM_MOST_OCTETS];
@@ -620,7 +640,7 @@ static const struct answer outcomes[] = {
     ANSWER(ANSWERED_REPEAT), ANSWER(DROPPED_OLD), ANSWER(DROPPED_CONFLICT), ANSWER(ANSWERED_UNNUMBERED), ANSWER(NOT_A_REPLY),
     ANSWER(OTHER_TARGET), ANSWER(OTHER_SOURCE), ANSWER(NOTHING_ASKED), ANSWER(OTHER_NUMBER), ANSWER(OTHER_CONTENT),
     ANSWER(TOO_SHORT), ANSWER(NOT_MANAGEMENT), ANSWER(BAD_VERSION), ANSWER(BAD_LENGTH), ANSWER(BAD_ACTION), ANSWER(BAD_TLV_TYPE),
-    ANSWER(BAD_TLV_LENGTH), ANSWER(BAD_TEXT), ANSWER(DONE), ANSWER(REFUSED), ANSWER(AGAIN), ANSWER(FULL),
+    ANSWER(BAD_TLV_LENGTH), ANSWER(BAD_TEXT), ANSWER(DONE), ANSWER(REFUSED), ANSWER(AGAIN), ANSWER(FULL), ANSWER(ASKED_CHANGE),
 };
 
 /* Why a call was refused. */
@@ -642,7 +662,7 @@ static const struct answer refused[] = {
     ANSWER(NOT_AN_IMAGE), ANSWER(OTHER_VERSION), ANSWER(OTHER_KIND), ANSWER(DAMAGED), ANSWER(OTHER_CLOCK),
     ANSWER(OTHER_PORTS), ANSWER(OTHER_SESSION), ANSWER(OUT_OF_REACH),
     ANSWER(NOT_WORDS), ANSWER(UNKNOWN_ID), ANSWER(WORD_COUNT), ANSWER(OTHER_NAME), ANSWER(NO_VALUE), ANSWER(UNSAVED), ANSWER(OTHER_IMAGE),
-    ANSWER(NO_ASKER),
+    ANSWER(NO_ASKER), ANSWER(BAD_SAY), ANSWER(CANT_OBJECT),
 };
 #undef ANSWER
 
@@ -742,6 +762,7 @@ int main(void) {
     observed_grandmaster();
     observed_of_ports();
     managers();
+    devices();
     longest();
     changes();
     changed_members();

@@ -9,6 +9,9 @@ CLOSED = ('ptpm_clock', 'ptpm_session', 'ptpm_survey', 'ptpm_passed_on')
 MOST = {'ptpm_port_settings': 9, 'ptpm_observed_port': 9, 'ptpm_manager_settings': 17}
 # The arrays, with the parameter that has their number. What a call writes is counted by another one than what it reads.
 COUNTS = {'ports': 'port_count', 'managers': 'manager_count', 'sent': 'count'}
+# Calls that judge an array of any size, which is their first parameter, with its number. What one answers is the greatest of what it
+# answers for each of the array alone: NOT_SETABLE or NOT_SUPPORTED, else WRONG_VALUE, else 0.
+FOR_EACH = ('ptpm_limits_say',)
 # More sizes than the header has structs. Any further ones would change no answer: there are too many already.
 MOST_SIZES = 64
 
@@ -48,6 +51,8 @@ class Header:
         return '\n'.join(lines).replace('#endif\n#if !IS_LITTLE_ENDIAN\n', '') + '\n'
 
     def _call(self, answer, name, taken):
+        if name in FOR_EACH:
+            return self._call_for_each(answer, name, taken)
         before, given, after = [], [], []
         for parameter in taken:
             for lines, more in zip((before, given, after), self._parameter(parameter)):
@@ -64,6 +69,22 @@ class Header:
         else:
             lines.append(f'    return ({answer}){call};')
         return lines + ['}']
+
+    def _call_for_each(self, answer, name, taken):
+        array, count, *rest = taken
+        struct, array = re.match(r'const struct (ptpm_\w+) \*(\w+)$', array).groups()
+        count = re.search(r'\w+$', count)[0]
+        before, given = [], []
+        for parameter in rest:
+            lines, more, _ = self._parameter(parameter)
+            before += lines
+            given += more
+        call = f'portable_{name}({", ".join(["ADDRESS(&one)", "1", *given])})'
+        return [f'{answer} {name}({", ".join(taken)}) {{', '    fill();', *(line if line[0] == '#' else f'    {line}' for line in before),
+                f'    {answer} greatest = 0;', f'    for (size_t i = 0; i < {count}; i++) {{',
+                f'        struct {struct} one = {array}[i];', f'        swap_{struct}(&one);',
+                f'        {answer} answer = ({answer}){call};', '        if (answer > greatest) greatest = answer;', '    }',
+                '    return greatest;', '}']
 
     def _parameter(self, text):
         """What is done before a call for a parameter, what is handed on, and what is done after it."""

@@ -123,6 +123,16 @@ PTPM_CHANGED_LOG_SYNC = 1 << 5
 PTPM_CHANGED_DELAY_MECHANISM = 1 << 6
 PTPM_CHANGED_LOG_MIN_PDELAY = 1 << 7
 
+# What a device says.
+PTPM_AGREES = 0
+PTPM_OBJECTS = 1
+
+# The errors that a device may give.
+PTPM_ERROR_WRONG_VALUE = 4
+PTPM_ERROR_NOT_SETABLE = 5
+PTPM_ERROR_NOT_SUPPORTED = 6
+PTPM_ERROR_GENERAL_ERROR = 0xFFFE
+
 # What may be asked of a clock: the actionField of a request.
 PTPM_GET = 0
 PTPM_SET = 1
@@ -134,6 +144,7 @@ PTPM_MOST_READ = 130
 PTPM_MOST_OCTETS = 1472
 PTPM_SESSION_IMAGE_OCTETS = 1478
 PTPM_CLOCK_IMAGE_OCTETS = 27185
+PTPM_SEAL_OCTETS = 16
 PTPM_MOST_ANSWERS = 512
 PTPM_SURVEY_PORT = 65534
 
@@ -249,6 +260,14 @@ PTPM_HANDLE_NO_PORT = 33
 PTPM_HANDLE_NO_ROOM = 34
 PTPM_HANDLE_NO_MEMORY = 35
 PTPM_HANDLE_UNSAVED = 118
+PTPM_BAD_SAY = 121
+PTPM_CANT_OBJECT = 122
+
+# enum ptpm_asking.
+PTPM_ASKED_NOTHING = 0
+PTPM_ASKED_CHANGE = 29
+PTPM_ASKING_NO_CLOCK = 32
+PTPM_ASKING_NO_PORT = 33
 
 # enum ptpm_observed.
 PTPM_OBSERVED = 0
@@ -579,6 +598,36 @@ class ptpm_changed(Structure):
     ]
 
 
+class ptpm_question(Structure):
+    _fields_ = [
+        ("manager", c_uint8 * 8),
+        ("manager_port", c_uint16),
+        ("number", c_uint16),
+        ("id", c_uint16),
+        ("port", c_uint16),
+        ("size", c_uint16),
+        ("action", c_uint8),
+        ("octets", c_uint8 * 130),
+    ]
+
+
+class ptpm_say(Structure):
+    _fields_ = [
+        ("error", c_uint16),
+        ("size", c_uint16),
+        ("kind", c_uint8),
+        ("octets", c_uint8 * 1418),
+    ]
+
+
+class ptpm_limit(Structure):
+    _fields_ = [
+        ("id", c_uint16),
+        ("port", c_uint16),
+        ("values", c_uint8 * 32),
+    ]
+
+
 class ptpm_session(Structure):
     _fields_ = [
         ("at", c_void_p),
@@ -694,6 +743,23 @@ CALLS: Dict[str, Tuple[Any, List[Any]]] = {
         c_uint32,
         [POINTER(ptpm_clock), c_uint16, c_char_p, c_size_t, POINTER(ptpm_sent), c_size_t, POINTER(c_size_t), POINTER(ptpm_changed)],
     ),
+    "ptpm_clock_ask": (c_uint32, [POINTER(ptpm_clock), c_uint16, c_char_p, c_size_t, POINTER(ptpm_question)]),
+    "ptpm_clock_handle_said": (
+        c_uint32,
+        [
+            POINTER(ptpm_clock),
+            c_uint16,
+            c_char_p,
+            c_size_t,
+            POINTER(ptpm_say),
+            POINTER(ptpm_sent),
+            c_size_t,
+            POINTER(c_size_t),
+            POINTER(ptpm_changed),
+        ],
+    ),
+    "ptpm_limit_range": (None, [POINTER(ptpm_limit), c_int32, c_int32]),
+    "ptpm_limits_say": (c_uint16, [POINTER(ptpm_limit), c_size_t, POINTER(ptpm_question)]),
     "ptpm_clock_observe": (
         c_uint32,
         [POINTER(ptpm_clock), POINTER(ptpm_observed_clock), POINTER(ptpm_observed_port), c_size_t, POINTER(c_uint8)],
@@ -770,6 +836,9 @@ CALLS: Dict[str, Tuple[Any, List[Any]]] = {
     "ptpm_asker_earlier": (c_uint32, [POINTER(ptpm_asker), c_uint8, POINTER(c_uint8)]),
     "ptpm_asker_report": (c_uint32, [POINTER(ptpm_asker), POINTER(c_uint8), c_size_t, POINTER(c_size_t), POINTER(c_uint16)]),
     "ptpm_asker_stop": (None, [POINTER(ptpm_asker)]),
+    "ptpm_image_seal_in": (c_uint32, [POINTER(c_uint8), c_size_t, c_size_t, c_uint64, POINTER(c_size_t)]),
+    "ptpm_image_unseal": (c_uint32, [c_char_p, c_size_t, POINTER(c_uint64), POINTER(c_size_t)]),
+    "ptpm_newest_image_in": (c_size_t, [c_char_p, c_size_t, c_size_t, POINTER(c_uint64), POINTER(c_size_t)]),
     "ptpm_passed_on_is_first": (c_bool, [POINTER(ptpm_passed_on), c_char_p, c_size_t, c_uint64, c_uint64]),
     "ptpm_rate_start": (None, [POINTER(ptpm_rate), c_uint64, c_uint64]),
     "ptpm_rate_take": (c_bool, [POINTER(ptpm_rate), c_uint64]),

@@ -4,12 +4,13 @@ from __future__ import annotations
 
 import ctypes
 from dataclasses import dataclass
-from typing import Any, List, Sequence, Set, Tuple
+from typing import Any, List, Optional, Sequence, Set, Tuple
 
 from . import _header as header
 from ._library import Handle, library
 from .answers import HandleAnswer, done, judged, written
 from .changed import Changed
+from .device import Asked, Objection, say_of
 from .identity import Identity, IdentityLike
 from .ids import IdLike, id_of
 from .observation import ObservedClock, ObservedPort
@@ -92,16 +93,29 @@ class Clock(Handle):
     def __exit__(self, *_: object) -> None:
         self.close()
 
-    def handle(self, port: int, octets: bytes) -> Handled:
+    def ask(self, port: int, octets: bytes) -> Optional[Asked]:
+        """What a datagram would have the device do, if it came in now at this port. It is nothing for any datagram but a new SET or
+        COMMAND of a manager, which the clock itself does not refuse. Nothing changes."""
+        question = header.ptpm_question()
+        datagram = bytes(octets)
+        came_in = (port_number(port), datagram, len(datagram))
+        asked = judged(self._call(library.ptpm_clock_ask, *came_in, ctypes.byref(question)))
+        return Asked.of_library(question) if asked == header.PTPM_ASKED_CHANGE else None
+
+    def handle(self, port: int, octets: bytes, say: Optional[Objection] = None) -> Handled:
         """Judges a datagram that came in at a port, counted from 1, and carries its request out. What is to be sent is the port and
-        the octets of each message."""
+        the octets of each message. If the device objects where it is asked (ask), the request is answered and kept with that
+        error, and no member changes."""
         count = ctypes.c_size_t()
         changed = header.ptpm_changed()
         datagram = bytes(octets)
         came_in = (port_number(port), datagram, len(datagram))
         with self._turn:
             room = (self._sent, len(self._sent), ctypes.byref(count), ctypes.byref(changed))
-            answer = judged(library.ptpm_clock_handle_changed(self._at, *came_in, *room))
+            if say is None:
+                answer = judged(library.ptpm_clock_handle_changed(self._at, *came_in, *room))
+            else:
+                answer = judged(library.ptpm_clock_handle_said(self._at, *came_in, ctypes.byref(say_of(say)), *room))
             messages = self._messages(count.value)
         return Handled(HandleAnswer(answer), messages, Changed.of_library(changed))
 

@@ -1,27 +1,44 @@
-"""The seal of a session's file: 16 octets after the image, by which damage to the file is found. They are `ptps` in ASCII, how many
-times the file was saved, in 8 octets, and the CRC-32 of all before it, in 4. It is that of ptpm-manage."""
+"""The seal of an image: 16 octets after it, by which damage is found. ptpm-manage and ptpm-clock seal their files so. A device seals
+the images in the places of its flash memory."""
 
 from __future__ import annotations
 
-import zlib
+import ctypes
 from typing import Optional, Tuple
 
-_MARK = b"ptps"
-OCTETS = 16
+from . import _header as header
+from ._library import library
+from .answers import Error
+
+OCTETS = header.PTPM_SEAL_OCTETS
 
 
 def sealed(image: bytes, saves: int) -> bytes:
-    """An image with its seal."""
-    octets = image + _MARK + (saves % 2**64).to_bytes(8, "big")
-    return octets + zlib.crc32(octets).to_bytes(4, "big")
+    """An image with its seal: how often it was saved, and the CRC-32 of all before it."""
+    room = (ctypes.c_uint8 * (len(image) + OCTETS)).from_buffer_copy(image + bytes(OCTETS))
+    size = ctypes.c_size_t()
+    library.ptpm_image_seal_in(room, len(room), len(image), saves % 2**64, ctypes.byref(size))
+    return bytes(room)
 
 
-def unsealed(octets: bytes) -> Optional[Tuple[bytes, int]]:
-    """What is before the seal, and how many times it was saved; all of it and 0 if it has no seal. None if these are not the octets
-    that were sealed."""
-    image, seal = octets[:-OCTETS], octets[-OCTETS:]
-    if len(seal) < OCTETS or not seal.startswith(_MARK):
-        return octets, 0
-    if zlib.crc32(octets[:-4]) != int.from_bytes(octets[-4:], "big"):
+def unsealed(octets: bytes) -> Tuple[bytes, int]:
+    """The image that octets begin with, and how often it was saved: 0 times if it has no seal and nothing comes after it. Raises an
+    Error if they hold no image that is whole."""
+    count, size = ctypes.c_uint64(), ctypes.c_size_t()
+    number = library.ptpm_image_unseal(octets, len(octets), ctypes.byref(count), ctypes.byref(size))
+    if number != header.PTPM_RESTORED:
+        raise Error(number)
+    return octets[: size.value], count.value
+
+
+def newest_image(octets: bytes, place: int) -> Optional[Tuple[int, bytes, int]]:
+    """The newest whole image of several places, each of `place` octets: its place, counted from 0, the image, and how often it was
+    saved. None if no place has one."""
+    if place == 0:
         return None
-    return image, int.from_bytes(seal[4:12], "big")
+    count, size = ctypes.c_uint64(), ctypes.c_size_t()
+    found = library.ptpm_newest_image_in(octets, len(octets), place, ctypes.byref(count), ctypes.byref(size))
+    if found == len(octets) // place:
+        return None
+    start = found * place
+    return found, octets[start : start + size.value], count.value

@@ -152,10 +152,19 @@ class SessionFile:
             os.close(opened)
             raise SessionFileError(f"{self.path}: it is no file")
         with open(opened, "rb") as file:
-            found = seal.unsealed(file.read(_MOST))
-        if found is None:
+            return self._unsealed(file.read(_MOST))
+
+    def _unsealed(self, octets: bytes) -> bytes:
+        """The image of the file; all octets if they begin with none, for the library to refuse."""
+        try:
+            image, saves = seal.unsealed(octets)
+        except Error as error:
+            if error.number == header.PTPM_NOT_AN_IMAGE:
+                return octets
+            raise DamagedFileError(self.path) from None
+        if len(octets) > len(image) + seal.OCTETS:
             raise DamagedFileError(self.path)
-        image, self._saves = found
+        self._saves = saves
         return image
 
     def _write_new(self, octets: bytes) -> str:

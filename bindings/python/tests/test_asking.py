@@ -357,7 +357,8 @@ class Asking(Folder):
         why = f"DAMAGED: {path}: octets of the session were lost or changed; without it a new session begins"
         for place, octet in enumerate(whole):
             for bit in range(8):
-                self.assertEqual(self.refusal(path, whole[:place] + bytes([octet ^ 1 << bit]) + whole[place + 1 :]), why)
+                changed = whole[:place] + bytes([octet ^ 1 << bit]) + whole[place + 1 :]
+                self.assertEqual(self.refusal(path, changed), "NOT_AN_IMAGE" if place < 4 else why)
         for size in range(len(whole)):
             if size != len(whole) - 16:
                 self.assertEqual(self.refusal(path, whole[:size]), "NOT_AN_IMAGE" if size < 12 else why)

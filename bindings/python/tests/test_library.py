@@ -56,6 +56,23 @@ class Clocks(unittest.TestCase):
             self.assertEqual((port, octets[30:].hex()), (1, "0007047f00112233445566770001" + "0000020000010004" + "20056400"))
             self.assertEqual(asked.read("priority1"), b"\x64\0")
 
+    def test_a_device_objects_to_a_value_that_it_lacks(self) -> None:
+        limits = [ptpm.Limit("LOG_SYNC_INTERVAL", values=(-4, 1)), ptpm.Limit("DOMAIN", 1)]
+        self.assertEqual([octet for octet in range(256) if octet in limits[0]], [0, 1, 0xFC, 0xFD, 0xFE, 0xFF])
+        with clock() as asked:
+            set_interval = request(7, "aabbccfffeddee010001", 1, 1, "200bf800")
+            change = asked.ask(1, set_interval)
+            wanted = ptpm.Asked(ptpm.PortIdentity.of(MANAGER), 7, ptpm.Action.SET, 1, 0x200B, b"\xf8\0")
+            self.assertEqual(change, wanted)
+            objection = ptpm.Limit.objection(limits, wanted)
+            self.assertEqual(objection, ptpm.Objection.WRONG_VALUE)
+            handled = asked.handle(1, set_interval, say=objection)
+            self.assertEqual((handled.answer, bool(handled.changed)), (HandleAnswer.ANSWERED_NEW, False))
+            self.assertEqual(handled.messages[0][1][48:].hex(), "000200080004200b00000000")  # MANAGEMENT_ERROR_STATUS, WRONG_VALUE
+            self.assertIsNone(asked.ask(1, set_interval))
+            with self.assertRaises(ptpm.PtpmError):
+                asked.ask(3, set_interval)
+
     def test_settings_have_their_places(self) -> None:
         with ptpm.Clock(ptpm.ClockSettings(CLOCK, **PLACES), [PORT]) as started:  # type: ignore[arg-type]
             for named, wanted in {

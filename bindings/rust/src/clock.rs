@@ -42,7 +42,12 @@ pub struct Turn<'a> {
     pub messages: Messages<'a>,
 }
 
-impl Turn<'_> {
+impl<'a> Turn<'a> {
+    /// The number that a call answered, and what it sends.
+    pub(crate) const fn of(number: u32, messages: Messages<'a>) -> Self {
+        Self { number, messages }
+    }
+
     /// What became of the datagram.
     #[inline]
     pub const fn handled(&self) -> Handled {
@@ -126,6 +131,11 @@ impl Clock {
     /// The handle, for the calls of a clock that is saved.
     pub(crate) fn handle_mut(&mut self) -> &mut sys::ptpm_clock {
         &mut self.handle
+    }
+
+    /// The handle, for a call that changes nothing.
+    pub(crate) fn handle_ref(&self) -> &sys::ptpm_clock {
+        &self.handle
     }
 
     /// A handle that holds nothing.

@@ -60,6 +60,7 @@ mod clock;
 #[cfg(feature = "alloc")]
 mod data_field;
 mod data_sets;
+mod device;
 mod error;
 mod id;
 mod identity;
@@ -73,6 +74,7 @@ pub mod refusals;
 mod report;
 mod saving_clock;
 mod saving_session;
+mod seal;
 mod session;
 mod settings;
 mod survey;
@@ -85,6 +87,7 @@ pub use clock::{Clock, Ports, Turn, CLOCK_IMAGE_OCTETS, MOST_READ};
 #[cfg(feature = "alloc")]
 pub use data_field::NoField;
 pub use data_sets::{ClockQuality, CurrentDataSet, DataSet, DefaultDataSet, ParentDataSet, PortDataSet, TimePropertiesDataSet};
+pub use device::{Asked, Limit, Objection, Say};
 pub use error::Error;
 pub use id::{ManagementErrorId, ManagementId, UnknownId};
 pub use identity::{Identity, NoIdentity, PortIdentity};
@@ -103,6 +106,7 @@ pub use report::Answer;
 pub use report::{Report, MOST_DATA, MOST_OCTETS};
 pub use saving_clock::{SavingClock, SavingTurn, Unsaved};
 pub use saving_session::{SavingSession, UnsavedSession};
+pub use seal::{newest_image, seal, unseal, Sealed, SEAL_OCTETS};
 pub use session::{Action, Session, SessionSettings, SESSION_IMAGE_OCTETS};
 pub use settings::{ClockSettings, DelayMechanism, Manager, PortSettings, PortState, Rights};
 #[cfg(feature = "alloc")]

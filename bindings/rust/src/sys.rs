@@ -29,6 +29,7 @@ pub type ptpm_restored = u32;
 pub type ptpm_parsed = u32;
 pub type ptpm_asker_restored = u32;
 pub type ptpm_asked = u32;
+pub type ptpm_asking = u32;
 
 #[repr(C)]
 pub struct ptpm_clock {
@@ -176,6 +177,36 @@ pub struct ptpm_changed {
 }
 
 #[repr(C)]
+#[derive(Clone, Copy)]
+pub struct ptpm_question {
+    pub manager: [u8; 8],
+    pub manager_port: u16,
+    pub number: u16,
+    pub id: u16,
+    pub port: u16,
+    pub size: u16,
+    pub action: u8,
+    pub octets: [u8; 130],
+}
+
+#[repr(C)]
+#[derive(Clone, Copy)]
+pub struct ptpm_say {
+    pub error: u16,
+    pub size: u16,
+    pub kind: u8,
+    pub octets: [u8; 1418],
+}
+
+#[repr(C)]
+#[derive(Clone, Copy)]
+pub struct ptpm_limit {
+    pub id: u16,
+    pub port: u16,
+    pub values: [u8; 32],
+}
+
+#[repr(C)]
 pub struct ptpm_session {
     pub at: *mut c_void,
     pub live: bool,
@@ -294,6 +325,20 @@ extern "C" {
         count: *mut usize,
         changed: *mut ptpm_changed,
     ) -> ptpm_handled;
+    pub fn ptpm_clock_ask(clock: *const ptpm_clock, port: u16, datagram: *const u8, size: usize, asked: *mut ptpm_question) -> ptpm_asking;
+    pub fn ptpm_clock_handle_said(
+        clock: *mut ptpm_clock,
+        port: u16,
+        datagram: *const u8,
+        size: usize,
+        say: *const ptpm_say,
+        sent: *mut ptpm_sent,
+        room: usize,
+        count: *mut usize,
+        changed: *mut ptpm_changed,
+    ) -> ptpm_handled;
+    pub fn ptpm_limit_range(limit: *mut ptpm_limit, least: i32, most: i32);
+    pub fn ptpm_limits_say(limits: *const ptpm_limit, limit_count: usize, asked: *const ptpm_question) -> u16;
     pub fn ptpm_clock_observe(
         clock: *mut ptpm_clock,
         observed: *const ptpm_observed_clock,
@@ -440,6 +485,9 @@ extern "C" {
         error: *mut u16,
     ) -> ptpm_reported;
     pub fn ptpm_asker_stop(asker: *mut ptpm_asker);
+    pub fn ptpm_image_seal_in(octets: *mut u8, room: usize, size: usize, count: u64, sealed: *mut usize) -> ptpm_saved;
+    pub fn ptpm_image_unseal(octets: *const u8, size: usize, count: *mut u64, image: *mut usize) -> ptpm_restored;
+    pub fn ptpm_newest_image_in(octets: *const u8, size: usize, place: usize, count: *mut u64, image: *mut usize) -> usize;
     pub fn ptpm_passed_on_is_first(table: *mut ptpm_passed_on, message: *const u8, size: usize, now: u64, time: u64) -> bool;
     pub fn ptpm_rate_start(rate: *mut ptpm_rate, tokens: u64, now: u64);
     pub fn ptpm_rate_take(rate: *mut ptpm_rate, now: u64) -> bool;

@@ -2,10 +2,10 @@
 //! are those of IEEE 1588-2019, clauses 13.3, 15.4 and 15.5.
 
 use ptpm::{
-    Action, Clock, ClockMembers, ClockSettings, DelayMechanism, Error, Handled, Identity, ManagementErrorId, ManagementId,
-    Manager, ObservedClock, ObservedGrandmaster, ObservedPort, Outbox, PortIdentity, PortMembers, PortSettings, PortState,
-    Received, Report, Rights, SavingSession, Session, SessionSettings, Survey, SurveySettings, Surveyed, TimeInterval, MOST_DATA,
-    MOST_OCTETS, MOST_READ, SESSION_IMAGE_OCTETS,
+    Action, Clock, ClockMembers, ClockSettings, DelayMechanism, Error, Handled, Identity, Limit, ManagementErrorId, ManagementId,
+    Manager, Objection, ObservedClock, ObservedGrandmaster, ObservedPort, Outbox, PortIdentity, PortMembers, PortSettings,
+    PortState, Received, Report, Rights, SavingSession, Say, Session, SessionSettings, Survey, SurveySettings, Surveyed,
+    TimeInterval, MOST_DATA, MOST_OCTETS, MOST_READ, SESSION_IMAGE_OCTETS,
 };
 
 const CLOCK: &str = "aabbccfffeddee01";
@@ -71,6 +71,26 @@ fn a_command_changes_the_ports_that_it_names() {
     let left = clock.observe(&ObservedClock::default(), &observed).expect("it is observed");
     assert_eq!(left.iter().collect::<Vec<_>>(), [2]);
     reads(&mut clock, ManagementId::PORT_DATA_SET, 1, "aabbccfffeddee01000109000000000000030000010300010002");
+}
+
+#[test]
+fn a_device_objects_to_a_value_that_it_lacks() {
+    let (mut clock, mut outbox) = (clock(), Outbox::boxed());
+    let limits = [Limit::of_range(ManagementId::LOG_SYNC_INTERVAL, 0xffff, -4..=1), Limit::none(ManagementId::DOMAIN, 1)];
+    assert_eq!([0xfb, 0xfc, 0, 1, 2].map(|octet| limits[0].has(octet)), [false, true, true, true, false]);
+    let set = request(7, "aabbccfffeddee010001", 1, 1, "200bf800");
+    let asked = clock.ask(1, &set).expect("the clock has the port").expect("the device is asked");
+    assert_eq!((asked.manager(), asked.number()), (port_identity("0011223344556677/1"), 7));
+    assert_eq!((asked.action(), asked.id(), asked.port()), (Action::Set, ManagementId::LOG_SYNC_INTERVAL, 1));
+    assert_eq!(asked.octets(), octets("f800"));
+    let objection = Limit::objection(&limits, &asked);
+    assert_eq!(objection, Some(Objection::WrongValue));
+    let (turn, changed) = clock.handle_said(1, &set, Say::from(objection), &mut outbox).expect("it is judged");
+    assert_eq!((turn.handled(), changed.is_empty()), (Handled::AnsweredNew, true));
+    let (_, answer) = turn.messages.last().expect("it is answered");
+    assert_eq!(&answer[48..], octets("000200080004200b00000000" /* MANAGEMENT_ERROR_STATUS, WRONG_VALUE */));
+    assert!(clock.ask(1, &set).expect("the clock has the port").is_none());
+    assert_eq!(clock.ask(3, &set).map(|asked| asked.is_none()), Err(Error::NoPort));
 }
 
 #[test]

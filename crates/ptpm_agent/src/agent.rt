@@ -132,6 +132,7 @@ impl<T: ReplyTable + Drop> Agent<T> {
     }
 
     /// The verdict on a message, and the rights of its source if it is a new request.
+    #[inline(always)]
     #[tactic(auto, unfolding(crate::specs::Turn::judged))]
     fn judge(&self, message: &View<'_>) -> (Verdict, Rights)
         ensures verdict { result.0 ≡ judged

@@ -2,3 +2,4 @@ pub mod KeptWord
 pub mod Turns
 pub mod Numbers
 pub mod HandingIn
+pub mod SayingIn

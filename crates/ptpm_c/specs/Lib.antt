@@ -9,3 +9,4 @@ pub mod Lending
 pub mod LendingHandle
 pub mod Fields
 pub mod Withholding
+pub mod Said

@@ -24,14 +24,17 @@ ghost use Rattle.ptpm_c.specs.Withholding.{Observes, RefusesCall, TakesCall};
 
 mod agreement;
 mod asker;
+mod device;
 mod fields;
 mod handle;
 mod keeping;
 mod kept;
+mod limits;
 mod names;
 mod network;
 mod saving;
 mod saving_clock;
+mod sealing;
 mod session;
 mod survey;
 mod withholding;

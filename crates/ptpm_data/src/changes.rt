@@ -23,6 +23,7 @@ impl DataSets {
 
     /// Carries out a request for an id of the table, unless it is refused; a refused one changes no member. The answer is why
     /// it is refused.
+    #[inline(always)]
     pub(crate) fn carry_out(
         &mut self,
         row: &ManagementIdRow,

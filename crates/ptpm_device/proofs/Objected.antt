@@ -1,6 +1,7 @@
 -- A request that is kept with the device's error is a repeat by then, and is answered as one.
-use Rattle.std.proofs.Common.{◌≡◌, ℕ, ◌<◌, List, [], Option, Some, Ok, IsTrue, true, false, length, refl, sym, ◌∙◌, ap, subst}
-use Rattle.std.proofs.lemmas.Bool.{true≢false}
+use Rattle.std.proofs.Common.{◌≡◌, ℕ, ◌<◌, List, [], Option, Some, None, Ok, IsTrue, true, false, length, refl, sym, ◌∙◌, ap, subst}
+use Rattle.std.specs.Prelude.{IfSome}
+use Rattle.std.proofs.lemmas.Bool.{false≢true, true≢false}
 use Rattle.std.specs.FinMap.{get}
 use Rattle.ptpm_codec.specs.declared.error.ErrorId.{ErrorId}
 use Rattle.ptpm_codec.specs.declared.message.Message.{Message}
@@ -21,11 +22,11 @@ use Rattle.ptpm_agent.proofs.Entries.{get-insert_same}
 use Rattle.ptpm_agent.proofs.Fitting.{may_judge_action, may_judge_port}
 use Rattle.ptpm_agent.proofs.Turns.{CopyParts, forwarded-copy, judged-copy, new_parts, turn-message}
 use Rattle.ptpm_device.specs.Asking.{asked, is_asked}
-use Rattle.ptpm_device.specs.Saying.{after_objection, objected, turn_said}
+use Rattle.ptpm_device.specs.Saying.{after_objection, counts, objected, objected_by, turn_said}
 use Rattle.ptpm_device.proofs.Asked.{AskedParts, asked_parts}
-use Rattle.ptpm_device.proofs.Judged.{judged-asked}
+use Rattle.ptpm_device.proofs.Judged.{judged-asked, turn_said-none}
 use Rattle.ptpm_device.proofs.New.{look_at-kept}
-use Rattle.ptpm_device.proofs.Steps.{turn_said-asked}
+use Rattle.ptpm_device.proofs.Steps.{turn_said-asked, turn_said-silent}
 
 -- ---- what the device is asked about may be kept
 
@@ -136,3 +137,50 @@ turned_objected c s error ingress datagram r after kept w out next e small clock
       sets_are = t.sets_are;
       entries_are = t.entries_are;
     })
+
+-- ---- a clock with what it keeps of an objection, and then its own turn
+
+counted_at : (c : Clock) (s : State) (o : Option NumberedRequest) (say : Option ErrorId) (ingress : ℕ) (datagram : List ℕ)
+    (after : Clock) (kept : State) (w : Verdict) (out : List (ℕ × List ℕ)) (next : State)
+    → asked c s datagram ≡ o
+    → counts o say ≡ true
+    → IfSome o (λ r. r.number < 65536)
+    → after ≡ c
+    → kept ≡ objected_by s o say
+    → IsTurned (turn after kept ingress datagram) w out next
+    → IsTurned (turn_said c s say ingress datagram) verdicts.AnsweredNew out next
+counted_at c s None say ingress datagram after kept w out next e counted small clock is turned = absurd (false≢true counted)
+counted_at c s (Some r) None ingress datagram after kept w out next e counted small clock is turned = absurd (false≢true counted)
+counted_at c s (Some r) (Some error) ingress datagram after kept w out next e counted small clock is turned =
+    turned_objected c s error ingress datagram r after kept w out next e small clock is turned
+
+pub turned_counted : (c : Clock) (s : State) (say : Option ErrorId) (ingress : ℕ) (datagram : List ℕ)
+    (after : Clock) (kept : State) (w : Verdict) (out : List (ℕ × List ℕ)) (next : State)
+    → counts (asked c s datagram) say ≡ true
+    → IfSome (asked c s datagram) (λ r. r.number < 65536)
+    → after ≡ c
+    → kept ≡ objected_by s (asked c s datagram) say
+    → IsTurned (turn after kept ingress datagram) w out next
+    → IsTurned (turn_said c s say ingress datagram) verdicts.AnsweredNew out next
+turned_counted c s say ingress datagram after kept w out next counted small clock is turned =
+    counted_at c s (asked c s datagram) say ingress datagram after kept w out next refl counted small clock is turned
+
+own_at : (c : Clock) (s : State) (o : Option NumberedRequest) (say : Option ErrorId) (ingress : ℕ) (datagram : List ℕ)
+    → asked c s datagram ≡ o
+    → counts o say ≡ false
+    → turn_said c s say ingress datagram ≡ turn c (objected_by s o say) ingress datagram
+own_at c s None say ingress datagram e other = turn_said-none c s say ingress datagram e
+own_at c s (Some r) None ingress datagram e other = turn_said-silent c s ingress datagram
+own_at c s (Some r) (Some error) ingress datagram e other = absurd (true≢false other)
+
+pub turned_uncounted : (c : Clock) (s : State) (say : Option ErrorId) (ingress : ℕ) (datagram : List ℕ)
+    (after : Clock) (kept : State) (w : Verdict) (out : List (ℕ × List ℕ)) (next : State)
+    → counts (asked c s datagram) say ≡ false
+    → after ≡ c
+    → kept ≡ objected_by s (asked c s datagram) say
+    → IsTurned (turn after kept ingress datagram) w out next
+    → IsTurned (turn_said c s say ingress datagram) w out next
+turned_uncounted c s say ingress datagram after kept w out next other clock is turned =
+    let own : turn after kept ingress datagram ≡ turn_said c s say ingress datagram =
+    (λ i. turn (clock i) (is i) ingress datagram) ∙ sym (own_at c s (asked c s datagram) say ingress datagram refl other) in
+    subst (λ (u : Turned). IsTurned u w out next) own turned

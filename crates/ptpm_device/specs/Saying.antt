@@ -1,5 +1,5 @@
 -- One turn of a clock with what its device says of it (this project's profile).
-use Rattle.std.specs.Prelude.{ℕ, List, [], if◌then◌else◌, Option, Some, None}
+use Rattle.std.specs.Prelude.{ℕ, Bool, true, false, List, [], if◌then◌else◌, Option, Some, None}
 use Rattle.std.specs.FinMap.{insert}
 use Rattle.ptpm_codec.specs.declared.error.ErrorId.{ErrorId}
 use Rattle.ptpm_codec.specs.declared.identity.PortIdentity.{PortIdentity}
@@ -22,6 +22,18 @@ after_objection s r error = record {
     reply = reply_of r.request (Some error) s.sets;
   });
 }
+
+-- an objection counts if the device is asked
+abbrev pub counts : Option NumberedRequest → Option ErrorId → Bool
+counts None say = false
+counts (Some r) None = false
+counts (Some r) (Some error) = true
+
+-- the clock with what it keeps of an objection that counts
+abbrev pub objected_by : State → Option NumberedRequest → Option ErrorId → State
+objected_by s None say = s
+objected_by s (Some r) None = s
+objected_by s (Some r) (Some error) = after_objection s r error
 
 -- the turn of a new request to which the device objects
 abbrev pub objected : Clock → State → ℕ → Message → ErrorId → Turned

@@ -9,4 +9,4 @@ mod saying;
 
 pub use asking::{Change, ask};
 pub use laws::{at_most_once_decided, device_judged_last, silent_device};
-pub use saying::handle_said;
+pub use saying::{handle_said, object};

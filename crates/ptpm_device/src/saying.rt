@@ -1,6 +1,6 @@
 //! One turn of a clock with what its device says.
 
-ghost use Rattle.std.specs.Prelude.{◌≡◌, ◌<◌, ◌^◌, [], Some, IsTrue};
+ghost use Rattle.std.specs.Prelude.{◌≡◌, ◌<◌, ◌^◌, [], IfSome, Some, IsTrue};
 ghost use Rattle.std.specs.FinMap as fin;
 ghost use Rattle.ptpm_codec.specs.Message.{IsDataField, IsRequestAction};
 ghost use Rattle.ptpm_data.specs.Changes.{IsTargetPort};
@@ -9,7 +9,7 @@ ghost use Rattle.ptpm_data.specs.Replies.{reply_of};
 ghost use Rattle.ptpm_table.specs.Entries.{is_known};
 ghost use Rattle.ptpm_agent.specs.Agent.{IsTurned, clock_of, state_of};
 ghost use Rattle.ptpm_device.specs.Asking.{asked};
-ghost use Rattle.ptpm_device.specs.Saying.{after_objection, turn_said};
+ghost use Rattle.ptpm_device.specs.Saying.{after_objection, counts, objected_by, turn_said};
 
 use crate::asking::{Change, ask};
 use crate::refusing::Refusing;
@@ -36,35 +36,41 @@ pub fn handle_said<T: SureTable + Drop, O: Outgoing>(
     ensures grown { O.grown out.old out.new }
     ensures clock { clock_of T.owner agent.new ≡ clock_of T.owner agent.old }
 {
-    match say {
-        Some(error) => handle_objected(agent, ingress, datagram, error, out),
-        None => agent.handle_into(ingress, datagram, out),
+    let objected = object(agent, datagram, say);
+    let verdict = agent.handle_into(ingress, datagram, out);
+    if objected {
+        return Verdict::AnsweredNew;
     }
+    verdict
 }
 
-/// The same of a datagram to which the device objects. What is kept by the refusal is sent as to a repeat.
-fn handle_objected<T: SureTable + Drop, O: Outgoing>(
+/// Keeps the request of a datagram with the error with which the device objects to it, if it does and is asked (`ask`). Answers
+/// whether that was so. What the clock then sends for the datagram is that refusal, and the turn was that of a new request.
+/// Otherwise nothing changes. Takes no memory.
+pub fn object<T: SureTable + Drop>(
     agent: &mut Agent<T>,
-    ingress: u16,
     datagram: &[u8],
-    error: ErrorId,
-    out: &mut O,
-) -> Verdict
-    requires port { HasPort ingress agent.old.sets }
-    requires empty { O.sent out.old ≡ [] }
-    ensures turned { IsTurned (turn_said
-        (clock_of T.owner agent.old) (state_of T.entries agent.old) (Some error) ingress datagram.now)
-        result (O.sent out.new) (state_of T.entries agent.new) }
-    ensures grown { O.grown out.old out.new }
+    say: Option<ErrorId>,
+) -> bool
+    ensures counts { result ≡ counts
+        (asked (clock_of T.owner agent.old) (state_of T.entries agent.old) datagram.now) say }
+    ensures kept { state_of T.entries agent.new ≡ objected_by (state_of T.entries agent.old)
+        (asked (clock_of T.owner agent.old) (state_of T.entries agent.old) datagram.now) say }
+    ensures number { IsTrue result → IfSome
+        (asked (clock_of T.owner agent.old) (state_of T.entries agent.old) datagram.now)
+        (λ r. r.number < 2 ^ 16) }
+    ensures sets { agent.new.sets ≡ agent.old.sets }
     ensures clock { clock_of T.owner agent.new ≡ clock_of T.owner agent.old }
 {
+    let Some(error) = say else {
+        return false;
+    };
     match ask(agent, datagram) {
         Some(change) => {
             refuse(agent, &change, error);
-            agent.handle_into(ingress, datagram, out);
-            Verdict::AnsweredNew
+            true
         }
-        None => agent.handle_into(ingress, datagram, out),
+        None => false,
     }
 }
 
@@ -76,6 +82,7 @@ fn refuse<T: SureTable + Drop>(agent: &mut Agent<T>, change: &Change<'_>, error:
     requires octets { IsDataField change.now.request.octets }
     ensures kept { state_of T.entries agent.new
         ≡ after_objection (state_of T.entries agent.old) change.now error }
+    ensures sets { agent.new.sets ≡ agent.old.sets }
     ensures clock { clock_of T.owner agent.new ≡ clock_of T.owner agent.old }
 {
     data_sets_law(agent.sets());

@@ -28,3 +28,5 @@ pub mod Withheld
 pub mod SavingClock
 pub mod SessionStanding
 pub mod SavingSession
+pub mod Device
+pub mod Limits

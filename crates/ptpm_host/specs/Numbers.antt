@@ -27,6 +27,8 @@ use Rattle.ptpm_manager.specs.declared.receiving.Surveyed.{Surveyed}
 use Rattle.ptpm_manager.specs.declared.receiving.Surveyed.TheVariants as surveyed
 use Rattle.ptpm_saved.specs.declared.error.RestoreError.{RestoreError as ClockImageError}
 use Rattle.ptpm_saved.specs.declared.error.RestoreError.TheVariants as images
+use Rattle.ptpm_seal.specs.declared.sealing.UnsealError.{UnsealError}
+use Rattle.ptpm_seal.specs.declared.sealing.UnsealError.TheVariants as unseals
 use Rattle.ptpm_host.specs.declared.refusal.AskerRefusal.{AskerRefusal}
 use Rattle.ptpm_host.specs.declared.refusal.AskerRefusal.TheVariants as askers
 use Rattle.ptpm_host.specs.declared.refusal.ClockRestoreRefusal.{ClockRestoreRefusal}
@@ -43,6 +45,8 @@ use Rattle.ptpm_host.specs.declared.refusal.ReportRefusal.{ReportRefusal}
 use Rattle.ptpm_host.specs.declared.refusal.ReportRefusal.TheVariants as reports
 use Rattle.ptpm_host.specs.declared.refusal.SavedRefusal.{SavedRefusal}
 use Rattle.ptpm_host.specs.declared.refusal.SavedRefusal.TheVariants as saves
+use Rattle.ptpm_host.specs.declared.refusal.SaidRefusal.{SaidRefusal}
+use Rattle.ptpm_host.specs.declared.refusal.SaidRefusal.TheVariants as said
 use Rattle.ptpm_host.specs.declared.refusal.SavingRefusal.{SavingRefusal}
 use Rattle.ptpm_host.specs.declared.refusal.SavingRefusal.TheVariants as saving
 use Rattle.ptpm_host.specs.declared.refusal.SendRefusal.{SendRefusal}
@@ -139,6 +143,14 @@ no_asker = 120
 abbrev pub other_sizes : ℕ
 other_sizes = 47
 
+-- a device is asked whether it carries out a request
+abbrev pub asked_change : ℕ
+asked_change = 29
+
+-- a clock that is saved before it gives anything out takes no objection
+abbrev pub cant_object : ℕ
+cant_object = 122
+
 -- a change is not saved yet
 abbrev pub unsaved : ℕ
 unsaved = 118
@@ -151,6 +163,11 @@ handle_number handles.NoRoom = no_room
 abbrev pub saving_number : SavingRefusal → ℕ
 saving_number (saving.Handle refusal) = handle_number refusal
 saving_number saving.Unsaved = unsaved
+
+-- why a datagram is not handled with what the device says
+abbrev pub said_number : SaidRefusal → ℕ
+said_number (said.Handle refusal) = handle_number refusal
+said_number said.BadSay = 121
 
 -- why a clock or a session does not count as saved
 abbrev pub saved_number : SavedRefusal → ℕ
@@ -245,6 +262,11 @@ image_number images.OtherKind = 106
 image_number images.Damaged = 107
 image_number images.OtherClock = 108
 image_number images.OtherPorts = 109
+
+-- why octets are no image that is whole
+abbrev pub unseal_number : UnsealError → ℕ
+unseal_number unseals.NotAnImage = 104
+unseal_number unseals.Damaged = 107
 
 -- why a clock is not restored
 abbrev pub clock_restore_number : ClockRestoreRefusal → ℕ

@@ -47,11 +47,12 @@ fn datagram_name(number: u32) -> Option<&'static str>
         26 => Some("REFUSED"),
         27 => Some("AGAIN"),
         28 => Some("FULL"),
+        29 => Some("ASKED_CHANGE"),
         _ => None,
     }
 }
 
-/// Why a call changed nothing, 32 to 57 and 104 to 120.
+/// Why a call changed nothing, 32 to 57 and 104 to 122.
 #[tactic(auto, unfolding(crate::specs::AnswerNames::name_in))]
 fn refusal_name(number: u32) -> Option<&'static str>
     ensures { option_map (λ name. name.now) result ≡ name_in refusal_names number }
@@ -99,6 +100,8 @@ fn refusal_name(number: u32) -> Option<&'static str>
         118 => Some("UNSAVED"),
         119 => Some("OTHER_IMAGE"),
         120 => Some("NO_ASKER"),
+        121 => Some("BAD_SAY"),
+        122 => Some("CANT_OBJECT"),
         _ => None,
     }
 }

@@ -8,11 +8,14 @@ mod asker_settings;
 mod blanks;
 mod clock;
 mod data_set_reading;
+mod deciding;
+mod device;
 mod error_names;
 mod handed;
 mod id_names;
 mod judged;
 mod laws;
+mod limits;
 mod managers;
 mod names;
 mod numbers;
@@ -41,17 +44,19 @@ pub use answer_names::answer_name;
 pub use asker::HostedAsker;
 pub use asker_settings::AskerSettings;
 pub use clock::{Handled, HostedClock, MOST_SENT};
+pub use device::{Question, Say};
 pub use error_names::error_name;
 pub use handed::{Handed, earlier_number};
 pub use id_names::{NO_ID, id_at, id_name, id_named};
 pub use laws::{names_law, passed_on_law, rate_law};
+pub use limits::{Limit, limits_say};
 pub use names::hand_out_name;
 pub use numbers::{
-    NO_ASKER, NO_CLOCK, NO_MEMORY, NO_ROOM, NO_SESSION, NO_SURVEY, OTHER_SIZES, asker_number,
-    begin_number, clock_restore_number, give_up_number, handle_number, heard_number,
-    observe_number, outcome_number, parse_number, read_number, report_number, restore_number,
-    resume_number, saved_number, saving_number, send_number, session_number, start_number,
-    surveyed_number, verdict_number,
+    ASKED_CHANGE, CANT_OBJECT, NO_ASKER, NO_CLOCK, NO_MEMORY, NO_ROOM, NO_SESSION, NO_SURVEY,
+    OTHER_SIZES, asker_number, begin_number, clock_restore_number, give_up_number, handle_number,
+    heard_number, observe_number, outcome_number, parse_number, read_number, report_number,
+    restore_number, resume_number, said_number, saved_number, saving_number, send_number,
+    session_number, start_number, surveyed_number, unseal_number, verdict_number,
 };
 pub use observing::{ObservedClock, ObservedPort, left_number};
 pub use parsing::parse_field;
@@ -59,7 +64,7 @@ pub use passed_on::{MessageKey, PassedOn, PassedOnPlace};
 pub use rate::Rate;
 pub use refusal::{
     AskerRefusal, ClockRestoreRefusal, HandleRefusal, ParseRefusal, ReadRefusal, ReportRefusal,
-    SavedRefusal, SavingRefusal, SendRefusal, SessionRefusal, StartRefusal,
+    SaidRefusal, SavedRefusal, SavingRefusal, SendRefusal, SessionRefusal, StartRefusal,
 };
 pub use reported_outcome::ReportedOutcome;
 pub use saving_clock::SavingClock;

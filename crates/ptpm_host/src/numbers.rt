@@ -7,11 +7,11 @@
 //! refusals of a restore, and those from 112 on are further refusals of a call.
 
 ghost use Rattle.std.specs.Prelude.{◌≡◌, ◌≤◌};
-ghost use Rattle.ptpm_host.specs.Numbers.{asker_number, begin_number, cause_number, clock_restore_number, give_up_number, handle_number, heard_number, image_number, managers_number, member_number, observe_number, parse_number, read_number, reason_number, report_number, restore_number, resume_number, saved_number, saving_number, send_number, session_number, start_number, surveyed_number, outcome_number, values_number, verdict_number};
+ghost use Rattle.ptpm_host.specs.Numbers.{asker_number, begin_number, cause_number, clock_restore_number, give_up_number, handle_number, heard_number, image_number, managers_number, member_number, observe_number, parse_number, read_number, reason_number, report_number, restore_number, resume_number, said_number, saved_number, saving_number, send_number, session_number, start_number, surveyed_number, outcome_number, unseal_number, values_number, verdict_number};
 
 use crate::refusal::{
     AskerRefusal, ClockRestoreRefusal, HandleRefusal, ParseRefusal, ReadRefusal, ReportRefusal,
-    SavedRefusal, SavingRefusal, SendRefusal, SessionRefusal, StartRefusal,
+    SaidRefusal, SavedRefusal, SavingRefusal, SendRefusal, SessionRefusal, StartRefusal,
 };
 use crate::reported_outcome::ReportedOutcome;
 use crate::session::Heard;
@@ -19,6 +19,7 @@ use ptpm_agent::Verdict;
 use ptpm_codec::DecodeError;
 use ptpm_data::{Member, ObservationError, StartError};
 use ptpm_manager::{BeginError, GiveUpRefusal, Reason, RestoreError, SendError, Surveyed};
+use ptpm_seal::UnsealError;
 use ptpm_table::TableError;
 
 /// A handle holds no clock.
@@ -38,6 +39,12 @@ pub const NO_SURVEY: u32 = 46;
 
 /// A struct of the host has another size than this library's.
 pub const OTHER_SIZES: u32 = 47;
+
+/// A device is asked whether it carries out a request.
+pub const ASKED_CHANGE: u32 = 29;
+
+/// A clock that is saved before it gives anything out takes no objection.
+pub const CANT_OBJECT: u32 = 122;
 
 /// A change is not saved yet.
 const UNSAVED: u32 = 118;
@@ -151,6 +158,17 @@ pub fn saving_number(refusal: SavingRefusal) -> u32
     match refusal {
         SavingRefusal::Handle(refusal) => handle_number(refusal),
         SavingRefusal::Unsaved => UNSAVED,
+    }
+}
+
+/// Why a datagram is not handled with what the device says, 33, 34 or 121.
+pub fn said_number(refusal: SaidRefusal) -> u32
+    ensures number { result ≡ said_number refusal }
+    ensures some { 1 ≤ result }
+{
+    match refusal {
+        SaidRefusal::Handle(refusal) => handle_number(refusal),
+        SaidRefusal::BadSay => 121,
     }
 }
 
@@ -354,6 +372,17 @@ fn image_number(fault: ptpm_saved::RestoreError) -> u32
         ptpm_saved::RestoreError::Damaged => 107,
         ptpm_saved::RestoreError::OtherClock => 108,
         ptpm_saved::RestoreError::OtherPorts => 109,
+    }
+}
+
+/// Why octets are no image that is whole, 104 or 107.
+pub fn unseal_number(error: UnsealError) -> u32
+    ensures number { result ≡ unseal_number error }
+    ensures some { 1 ≤ result }
+{
+    match error {
+        UnsealError::NotAnImage => 104,
+        UnsealError::Damaged => 107,
     }
 }
 

@@ -38,6 +38,14 @@ pub enum HandleRefusal {
     NoRoom,
 }
 
+/// Why a datagram is not handled with what the device says, in the order in which the reasons are judged.
+#[derive(Clone, Copy, Debug, PartialEq, Eq)]
+pub enum SaidRefusal {
+    Handle(HandleRefusal),
+    /// It is no say: of another kind, or an objection with an error that no device gives.
+    BadSay,
+}
+
 /// Why a clock that is to be saved handles no datagram, in the order in which the reasons are judged.
 #[derive(Clone, Copy, Debug, PartialEq, Eq)]
 pub enum SavingRefusal {

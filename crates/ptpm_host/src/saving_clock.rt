@@ -137,7 +137,7 @@ impl SavingClock {
             return Err(self.refusal(port, room.len()));
         }
         data_sets_law(self.clock.sets());
-        let handled = match self.clock.handle(port, datagram, room) {
+        let handled = match self.clock.handle_apart(port, datagram, room) {
             Ok(handled) => handled,
             Err(refusal) => return Err(SavingRefusal::Handle(refusal)),
         };

@@ -6,7 +6,6 @@ use Rattle.ptpm_data.specs.ObservationLaws.{IsSizedObservation}
 use Rattle.ptpm_agent.specs.Observing.{moved_state}
 use Rattle.ptpm_manager.specs.declared.error.GiveUpRefusal.{GiveUpRefusal}
 use Rattle.ptpm_manager.specs.declared.receiving.Received.TheVariants as received
-use Rattle.ptpm_manager.specs.declared.setup.Setup.{Setup}
 use Rattle.ptpm_manager.specs.Session.{give_up_refusal, given_up}
 use Rattle.ptpm_network.specs.ByManager.{Account, is_behind, is_for, is_late_for, is_late_frame_for}
 use Rattle.ptpm_network.specs.GivingUp as acts
@@ -18,7 +17,7 @@ use Rattle.ptpm_network.proofs.Frames.{reply_says, same_read}
 use Rattle.ptpm_network.proofs.GivingUp.{Works, kept-act}
 use Rattle.ptpm_network.proofs.Honest.{IsHonest, frame-true}
 use Rattle.ptpm_network.proofs.Owned.{IsOwnFrame, IsSaid, told_of}
-use Rattle.ptpm_network.proofs.Receiving.{takes-by, takes-last, takes-own}
+use Rattle.ptpm_network.proofs.Receiving.{takes-by, takes-own}
 use Rattle.ptpm_restarts.specs.ActsAsIfNever.{IsSameAct}
 use Rattle.ptpm_restarts.specs.AsIfNever.{IsTimely, is_late_in}
 use Rattle.ptpm_restarts.specs.Incidents.{GivesUp, Happens, Incident, Observes, incident, lets_go}
@@ -28,7 +27,7 @@ use Rattle.ptpm_restarts.proofs.Beside.{IsBeside, log-stays}
 use Rattle.ptpm_restarts.proofs.Sent.{all_contains}
 use Rattle.ptpm_restarts.proofs.Settled.{IsSettled, changed-act, noted-act, not_both, settled-live}
 use Rattle.ptpm_restarts.proofs.Shapes.{AreSound, ByShape, by-shape}
-use Rattle.ptpm_restarts.proofs.Standing.{late-fewer, settled-issued}
+use Rattle.ptpm_restarts.proofs.Standing.{late-fewer, settled-issued, unsent-unanswered}
 use Rattle.ptpm_restarts.proofs.Steps.{Facts, Goes, Stay, Stays, Step, among, is_delivery, log-other, logged, numbered}
 
 -- ---- what is kept stays kept
@@ -78,7 +77,6 @@ module _ (lc ls : ℕ → Bool) (N : Network) (a : ℕ → Account) (k : Restart
   others-timely (Replay m end) e = λ t place. refl
   others-timely (Stranger c port datagram) e = λ t place. refl
 
-  -- A session that begins a request does not send it before it saves. So no reply to it comes while that is unsaved.
   unheard : (s m : ℕ) (x : Held) (report : Report)
       → s < N.sessions → frame_at r.frames m ≡ Some x → is_late_in k x.origin ≡ false
       → ls s ≡ true → (k.session s).is_unsaved ≡ true
@@ -93,13 +91,9 @@ module _ (lc ls : ℕ → Bool) (N : Network) (a : ℕ → Account) (k : Restart
       let says = reply_says N s own.0 (a s).accepted (a s).begun n place work.held.keeps x.octets (subst (IsSaid N s (a s) x.octets) own.1 said refl) in
       let same = same_read x.octets takes.message _ says.message takes.read in
       let number : takes.message.number ≡ number_of (N.session s).setup.first own.0 = ap (λ (u : Message). u.number) same ∙ says.number in
-      let time : live.issued ≤ own.0 + 32768 = ltb-false (own.0 + 32768) live.issued (subst (λ (q : Origin). is_late_in k q ≡ false) own.1 timely) in
       let stored : length (a s).begun ≡ (k.session s).stored.session.issued =
       sym work.issued ∙ ap (λ (l : SessionLog). l.session.issued) ((h.sessions s).at ∙ cond-true _ _ _ lost) in
-      let behind = (order s).behind unsaved takes.accepted.waiting in
-      let last : own.0 ≡ live.issued = takes-last (N.session s).setup.first own.0 live x.octets report takes
-      (ap (λ (p : Setup). p.first) (order s).live) number says.positive (omega (arith, says.says.within, stored, behind)) time in
-      omega (arith, last, says.says.within, stored, behind)
+      unsent-unanswered N k s own.0 (length (a s).begun) x report (order s) takes own.1 timely number says.positive says.says.within stored unsaved
 
   heard-there : (s m : ℕ) (x : Held) (report : Report)
       → s < N.sessions → frame_at r.frames m ≡ Some x → is_late_in k x.origin ≡ false

@@ -8,7 +8,7 @@ use Rattle.ptpm_network.proofs.Reaching.{frame_at-is}
 use Rattle.ptpm_network.proofs.Schedule.{reached}
 use Rattle.ptpm_network.proofs.Frames.{heard-frame, same_read, says_reply}
 use Rattle.ptpm_network.proofs.Origins.{heard-true}
-use Rattle.ptpm_network.proofs.Receiving.{takes-by, takes-last, takes-own}
+use Rattle.ptpm_network.proofs.Receiving.{Takes, takes-by, takes-last, takes-own}
 use Rattle.ptpm_manager.specs.declared.setup.Setup.{Setup}
 use Rattle.ptpm_restarts.specs.AsIfNever.{is_late_in}
 use Rattle.ptpm_restarts.specs.Restarting.{RestartingNetwork, SessionLog, log_of}
@@ -28,6 +28,22 @@ settled-issued false x a h le = grind arith
 
 pub late-fewer : (j few many : ℕ) → few ≤ many → is_late_at j many ≡ false → is_late_at j few ≡ false
 late-fewer j few many le n = grind (arith, ltb-true, ltb-false)
+
+-- A session that begins a request does not send it before it saves. So while that is unsaved no reply to it comes: each reply is to a
+-- request that was begun when the session was saved last.
+pub unsent-unanswered : (N : Network) (k : RestartingNetwork) (s j sent : ℕ) (x : Held) (report : Report)
+    → IsSound (N.session s).setup (k.told s) (k.session s) → (takes : Takes (k.session s).live.session x.octets report)
+    → x.origin ≡ ReplyTo s j → is_late_in k x.origin ≡ false
+    → takes.message.number ≡ number_of (N.session s).setup.first j → 0 < j → j ≤ sent → sent ≡ (k.session s).stored.session.issued
+    → (k.session s).is_unsaved ≡ true
+    → ⊥
+unsent-unanswered N k s j sent x report sound takes of timely number positive within stored unsaved =
+    let live : SessionValue = (k.session s).live.session in
+    let time : live.issued ≤ j + 32768 = ltb-false (j + 32768) live.issued (subst (λ (q : Origin). is_late_in k q ≡ false) of timely) in
+    let behind = sound.behind unsaved takes.accepted.waiting in
+    let last : j ≡ live.issued = takes-last (N.session s).setup.first j live x.octets report takes
+    (ap (λ (p : Setup). p.first) sound.live) number positive (omega (arith, within, stored, behind)) time in
+    omega (arith, last, within, stored, behind)
 
 -- the frame that the machine has in this place
 record IsFrameOf (w : NetworkState) (m : ℕ) (x : Held) : Type 0 where
@@ -85,7 +101,6 @@ module _ (lc ls : ℕ → Bool) (N : Network) (past : List Event) (k : Restartin
 
   -- ---- an answer
 
-  -- A session that begins a request does not send it before it saves. So no reply to it comes while that is unsaved.
   unheard : (s m : ℕ) (x : Held) (report : Report)
       → s < N.sessions → frame_at r.frames m ≡ Some x → is_late_in k x.origin ≡ false
       → ls s ≡ true → (k.session s).is_unsaved ≡ true
@@ -100,13 +115,9 @@ module _ (lc ls : ℕ → Bool) (N : Network) (past : List Event) (k : Restartin
       (heard-true N state x.octets x.origin n known (heard-frame N state x.octets x.origin origin) takes.message takes.read).1 in
       let says = says_reply N state s own.0 x.octets n known (subst (IsOfOrigin N state x.octets) own.1 origin) in
       let number : takes.message.number ≡ number_of (N.session s).setup.first own.0 = grind (arith, same_read) in
-      let time : live.issued ≤ own.0 + 32768 = ltb-false (own.0 + 32768) live.issued (subst (λ (q : Origin). is_late_in k q ≡ false) own.1 timely) in
       let stored : issued state s ≡ (k.session s).stored.session.issued =
       begun-there s place ∙ ap (λ (l : SessionLog). l.session.issued) ((h.sessions s).at ∙ cond-true _ _ _ lost) in
-      let behind = (order s).behind unsaved takes.accepted.waiting in
-      let last : own.0 ≡ live.issued = takes-last (N.session s).setup.first own.0 live x.octets report takes
-      (ap (λ (p : Setup). p.first) (order s).live) number says.positive (omega (arith, says.says.within, stored, behind)) time in
-      omega (arith, last, says.says.within, stored, behind)
+      unsent-unanswered N k s own.0 (issued state s) x report (order s) takes own.1 timely number says.positive says.says.within stored unsaved
 
   -- so a session that takes its answer is as there
   pub heard-live : (s m : ℕ) (x : Held) (report : Report)

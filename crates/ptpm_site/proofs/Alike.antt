@@ -1,11 +1,12 @@
 -- What counts is the last of what was received.
 use Rattle.std.proofs.Common.{◌≡◌, List}
 use Rattle.ptpm_site.specs.declared.answer.Answer.{Answer}
+use Rattle.ptpm_site.specs.declared.heard.Heard.{Heard}
 use Rattle.ptpm_site.specs.Answers.{counting}
 use Rattle.ptpm_site.specs.SiteAnswers.{AreAlikeByClock, answers_by_clock}
 
-pub by_clock_alike : (xs ys : List Answer) → AreAlikeByClock xs ys → answers_by_clock xs ≡ answers_by_clock ys
-by_clock_alike xs ys k = λ i. record {
+pub by_clock_alike : (xs ys : List Answer) (heard : List Heard) → AreAlikeByClock xs ys → answers_by_clock xs heard ≡ answers_by_clock ys heard
+by_clock_alike xs ys heard k = λ i. record {
   clocks = k.clocks i;
   seen = λ s. k.seen s i;
   default = λ s. counting (k.defaults s i);
@@ -21,4 +22,5 @@ by_clock_alike xs ys k = λ i. record {
   ports = λ s. k.numbers s i;
   port_answers = λ s n. k.ports s n i;
   port = λ s n. counting (k.ports s n i);
+  heard = heard;
 }

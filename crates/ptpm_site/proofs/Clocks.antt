@@ -1,11 +1,14 @@
 -- What a map of clocks keeps after one of them got its place, or after an answer of one was added.
 use Rattle.std.proofs.Common.{◌≡◌, ℕ, Bool, true, false, cond, ◌||◌, List, [], ◌++◌, Option, Some, None, append-nil, refl, ap, sym, ◌∙◌}
+use Rattle.std.specs.Prelude.{Vec}
+use Rattle.std.specs.declared.alloc.Global.{Global}
 use Rattle.std.specs.BTreeMap.{BTreeMap, get, insert_entry, is_at, keys}
 use Rattle.std.proofs.lemmas.Map.Views.{tells_apart}
 use Rattle.std.specs.Map.{keys_of}
 use Rattle.std.specs.Option.{IsSome, is_some, option_map_or}
 use Rattle.ptpm_site.specs.declared.answer.Request.{Request}
 use Rattle.ptpm_site.specs.declared.clock.Clock.{Clock}
+use Rattle.ptpm_site.specs.declared.heard.Heard.{Heard}
 use Rattle.ptpm_site.specs.declared.source.Source.{Source}
 use Rattle.ptpm_site.specs.declared.answer_content.AnswerContent.{AnswerContent}
 use Rattle.ptpm_site.specs.Answers.{place_number, port_number, same_source, source_cmp}
@@ -78,14 +81,14 @@ tie_cond : {X : Type 0} → (source s : Source) (x y : X) → cond (is_at (sourc
 tie_cond source s x y = ap (λ t. cond t x y) (tied_sources source s)
 
 -- a clock without answers got its place
-pub placed : (old new : BTreeMap Source Clock) (source : Source) (fresh : Clock)
+pub placed : (heard : Vec Heard Global) (old new : BTreeMap Source Clock) (source : Source) (fresh : Clock)
     → HasNoAnswers fresh
     → is_some (get source_cmp old source) ≡ false
     → ((q : Source) → get source_cmp new q ≡ cond (is_at (source_cmp source) q) (Some fresh) (get source_cmp old q))
     → IsSome (get source_cmp new source)
     → new.entries ≡ insert_entry source_cmp old.entries source fresh
-    → Places (record { clocks = old }) (record { clocks = new }) source
-placed old new source fresh silent absent updates there entries =
+    → Places (record { clocks = old; heard = heard }) (record { clocks = new; heard = heard }) source
+placed heard old new source fresh silent absent updates there entries =
     let at : Source → Bool = λ s. is_at (source_cmp source) s in
     let gone : (s : Source) → at s ≡ true → get source_cmp old s ≡ None =
     λ s h. moved (λ q. get source_cmp old q) source s None (none_from (get source_cmp old source) absent) h in
@@ -109,9 +112,9 @@ known_or None false h = refl
 known_or (Some x) b h = refl
 
 -- a clock that has its place keeps it
-pub known : (old : BTreeMap Source Clock) (source : Source) → is_some (get source_cmp old source) ≡ true → IsSome (get source_cmp old source)
-    → Places (record { clocks = old }) (record { clocks = old }) source
-known old source there is_there = record {
+pub known : (heard : Vec Heard Global) (old : BTreeMap Source Clock) (source : Source) → is_some (get source_cmp old source) ≡ true → IsSome (get source_cmp old source)
+    → Places (record { clocks = old; heard = heard }) (record { clocks = old; heard = heard }) source
+known heard old source there is_there = record {
   clocks = sym (place-known source_cmp old.entries source there);
   there = is_there;
   seen = λ s. known_or (get source_cmp old s) (is_at (source_cmp source) s) (moved (λ q. is_some (get source_cmp old q)) source s true there)
@@ -127,13 +130,13 @@ known old source there is_there = record {
 }
 
 -- an answer of a clock that has its place was added
-pub content_added : (old new : BTreeMap Source Clock) (source : Source) (request : Request) (t : AnswerContent) (before after : Clock)
+pub content_added : (heard : Vec Heard Global) (old new : BTreeMap Source Clock) (source : Source) (request : Request) (t : AnswerContent) (before after : Clock)
     → get source_cmp old source ≡ Some before
     → ((q : Source) → get source_cmp new q ≡ cond (is_at (source_cmp source) q) (Some after) (get source_cmp old q))
     → keys new ≡ keys old
     → Grows before after request t
-    → AddsContent (record { clocks = old }) (record { clocks = new }) source request t
-content_added old new source request t before after was updates same grows =
+    → AddsContent (record { clocks = old; heard = heard }) (record { clocks = new; heard = heard }) source request t
+content_added heard old new source request t before after was updates same grows =
     let at : Source → Bool = λ s. is_at (source_cmp source) s in
     let there : (s : Source) → at s ≡ true → get source_cmp old s ≡ Some before =
     λ s h. moved (λ q. get source_cmp old q) source s (Some before) was h in

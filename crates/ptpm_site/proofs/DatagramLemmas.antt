@@ -1,14 +1,16 @@
 -- A datagram is an answer where its message is one.
 use Rattle.std.proofs.Common.{◌≡◌, ℕ, List, Option, Some, None, Ok, Err, refl, sym, ap, subst}
-use Rattle.std.specs.Option.{option_and_then}
+use Rattle.std.specs.Option.{option_and_then, option_map}
 use Rattle.ptpm_codec.specs.declared.error.DecodeError.{DecodeError}
 use Rattle.ptpm_codec.specs.declared.message.Message.{Message}
 use Rattle.ptpm_codec.specs.Layout.{message_octets}
 use Rattle.ptpm_codec.specs.Reading.{message_at, message_of, ok_unless, reading, some_unless}
 use Rattle.ptpm_codec.specs.Refusal.{refusal}
 use Rattle.ptpm_site.specs.declared.answer.Answer.{Answer}
+use Rattle.ptpm_site.specs.declared.heard.Heard.TheVariants as heard
 use Rattle.ptpm_site.specs.declared.site.Site.{Site}
 use Rattle.ptpm_site.specs.Datagrams.{TakesAny, answer_in}
+use Rattle.ptpm_site.specs.Heard.{heard_in, heard_of, heard_or, sender_in}
 use Rattle.ptpm_site.specs.KeptAnswers.{Takes}
 use Rattle.ptpm_site.specs.Messages.{Answered, answer_of, answered}
 
@@ -27,6 +29,15 @@ no_message d e h = ap (option_and_then answer_of) (refused (refusal d) (message_
 pub one_message : (d : List ℕ) (m : Message) → reading d ≡ Ok m → answer_in d ≡ answer_of m
 unfolding answer_in message_of
 one_message d m h = ap (option_and_then answer_of) (read (refusal d) (message_at (message_octets d)) m h)
+
+-- what a datagram shows, as well
+pub shown_by_none : (d : List ℕ) (e : DecodeError) → reading d ≡ Err e → heard_in d ≡ option_map heard.Sent (sender_in d)
+unfolding heard_in message_of
+shown_by_none d e h = ap (λ o. heard_or o d) (refused (refusal d) (message_at (message_octets d)) e h)
+
+pub shown_by_one : (d : List ℕ) (m : Message) → reading d ≡ Ok m → heard_in d ≡ heard_of m
+unfolding heard_in message_of
+shown_by_one d m h = ap (λ o. heard_or o d) (read (refusal d) (message_at (message_octets d)) m h)
 
 pub takes-none : (site : Site) (o : Option Answered) → o ≡ None → TakesAny site site o
 takes-none site o h = let P : Option Answered → Type 0 = λ x. TakesAny site site x in subst P (sym h) refl

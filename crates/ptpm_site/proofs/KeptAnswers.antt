@@ -1,7 +1,7 @@
 -- Each answer that is taken is kept, and what counts is what the answers say.
 use Rattle.std.proofs.Common.{◌≡◌, ℕ, ◌||◌, Bool, true, false, cond, List, [], ◌∷◌, ◌++◌, Option, Some, None, refl, sym, ◌∙◌, ap, append-nil}
 use Rattle.std.specs.List.{filter, filter_map, fold, cons_option, list_any}
-use Rattle.std.specs.Option.{option_map, option_map_or, option_and_then, option_to_list}
+use Rattle.std.specs.Option.{is_some, option_map, option_map_or, option_and_then, option_to_list}
 use Rattle.std.proofs.lemmas.Grind.{fold-append}
 use Rattle.std.proofs.lemmas.List.Elements.{filter-append, filter_map-append}
 use Rattle.std.proofs.lemmas.List.Folds.{list_any-append}
@@ -14,15 +14,15 @@ use Rattle.ptpm_site.specs.declared.site.Site.{Site}
 use Rattle.ptpm_site.specs.declared.source.Source.{Source}
 use Rattle.ptpm_site.specs.declared.answer_content.AnswerContent.{AnswerContent}
 use Rattle.ptpm_site.specs.declared.answer_content.AnswerContent.TheVariants as contents
-use Rattle.ptpm_site.specs.Answers.{all_received, answers_of, counting, is_seen, newly_received, place_clock, place_number, port_number, ports_of, received_in, refusal_in, refuses, same_source}
+use Rattle.ptpm_site.specs.Answers.{all_received, answers_of, counting, is_seen, newly_received, place_clock, place_number, port_number, ports_of, received_in, refusal_in, refuses, same_source, source_cmp}
 use Rattle.ptpm_site.specs.Ids.{same_id}
 use Rattle.ptpm_site.specs.KeptAnswers.{Keeps, Takes, added}
-use Rattle.std.specs.BTreeMap.{get}
+use Rattle.std.specs.BTreeMap.{get, keys}
 use Rattle.std.specs.Ordering.{nat_cmp}
 use Rattle.ptpm_site.specs.Site.{answers_of_port, clock_at, is_among, port_kept, site_answers}
 use Rattle.ptpm_site.specs.SiteAnswers.{answers_by_clock}
 
-one_or_none : {A : Type 0} → (o : Option A) → cons_option o [] ≡ option_to_list o
+pub one_or_none : {A : Type 0} → (o : Option A) → cons_option o [] ≡ option_to_list o
 one_or_none None = refl
 one_or_none (Some x) = refl
 
@@ -83,6 +83,23 @@ Keeps-more old new answers a t k = record {
   ports = λ s n. kept_more _ s answers a _ _ (t.ports s n) (k.ports s n);
 }
 
+-- what is kept is that of the clocks, whatever was heard beside
+pub Keeps-same : (old new : Site) (answers : List Answer) → new.clocks ≡ old.clocks → Keeps old answers → Keeps new answers
+Keeps-same old new answers e k =
+    let at : (s : Source) → clock_at new s ≡ clock_at old s = λ s. ap (λ m. get source_cmp m s) e in
+    record {
+      clocks = ap keys e ∙ k.clocks;
+      seen = λ s. ap is_some (at s) ∙ k.seen s;
+      defaults = λ s. ap (λ o. option_map_or (λ c. c.defaults.items) o []) (at s) ∙ k.defaults s;
+      currents = λ s. ap (λ o. option_map_or (λ c. c.currents.items) o []) (at s) ∙ k.currents s;
+      parents = λ s. ap (λ o. option_map_or (λ c. c.parents.items) o []) (at s) ∙ k.parents s;
+      times = λ s. ap (λ o. option_map_or (λ c. c.times.items) o []) (at s) ∙ k.times s;
+      descriptions = λ s. ap (λ o. option_map_or (λ c. c.descriptions.items) o []) (at s) ∙ k.descriptions s;
+      refused = λ s. ap (λ o. option_map_or (λ c. c.refused.items) o []) (at s) ∙ k.refused s;
+      numbers = λ s. ap (λ o. option_map_or (λ c. keys c.ports) o []) (at s) ∙ k.numbers s;
+      ports = λ s n. ap (λ o. option_map_or (λ c. answers_of_port c n) o []) (at s) ∙ k.ports s n;
+    }
+
 counting_of : {A : Type 0} → (f : Clock → List (Received A)) (o : Option Clock)
     → option_and_then (λ c. counting (f c)) o ≡ counting (option_map_or f o [])
 counting_of f None = refl
@@ -113,7 +130,7 @@ refused_of_clock id None = refl
 refused_of_clock id (Some c) = refl
 
 -- what counts of what is kept is what counts of the answers
-pub kept_is_by_clock : (site : Site) (answers : List Answer) → Keeps site answers → site_answers site ≡ answers_by_clock answers
+pub kept_is_by_clock : (site : Site) (answers : List Answer) → Keeps site answers → site_answers site ≡ answers_by_clock answers site.heard.items
 unfolding site_answers
 kept_is_by_clock site answers k =
     let default = λ (s : Source). counting_of (λ c. c.defaults.items) (clock_at site s) ∙ ap counting (k.defaults s) in
@@ -138,4 +155,5 @@ kept_is_by_clock site answers k =
       ports = λ s. k.numbers s i;
       port_answers = λ s n. k.ports s n i;
       port = λ s n. port s n i;
+      heard = site.heard.items;
     }

@@ -8,6 +8,7 @@ pub mod DatagramLemmas
 pub mod Dropped
 pub mod Followed
 pub mod Growth
+pub mod Hearing
 pub mod KeptAnswers
 pub mod KeptStatements
 pub mod Links
@@ -18,6 +19,7 @@ pub mod Passing
 pub mod Places
 pub mod Placing
 pub mod Ports
+pub mod Reaching
 pub mod Reports
 pub mod Rows
 pub mod Settling
@@ -25,4 +27,5 @@ pub mod Sorted
 pub mod Sources
 pub mod Statements
 pub mod Strays
+pub mod SubjectParts
 pub mod Values

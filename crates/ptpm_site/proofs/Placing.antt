@@ -39,7 +39,7 @@ searched xs s (Err i) ordered within h =
     (cases_lt k i))
 
 -- a clock that is seen is among all clocks
-seen_among : (site : Site) (s : Source) → (site_answers site).seen s ≡ list_any (eq_by_cmp source_cmp s) (site_answers site).clocks
+pub seen_among : (site : Site) (s : Source) → (site_answers site).seen s ≡ list_any (eq_by_cmp source_cmp s) (site_answers site).clocks
 unfolding site_answers
 seen_among site s = is_some-lookup (eq_by_cmp source_cmp s) site.clocks.entries
 

@@ -19,7 +19,7 @@ use Rattle.ptpm_site.proofs.Values.{is_alike-equiv, same_request-Decides}
 
 -- ---- the order of requests distinguishes what the test of equality distinguishes
 
-tied_requests : (a b : Request) → eq_by_cmp request_cmp a b ≡ same_request a b
+pub tied_requests : (a b : Request) → eq_by_cmp request_cmp a b ≡ same_request a b
 tied_requests a b = grind (arith, is_eq-slice_cmp)
 
 -- ---- what one more statement adds

@@ -1,8 +1,10 @@
 -- What is kept of a datagram.
-use Rattle.std.specs.Prelude.{◌≡◌, ℕ, List, Option, Some, None, option_and_then}
+use Rattle.std.specs.Prelude.{◌≡◌, ℕ, ◌++◌, List, Option, Some, None, option_and_then}
+use Rattle.std.specs.Option.{option_to_list}
 use Rattle.ptpm_codec.specs.Reading.{message_of}
 use Rattle.ptpm_site.specs.declared.answer.Answer.{Answer}
 use Rattle.ptpm_site.specs.declared.site.Site.{Site}
+use Rattle.ptpm_site.specs.Heard.{heard_in}
 use Rattle.ptpm_site.specs.KeptAnswers.{Takes}
 use Rattle.ptpm_site.specs.Messages.{Answered, answer_of, answered}
 
@@ -20,3 +22,10 @@ pub record TakesAnswer (old new : Site) (says : Answered) : Type 0 where
 abbrev pub TakesAny : Site → Site → Option Answered → Type 0
 TakesAny old new None = new ≡ old
 TakesAny old new (Some says) = TakesAnswer old new says
+
+-- its answer is taken, and what it shows beside is kept after all that was shown before
+pub record TakesDatagram (old new : Site) (datagram : List ℕ) : Type 0 where
+  pub between : Site
+  pub answer : TakesAny old between (answer_in datagram)
+  pub clocks : new.clocks ≡ between.clocks
+  pub heard : new.heard.items ≡ old.heard.items ++ option_to_list (heard_in datagram)

@@ -32,9 +32,12 @@ use Rattle.ptpm_site.specs.Leading.{better_clock, without_source, invalid_offset
 use Rattle.ptpm_site.specs.Loops.{loop_of}
 use Rattle.ptpm_site.specs.Members.{MemberValue, State, current_members, current_says, default_members, default_says, description_members, description_says, is_moving, is_of_grandmaster, parent_members, parent_says, port_members, port_says, time_members, time_says}
 use Rattle.ptpm_site.specs.Parents.{no_master_port, unseen_parent, wrong_steps}
+use Rattle.ptpm_site.specs.Reach.{out_of_reach}
 use Rattle.ptpm_site.specs.SiteAnswers.{SiteAnswers}
 use Rattle.ptpm_site.specs.Staying.{staying_state, unlocked_port}
 use Rattle.ptpm_site.specs.TaiAndUtc.{followers_off, offset_by_utc}
+use Rattle.ptpm_site.specs.TwoOffsets.{two_offsets}
+use Rattle.ptpm_site.specs.Unseen.{subjects, unseen}
 
 abbrev pub finding : Source → What → Finding
 finding s w = record { source = s; what = w }
@@ -244,9 +247,17 @@ unfoldable pub twice_reported : SiteAnswers → Source → List Said
 twice_reported site s =
     if list_all is_of_state (contradictions_reported sort.IdentityTwice site s) then [] else contradictions_reported sort.IdentityTwice site s
 
--- what its answers lack, and where they differ
+-- two offsets to one request, in each of two looks
+unfoldable pub offsets_reported : SiteAnswers → Source → List Said
+offsets_reported site s = option_to_list (option_map (λ o. said s (says (what.TwoOffsets o))) (two_offsets (site.currents s)))
+
+-- the last hop of the requests reached it
+unfoldable pub reach_reported : SiteAnswers → Source → List Said
+reach_reported site s = option_to_list (option_map (λ hops. said s (says (what.OutOfReach hops))) (out_of_reach site s))
+
+-- what its answers lack, how far it is, and where they differ
 unfoldable pub answers_reported : SiteAnswers → Source → List Said
-answers_reported site s = incomplete_reported site s ++ contradictions_reported sort.Changed site s ++ twice_reported site s
+answers_reported site s = incomplete_reported site s ++ reach_reported site s ++ contradictions_reported sort.Changed site s ++ twice_reported site s ++ offsets_reported site s
 
 -- ---- all findings
 
@@ -255,6 +266,13 @@ found_of site limits s =
     reported (found_above site s) ++ loop_reported site s ++ reported (found_here site limits s) ++ reported (leader_found site limits s)
     ++ answers_reported site s
 
+-- of a clock that is not seen
+unfoldable pub unseen_reported : SiteAnswers → Source → List Said
+unseen_reported site s = option_to_list (option_map (λ why. said s (says (what.Unseen why))) (unseen site s))
+
+abbrev pub found_at : SiteAnswers → Limits → Source → List Said
+found_at site limits s = if site.seen s then found_of site limits s else unseen_reported site s
+
 -- the findings of all clocks
 abbrev pub findings_of : SiteAnswers → Limits → List Said
-findings_of site limits = flat_map (found_of site limits) site.clocks
+findings_of site limits = flat_map (found_at site limits) (subjects site)

@@ -6,11 +6,13 @@ pub mod Changes
 pub mod Completeness
 pub mod Datagrams
 pub mod Differences
+pub mod Evidence
 pub mod Findings
 pub mod Following
 pub mod Forest
 pub mod Grandmasters
 pub mod Growing
+pub mod Heard
 pub mod Ids
 pub mod KeptAnswers
 pub mod KeptStatements
@@ -22,9 +24,12 @@ pub mod Messages
 pub mod Octets
 pub mod Parents
 pub mod PortStates
+pub mod Reach
 pub mod Site
 pub mod SiteAnswers
 pub mod Staying
 pub mod TaiAndUtc
 pub mod Tree
+pub mod TwoOffsets
+pub mod Unseen
 pub mod Walks

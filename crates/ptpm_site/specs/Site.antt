@@ -49,4 +49,5 @@ site_answers site = record {
   ports = λ s. option_map_or (λ c. keys c.ports) (clock_at site s) [];
   port_answers = λ s n. option_map_or (λ c. answers_of_port c n) (clock_at site s) [];
   port = λ s n. option_and_then (λ c. port_kept c n) (clock_at site s);
+  heard = site.heard.items;
 }

@@ -10,6 +10,7 @@ use Rattle.ptpm_site.specs.declared.data_sets.ParentDataSet.{ParentDataSet}
 use Rattle.ptpm_site.specs.declared.data_sets.PortDataSet.{PortDataSet}
 use Rattle.ptpm_site.specs.declared.data_sets.TimePropertiesDataSet.{TimePropertiesDataSet}
 use Rattle.ptpm_site.specs.declared.description.Description.{Description}
+use Rattle.ptpm_site.specs.declared.heard.Heard.{Heard}
 use Rattle.ptpm_site.specs.declared.port_groups.PortGroup.{PortGroup}
 use Rattle.ptpm_site.specs.declared.source.Source.{Source}
 use Rattle.ptpm_site.specs.Answers.{all_received, clocks_of, current_in, current_of, default_in, default_of, description_in, is_refused, is_seen, parent_in, parent_of, port_in, port_of, ports_of, time_in, time_of}
@@ -36,6 +37,8 @@ pub record SiteAnswers : Type 0 where
   -- all that was answered for a port, in the order of the lines
   pub port_answers : Source → ℕ → List (Received PortDataSet)
   pub port : Source → ℕ → Option PortDataSet
+  -- what the datagrams show beside, in the order of the lines
+  pub heard : List Heard
 
 -- a port of a clock that answered is in a state of a group
 abbrev pub has_port_of : SiteAnswers → Source → PortGroup → Bool
@@ -45,9 +48,9 @@ has_port_of site s group = list_any (λ n. is_port_of group (site.port s n)) (si
 abbrev pub has_ports_to : SiteAnswers → Source → ℕ → Bool
 has_ports_to site s last = holds_to (λ n. is_some (site.port s n)) last
 
--- what the answers say
-abbrev pub answers_by_clock : List Answer → SiteAnswers
-answers_by_clock answers = record {
+-- what the answers say, and what was heard beside
+abbrev pub answers_by_clock : List Answer → List Heard → SiteAnswers
+answers_by_clock answers heard = record {
   clocks = clocks_of answers;
   seen = λ s. is_seen s answers;
   default = λ s. default_of s answers;
@@ -63,6 +66,7 @@ answers_by_clock answers = record {
   ports = λ s. ports_of s answers;
   port_answers = λ s n. all_received (port_in n) s answers;
   port = λ s n. port_of s n answers;
+  heard = heard;
 }
 
 -- the same clocks and ports answered; and each clock, id and port has the same answers in the same order, whatever comes between

@@ -61,7 +61,7 @@ impl Answer {
 }
 
 /// The clock that a message is of.
-fn source_of(message: &View<'_>) -> Source
+pub fn source_of(message: &View<'_>) -> Source
     ensures { result ≡ source_of message.now }
 {
     Source {
@@ -71,7 +71,7 @@ fn source_of(message: &View<'_>) -> Source
 }
 
 /// The request that a message answers.
-fn request_of(message: &View<'_>) -> Request
+pub fn request_of(message: &View<'_>) -> Request
     ensures { result ≡ request_of message.now }
 {
     Request {

@@ -1,18 +1,40 @@
-//! The answers among datagrams.
+//! What is taken of datagrams.
 
-ghost use Rattle.std.specs.Prelude.{OnOk};
-ghost use Rattle.ptpm_site.specs.Datagrams.{TakesAny, answer_in};
+ghost use Rattle.std.specs.Prelude.{◌≡◌, ◌++◌, OnOk};
+ghost use Rattle.std.specs.Option.{option_to_list};
+ghost use Rattle.ptpm_site.specs.Datagrams.{TakesAny, TakesDatagram, answer_in};
+ghost use Rattle.ptpm_site.specs.Heard.{heard_in};
 
 use crate::answer::Answer;
+use crate::heard::Heard;
 use crate::site::Site;
 use ptpm_codec::view;
 use std::alloc::{AllocError, Global};
 
 impl Site {
-    /// Takes the answer that a datagram has. A datagram that is no answer to one of the six ids is
-    /// passed over.
+    /// Takes the answer that a datagram has, and what it shows beside. A datagram that shows nothing is passed over.
     pub fn take_datagram(&mut self, alloc: Global, datagram: &[u8]) -> Result<(), AllocError>
-        ensures { OnOk result (TakesAny self.old self.new (answer_in datagram.now)) }
+        ensures { OnOk result (TakesDatagram self.old self.new datagram.now) }
+    {
+        self.take_answer(alloc, datagram)?;
+        self.hear(datagram)
+    }
+
+    /// Takes what a datagram shows beside what an answer says.
+    fn hear(&mut self, datagram: &[u8]) -> Result<(), AllocError>
+        ensures clocks { OnOk result (self.new.clocks ≡ self.old.clocks) }
+        ensures heard { OnOk result (self.new.heard.items ≡ self.old.heard.items ++ option_to_list (heard_in datagram.now)) }
+    {
+        if let Some(heard) = Heard::of(datagram) {
+            self.heard.push(heard)?;
+        }
+        Ok(())
+    }
+
+    /// Takes the answer that a datagram has. A datagram that is no answer to one of the six ids is passed over.
+    fn take_answer(&mut self, alloc: Global, datagram: &[u8]) -> Result<(), AllocError>
+        ensures answer { OnOk result (TakesAny self.old self.new (answer_in datagram.now)) }
+        ensures heard { OnOk result (self.new.heard ≡ self.old.heard) }
     {
         let Ok(message) = view(datagram) else {
             return Ok(());

@@ -13,6 +13,8 @@ use crate::parents::{NoMaster, Steps};
 use crate::source::Source;
 use crate::staying::Unlocked;
 use crate::tai_and_utc::OffByUtc;
+use crate::two_offsets::TwoOffsets;
+use crate::unseen::Absence;
 use ptpm_codec::{ClockIdentity, PortIdentity};
 use ptpm_data::PortState;
 use std::alloc::AllocError;
@@ -27,6 +29,8 @@ pub struct Finding<'a> {
 /// What is wrong, in the order in which the findings of a clock are reported.
 #[derive(Drop)]
 pub enum What<'a> {
+    /// It is not seen, and a clock names it or it sends by itself.
+    Unseen(Absence),
     /// It is one of two or more clocks of the domain that are their own grandmasters and have a port in MASTER.
     TwoGrandmasters,
     /// It takes time from no clock.
@@ -76,16 +80,21 @@ pub enum What<'a> {
     BetterClock(Better),
     /// Not all that it was asked for was answered.
     Incomplete(Missing),
+    /// It was reached by the last of this many boundary hops, and has two ports or more.
+    OutOfReach(u8),
     /// Answers to two requests differ.
     Changed(Option<u16>, Change<'a>),
     /// Answers to one request differ.
     IdentityTwice(Option<u16>, Change<'a>),
+    /// Answers to one request have two offsets, in the last look and in the one before.
+    TwoOffsets(TwoOffsets),
 }
 
 impl What<'_> {
     /// Its name, which scripts read.
     pub fn name(&self) -> &'static str {
         match self {
+            What::Unseen(unseen) => unseen.name(),
             What::TwoGrandmasters => "two_grandmasters",
             What::NoMaster(_) => "no_master",
             What::GrandmasterNotSeen(_) => "grandmaster_not_seen",
@@ -109,8 +118,9 @@ impl What<'_> {
             What::Leap(_) => "leap",
             What::BetterClock(_) => "better_clock",
             What::Incomplete(_) => "incomplete",
+            What::OutOfReach(_) => "out_of_reach",
             What::Changed(..) => "changed",
-            What::IdentityTwice(..) => "identity_twice",
+            What::IdentityTwice(..) | What::TwoOffsets(_) => "identity_twice",
         }
     }
 }
@@ -130,9 +140,20 @@ impl What<'_> {
             | What::OffByUtc(_)
             | What::Offset(_)
             | What::UtcOffset(_)
-            | What::IdentityTwice(..) => true,
+            | What::IdentityTwice(..)
+            | What::TwoOffsets(_) => true,
             What::Degraded(degraded) => matches!(degraded.degradation, Degradation::Degraded),
             _ => false,
+        }
+    }
+}
+
+impl Absence {
+    /// The name of the finding.
+    fn name(self) -> &'static str {
+        match self {
+            Absence::OwnHost => "own_host",
+            Absence::Mute(_) => "mute",
         }
     }
 }

@@ -191,7 +191,7 @@ fn parent_place(site: &Site, sources: &[Source], source: Source) -> Option<usize
 }
 
 /// The place of a clock among others, which are sorted.
-fn place_among(sources: &[Source], source: Source) -> Option<usize>
+pub fn place_among(sources: &[Source], source: Source) -> Option<usize>
     requires { IsStrictlySortedBy source_cmp sources.now }
     ensures { MatchOption result (list_any (eq_by_cmp source_cmp source) sources.now ≡ false)
         (λ p. (p < length sources.now) × ((d : Source) → slice_index_or sources.now p d ≡ source)) }

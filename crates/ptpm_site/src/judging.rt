@@ -1,14 +1,20 @@
 //! What is wrong with the clocks of a site. Findings are in order of the domain, the clock, the table of
 //! findings, and the port.
 
-ghost use Rattle.std.specs.Prelude.{◌≡◌, ◌++◌, OnOk, IfOk, is_some, length};
+ghost use Rattle.std.specs.Prelude.{◌≡◌, ◌++◌, OnOk, IfOk, is_some, length, true};
 ghost use Rattle.std.specs.List.{flat_map};
-ghost use Rattle.ptpm_site.specs.Findings.{findings_of, found_above, found_here, found_of, leader_found, reported};
+ghost use Rattle.std.specs.List.Sorted.{IsStrictlySortedBy};
+ghost use Rattle.ptpm_site.specs.Answers.{source_cmp};
+ghost use Rattle.ptpm_site.specs.Evidence.{IsOf};
+ghost use Rattle.ptpm_site.specs.Findings.{findings_of, found_above, found_at, found_here, found_of, leader_found, reported};
 ghost use Rattle.ptpm_site.specs.Grandmasters.{leading_clocks};
 ghost use Rattle.ptpm_site.specs.Loops.{AreLeast, loop_of};
+ghost use Rattle.ptpm_site.specs.Reach.{IsReach};
 ghost use Rattle.ptpm_site.specs.Site.{site_answers};
 
+use crate::evidence::Evidence;
 use crate::finding::Finding;
+use crate::forest::place_among;
 use crate::grandmasters::leading;
 use crate::judging_amounts::{judge_amounts, judge_utc};
 use crate::judging_answers::judge_answers;
@@ -16,10 +22,13 @@ use crate::judging_grandmasters::{judge_grandmaster, judge_parent};
 use crate::judging_leading::judge_leader;
 use crate::judging_loops::judge_loop;
 use crate::judging_ports::{judge_intervals, judge_locks, judge_ports};
+use crate::judging_unseen::judge_unseen;
 use crate::limits::Limits;
 use crate::marks::is_marked;
+use crate::reach::Reach;
 use crate::site::Site;
 use crate::source::Source;
+use crate::subjects::subjects_of;
 use std::alloc::{AllocError, Global};
 
 /// All findings. Each loop is reported at its least clock, which is marked in `least`.
@@ -34,16 +43,21 @@ pub fn findings_of<'a>(
     ensures { IfOk result (λ found. reported found.items ≡ findings_of (site_answers site.now) limits) }
 {
     let sources = site.sources(alloc)?;
+    let subjects = subjects_of(alloc, site, sources.as_slice())?;
+    let evidence = Evidence::of(alloc, site.all_heard())?;
+    let reach = Reach::of(alloc, site.all_heard())?;
     let leading = leading(alloc, site, sources.as_slice())?;
     let given = Given {
         alloc,
         sources: sources.as_slice(),
+        evidence: &evidence,
+        reach: &reach,
         leading: leading.as_slice(),
         least,
         limits,
     };
     let mut findings = Vec::new(alloc);
-    judge_all(site, &given, &mut findings)?;
+    judge_all(site, subjects.as_slice(), &given, &mut findings)?;
     Ok(findings)
 }
 
@@ -51,7 +65,12 @@ pub fn findings_of<'a>(
 #[derive(Clone, Copy)]
 struct Given<'a> {
     alloc: Global,
+    /// All clocks that are seen.
     sources: &'a [Source],
+    /// What all lines show beside.
+    evidence: &'a Evidence,
+    /// How far the GETs went.
+    reach: &'a Reach,
     /// The clocks that lead.
     leading: &'a [Source],
     /// For each clock whether it is the least of a loop.
@@ -59,28 +78,63 @@ struct Given<'a> {
     limits: Limits,
 }
 
-/// What is wrong with each clock, one after another.
+/// What is wrong with each of these clocks, one after another.
 fn judge_all<'a>(
     site: &'a Site,
+    subjects: &[Source],
     given: &Given<'_>,
     findings: &mut Vec<Finding<'a>>,
 ) -> Result<(), AllocError>
     requires leading { given.now.leading.now ≡ leading_clocks (site_answers site.now) }
     requires sources { given.now.sources.now ≡ (site_answers site.now).clocks }
     requires least { AreLeast (site_answers site.now) given.now.least.now }
+    requires of { IsOf (site_answers site.now).heard given.now.evidence.now }
+    requires reach { IsReach (site_answers site.now).heard given.now.reach.now }
+    requires ordered { IsStrictlySortedBy source_cmp given.now.sources.now }
     ensures { OnOk result (reported findings.new.items
-        ≡ reported findings.old.items ++ flat_map (found_of (site_answers site.now) given.now.limits) given.now.sources.now) }
+        ≡ reported findings.old.items ++ flat_map (found_at (site_answers site.now) given.now.limits) subjects.now) }
 {
-    for (place, source) in given.sources.iter().enumerate() {
-        judge(
-            site,
-            *source,
-            is_marked(given.least, place),
-            given,
-            findings,
-        )?;
+    for subject in subjects {
+        judge_one(site, *subject, given, findings)?;
     }
     Ok(())
+}
+
+/// What is wrong with one clock, whether it is seen or not.
+fn judge_one<'a>(
+    site: &'a Site,
+    subject: Source,
+    given: &Given<'_>,
+    findings: &mut Vec<Finding<'a>>,
+) -> Result<(), AllocError>
+    requires leading { given.now.leading.now ≡ leading_clocks (site_answers site.now) }
+    requires sources { given.now.sources.now ≡ (site_answers site.now).clocks }
+    requires least { AreLeast (site_answers site.now) given.now.least.now }
+    requires of { IsOf (site_answers site.now).heard given.now.evidence.now }
+    requires reach { IsReach (site_answers site.now).heard given.now.reach.now }
+    requires ordered { IsStrictlySortedBy source_cmp given.now.sources.now }
+    ensures { OnOk result (reported findings.new.items
+        ≡ reported findings.old.items ++ found_at (site_answers site.now) given.now.limits subject) }
+{
+    if site.is_seen(subject) {
+        let is_least = is_least(site, subject, given);
+        judge(site, subject, is_least, given, findings)
+    } else {
+        judge_unseen(site, given.evidence, subject, given.sources, findings)
+    }
+}
+
+/// Whether a clock that is seen is the least of a loop.
+fn is_least(site: &Site, subject: Source, given: &Given<'_>) -> bool
+    requires sources { given.now.sources.now ≡ (site_answers site.now).clocks }
+    requires least { AreLeast (site_answers site.now) given.now.least.now }
+    requires ordered { IsStrictlySortedBy source_cmp given.now.sources.now }
+    ensures { (site_answers site.now).seen subject ≡ true → result ≡ is_some (loop_of (site_answers site.now) subject) }
+{
+    match place_among(given.sources, subject) {
+        Some(place) => is_marked(given.least, place),
+        None => false,
+    }
 }
 
 /// What is wrong with one clock. `is_least` says whether it is the least of a loop.
@@ -94,6 +148,7 @@ fn judge<'a>(
     requires leading { given.now.leading.now ≡ leading_clocks (site_answers site.now) }
     requires least { is_least ≡ is_some (loop_of (site_answers site.now) source) }
     requires sources { given.now.sources.now ≡ (site_answers site.now).clocks }
+    requires reach { IsReach (site_answers site.now).heard given.now.reach.now }
     ensures { OnOk result (reported findings.new.items
         ≡ reported findings.old.items ++ found_of (site_answers site.now) given.now.limits source) }
 {
@@ -103,7 +158,14 @@ fn judge<'a>(
     judge_loop(given.alloc, site, source, is_least, count, findings)?;
     judge_here(site, source, ports.as_slice(), given, findings)?;
     judge_leader(site, source, given.sources, given.limits, findings)?;
-    judge_answers(given.alloc, site, source, ports.as_slice(), findings)?;
+    judge_answers(
+        given.alloc,
+        site,
+        given.reach,
+        source,
+        ports.as_slice(),
+        findings,
+    )?;
     Ok(())
 }
 

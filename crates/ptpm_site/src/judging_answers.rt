@@ -4,8 +4,9 @@ ghost use Rattle.std.specs.Prelude.{◌≡◌, ◌++◌, [], ◌∷◌, IfOk, On
 ghost use Rattle.std.specs.List.{flat_map, list_all};
 ghost use Rattle.std.specs.Option.{option_map};
 ghost use Rattle.ptpm_site.specs.Changes.{contradiction, member_change};
-ghost use Rattle.ptpm_site.specs.Findings.{Otherwise, answers_reported, clock_sets_reported, contradictions_reported, incomplete_reported, is_of_state, member_reported, port_set_reported, reported, said, says, set_reported, twice_reported};
+ghost use Rattle.ptpm_site.specs.Findings.{Otherwise, answers_reported, clock_sets_reported, contradictions_reported, incomplete_reported, is_of_state, member_reported, offsets_reported, port_set_reported, reach_reported, reported, said, says, set_reported, twice_reported};
 ghost use Rattle.ptpm_site.specs.Following.{is_own_grandmaster};
+ghost use Rattle.ptpm_site.specs.Reach.{IsReach};
 ghost use Rattle.ptpm_site.specs.Site.{site_answers};
 
 use crate::changes::{Change, Contradiction, first_change, first_contradiction, is_said_otherwise};
@@ -13,25 +14,63 @@ use crate::clock::Received;
 use crate::completeness::missing_answers;
 use crate::finding::{Finding, What, report};
 use crate::member::{DataSet, Member, Value};
+use crate::reach::{Reach, out_of_reach};
 use crate::site::Site;
 use crate::source::Source;
+use crate::two_offsets::two_offsets;
 use std::alloc::{AllocError, Global};
 
-/// `incomplete`, `changed` and `identity_twice`. `ports` are the clock's ports that answered.
+/// `incomplete`, `out_of_reach`, `changed` and `identity_twice`. `ports` are the clock's ports that answered.
 #[tactic(auto, unfolding(crate::specs::Findings::answers_reported))]
 pub fn judge_answers<'a>(
     alloc: Global,
     site: &'a Site,
+    reach: &Reach,
     source: Source,
     ports: &[u16],
     findings: &mut Vec<Finding<'a>>,
 ) -> Result<(), AllocError>
-    requires { ports.now ≡ (site_answers site.now).ports source }
+    requires ports { ports.now ≡ (site_answers site.now).ports source }
+    requires reach { IsReach (site_answers site.now).heard reach.now }
     ensures { OnOk result (reported findings.new.items ≡ reported findings.old.items ++ answers_reported (site_answers site.now) source) }
 {
     judge_missing(alloc, site, source, ports, findings)?;
+    judge_reach(site, reach, source, findings)?;
     judge_contradictions(alloc, site, source, ports, Contradiction::Changed, findings)?;
-    judge_twice(alloc, site, source, ports, findings)
+    judge_twice(alloc, site, source, ports, findings)?;
+    judge_offsets(site, source, findings)
+}
+
+/// `identity_twice`, by two offsets in each of two looks.
+#[tactic(auto, unfolding(crate::specs::Findings::offsets_reported))]
+fn judge_offsets(
+    site: &Site,
+    source: Source,
+    findings: &mut Vec<Finding<'_>>,
+) -> Result<(), AllocError>
+    ensures { OnOk result (reported findings.new.items ≡ reported findings.old.items ++ offsets_reported (site_answers site.now) source) }
+{
+    match two_offsets(site.currents(source)) {
+        Some(offsets) => report(findings, source, What::TwoOffsets(offsets)),
+        None => Ok(()),
+    }
+}
+
+/// `out_of_reach`.
+#[tactic(auto, unfolding(crate::specs::Findings::reach_reported))]
+fn judge_reach(
+    site: &Site,
+    reach: &Reach,
+    source: Source,
+    findings: &mut Vec<Finding<'_>>,
+) -> Result<(), AllocError>
+    requires { IsReach (site_answers site.now).heard reach.now }
+    ensures { OnOk result (reported findings.new.items ≡ reported findings.old.items ++ reach_reported (site_answers site.now) source) }
+{
+    match out_of_reach(site, reach, source) {
+        Some(hops) => report(findings, source, What::OutOfReach(hops)),
+        None => Ok(()),
+    }
 }
 
 /// `identity_twice`. States of ports may differ by themselves while they change: these alone are no finding.

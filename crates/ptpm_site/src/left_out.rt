@@ -23,7 +23,7 @@ pub struct LeftOut {
 
 impl Site {
     /// Keeps the first clocks, by domain and identity, and the first of their ports. The others are as if they had not
-    /// answered. If there is room for all, nothing changes.
+    /// answered, and what datagrams show beside is dropped. If there is room for all, nothing changes.
     #[tactic(auto, unfolding(crate::specs::Site::site_answers))]
     pub fn keep_first(&mut self) -> LeftOut
         ensures unchanged { is_shown_whole (site_answers self.old) ≡ true → self.new ≡ self.old }
@@ -39,6 +39,7 @@ impl Site {
         }
         let clocks = self.drop_clocks();
         let ports = self.drop_ports();
+        self.heard.truncate(0);
         LeftOut { clocks, ports }
     }
 

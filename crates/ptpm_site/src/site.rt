@@ -13,6 +13,7 @@ use crate::clock::{Clock, Received};
 use crate::data_sets::{
     CurrentDataSet, DefaultDataSet, ParentDataSet, PortDataSet, TimePropertiesDataSet,
 };
+use crate::heard::Heard;
 use crate::port_groups::PortGroup;
 use crate::source::Source;
 use std::alloc::{AllocError, Global};
@@ -22,21 +23,26 @@ use std::collections::BTreeMap;
 #[derive(Drop)]
 pub struct Site {
     pub clocks: BTreeMap<Source, Clock>,
+    /// What the datagrams show beside, in the order of the lines.
+    pub heard: Vec<Heard>,
 }
 
 impl Site {
     /// A site without answers.
     pub fn new(alloc: Global) -> Site
-        ensures { Keeps result [] }
+        ensures answers { Keeps result [] }
+        ensures heard { result.heard.items ≡ [] }
     {
         Site {
             clocks: BTreeMap::new(alloc),
+            heard: Vec::new(alloc),
         }
     }
 
     /// Takes an answer, after all earlier ones.
     pub fn take(&mut self, alloc: Global, answer: Answer) -> Result<(), AllocError>
-        ensures { OnOk result (Takes self.old self.new answer) }
+        ensures answer { OnOk result (Takes self.old self.new answer) }
+        ensures heard { OnOk result (self.new.heard ≡ self.old.heard) }
     {
         let Answer {
             source,
@@ -50,7 +56,8 @@ impl Site {
 
     /// Adds a clock that has no answers yet, unless it is there.
     fn place(&mut self, alloc: Global, source: Source) -> Result<(), AllocError>
-        ensures { OnOk result (Places self.old self.new source) }
+        ensures place { OnOk result (Places self.old self.new source) }
+        ensures heard { OnOk result (self.new.heard ≡ self.old.heard) }
     {
         if self.clocks.contains_key(&source) {
             return Ok(());
@@ -68,12 +75,21 @@ impl Site {
         content: AnswerContent,
     ) -> Result<(), AllocError>
         requires { IsSome (clock_at self.old source) }
-        ensures { OnOk result (AddsContent self.old self.new source request content) }
+        ensures content { OnOk result (AddsContent self.old self.new source request content) }
+        ensures heard { OnOk result (self.new.heard ≡ self.old.heard) }
     {
         if let Some(clock) = self.clocks.get_mut(&source) {
             clock.take(alloc, request, content)?;
         }
         Ok(())
+    }
+
+    /// What the datagrams show beside, in the order of the lines.
+    #[tactic(auto, unfolding(crate::specs::Site::site_answers))]
+    pub fn all_heard(&self) -> &[Heard]
+        ensures { result.now ≡ (site_answers self.now).heard }
+    {
+        self.heard.as_slice()
     }
 
     pub fn is_empty(&self) -> bool {

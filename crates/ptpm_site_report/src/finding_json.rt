@@ -8,10 +8,12 @@ use ptpm_site::completeness::Missing;
 use ptpm_site::differences::Differs;
 use ptpm_site::finding::{Finding, What};
 use ptpm_site::grandmasters::Masterless;
+use ptpm_site::heard::kind_name;
 use ptpm_site::leading::{Better, Leap, Untraceable, WrongOffset};
 use ptpm_site::member::state_name;
 use ptpm_site::parents::{NoMaster, Steps};
 use ptpm_site::tai_and_utc::OffByUtc;
+use ptpm_site::unseen::Absence;
 use serde_json::{Map, Value, json, put};
 use std::alloc::{AllocError, Global};
 
@@ -48,7 +50,13 @@ fn put_values(
     what: &What<'_>,
 ) -> Result<(), AllocError> {
     match what {
-        What::TwoGrandmasters => Ok(()),
+        What::Unseen(Absence::OwnHost) | What::TwoGrandmasters => Ok(()),
+        What::Unseen(Absence::Mute(kind)) => put(
+            map,
+            alloc,
+            "message",
+            text_value(alloc, kind_name(*kind))?,
+        ),
         What::NoMaster(why) => put_masterless(alloc, map, why),
         What::GrandmasterNotSeen(clock) => put(
             map,
@@ -134,8 +142,13 @@ fn put_values(
         What::Leap(leap) => put_leap(alloc, map, leap),
         What::BetterClock(better) => put_better(alloc, map, better),
         What::Incomplete(missing) => put_missing(alloc, map, missing),
+        What::OutOfReach(hops) => put(map, alloc, "boundaryHops", Value::from(*hops)),
         What::Changed(port, change) | What::IdentityTwice(port, change) => {
             put_change(alloc, map, *port, change)
+        }
+        What::TwoOffsets(offsets) => {
+            let both = json!(in alloc; [offsets.first, offsets.second])?;
+            put(map, alloc, "offsets", both)
         }
     }
 }

@@ -13,7 +13,17 @@ pub(crate) struct FindingName {
 }
 
 /// All names, in the order in which the findings of a clock are reported.
-pub(crate) const ALL: [FindingName; 26] = [
+pub(crate) const ALL: [FindingName; 29] = [
+    FindingName {
+        name: "own_host",
+        meaning: "The clock is the host that asks, which does not hear itself at an interface.",
+        is_critical: false,
+    },
+    FindingName {
+        name: "mute",
+        meaning: "The clock sends messages of time, and answers no management message.",
+        is_critical: false,
+    },
     FindingName {
         name: "two_grandmasters",
         meaning: "Two clocks or more of the domain give time as grandmasters.",
@@ -132,6 +142,11 @@ pub(crate) const ALL: [FindingName; 26] = [
     FindingName {
         name: "incomplete",
         meaning: "The clock did not answer all that it was asked for.",
+        is_critical: false,
+    },
+    FindingName {
+        name: "out_of_reach",
+        meaning: "The last boundary hop reached the clock: clocks behind it are not asked.",
         is_critical: false,
     },
     FindingName {

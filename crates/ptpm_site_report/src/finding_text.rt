@@ -9,11 +9,14 @@ use ptpm_site::data_sets::ClockQuality;
 use ptpm_site::differences::Differs;
 use ptpm_site::finding::{Finding, What};
 use ptpm_site::grandmasters::Masterless;
+use ptpm_site::heard::kind_name;
 use ptpm_site::leading::{Better, Leap, Untraceable, WrongOffset};
 use ptpm_site::member::state_name;
 use ptpm_site::parents::{NoMaster, Steps};
 use ptpm_site::staying::Unlocked;
 use ptpm_site::tai_and_utc::OffByUtc;
+use ptpm_site::two_offsets::TwoOffsets;
+use ptpm_site::unseen::Absence;
 use std::fmt;
 
 /// A finding in words: the domain, the clock, and what is wrong.
@@ -36,6 +39,7 @@ impl fmt::Display for Said<'_> {
     fn fmt<W: fmt::Write>(&self, f: &mut fmt::Formatter<W>) -> fmt::Result {
         f.write_str(self.0.name())?;
         match self.0 {
+            What::Unseen(unseen) => write_unseen(unseen, f),
             What::TwoGrandmasters => Ok(()),
             What::NoMaster(why) => write_masterless(why, f),
             What::GrandmasterNotSeen(clock) => write!(f, " {clock}"),
@@ -69,8 +73,25 @@ impl fmt::Display for Said<'_> {
             What::Leap(leap) => write_leap(leap, f),
             What::BetterClock(better) => write_better(better, f),
             What::Incomplete(missing) => write_missing(missing, f),
+            What::OutOfReach(hops) => {
+                write!(f, " the last of {hops} boundary hops: ")?;
+                f.write_str("clocks behind it are not asked")
+            }
             What::Changed(port, change) => write_change(*port, change, "then", f),
             What::IdentityTwice(port, change) => write_change(*port, change, "and", f),
+            What::TwoOffsets(offsets) => write_two_offsets(offsets, f),
+        }
+    }
+}
+
+fn write_unseen<W: fmt::Write>(unseen: &Absence, f: &mut fmt::Formatter<W>) -> fmt::Result {
+    match unseen {
+        Absence::OwnHost => f.write_str(
+            " is the host that asks: at an interface it does not hear itself; ask its Unix socket too",
+        ),
+        Absence::Mute(kind) => {
+            write!(f, " sends {}", kind_name(*kind))?;
+            f.write_str(", and answers no management message")
         }
     }
 }
@@ -145,6 +166,15 @@ fn write_change<W: fmt::Write>(
         after,
     } = change;
     write!(f, " {} {before}, {word} {after}", member.name())
+}
+
+fn write_two_offsets<W: fmt::Write>(
+    offsets: &TwoOffsets,
+    f: &mut fmt::Formatter<W>,
+) -> fmt::Result {
+    let TwoOffsets { first, second } = offsets;
+    let (first, second) = (Whole(*first), Whole(*second));
+    write!(f, " two offsets in one look: {first} ns and {second} ns")
 }
 
 fn write_unlocked<W: fmt::Write>(

@@ -6,6 +6,7 @@ use crate::names::Names;
 use crate::ports_text::PortsText;
 use crate::rows::{Rows, found_at, notes_of};
 use ptpm_site::clock::Clock;
+use ptpm_site::finding::Finding;
 use ptpm_site::picture::Picture;
 use ptpm_site::source::Source;
 use ptpm_site::tree::TreeRow;
@@ -62,10 +63,29 @@ pub(crate) fn lines_of(
         }
         rest = others;
     }
+    for finding in picture.findings.as_slice() {
+        if !picture.site.is_seen(finding.source) {
+            lines.push(unseen_line(alloc, finding)?)?;
+        }
+    }
     for note in notes_of(alloc, picture)? {
         lines.push(said(alloc, note))?;
     }
     Ok(lines)
+}
+
+/// A row of a clock that is not seen, with what is wrong with it.
+fn unseen_line(alloc: Global, finding: &Finding<'_>) -> Result<Line, AllocError> {
+    let mut findings = Vec::new(alloc);
+    findings.push(format!(in alloc; "{}", Said(&finding.what))?)?;
+    Ok(Line {
+        frame: Frame::Dashed,
+        depth: 0,
+        name: format!(in alloc; "not seen: {}", finding.source.clock)?,
+        follows: String::new(alloc),
+        facts: String::from_str(alloc, "did not answer")?,
+        findings,
+    })
 }
 
 /// A row that is said of the whole.

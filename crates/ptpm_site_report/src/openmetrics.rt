@@ -83,8 +83,9 @@ impl Metrics<'_, '_> {
         FINDINGS.write_head(out)?;
         for domain in 0..=u8::MAX {
             let places = self.picture.forest.places_of(domain);
-            if places.start < places.end {
-                print_counts(domain, found_in(self.picture, domain), out)?;
+            let found = found_in(self.picture, domain);
+            if places.start < places.end || !found.is_empty() {
+                print_counts(domain, found, out)?;
             }
         }
         Ok(())

@@ -183,10 +183,14 @@ fn called(
     if let Some(name) = names.get(source.clock) {
         return format!(in alloc; "{}", Printable(name));
     }
-    match picture.site.descriptions(source).last() {
-        Some(received) => format!(in alloc; "{}", Printable(received.set.text.as_str())),
-        None => String::from_str(alloc, "-"),
+    let text = match picture.site.descriptions(source).last() {
+        Some(received) => received.set.text.as_str(),
+        None => "",
+    };
+    if text.is_empty() {
+        return String::from_str(alloc, "-");
     }
+    format!(in alloc; "{}", Printable(text))
 }
 
 /// Prints the tree of each domain.

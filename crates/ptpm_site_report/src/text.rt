@@ -42,7 +42,7 @@ impl Sheet<'_, '_> {
             writeln!(out)?;
             rest = others;
         }
-        if !self.0.site.is_empty() {
+        if !self.0.site.is_empty() || !self.0.findings.is_empty() {
             self.print_findings(alloc, out)?;
         }
         let notes = notes_of(alloc, self.0).map_err(|_| Fault::OutOfMemory)?;

@@ -74,17 +74,28 @@ static void check_withheld(void) {
     }
 }
 
+/* Hands a datagram in at a clock, with what its device says; null if it is not asked to say anything. */
+static uint32_t hand_in(struct ptpm_clock *clock, uint16_t port, const struct octets *datagram, const struct ptpm_say *said,
+                        struct turn *into, size_t places, struct ptpm_changed *members) {
+    if (said == NULL)
+        return ptpm_clock_handle_changed(clock, port, datagram->at, datagram->size, into->sent, places, &into->count, members);
+    return ptpm_clock_handle_said(clock, port, datagram->at, datagram->size, said, into->sent, places, &into->count, members);
+}
+
 /* Hands a datagram in at both clocks; only at the first if that refuses it, since the second is saved. */
-static void handle(uint16_t port, const struct octets *datagram, size_t places) {
+static void handle(uint16_t port, const struct octets *datagram, const struct ptpm_say *said, size_t places) {
     static struct turn again;
     struct ptpm_clock second = { 0 };
+    struct ptpm_changed members;
     bool is_twice = restores_second(&second);
     turn.count = again.count = 1;
     memset(turn.sent, 0xee, sizeof turn.sent);
-    turn.answer = ptpm_clock_handle_changed(&clock_of_page, port, datagram->at, datagram->size, turn.sent, places, &turn.count, &changed);
+    turn.answer = hand_in(&clock_of_page, port, datagram, said, &turn, places, &changed);
     if (is_saving && (turn.answer == PTPM_ANSWERED_NEW || turn.answer == PTPM_UNSAVED)) check_withheld();
     if (is_twice && turn.answer != PTPM_UNSAVED) {
-        again.answer = ptpm_clock_handle(&second, port, datagram->at, datagram->size, again.sent, places, &again.count);
+        again.answer = said == NULL
+            ? ptpm_clock_handle(&second, port, datagram->at, datagram->size, again.sent, places, &again.count)
+            : hand_in(&second, port, datagram, said, &again, places, &members);
         if (!is_same_turn(&turn, &again) || !is_same_clock(&second)) say("the clock that was restored does something else\n");
     }
     ptpm_clock_stop(&second);
@@ -99,15 +110,30 @@ static void say_turn(void) {
     }
 }
 
-static void run_in(char *words) {
+/* Hands in the datagram of these words, and says what comes of it. */
+static void run_datagram(char *words, uint16_t port, const struct ptpm_say *said, size_t places) {
     static struct octets datagram;
-    size_t places = next_room(&words, PTPM_MOST_SENT);
-    uint16_t port = (uint16_t)next_number(&words, 0);
     read_octets(&words, &datagram);
-    handle(port, &datagram, places);
+    handle(port, &datagram, said, places);
     note_message(datagram.at, datagram.size);
     say("%s\n", answer_name(turn.answer, "0"));
     say_turn();
+}
+
+static void run_in(char *words) {
+    size_t places = next_room(&words, PTPM_MOST_SENT);
+    uint16_t port = (uint16_t)next_number(&words, 0);
+    run_datagram(words, port, NULL, places);
+}
+
+/* `in-said PORT KIND ERROR OCTETS`. */
+static void run_in_said(char *words) {
+    static struct ptpm_say said;
+    size_t places = next_room(&words, PTPM_MOST_SENT);
+    uint16_t port = (uint16_t)next_number(&words, 0);
+    said.kind = (uint8_t)next_number(&words, 0);
+    said.error = (uint16_t)next_number(&words, 0);
+    run_datagram(words, port, &said, places);
 }
 
 /* The members whose bits are set, by the names that the refusals of a start give them after BAD_. */
@@ -226,7 +252,8 @@ static void run_stop(char *words) {
 }
 
 const struct command clock_commands[] = {
-    { "clock", run_start }, { "in", run_in }, { "changed", run_changed }, { "observe", run_observe }, { "read", run_read },
+    { "clock", run_start }, { "in", run_in }, { "in-said", run_in_said }, { "changed", run_changed }, { "observe", run_observe },
+    { "read", run_read },
     { "image", run_image }, { "restore", run_restore }, { "saving", run_saving }, { "image-of", run_image_of }, { "saved", run_saved },
     { "stop", run_stop }, { NULL, NULL },
 };

@@ -8,7 +8,8 @@
 
 struct command { const char *name; void (*run)(char *words); };
 
-extern const struct command clock_commands[], damage_commands[], session_commands[], survey_commands[], asker_commands[], text_commands[];
+extern const struct command clock_commands[], device_commands[], damage_commands[], session_commands[], survey_commands[],
+    asker_commands[], seal_commands[], text_commands[];
 
 /* The clock of the page, and how it started. */
 extern struct ptpm_clock clock_of_page;

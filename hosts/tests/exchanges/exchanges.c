@@ -42,7 +42,8 @@ static const struct command own_commands[] = { { "name", run_name }, { NULL, NUL
 
 static void run_command(char *words) {
     static const struct command *const tables[] = {
-        own_commands, clock_commands, damage_commands, session_commands, survey_commands, asker_commands, text_commands,
+        own_commands, clock_commands, device_commands, damage_commands, session_commands, survey_commands, asker_commands, seal_commands,
+        text_commands,
     };
     const char *name = next_word(&words);
     for (size_t i = 0; name != NULL && i < sizeof tables / sizeof *tables; i++) {

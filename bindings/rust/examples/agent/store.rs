@@ -15,10 +15,6 @@ extern "C" {
     fn flock(file: c_int, operation: c_int) -> c_int;
 }
 
-/// What the seal begins with. Then come the count of saves, 8 octets, and the CRC-32 of all before it, 4 octets.
-const MARK: &[u8] = b"ptps";
-const SEAL_OCTETS: usize = 16;
-
 /// The file of a clock's image.
 pub struct Store {
     path: PathBuf,
@@ -68,15 +64,10 @@ impl Store {
             Err(error) if error.kind() == ErrorKind::NotFound => return Ok(None),
             Err(error) => return Err(of(&self.path)(error)),
         };
-        let image = octets.len().saturating_sub(SEAL_OCTETS);
-        let (sealed, crc) = octets.split_at(octets.len().saturating_sub(4));
-        if let Some(saves) = octets[image..].strip_prefix(MARK).and_then(|rest| rest.first_chunk()) {
-            if crc != crc_of(sealed).to_be_bytes() {
-                return Err(of(&self.path)(io::Error::new(ErrorKind::InvalidData, "the file is damaged")));
-            }
-            self.saves = u64::from_be_bytes(*saves);
-            octets.truncate(image);
-        }
+        let sealed = ptpm::unseal(&octets).map_err(|error| of(&self.path)(io::Error::new(ErrorKind::InvalidData, error.to_string())))?;
+        let size = sealed.image.len();
+        self.saves = sealed.count;
+        octets.truncate(size);
         Ok(Some(octets))
     }
 
@@ -84,17 +75,10 @@ impl Store {
     /// before. After an error it may have either.
     pub fn save(&mut self, image: &[u8]) -> io::Result<()> {
         self.saves += 1;
-        let mut octets = [image, MARK, &self.saves.to_be_bytes()].concat();
-        octets.extend(crc_of(&octets).to_be_bytes());
+        let mut octets = [image, &[0; ptpm::SEAL_OCTETS]].concat();
+        ptpm::seal(&mut octets, image.len(), self.saves).map_err(io::Error::other)?;
         replace(&self.path, &self.folder, &octets).map_err(of(&self.path))
     }
-}
-
-/// The CRC-32 of IEEE 802.3, with its bits in reverse order.
-fn crc_of(octets: &[u8]) -> u32 {
-    !octets.iter().fold(u32::MAX, |crc, octet| {
-        (0..8).fold(crc ^ u32::from(*octet), |crc, _| crc >> 1 ^ if crc & 1 == 1 { 0xedb8_8320 } else { 0 })
-    })
 }
 
 /// Has the file at a path, in this folder, have these octets.

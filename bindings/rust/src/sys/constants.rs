@@ -98,6 +98,16 @@ pub const PTPM_CHANGED_LOG_SYNC: u8 = 1 << 5;
 pub const PTPM_CHANGED_DELAY_MECHANISM: u8 = 1 << 6;
 pub const PTPM_CHANGED_LOG_MIN_PDELAY: u8 = 1 << 7;
 
+// What a device says.
+pub const PTPM_AGREES: u8 = 0;
+pub const PTPM_OBJECTS: u8 = 1;
+
+// The errors that a device may give.
+pub const PTPM_ERROR_WRONG_VALUE: u16 = 4;
+pub const PTPM_ERROR_NOT_SETABLE: u16 = 5;
+pub const PTPM_ERROR_NOT_SUPPORTED: u16 = 6;
+pub const PTPM_ERROR_GENERAL_ERROR: u16 = 0xfffe;
+
 // What may be asked of a clock: the actionField of a request.
 pub const PTPM_GET: u8 = 0;
 pub const PTPM_SET: u8 = 1;
@@ -109,6 +119,7 @@ pub const PTPM_MOST_READ: usize = 130;
 pub const PTPM_MOST_OCTETS: usize = 1472;
 pub const PTPM_SESSION_IMAGE_OCTETS: usize = 1478;
 pub const PTPM_CLOCK_IMAGE_OCTETS: usize = 27185;
+pub const PTPM_SEAL_OCTETS: usize = 16;
 pub const PTPM_MOST_ANSWERS: usize = 512;
 pub const PTPM_SURVEY_PORT: u16 = 65534;
 
@@ -224,6 +235,14 @@ pub const PTPM_HANDLE_NO_PORT: u32 = 33;
 pub const PTPM_HANDLE_NO_ROOM: u32 = 34;
 pub const PTPM_HANDLE_NO_MEMORY: u32 = 35;
 pub const PTPM_HANDLE_UNSAVED: u32 = 118;
+pub const PTPM_BAD_SAY: u32 = 121;
+pub const PTPM_CANT_OBJECT: u32 = 122;
+
+// `enum ptpm_asking`.
+pub const PTPM_ASKED_NOTHING: u32 = 0;
+pub const PTPM_ASKED_CHANGE: u32 = 29;
+pub const PTPM_ASKING_NO_CLOCK: u32 = 32;
+pub const PTPM_ASKING_NO_PORT: u32 = 33;
 
 // `enum ptpm_observed`.
 pub const PTPM_OBSERVED: u32 = 0;

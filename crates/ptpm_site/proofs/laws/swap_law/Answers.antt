@@ -5,4 +5,4 @@ use Rattle.ptpm_site.proofs.AnswerOrder.{alike_swapped}
 use Rattle.ptpm_site.proofs.laws.swap_law.Goals as goal
 
 pub returns : goal.returns
-returns c = λ xs ys a b apart. by_clock_alike (xs ++ a ∷ b ∷ ys) (xs ++ b ∷ a ∷ ys) (alike_swapped xs ys a b apart)
+returns c = λ xs ys a b heard apart. by_clock_alike (xs ++ a ∷ b ∷ ys) (xs ++ b ∷ a ∷ ys) heard (alike_swapped xs ys a b apart)

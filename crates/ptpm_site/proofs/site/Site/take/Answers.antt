@@ -4,10 +4,10 @@ use Rattle.ptpm_site.specs.Answers.{current_in, default_in, description_in, pare
 use Rattle.ptpm_site.specs.KeptAnswers.{added}
 use Rattle.ptpm_site.proofs.site.Site.take.Goals as goal
 
-pub returns : goal.returns
-returns c =
-    let p = c.in_ok-place.ensures in
-    let t = c.in_ok-add_content.ensures in
+pub returns-clause-answer : goal.returns-clause-answer
+returns-clause-answer c =
+    let p = c.in_ok-place.ensures.place in
+    let t = c.in_ok-add_content.ensures.content in
     let a = c.args.answer in
     record {
       clocks = t.clocks ∙ p.clocks;

@@ -1,0 +1,79 @@
+"""What a clock's device is asked, and what it says."""
+
+from __future__ import annotations
+
+import ctypes
+from dataclasses import dataclass
+from enum import IntEnum
+from typing import Any, Optional, Sequence, Tuple
+
+from . import _header as header
+from ._library import library
+from .identity import Identity, PortIdentity
+from .ids import Action, IdLike, id_of
+
+
+class Objection(IntEnum):
+    """The errors with which a device may object (15.5.4.3)."""
+
+    WRONG_VALUE = header.PTPM_ERROR_WRONG_VALUE
+    NOT_SETABLE = header.PTPM_ERROR_NOT_SETABLE
+    NOT_SUPPORTED = header.PTPM_ERROR_NOT_SUPPORTED
+    GENERAL_ERROR = header.PTPM_ERROR_GENERAL_ERROR
+
+
+class Limit:
+    """The values that the hardware of a device has, of an id at a port: those of a range, which is within -128 to 255. They are
+    values of the first octet of the dataField of a SET. Without such a range it has none: the id can't be set there. The port
+    0xFFFF is every port."""
+
+    def __init__(self, id: IdLike, port: int = 0xFFFF, values: Optional[Tuple[int, int]] = None):
+        self._limit = header.ptpm_limit(id=id_of(id), port=port)
+        if values is not None and all(-128 <= number <= 255 for number in values):
+            library.ptpm_limit_range(ctypes.byref(self._limit), *values)
+
+    def __contains__(self, octet: int) -> bool:
+        return bool(self._limit.values[octet // 8] >> octet % 8 & 1)
+
+    @staticmethod
+    def objection(limits: Sequence[Limit], asked: Asked) -> Optional[Objection]:
+        """The error with which a device objects that has these values, if it does. Only limits of the id count, and of a port that
+        is named. If one of them has no value, a SET is NOT_SETABLE, and a COMMAND is NOT_SUPPORTED. If one lacks the value of a
+        SET, that is a WRONG_VALUE."""
+        places = (header.ptpm_limit * len(limits))(*(limit._limit for limit in limits))
+        error = library.ptpm_limits_say(places, len(limits), ctypes.byref(asked.as_in_c()))
+        return Objection(error) if error else None
+
+
+@dataclass(frozen=True)
+class Asked:
+    """What a device is asked to do: a new SET or COMMAND of a manager, which the clock itself does not refuse. A COMMAND has no
+    octets. The port 0xFFFF is every port."""
+
+    manager: PortIdentity
+    number: int
+    action: Action
+    port: int
+    id: int
+    octets: bytes
+
+    @classmethod
+    def of_library(cls, question: Any) -> Asked:
+        manager = PortIdentity(Identity(bytes(question.manager)), question.manager_port)
+        octets = bytes(question.octets[: question.size])
+        return cls(manager, question.number, Action(question.action), question.port, question.id, octets)
+
+    def as_in_c(self) -> Any:
+        """The question as the library has it."""
+        question = header.ptpm_question(number=self.number, id=self.id, port=self.port, size=len(self.octets), action=self.action)
+        question.manager[:] = self.manager.clock.octets
+        question.manager_port = self.manager.port
+        question.octets[: len(self.octets)] = self.octets
+        return question
+
+
+def say_of(objection: Optional[Objection]) -> Any:
+    """What a device says, as the library takes it: it agrees if there is no objection."""
+    if objection is None:
+        return header.ptpm_say(kind=header.PTPM_AGREES)
+    return header.ptpm_say(kind=header.PTPM_OBJECTS, error=Objection(objection))

@@ -1,0 +1,222 @@
+//! What a clock's device is asked, and what it says.
+
+use crate::changed::Changed;
+use crate::clock::{Clock, Turn};
+use crate::error::{judged, Error};
+use crate::id::ManagementId;
+use crate::identity::{Identity, PortIdentity};
+use crate::outbox::Outbox;
+use crate::session::Action;
+use crate::sys;
+use core::fmt;
+use core::mem::MaybeUninit;
+use core::ops::RangeInclusive;
+
+/// The most octets of the dataField of a SET that a device is asked about.
+const MOST_ASKED: usize = 130;
+
+/// What a device is asked to do: a new SET or COMMAND of a manager, which the clock itself does not refuse.
+#[derive(Clone, Copy)]
+pub struct Asked {
+    question: sys::ptpm_question,
+}
+
+impl Asked {
+    /// sourcePortIdentity of the request.
+    pub const fn manager(&self) -> PortIdentity {
+        PortIdentity { clock: Identity(self.question.manager), port: self.question.manager_port }
+    }
+
+    /// sequenceId of the request.
+    pub const fn number(&self) -> u16 {
+        self.question.number
+    }
+
+    /// Its managementId.
+    pub const fn id(&self) -> ManagementId {
+        ManagementId(self.question.id)
+    }
+
+    /// portNumber of its target; 0xFFFF is every port.
+    pub const fn port(&self) -> u16 {
+        self.question.port
+    }
+
+    /// A SET or a COMMAND.
+    pub const fn action(&self) -> Action {
+        if self.question.action == sys::PTPM_COMMAND {
+            Action::Command
+        } else {
+            Action::Set
+        }
+    }
+
+    /// The dataField of a SET. A COMMAND has none.
+    pub fn octets(&self) -> &[u8] {
+        &self.question.octets[..usize::from(self.question.size)]
+    }
+}
+
+impl fmt::Debug for Asked {
+    fn fmt(&self, to: &mut fmt::Formatter<'_>) -> fmt::Result {
+        to.debug_struct("Asked")
+            .field("manager", &self.manager())
+            .field("number", &self.number())
+            .field("action", &self.action())
+            .field("port", &self.port())
+            .field("id", &self.id())
+            .field("octets", &self.octets())
+            .finish()
+    }
+}
+
+/// The errors with which a device may object (15.5.4.3).
+#[allow(missing_docs)] // the standard's names
+#[derive(Clone, Copy, Debug, PartialEq, Eq, Hash)]
+#[repr(u16)]
+pub enum Objection {
+    WrongValue = sys::PTPM_ERROR_WRONG_VALUE,
+    NotSetable = sys::PTPM_ERROR_NOT_SETABLE,
+    NotSupported = sys::PTPM_ERROR_NOT_SUPPORTED,
+    GeneralError = sys::PTPM_ERROR_GENERAL_ERROR,
+}
+
+impl Objection {
+    /// The objection of this managementErrorId.
+    const fn of_number(number: u16) -> Option<Self> {
+        match number {
+            sys::PTPM_ERROR_WRONG_VALUE => Some(Self::WrongValue),
+            sys::PTPM_ERROR_NOT_SETABLE => Some(Self::NotSetable),
+            sys::PTPM_ERROR_NOT_SUPPORTED => Some(Self::NotSupported),
+            sys::PTPM_ERROR_GENERAL_ERROR => Some(Self::GeneralError),
+            _ => None,
+        }
+    }
+}
+
+/// The values that the hardware of a device has, of an id at a port. They are values of the first octet of the dataField of a SET.
+#[derive(Clone, Copy)]
+#[repr(transparent)]
+pub struct Limit {
+    limit: sys::ptpm_limit,
+}
+
+impl Limit {
+    /// No value: at this port the id can't be set, and its COMMAND is not supported. The port 0xFFFF is every port.
+    pub const fn none(id: ManagementId, port: u16) -> Self {
+        Self { limit: sys::ptpm_limit { id: id.0, port, values: [0; 32] } }
+    }
+
+    /// Exactly the values of a range, which is within -128 to 255. Any other range has no value. A number below 0 has the octet of
+    /// an Integer8.
+    pub fn of_range(id: ManagementId, port: u16, values: RangeInclusive<i32>) -> Self {
+        let mut limit = Self::none(id, port);
+        // SAFETY: the limit may be written.
+        unsafe { sys::ptpm_limit_range(&mut limit.limit, *values.start(), *values.end()) };
+        limit
+    }
+
+    /// Whether it has this octet among its values.
+    pub const fn has(&self, octet: u8) -> bool {
+        self.limit.values[octet as usize / 8] >> (octet % 8) & 1 == 1
+    }
+
+    /// The error with which a device objects that has these values. Only limits of the id count, and of a port that is named. If one
+    /// of them has no value, a SET is NOT_SETABLE, and a COMMAND is NOT_SUPPORTED. If one lacks the value of a SET, that is a
+    /// WRONG_VALUE.
+    pub fn objection(limits: &[Self], asked: &Asked) -> Option<Objection> {
+        // SAFETY: the limits and the question may be read. A limit is laid out as that of the library.
+        Objection::of_number(unsafe { sys::ptpm_limits_say(limits.as_ptr().cast(), limits.len(), &asked.question) })
+    }
+}
+
+impl fmt::Debug for Limit {
+    fn fmt(&self, to: &mut fmt::Formatter<'_>) -> fmt::Result {
+        to.debug_struct("Limit")
+            .field("id", &ManagementId(self.limit.id))
+            .field("port", &self.limit.port)
+            .field("values", &self.limit.values)
+            .finish()
+    }
+}
+
+/// What a device says of a datagram.
+#[derive(Clone, Copy, Debug, Default, PartialEq, Eq, Hash)]
+pub enum Say {
+    /// It agrees, or has nothing to say.
+    #[default]
+    Agrees,
+    /// It can't do what it is asked.
+    Objects(Objection),
+}
+
+impl From<Option<Objection>> for Say {
+    fn from(objection: Option<Objection>) -> Self {
+        objection.map_or(Self::Agrees, Self::Objects)
+    }
+}
+
+impl Say {
+    /// What it says, as the library takes it.
+    const fn as_in_c(self) -> sys::ptpm_say {
+        let (kind, error) = match self {
+            Self::Agrees => (sys::PTPM_AGREES, 0),
+            Self::Objects(objection) => (sys::PTPM_OBJECTS, objection as u16),
+        };
+        sys::ptpm_say { error, size: 0, kind, octets: [0; 1418] }
+    }
+}
+
+impl Clock {
+    /// What a datagram would have the device do, if it came in now at this port. It is nothing for any datagram but a new SET or
+    /// COMMAND of a manager, which the clock itself does not refuse. Nothing changes.
+    ///
+    /// # Errors
+    ///
+    /// [`Error::NoPort`]: the clock lacks the port.
+    pub fn ask(&self, port: u16, datagram: &[u8]) -> Result<Option<Asked>, Error> {
+        let mut question = sys::ptpm_question {
+            manager: [0; 8],
+            manager_port: 0,
+            number: 0,
+            id: 0,
+            port: 0,
+            size: 0,
+            action: 0,
+            octets: [0; MOST_ASKED],
+        };
+        // SAFETY: the datagram may be read, and the question may be written.
+        let number =
+            judged(unsafe { sys::ptpm_clock_ask(self.handle_ref(), port, datagram.as_ptr(), datagram.len(), &mut question) })?;
+        Ok((number == sys::PTPM_ASKED_CHANGE).then_some(Asked { question }))
+    }
+
+    /// Does what [`Clock::handle_changed`] does, with what the device says. If it objects where [`Clock::ask`] would say what it is
+    /// asked, the request is answered and kept with that error, and no member changes. Each later copy gets that answer. If the
+    /// device is not asked, what it says does not count.
+    ///
+    /// # Errors
+    ///
+    /// As those of [`Clock::handle`].
+    pub fn handle_said<'a>(
+        &mut self,
+        port: u16,
+        datagram: &[u8],
+        say: Say,
+        outbox: &'a mut Outbox,
+    ) -> Result<(Turn<'a>, Changed), Error> {
+        let mut count = MaybeUninit::uninit();
+        let mut changed = MaybeUninit::uninit();
+        let (sent, room) = outbox.room();
+        let (octets, size, say) = (datagram.as_ptr(), datagram.len(), say.as_in_c());
+        // SAFETY: the datagram and what is said may be read, and the places, the count and what changed may be written; the places
+        // are borrowed mutably, so they lie apart from the rest.
+        let number = judged(unsafe {
+            let (count, changed) = (count.as_mut_ptr(), changed.as_mut_ptr());
+            sys::ptpm_clock_handle_said(self.handle_mut(), port, octets, size, &say, sent, room, count, changed)
+        })?;
+        // SAFETY: the call has written the count, as many places, and what changed.
+        let (messages, changed) = unsafe { (outbox.messages(count.assume_init()), changed.assume_init()) };
+        Ok((Turn::of(number, messages), changed.into()))
+    }
+}

@@ -1,0 +1,3 @@
+pub mod CrcLemmas
+pub mod Remainders
+pub mod SealLaws

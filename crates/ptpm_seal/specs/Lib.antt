@@ -1,0 +1,4 @@
+pub mod Crc
+pub mod Sealing
+pub mod Places
+pub mod NewestImage

@@ -1,0 +1,13 @@
+-- The set has what was heard, and nothing else.
+use Rattle.std.proofs.Common.{◌∙◌, [], ap}
+use Rattle.std.specs.BTreeSet.{insert_key, keys}
+use Rattle.std.specs.List.{fold}
+use Rattle.ptpm_site.specs.Evidence.{clock_cmp}
+use Rattle.ptpm_site.proofs.Hearing.{hosts_kept}
+use Rattle.ptpm_site.proofs.evidence.host_set.Goals as goal
+
+pub returns : goal.returns
+returns c =
+    hosts_kept c.args.heard.now (keys c.add_keys.new.set)
+    (c.in_ok-add_keys.ensures ∙ ap (λ ks. fold (insert_key clock_cmp) ks c.as_slice.result.now) c.new-set.ensures.empty
+    ∙ ap (fold (insert_key clock_cmp) []) (c.as_slice.ensures.value ∙ c.in_ok-all.ensures))

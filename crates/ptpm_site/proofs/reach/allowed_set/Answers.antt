@@ -1,0 +1,13 @@
+-- The set has what was heard, and nothing else.
+use Rattle.std.proofs.Common.{◌∙◌, [], ap}
+use Rattle.std.specs.BTreeSet.{insert_key, keys}
+use Rattle.std.specs.List.{fold}
+use Rattle.ptpm_site.specs.Reach.{allowed_cmp}
+use Rattle.ptpm_site.proofs.Reaching.{allowed_kept}
+use Rattle.ptpm_site.proofs.reach.allowed_set.Goals as goal
+
+pub returns : goal.returns
+returns c =
+    allowed_kept c.args.heard.now (keys c.add_keys.new.set)
+    (c.in_ok-add_keys.ensures ∙ ap (λ ks. fold (insert_key allowed_cmp) ks c.as_slice.result.now) c.new-set.ensures.empty
+    ∙ ap (fold (insert_key allowed_cmp) []) (c.as_slice.ensures.value ∙ c.in_ok-all.ensures))

@@ -1,0 +1,54 @@
+-- What all lines show beside what the answers say: the host that asks, the domains that were asked, and who sends by itself.
+use Rattle.std.specs.Prelude.{◌≡◌, ℕ, ◌==◌, ◌&&◌, Bool, List, Option, Some, None}
+use Rattle.std.specs.BTreeSet.{contains}
+use Rattle.std.specs.Cmp.Lexicographic.{slice_cmp}
+use Rattle.std.specs.List.{filter_map, list_any}
+use Rattle.std.specs.Ordering.{nat_cmp, ordering_then}
+use Rattle.std.specs.declared.cmp.Ordering.{Ordering}
+use Rattle.ptpm_codec.specs.Identity.{same_clock}
+use Rattle.ptpm_codec.specs.declared.identity.ClockIdentity.{ClockIdentity}
+use Rattle.ptpm_site.specs.declared.heard.Heard.{Heard}
+use Rattle.ptpm_site.specs.declared.heard.Heard.TheVariants as heard
+use Rattle.ptpm_site.specs.declared.heard.Sender.{Sender}
+use Rattle.ptpm_site.specs.declared.evidence.Evidence.{Evidence}
+use Rattle.ptpm_site.specs.Answers.{same_source, source_cmp}
+
+-- the clock to which an answer goes is that of the host that asks
+abbrev pub host_in : Heard → Option ClockIdentity
+host_in (heard.Answered t) = Some t.request.target.clock
+host_in _ = None
+
+abbrev pub is_host_of : List Heard → ClockIdentity → Bool
+is_host_of all clock = list_any (same_clock clock) (filter_map host_in all)
+
+-- the domain that a GET asks in
+abbrev pub domain_in : Heard → Option ℕ
+domain_in (heard.Asked q) = Some q.domain
+domain_in _ = None
+
+abbrev pub is_asked : List Heard → ℕ → Bool
+is_asked all domain = list_any (λ d. domain == d) (filter_map domain_in all)
+
+-- the senders, each with the type of what it sends
+abbrev pub sent_in : Heard → Option Sender
+sent_in (heard.Sent s) = Some s
+sent_in _ = None
+
+abbrev pub same_sender : Sender → Sender → Bool
+same_sender a b = same_source a.source b.source && a.kind == b.kind
+
+abbrev pub is_sent : List Heard → Sender → Bool
+is_sent all sender = list_any (same_sender sender) (filter_map sent_in all)
+
+-- ---- what is kept of it, for quick answers
+
+abbrev pub clock_cmp : ClockIdentity → ClockIdentity → Ordering
+clock_cmp a b = slice_cmp nat_cmp a.0 b.0
+
+abbrev pub sender_cmp : Sender → Sender → Ordering
+sender_cmp a b = ordering_then (source_cmp a.source b.source) (nat_cmp a.kind b.kind)
+
+pub record IsOf (all : List Heard) (e : Evidence) : Type 0 where
+  pub hosts : (c : ClockIdentity) → contains clock_cmp e.hosts c ≡ is_host_of all c
+  pub domains : (d : ℕ) → contains nat_cmp e.domains d ≡ is_asked all d
+  pub senders : (s : Sender) → contains sender_cmp e.senders s ≡ is_sent all s

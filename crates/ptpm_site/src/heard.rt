@@ -1,0 +1,159 @@
+//! What datagrams show beside what the answers say: who asked, how far each answer came, and which clocks send by themselves.
+
+ghost use Rattle.std.specs.Prelude.{◌≡◌};
+ghost use Rattle.std.specs.Option.{option_map};
+ghost use Rattle.ptpm_site.specs.Heard.{get_in, heard_in, heard_of, is_of_sender, sender_in, travel_in};
+
+use crate::answer::{Request, request_of, source_of};
+use crate::asked::Asked;
+use crate::source::Source;
+use ptpm_codec::{Action, View, port_identity_at, view};
+
+/// A GET of one of the six ids.
+#[derive(Clone, Copy)]
+pub struct Query {
+    pub domain: u8,
+    /// Who asks, and with which sequenceId.
+    pub request: Request,
+    /// startingBoundaryHops.
+    pub hops: u8,
+}
+
+/// A request, and with how many boundary hops it was sent.
+#[derive(Clone, Copy, PartialEq, Eq, PartialOrd, Ord)]
+pub struct Allowed {
+    pub request: Request,
+    /// startingBoundaryHops.
+    pub hops: u8,
+}
+
+/// An answer on its way.
+#[derive(Clone, Copy)]
+pub struct Travel {
+    pub source: Source,
+    pub request: Request,
+    /// startingBoundaryHops.
+    pub starting_hops: u8,
+    /// boundaryHops.
+    pub hops: u8,
+}
+
+/// A clock that sends messages of a type.
+#[derive(Clone, Copy, PartialEq, Eq, PartialOrd, Ord)]
+pub struct Sender {
+    pub source: Source,
+    /// messageType.
+    pub kind: u8,
+}
+
+/// What one datagram shows.
+#[derive(Clone, Copy)]
+pub enum Heard {
+    /// A GET.
+    Asked(Query),
+    /// An answer to a GET.
+    Answered(Travel),
+    /// An Announce, Sync or Follow_Up.
+    Sent(Sender),
+}
+
+impl Heard {
+    /// What a datagram shows. `None` if it is none of these.
+    pub fn of(datagram: &[u8]) -> Option<Heard>
+        ensures { result ≡ heard_in datagram.now }
+    {
+        match view(datagram) {
+            Ok(message) => heard_of(&message),
+            Err(_) => sent_in(datagram),
+        }
+    }
+}
+
+/// What a datagram that is no management message shows.
+fn sent_in(datagram: &[u8]) -> Option<Heard>
+    ensures { result ≡ option_map Heard.Sent (sender_in datagram.now) }
+{
+    sender_in(datagram).map(Heard::Sent)
+}
+
+/// What a management message shows.
+fn heard_of(message: &View<'_>) -> Option<Heard>
+    ensures { result ≡ heard_of message.now }
+{
+    let _ = Asked::of_id(message.id())?;
+    match message.action() {
+        Action::Get => Some(Heard::Asked(get_in(message))),
+        Action::Response => Some(Heard::Answered(travel_in(message))),
+        _ => None,
+    }
+}
+
+fn get_in(message: &View<'_>) -> Query
+    ensures { result ≡ get_in message.now }
+{
+    Query {
+        domain: message.domain(),
+        request: Request {
+            target: message.source(),
+            number: message.number(),
+        },
+        hops: message.starting_hops(),
+    }
+}
+
+fn travel_in(message: &View<'_>) -> Travel
+    ensures { result ≡ travel_in message.now }
+{
+    Travel {
+        source: source_of(message),
+        request: request_of(message),
+        starting_hops: message.starting_hops(),
+        hops: message.hops(),
+    }
+}
+
+/// messageType of Announce.
+pub const ANNOUNCE: u8 = 11;
+
+/// messageType of Sync.
+pub const SYNC: u8 = 0;
+
+/// messageType of Follow_Up.
+pub const FOLLOW_UP: u8 = 8;
+
+/// Whether a port in MASTER sends messages of a type by itself (table 36).
+fn is_of_sender(kind: u8) -> bool
+    ensures { result ≡ is_of_sender kind }
+{
+    kind == ANNOUNCE || kind == SYNC || kind == FOLLOW_UP
+}
+
+/// The clock that sends an Announce, a Sync or a Follow_Up with sdoId 0 (13.3).
+fn sender_in(datagram: &[u8]) -> Option<Sender>
+    ensures { result ≡ sender_in datagram.now }
+{
+    if datagram.len() < 34 {
+        return None;
+    }
+    let sdo = datagram[0] as u16 / 16 * 256 + datagram[5] as u16;
+    let kind = datagram[0] % 16;
+    if sdo != 0 || datagram[1] % 16 != 2 || !is_of_sender(kind) {
+        return None;
+    }
+    Some(Sender {
+        source: Source {
+            domain: datagram[4],
+            clock: port_identity_at(datagram, 20).clock,
+        },
+        kind,
+    })
+}
+
+/// The standard's name of a messageType.
+pub fn kind_name(kind: u8) -> &'static str {
+    match kind {
+        ANNOUNCE => "Announce",
+        SYNC => "Sync",
+        _ => "Follow_Up",
+    }
+}

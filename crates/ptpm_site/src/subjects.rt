@@ -1,0 +1,78 @@
+//! The clocks that may have findings, whether they are seen or not.
+
+ghost use Rattle.std.specs.Prelude.{◌≡◌, ◌++◌, IfOk, OnOk, map};
+ghost use Rattle.std.specs.BTreeSet.{insert_key, keys};
+ghost use Rattle.std.specs.List.{filter_map, flat_map, fold};
+ghost use Rattle.ptpm_site.specs.Answers.{source_cmp};
+ghost use Rattle.ptpm_site.specs.Evidence.{sent_in};
+ghost use Rattle.ptpm_site.specs.Site.{site_answers};
+ghost use Rattle.ptpm_site.specs.Unseen.{named_by, subjects};
+
+use crate::evidence::senders;
+use crate::heard::Sender;
+use crate::sets::add_keys;
+use crate::site::Site;
+use crate::source::Source;
+use std::alloc::{AllocError, Global};
+use std::collections::BTreeSet;
+
+/// The clocks that are seen, those that they name, and those that send by themselves, by domain and identity. `sources` has all
+/// clocks that are seen.
+pub fn subjects_of(
+    alloc: Global,
+    site: &Site,
+    sources: &[Source],
+) -> Result<Vec<Source>, AllocError>
+    requires { sources.now ≡ (site_answers site.now).clocks }
+    ensures { IfOk result (λ found. found.items ≡ subjects (site_answers site.now)) }
+{
+    let set = subject_set(alloc, site, sources)?;
+    set.iter().copied().collect(alloc)
+}
+
+fn subject_set(
+    alloc: Global,
+    site: &Site,
+    sources: &[Source],
+) -> Result<BTreeSet<Source>, AllocError>
+    requires { sources.now ≡ (site_answers site.now).clocks }
+    ensures { IfOk result (λ set. keys set ≡ subjects (site_answers site.now)) }
+{
+    let mut found = BTreeSet::new(alloc);
+    add_keys(&mut found, sources)?;
+    add_named(site, sources, &mut found)?;
+    let heard = senders(alloc, site.all_heard())?;
+    let sending = sources_of(alloc, heard.as_slice())?;
+    add_keys(&mut found, sending.as_slice())?;
+    Ok(found)
+}
+
+fn add_named(
+    site: &Site,
+    sources: &[Source],
+    found: &mut BTreeSet<Source>,
+) -> Result<(), AllocError>
+    ensures { OnOk result (keys found.new ≡ fold (insert_key source_cmp) (keys found.old) (flat_map (named_by (site_answers site.now)) sources.now)) }
+{
+    for source in sources {
+        add_named_by(site, *source, found)?;
+    }
+    Ok(())
+}
+
+/// Adds the grandmaster that a clock names, and the clock of its parent.
+fn add_named_by(site: &Site, source: Source, found: &mut BTreeSet<Source>) -> Result<(), AllocError>
+    ensures { OnOk result (keys found.new ≡ fold (insert_key source_cmp) (keys found.old) (named_by (site_answers site.now) source)) }
+{
+    if let Some(set) = site.parent(source) {
+        found.insert(source.beside(set.grandmaster))?;
+        found.insert(source.beside(set.parent.clock))?;
+    }
+    Ok(())
+}
+
+fn sources_of(alloc: Global, senders: &[Sender]) -> Result<Vec<Source>, AllocError>
+    ensures { IfOk result (λ found. found.items ≡ map (λ x. x.source) senders.now) }
+{
+    senders.iter().map(|sender| sender.source).collect(alloc)
+}

@@ -1,0 +1,74 @@
+//! Two clocks with one identity, which answer with two offsets each time.
+
+ghost use Rattle.std.specs.Prelude.{◌≡◌, find, reverse};
+ghost use Rattle.std.specs.Option.{option_copied};
+ghost use Rattle.ptpm_site.specs.PortStates.{is_another};
+ghost use Rattle.ptpm_site.specs.TwoOffsets.{is_other_answer, is_other_time, look_before, other_answer, two_offsets, two_offsets_by};
+
+use crate::clock::Received;
+use crate::data_sets::CurrentDataSet;
+
+/// Two values of offsetFromMaster that came to one request.
+#[derive(Clone, Copy)]
+pub struct TwoOffsets {
+    pub first: i64,
+    pub second: i64,
+}
+
+/// Whether an offset or a delay differs.
+fn is_other_time(a: &CurrentDataSet, b: &CurrentDataSet) -> bool
+    ensures { result ≡ is_other_time a.now b.now }
+{
+    a.offset_from_master != b.offset_from_master || a.mean_delay != b.mean_delay
+}
+
+/// Whether an answer came to the request of another, and says another offset or delay.
+fn is_other_answer(one: &Received<CurrentDataSet>, other: &Received<CurrentDataSet>) -> bool
+    ensures { result ≡ is_other_answer one.now other.now }
+{
+    other.request == one.request && is_other_time(&other.set, &one.set)
+}
+
+/// The first of these answers that came to the request of one, and says another offset or delay.
+fn other_answer<'a>(
+    received: &'a [Received<CurrentDataSet>],
+    one: &Received<CurrentDataSet>,
+) -> Option<&'a Received<CurrentDataSet>>
+    ensures { option_copied result ≡ other_answer received.now one.now }
+{
+    received.iter().find(|other| is_other_answer(one, other))
+}
+
+/// The latest of these answers to another request of the requester of one.
+fn look_before<'a>(
+    received: &'a [Received<CurrentDataSet>],
+    one: &Received<CurrentDataSet>,
+) -> Option<&'a Received<CurrentDataSet>>
+    ensures { option_copied result ≡ look_before received.now one.now }
+{
+    received.iter().rev().find(|earlier| {
+        earlier.request.target == one.request.target && earlier.request.number != one.request.number
+    })
+}
+
+/// Two offsets in the last look, if there were two in the look before as well.
+pub fn two_offsets(received: &[Received<CurrentDataSet>]) -> Option<TwoOffsets>
+    ensures { result ≡ two_offsets received.now }
+{
+    two_offsets_by(received, received.last()?)
+}
+
+fn two_offsets_by(
+    received: &[Received<CurrentDataSet>],
+    last: &Received<CurrentDataSet>,
+) -> Option<TwoOffsets>
+    ensures { result ≡ two_offsets_by received.now last.now }
+{
+    let other = other_answer(received, last)?;
+    let before = look_before(received, last)?;
+    let _ = other_answer(received, before)?;
+    Some(TwoOffsets {
+        first: other.set.offset_from_master,
+        second: last.set.offset_from_master,
+    })
+}

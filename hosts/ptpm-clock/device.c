@@ -1,0 +1,174 @@
+#define _GNU_SOURCE
+#include "device.h"
+#include "device_limits.h"
+#include "device_program.h"
+#include "message_places.h"
+#include "names.h"
+#include "output.h"
+#include "source.h"
+#include <stdlib.h>
+#include <string.h>
+
+bool has_device;
+
+static const struct options *options;
+static struct source source;
+static struct device_limits limits;
+static struct device_counts counts;
+
+/* Changes that wait. The program is asked about the first, which is then decided and taken. A manager has one of them at most. */
+static struct copy waiting[MANAGERS];
+static size_t first, count;
+enum state { WAITS, IS_ASKED, IS_DECIDED, IS_TAKEN };
+static enum state state;                /* of the first */
+static struct ptpm_say said;            /* and what the device says of it, if it was asked */
+static bool is_said;
+
+/* What the file says, if it has changed: limits, or something that is wrong. */
+enum file_says { SAYS_NOTHING, SAYS_LIMITS, IS_WRONG };
+
+static enum file_says take_limits(void) {
+    static struct device_limits found;
+    static char empty[1];
+    char *text = empty;
+    read_source(&source);
+    bool is_empty = is_empty_file(&source), has_text = next_text(&source, &text);
+    if (!has_text && !is_empty) return SAYS_NOTHING;
+    if (!read_device_limits(&found, ports_of(options), source.path, text)) return IS_WRONG;
+    limits = found;
+    return SAYS_LIMITS;
+}
+
+void start_device(const struct options *given) {
+    options = given;
+    has_device = options->limits_file != NULL || options->device_program != NULL;
+    if (options->limits_file == NULL) return;
+    open_file_source(&source, options->limits_file);
+    if (take_limits() != SAYS_LIMITS) exit(2);
+}
+
+int limits_event(void) { return options->limits_file != NULL ? source.polled : -1; }
+
+void read_limits(void) {
+    switch (take_limits()) {
+    case SAYS_NOTHING: break;
+    case SAYS_LIMITS:
+        if (options->is_verbose) print_line("limits read: %zu", limits.count);
+        break;
+    case IS_WRONG: say_at_times("%s: the limits stay as they were", source.path);
+    }
+}
+
+void follow_limits(void) {
+    if (options->limits_file != NULL && follow_source(&source)) read_limits();
+}
+
+static void object(struct ptpm_say *say, uint16_t error) {
+    say->kind = PTPM_OBJECTS;
+    say->error = error;
+    counts.objected++;
+}
+
+const struct ptpm_say *objection_of_limits(const struct ptpm_question *asked) {
+    static struct ptpm_say objection;
+    uint16_t error = ptpm_limits_say(limits.all, limits.count, asked);
+    if (error == 0) return NULL;
+    object(&objection, error);
+    return &objection;
+}
+
+bool has_program(void) { return options->device_program != NULL; }
+
+bool is_manager_waiting(const struct heard *heard) {
+    for (size_t i = state == IS_TAKEN ? 1 : 0; i < count; i++) {
+        const uint8_t *octets = waiting[(first + i) % MANAGERS].held.heard.octets;
+        if (memcmp(octets + SOURCE_AT, heard->octets + SOURCE_AT, SEQUENCE_AT - SOURCE_AT) == 0) return true;
+    }
+    return false;
+}
+
+void wait_for_program(const struct held *change) {
+    if (count == MANAGERS) counts.passed_over++;        /* the first is taken, and its manager has sent another */
+    else copy_held(&waiting[(first + count++) % MANAGERS], &change->heard, change->port);
+}
+
+static struct held *first_in(enum state wanted) { return count > 0 && state == wanted ? &waiting[first].held : NULL; }
+
+const struct held *change_to_ask(void) { return first_in(WAITS); }
+
+void ask_program(const struct ptpm_question *asked) {
+    start_run(asked);
+    state = IS_ASKED;
+}
+
+void decide_change(const struct ptpm_say *say) {
+    is_said = say != NULL;
+    if (is_said) said = *say;
+    state = IS_DECIDED;
+}
+
+/* The error that a status of the program is: that of its number, or a general one. */
+static uint16_t error_of(int status) {
+    switch (status) {
+    case PTPM_ERROR_WRONG_VALUE: case PTPM_ERROR_NOT_SETABLE: case PTPM_ERROR_NOT_SUPPORTED: return (uint16_t)status;
+    default: return PTPM_ERROR_GENERAL_ERROR;
+    }
+}
+
+static void let_go_of_first(void) {
+    first = (first + 1) % MANAGERS;
+    count--;
+    state = WAITS;
+}
+
+/* It said nothing, so the change counts as lost, and its manager sends it again. */
+static void drop_change(const char *why) {
+    say_at_times("%s %s, and the change counts as lost", options->device_program, why);
+    counts.silent++;
+    let_go_of_first();
+}
+
+/* It was asked, and could not answer. Nothing was done. */
+static void refuse_change(const struct run *run) {
+    struct ptpm_say say = { 0 };
+    uint16_t error = run->end == RUN_NOT_STARTED ? PTPM_ERROR_GENERAL_ERROR : error_of(run->number);
+    object(&say, error);
+    decide_change(&say);
+    if (run->end == RUN_NOT_STARTED) say_at_times("%s: %s", options->device_program, strerror(run->number));
+    else if (error == PTPM_ERROR_GENERAL_ERROR) {
+        say_at_times("%s ended with status %d: GENERAL_ERROR", options->device_program, run->number);
+    }
+    if (options->is_verbose) print_line("the device objects: %s", error_name(error));
+}
+
+void hear_program(void) {
+    static const struct ptpm_say agreement = { .kind = PTPM_AGREES };
+    struct run run;
+    if (!end_run(&run) || state != IS_ASKED) return;
+    if (run.end == RUN_TOOK_TOO_LONG) drop_change("took too long");
+    else if (run.end == RUN_KILLED) drop_change("was ended by a signal");
+    else if (run.end == RUN_NOT_STARTED || run.number != 0) refuse_change(&run);
+    else {
+        counts.agreed++;
+        decide_change(&agreement);
+        if (options->is_verbose) print_line("the device agrees");
+    }
+}
+
+const struct held *decided_change(void) { return first_in(IS_DECIDED); }
+
+struct held *take_change(const struct ptpm_say **say) {
+    struct held *change = first_in(IS_DECIDED);
+    if (change == NULL) return NULL;
+    *say = is_said ? &said : NULL;
+    state = IS_TAKEN;
+    return change;
+}
+
+void let_go_of_change(void) {
+    if (count > 0 && state == IS_TAKEN) let_go_of_first();
+}
+
+void count_passed_over(void) { counts.passed_over++; }
+
+const struct device_counts *device_counts_so_far(void) { return &counts; }

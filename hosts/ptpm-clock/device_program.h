@@ -1,0 +1,36 @@
+/* The program of the device (--ask PROGRAM), which is asked for each change. A process beside the clock starts it, one run after
+   another. That process is made before the clock has any socket, file or filter of system calls. So a run inherits none of these,
+   and may make other calls than the clock. */
+#ifndef DEVICE_PROGRAM_H
+#define DEVICE_PROGRAM_H
+
+#include "privileges.h"
+#include "ptpm.h"
+#include <stdbool.h>
+
+/* What became of a run. It exited with a status, a signal ended it, or its time was up. Or it could not be started, as an errno
+   says. */
+enum run_end { RUN_EXITED, RUN_KILLED, RUN_TOOK_TOO_LONG, RUN_NOT_STARTED };
+
+struct run { enum run_end end; int number; };
+
+/* Makes the process, which becomes the user of the clock and keeps no capability. A run takes `seconds` at most. Ends the program
+   with status 2 if that can't be had. Comes before anything is opened. */
+void open_device_program(const char *path, long seconds, const struct privileges *privileges);
+
+/* Sees that the program is there, with the rights that the clock keeps. If not, ends the clock with status 2. */
+void check_device_program(void);
+
+/* What is to be polled: it can be read once a run has ended. -1 if there is no program. */
+int device_program_event(void);
+
+/* Starts a run about a change. */
+void start_run(const struct ptpm_question *asked);
+
+/* How a run has ended; whether one has. Ends the clock with status 2 if the process beside it is gone. */
+bool end_run(struct run *run);
+
+/* Ends the run that is under way, if there is one, and the process. */
+void close_device_program(void);
+
+#endif
