@@ -393,6 +393,30 @@ class Asking(Folder):
             self.assertEqual(ptpm.Session(ptpm.SessionSettings(MANAGER, CLOCK), file).next_number, 11)
         self.assertEqual(os.stat(path).st_mode & 0o777, 0o640)
 
+    def test_a_file_that_an_apply_has_marked_is_refused(self) -> None:
+        path, journal = f"{self.folder}/session", f"{self.folder}/apply/20261127T170000.journal"
+        with open(f"{path}.apply", "w", encoding="utf-8") as mark:
+            mark.write(f"{journal}\n")
+        for _ in range(2):
+            with self.assertRaises(ptpm.OpenApplyError) as caught:
+                ptpm.SessionFile(MANAGER, CLOCK, path)
+            self.assertEqual(caught.exception.journal, journal)
+        why = f"nothing was asked: the apply of {journal} is open: ptpm-manage resume goes on with it"
+        self.assertEqual(str(caught.exception), why)
+        words = [sys.executable, "-m", "ptpm", "-u", self.path, "-m", MANAGER, "-k", path, "-T", CLOCK, "set", "PRIORITY1", "1"]
+        ran = subprocess.run(words, capture_output=True, text=True, check=False)
+        self.assertEqual((ran.returncode, ran.stdout, ran.stderr), (2, "", f"ptpm: {why}\n"))
+        self.assertEqual([name for name in sorted(os.listdir(self.folder)) if name.startswith("session")], ["session.apply"])
+        os.unlink(f"{path}.apply")
+        os.mkdir(f"{path}.apply")
+        with self.assertRaisesRegex(ptpm.OpenApplyError, "session.apply: it can't be read: an apply may be open") as caught:
+            ptpm.SessionFile(MANAGER, CLOCK, path)
+        self.assertIsNone(caught.exception.journal)
+        os.rmdir(f"{path}.apply")
+        with ptpm.SessionFile(MANAGER, CLOCK, path) as file:
+            self.assertIsNone(file.octets)
+        self.assertEqual(ptpm.get(self.way, CLOCK, "PRIORITY1").members, {"priority1": 128})
+
     def test_a_file_keeps_one_session_at_a_time(self) -> None:
         settings = ptpm.SessionSettings(MANAGER, CLOCK)
         with ptpm.SessionFile(MANAGER, CLOCK) as file:

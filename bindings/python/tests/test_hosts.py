@@ -123,7 +123,7 @@ class Hosts(Folder):
         words = [*program, "-u", path, "-m", MANAGER, "-k", file, "-T", CLOCK, "-w", "0", "-t", timeout, "-a", "2", *run.words.split()]
         fixed = {"LD_PRELOAD": self.fixed, "KILLED_BEFORE": str(run.killed_before)}
         try:
-            ended = subprocess.run(words, env={**os.environ, **fixed}, capture_output=True, text=True, timeout=60, check=False)
+            ended = subprocess.run(words, env={**os.environ, **fixed}, capture_output=True, text=True, timeout=600, check=False)
         finally:
             heard = [] if link is None else link.end()
         for left in Path(path).parent.glob("clock*"):
