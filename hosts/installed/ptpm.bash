@@ -39,7 +39,7 @@ _ptpm_last() {
 
 _ptpm() {
     local before=${COMP_WORDS[COMP_CWORD - 1]} command
-    local -a commands=(answer show ids make run check schedule draw site)
+    local -a commands=(answer show ids make run check schedule draw site plan)
     command=$(_ptpm_last "${commands[*]}")
     case $command,$before,${COMP_WORDS[COMP_CWORD]} in
     ,*) _ptpm_offer "${commands[@]}" --help --version ;;
@@ -63,14 +63,23 @@ _ptpm_offer_member() {
     _ptpm_offer "${names[@]:words / 2:1}"
 }
 
+# Offers the names of the applies whose journals are there.
+_ptpm_offer_applies() {
+    local folder=${XDG_STATE_HOME:+$XDG_STATE_HOME/ptpm}
+    [[ -n $folder ]] || if ((EUID == 0)); then folder=/var/lib/ptpm; else folder=$HOME/.local/state/ptpm; fi
+    _ptpm_offer_lines < <(cd "$folder/apply" 2> /dev/null && printf '%s\n' *.journal | sed -n 's/\.journal$//p' | grep -v '^\*$')
+}
+
 _ptpm_manage() {
     local before=${COMP_WORDS[COMP_CWORD - 1]}
-    local -a actions=(get set command survey collect status)
+    local -a actions=(get set command survey collect status plan apply resume rollback)
     case $before,${COMP_WORDS[COMP_CWORD]} in
     *,-*) _ptpm_offer_lines < <(_ptpm_options ptpm-manage) ;;
     get,* | set,* | command,* | survey,*) _ptpm_offer_lines < <(_ptpm_ids) ;;
     -i,* | --interface,*) _ptpm_offer_interfaces ;;
     -p,* | --port,*) _ptpm_offer all ;;
+    rollback,*) _ptpm_offer_applies ;;
+    plan,* | apply,*) ;;
     --max-offset,*) _ptpm_offer none ;;
     *)
         _ptpm_takes ptpm-manage "$before" || _ptpm_offer_member || [[ -n $(_ptpm_last "${actions[*]}") ]] ||

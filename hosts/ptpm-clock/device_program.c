@@ -69,12 +69,6 @@ static void open_nothing(int stream, int flags) {
     if (nothing >= FIRST) close(nothing);
 }
 
-/* What becomes of the signals that end a program from outside. */
-static void set_signals(void (*what)(int)) {
-    static const int ends[] = { SIGHUP, SIGINT, SIGTERM, SIGPIPE };
-    for (size_t i = 0; i < sizeof ends / sizeof *ends; i++) signal(ends[i], what);
-}
-
 /* In the process of a run. It ends with the process that started it. */
 _Noreturn static void become_program(char *const *words, pid_t starter) {
     static char search[] = "PATH=/usr/local/sbin:/usr/local/bin:/usr/sbin:/usr/bin:/sbin:/bin";
@@ -84,7 +78,7 @@ _Noreturn static void become_program(char *const *words, pid_t starter) {
     setsid();
     prctl(PR_SET_PDEATHSIG, (unsigned long)SIGKILL);
     if (getppid() != starter) _exit(127);
-    set_signals(SIG_DFL);
+    for (int one = 1; one < NSIG; one++) signal(one, SIG_DFL);      /* also those that were ignored when the clock began */
     sigprocmask(SIG_SETMASK, &none, NULL);
     execve(path, words, environment);
     dprintf(STDERR_FILENO, "%s: %s: %s\n", program, path, strerror(errno));
@@ -152,11 +146,12 @@ _Noreturn static void run_programs(int children) {
 
 /* What ends the clock does not end the process: it ends the run first. */
 _Noreturn static void begin_process(int shared, const struct privileges *privileges) {
+    static const int ends[] = { SIGHUP, SIGINT, SIGTERM, SIGPIPE };
     sigset_t held;
     sigemptyset(&held);
     sigaddset(&held, SIGCHLD);
     setsid();
-    set_signals(SIG_IGN);
+    for (size_t i = 0; i < sizeof ends / sizeof *ends; i++) signal(ends[i], SIG_IGN);
     signal(SIGCHLD, SIG_DFL);
     sigprocmask(SIG_SETMASK, &held, NULL);
     open_nothing(STDIN_FILENO, O_RDONLY);

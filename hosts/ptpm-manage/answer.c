@@ -48,7 +48,7 @@ static void print_error_as_json(FILE *to, uint16_t error) {
 static void print_field_as_json(FILE *to, const struct task *task, const struct answer *answer) {
     fputs(",\"status\":\"answered\",", to);
     if (task->is_in_octets) print_octets_as_json(to, answer->octets, answer->size);
-    else print_members_as_json(to, task->id, answer->octets, answer->size);
+    else print_members_as_json(to, "members", task->id, answer->octets, answer->size);
 }
 
 void print_answer_as_json(FILE *to, const struct task *task, const struct ptpm_source *source, const struct answer *answer) {
@@ -135,7 +135,7 @@ static size_t print_name_as_json(FILE *to, const char *name, bool is_first, size
     return structure;
 }
 
-void print_members_as_json(FILE *to, uint16_t id, const uint8_t *octets, size_t size) {
+void print_members_as_json(FILE *to, const char *name, uint16_t id, const uint8_t *octets, size_t size) {
     struct field_lines lines;
     struct member member;
     size_t structure = 0;
@@ -145,7 +145,7 @@ void print_members_as_json(FILE *to, uint16_t id, const uint8_t *octets, size_t 
             print_octets_as_json(to, octets, size);
             return;
         }
-        if (is_first) fputs("\"members\":{", to);
+        if (is_first) fprintf(to, "\"%s\":{", name);
         structure = print_name_as_json(to, member.name, is_first, structure);
         if (is_text(&member)) print_json_text(to, octets + 1, octets[0]);
         else print_value_as_json(to, &member);

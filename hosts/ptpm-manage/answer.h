@@ -27,9 +27,9 @@ void print_members(FILE *to, const char *lead, uint16_t id, const uint8_t *octet
 /* Prints a line of a dataField as it is: `value` and its octets in hexadecimal, or `-` if it has none. */
 void print_octets(FILE *to, const char *lead, const uint8_t *octets, size_t size);
 
-/* Prints the same as an object of JSON: `"members":` and an object of the members by their names. One that is not known is
+/* Prints the same as JSON: a name, such as `"members":`, and an object of the members by their names. A dataField that is not known is
    `"dataField":` and its octets in hexadecimal. */
-void print_members_as_json(FILE *to, uint16_t id, const uint8_t *octets, size_t size);
+void print_members_as_json(FILE *to, const char *name, uint16_t id, const uint8_t *octets, size_t size);
 
 /* Prints a dataField so as it is. */
 void print_octets_as_json(FILE *to, const uint8_t *octets, size_t size);

@@ -12,24 +12,25 @@ static bool next_other(struct field_lines *asked, struct field_lines *answered, 
     return false;
 }
 
-static void start_both(struct field_lines *asked, struct field_lines *answered, const struct task *task, const struct answer *answer) {
-    start_lines(asked, task->id, task->octets, task->size);
-    start_lines(answered, task->id, answer->octets, answer->size);
+bool has_value(uint16_t id, const uint8_t *octets, size_t size, const struct answer *answer) {
+    static struct field_lines asked, answered;
+    struct member member;
+    if (size == answer->size && memcmp(octets, answer->octets, size) == 0) return true;
+    start_lines(&asked, id, octets, size);
+    start_lines(&answered, id, answer->octets, answer->size);
+    return !next_other(&asked, &answered, &member);
 }
 
 bool is_other(const struct task *task, const struct answer *answer) {
-    static struct field_lines asked, answered;
-    struct member member;
     if (task->action != PTPM_SET || answer->outcome != PTPM_VALUE) return false;
-    if (task->size == answer->size && memcmp(task->octets, answer->octets, task->size) == 0) return false;
-    start_both(&asked, &answered, task, answer);
-    return next_other(&asked, &answered, &member);
+    return !has_value(task->id, task->octets, task->size, answer);
 }
 
 void say_other(const struct task *task, const struct answer *answer) {
     static struct field_lines asked, answered;
     struct member member;
-    start_both(&asked, &answered, task, answer);
+    start_lines(&asked, task->id, task->octets, task->size);
+    start_lines(&answered, task->id, answer->octets, answer->size);
     while (next_other(&asked, &answered, &member)) {
         complain("the answer is not what was asked: %s %s", member.name, member.value);
     }

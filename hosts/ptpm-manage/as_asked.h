@@ -7,8 +7,11 @@
 #include "task.h"
 #include <stdbool.h>
 
-/* Whether an answer is that of a SET, and has another value than was asked. The members are compared, but no reserved octets. If
-   the octets that were asked have no members here, they are compared as they are. */
+/* Whether an answer has the value of a dataField. The members are compared, but no reserved octets. If the octets have no members
+   here, they are compared as they are. */
+bool has_value(uint16_t id, const uint8_t *octets, size_t size, const struct answer *answer);
+
+/* Whether an answer is that of a SET, and has another value than was asked. */
 bool is_other(const struct task *task, const struct answer *answer);
 
 /* Says so on standard error, with each member that differs as it was asked. */

@@ -26,9 +26,15 @@ enum { TRIES = 25, TRY = 2, MOST_TIMEOUTS = 10 };
 /* In the answers: a tlvType (IEEE 1588-2019, 14.1.1), how many octets two data sets have, and the places of their members (15.5.3). */
 enum { ERROR_TLV = 2, DEFAULT_SIZE = 20, PORT_SIZE = 26, PORT_COUNT_AT = FIELD_AT + 2, FIELD_PORT_AT = FIELD_AT + 8 };
 
-static const uint16_t ids[COLLECTED] = {
+const struct collected of_site = { 6, {
     PTPM_ID_DEFAULT_DATA_SET, PTPM_ID_CURRENT_DATA_SET, PTPM_ID_PARENT_DATA_SET, PTPM_ID_TIME_PROPERTIES_DATA_SET,
     PTPM_ID_PORT_DATA_SET, PTPM_ID_USER_DESCRIPTION,
+} };
+
+/* The ids that each port of a clock answers for itself. */
+static const uint16_t of_ports[] = {
+    PTPM_ID_PORT_DATA_SET, PTPM_ID_ANNOUNCE_RECEIPT_TIMEOUT, PTPM_ID_LOG_ANNOUNCE_INTERVAL, PTPM_ID_LOG_SYNC_INTERVAL,
+    PTPM_ID_DELAY_MECHANISM, PTPM_ID_LOG_MIN_PDELAY_REQ_INTERVAL,
 };
 
 /* A request to every clock of a domain. */
@@ -36,12 +42,13 @@ struct request {
     struct ptpm_survey survey;
     uint16_t number;
     uint8_t domain;
-    enum collected id;
+    unsigned id;                        /* its place among what is collected */
     size_t size;
     uint8_t message[PTPM_MOST_OCTETS];
 };
 
-static struct request requests[DOMAINS_AT_ONCE * COLLECTED];
+static const struct collected *collected;           /* what is asked for now */
+static struct request requests[DOMAINS_AT_ONCE * MOST_COLLECTED];
 static size_t request_count;
 static FILE *output;
 static long sent;                       /* messages that went out */
@@ -49,17 +56,24 @@ static int64_t latest;                  /* when an answer came that is no copy *
 static size_t let_go;                   /* clocks that are asked no more */
 static bool has_no_transport;
 
+static bool is_of_port(unsigned id) {
+    for (size_t i = 0; i < sizeof of_ports / sizeof *of_ports; i++) {
+        if (of_ports[i] == collected->ids[id]) return true;
+    }
+    return false;
+}
+
 static unsigned two_octets(const uint8_t *at) { return (unsigned)at[0] << 8 | at[1]; }
 
 /* Starts the request of an id; whether the library would ask it. If not, that is said. */
-static bool start_request(const struct task *task, uint8_t domain, enum collected id) {
+static bool start_request(const struct task *task, uint8_t domain, unsigned id) {
     static uint16_t number;
     static bool is_drawn;
     if (!is_drawn) number = draw_number();
     is_drawn = true;
     struct request *request = &requests[request_count];
     struct ptpm_survey_settings settings = {
-        .port = task->settings.port, .number = ++number, .id = ids[id], .domain = domain, .hops = task->settings.hops,
+        .port = task->settings.port, .number = ++number, .id = collected->ids[id], .domain = domain, .hops = task->settings.hops,
     };
     memcpy(settings.clock, task->settings.clock, sizeof settings.clock);
     uint32_t refusal = ptpm_survey_start(&request->survey, &settings);
@@ -93,14 +107,16 @@ static uint64_t sum_of(const uint8_t *message, size_t size) {
 static void take_answer(const struct request *request, const uint8_t *message) {
     size_t size = two_octets(message + LENGTH_AT);
     struct seen_answer answer = {
-        .clock = message + SOURCE_AT, .domain = request->domain, .id = request->id, .port = (uint16_t)two_octets(message + SOURCE_PORT_AT),
+        .clock = message + SOURCE_AT, .domain = request->domain, .id = request->id, .is_of_port = is_of_port(request->id),
+        .port = (uint16_t)two_octets(message + SOURCE_PORT_AT),
         .is_refusal = two_octets(message + TLV_AT) == ERROR_TLV, .sum = sum_of(message, size),
     };
     bool has_field = !answer.is_refusal && size >= FIELD_AT;
-    if (has_field && answer.id == DEFAULT_SET && size == FIELD_AT + DEFAULT_SIZE) {
+    uint16_t id = collected->ids[request->id];
+    if (has_field && id == PTPM_ID_DEFAULT_DATA_SET && size == FIELD_AT + DEFAULT_SIZE) {
         answer.port_count = (uint16_t)two_octets(message + PORT_COUNT_AT);
     }
-    if (has_field && answer.id == PORT_SET && size == FIELD_AT + PORT_SIZE) {
+    if (has_field && id == PTPM_ID_PORT_DATA_SET && size == FIELD_AT + PORT_SIZE) {
         bool is_own = memcmp(message + FIELD_AT, answer.clock, 8) == 0;
         answer.port = is_own ? (uint16_t)two_octets(message + FIELD_PORT_AT) : 0;       /* 0 is no port, and none is answered */
     }
@@ -158,16 +174,16 @@ static bool send_when_room(const uint8_t *message, size_t size) {
 
 /* Asks every clock, one id after the other. */
 static void ask_every(void) {
-    for (int id = 0; id < COLLECTED && !stopped && !has_no_transport; id++) {
+    for (unsigned id = 0; id < collected->count && !stopped && !has_no_transport; id++) {
         int64_t end = milliseconds() + STEP;
         for (size_t i = 0; i < request_count; i++) {
-            if (requests[i].id == (enum collected)id) send_when_room(requests[i].message, requests[i].size);
+            if (requests[i].id == id) send_when_room(requests[i].message, requests[i].size);
         }
-        if (id + 1 < COLLECTED) hear_until(end);
+        if (id + 1 < collected->count) hear_until(end);
     }
 }
 
-static const struct request *request_of(uint8_t domain, enum collected id) {
+static const struct request *request_of(uint8_t domain, unsigned id) {
     for (size_t i = 0; i < request_count; i++) {
         if (requests[i].domain == domain && requests[i].id == id) return &requests[i];
     }
@@ -175,14 +191,14 @@ static const struct request *request_of(uint8_t domain, enum collected id) {
 }
 
 /* The request for what a clock lacks, if it lacks an answer to it; NULL otherwise. */
-static const struct request *lacking(const struct seen_clock *clock, int id) {
-    return is_lacking(clock, (enum collected)id) ? request_of(clock->domain, (enum collected)id) : NULL;
+static const struct request *lacking(const struct seen_clock *clock, unsigned id) {
+    return is_lacking(clock, id, is_of_port(id)) ? request_of(clock->domain, id) : NULL;
 }
 
 static size_t count_lacking(void) {
     size_t count = 0;
     for (size_t place = 0; place < seen_count(); place++) {
-        for (int id = 0; id < COLLECTED; id++) count += lacking(seen_clock(place), id) != NULL;
+        for (unsigned id = 0; id < collected->count; id++) count += lacking(seen_clock(place), id) != NULL;
     }
     return count;
 }
@@ -200,7 +216,7 @@ static void ask_lacking(void) {
     size_t asked = 0;
     int64_t end = milliseconds() + STEP;
     for (size_t place = 0; place < seen_count(); place++) {
-        for (int id = 0; id < COLLECTED; id++) {
+        for (unsigned id = 0; id < collected->count; id++) {
             const struct request *request = lacking(seen_clock(place), id);
             if (request == NULL) continue;
             if (!ask_alone(request, seen_clock(place))) return;
@@ -216,8 +232,8 @@ static void ask_lacking(void) {
 /* Asks in this many domains; whether the library would ask at all. */
 static bool ask_in(const struct task *task, const uint8_t *domains, size_t count) {
     for (size_t i = 0; i < count; i++) {
-        for (int id = 0; id < COLLECTED; id++) {
-            if (start_request(task, domains[i], (enum collected)id)) continue;
+        for (unsigned id = 0; id < collected->count; id++) {
+            if (start_request(task, domains[i], id)) continue;
             stop_requests();
             return false;
         }
@@ -256,10 +272,11 @@ static int end_of_collection(const struct task *task, const struct domains *doma
     return NOT_ANSWERED;
 }
 
-int collect_answers(const struct task *task, const struct domains *domains, FILE *to) {
+int collect_answers(const struct task *task, const struct collected *what, const struct domains *domains, FILE *to) {
     uint8_t together[DOMAINS_AT_ONCE];
     size_t count = 0;
     see_none();
+    collected = what;
     output = to;
     sent = 0;
     let_go = 0;
@@ -277,5 +294,5 @@ int collect(const struct task *task) {
     struct domains domains;
     widen_transport();
     find_domains(&domains, task);
-    return collect_answers(task, &domains, stdout);
+    return collect_answers(task, &of_site, &domains, stdout);
 }

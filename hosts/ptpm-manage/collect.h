@@ -1,15 +1,22 @@
-/* Every clock of a site asked for what `ptpm site` looks at: six ids, in one run. */
+/* Every clock of a site asked for several ids in one run, such as the six that `ptpm site` looks at. */
 #ifndef COLLECT_H
 #define COLLECT_H
 
 #include "domains.h"
+#include "seen.h"
 #include "task.h"
 #include <stdio.h>
 
-/* Asks every clock of these domains, and prints each answer, the whole message in hexadecimal on a line. ANSWERED if a clock
-   answered; else the program's status, and why is said. Each call asks with new numbers, and after it `seen.h` has the clocks
+/* The ids that are collected, in the order in which they are asked. */
+struct collected { size_t count; uint16_t ids[MOST_COLLECTED]; };
+
+/* The six of a site. */
+extern const struct collected of_site;
+
+/* Asks every clock of these domains for these ids, and prints each answer, the whole message in hexadecimal on a line. ANSWERED if a
+   clock answered; else the program's status, and why is said. Each call asks with new numbers, and after it `seen.h` has the clocks
    of the latest. */
-int collect_answers(const struct task *task, const struct domains *domains, FILE *to);
+int collect_answers(const struct task *task, const struct collected *what, const struct domains *domains, FILE *to);
 
 /* Carries out `collect`; the program's status. */
 int collect(const struct task *task);

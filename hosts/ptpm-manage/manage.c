@@ -4,6 +4,7 @@
    What is here and in the files beside it is not proved. It reads words, moves octets, measures time and prints. It chooses the
    number of a session's first request, and when a request goes out again. It judges which answers of a site are copies of others,
    and which findings are printed. docs/architecture.md has more of that ("What the hosts decide"). */
+#include "apply.h"
 #include "asking.h"
 #include "collect.h"
 #include "in_session.h"
@@ -24,6 +25,7 @@ _Noreturn void usage(void) { refuse("see ptpm-manage --help"); }
 /* Asks it. */
 static int ask(struct task *task) {
     find_transport(task);
+    if (task->plan.verb != NO_PLAN) return change_site(task);
     int status = task->is_survey ? ANSWERED : judge_request(task);
     if (status != ANSWERED) return status;
     if (task->is_kept) return ask_in_session(task);

@@ -6,26 +6,30 @@
 #include <stdbool.h>
 #include <unistd.h>
 
-enum { MOST_READINGS = 10, PROCESSES = 2047 };     /* so that the last port is 65533; one of every port is 65535 */
+enum { PROCESSES = 2047 };      /* so that the last port is 65533; one of every port is 65535 */
 
 uint16_t port_of_nobody(uint8_t action) {
     return (uint16_t)(FIRST_OF_NOBODY + getpid() % PROCESSES * 2 + (action != PTPM_GET));
 }
 
-bool begin_reading(struct ptpm_session *session, const struct task *task, uint16_t id) {
+bool begin_reading(struct ptpm_session *session, const struct task *task, uint16_t id, uint8_t attempts) {
     static struct task reading;
+    static uint16_t number;
+    static bool is_drawn;
+    if (!is_drawn) number = draw_number();
+    is_drawn = true;
     reading = *task;
     reading.action = PTPM_GET;
     reading.id = id;
     reading.size = 0;
     reading.settings.port = port_of_nobody(PTPM_GET);
-    reading.settings.first = draw_number();
-    reading.settings.attempts = MOST_READINGS;
+    reading.settings.first = ++number;
+    reading.settings.attempts = attempts;
     return ptpm_session_start(session, &reading.settings) == PTPM_STARTED && begin_of_task(session, &reading) == PTPM_BEGUN;
 }
 
 bool finish_reading(struct ptpm_session *session, const struct task *task) {
-    for (int attempt = 0; attempt < MOST_READINGS && !stopped; attempt++) {
+    while (!stopped) {
         enum sending sending = send_again(session);
         if (sending == NONE_LEFT) return false;
         if (sending != NO_TRANSPORT && is_answered_before(session, milliseconds() + task->timeout)) return true;

@@ -70,10 +70,12 @@ static struct first_answer *place_of_answer(uint32_t clock, const struct seen_an
 }
 
 static void note(struct seen_clock *clock, const struct seen_answer *answer) {
-    clock->answered |= (uint8_t)(1 << answer->id);
-    if (answer->id == PORT_SET && answer->is_refusal) clock->are_ports_refused = true;
-    else if (answer->id == PORT_SET && answer->port != 0) clock->ports++;
-    if (answer->id == DEFAULT_SET && !answer->is_refusal) clock->port_count = answer->port_count;
+    uint16_t bit = (uint16_t)(1 << answer->id);
+    clock->answered |= bit;
+    clock->answers++;
+    if (answer->is_refusal) clock->refused |= bit;
+    else if (answer->is_of_port && answer->port != 0) clock->ports[answer->id]++;
+    if (answer->port_count != 0) clock->port_count = answer->port_count;
 }
 
 enum seen see_answer(const struct seen_answer *answer) {
@@ -100,22 +102,21 @@ size_t seen_count(void) { return clock_count; }
 
 const struct seen_clock *seen_clock(size_t place) { return &clocks[place]; }
 
-bool is_lacking(const struct seen_clock *clock, enum collected id) {
+bool is_lacking(const struct seen_clock *clock, unsigned id, bool is_of_port) {
     if (clock->is_let_go) return false;
     if ((clock->answered >> id & 1) == 0) return true;
-    return id == PORT_SET && !clock->are_ports_refused && clock->ports < clock->port_count;
+    return is_of_port && (clock->refused >> id & 1) == 0 && clock->ports[id] < clock->port_count;
 }
 
 void note_asked(size_t place) {
     struct seen_clock *clock = &clocks[place];
     if (clock->is_asked) return;
     clock->is_asked = true;
-    clock->answered_before = clock->answered;
-    clock->ports_before = clock->ports;
+    clock->answers_before = clock->answers;
 }
 
 static bool is_silent(const struct seen_clock *clock) {
-    return clock->is_asked && clock->answered == clock->answered_before && clock->ports == clock->ports_before;
+    return clock->is_asked && clock->answers == clock->answers_before;
 }
 
 size_t let_go_of_silent(size_t most) {

@@ -7,19 +7,16 @@
 #include <stddef.h>
 #include <stdint.h>
 
-enum { COLLECTED = 6, MOST_CLOCKS = 4096, MOST_KEPT = 65536 };
-
-/* What is collected, in the order in which it is asked. */
-enum collected { DEFAULT_SET, CURRENT_SET, PARENT_SET, TIME_SET, PORT_SET, DESCRIPTION };
+/* How many ids are collected at most. An id is named here by its place among them. */
+enum { MOST_COLLECTED = 16, MOST_CLOCKS = 4096, MOST_KEPT = 65536 };
 
 /* A clock that answered. */
 struct seen_clock {
     uint8_t identity[8], domain;
-    uint8_t answered;                   /* a bit for each of what is collected: an answer or a refusal came */
-    bool are_ports_refused;             /* by an error instead of a PORT_DATA_SET */
-    uint16_t port_count, ports;         /* numberPorts, 0 until it is known; how many of them gave a PORT_DATA_SET */
-    uint8_t answered_before;            /* the answers that it had given when it was last asked by itself */
-    uint16_t ports_before;
+    uint16_t answered, refused;         /* a bit for each id: an answer or a refusal came; a refusal came */
+    uint16_t port_count;                /* numberPorts, 0 until it is known */
+    uint16_t ports[MOST_COLLECTED];     /* of an id of a port, how many ports answered */
+    uint32_t answers, answers_before;   /* all of these answers; those that it had given when it was last asked by itself */
     bool is_asked;                      /* it was asked by itself since the last look at who was silent */
     bool is_let_go;                     /* it is asked no more */
 };
@@ -28,10 +25,11 @@ struct seen_clock {
 struct seen_answer {
     const uint8_t *clock;
     uint8_t domain;
-    enum collected id;
+    unsigned id;                        /* its place */
+    bool is_of_port;                    /* each port of the clock answers it */
     uint16_t port;                      /* that gave it, or of a PORT_DATA_SET the port that it describes */
     bool is_refusal;
-    uint16_t port_count;                /* of a DEFAULT_DATA_SET */
+    uint16_t port_count;                /* of a DEFAULT_DATA_SET; 0 otherwise */
     uint64_t sum;
 };
 
@@ -52,8 +50,9 @@ bool is_seen(uint8_t domain, const uint8_t clock[8]);
 size_t seen_count(void);
 const struct seen_clock *seen_clock(size_t place);
 
-/* Whether it lacks an answer: one to the id, or that of one of its ports. One that is asked no more lacks none. */
-bool is_lacking(const struct seen_clock *clock, enum collected id);
+/* Whether it lacks an answer: one to the id at this place, or, to an id of a port, that of one of its ports. One that is asked no
+   more lacks none. */
+bool is_lacking(const struct seen_clock *clock, unsigned id, bool is_of_port);
 
 /* Notes that a clock is asked by itself. */
 void note_asked(size_t place);

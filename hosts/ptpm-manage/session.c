@@ -4,7 +4,6 @@
 #include "notices.h"
 #include "random.h"
 #include "reading.h"
-#include "session_file.h"
 #include "session_image.h"
 #include "words.h"
 #include <stdio.h>
@@ -121,8 +120,8 @@ static void read_earlier(const struct ptpm_asker *asker, const struct task *task
 }
 
 /* The asker gets the session of the octets. */
-static void open_octets(struct ptpm_asker *asker, const struct task *task, uint8_t octets[MOST_SESSION_OCTETS], size_t size,
-                        struct earlier *earlier) {
+static void open_octets(struct kept_session *session, const struct task *task, uint8_t octets[MOST_SESSION_OCTETS], size_t size) {
+    struct ptpm_asker *asker = &session->asker;
     uint16_t port = task->port == EVERY_PORT ? 0 : task->port;
     uint8_t there;
     enum ptpm_asker_restored answer = restore(asker, task, octets, size);
@@ -137,26 +136,38 @@ static void open_octets(struct ptpm_asker *asker, const struct task *task, uint8
         answer = restore(asker, task, octets, size);
     }
     if (answer != PTPM_ASKER_RESTORED) refuse_octets(answer);
-    read_earlier(asker, task, &image, earlier);
+    session->next_number = (uint16_t)(image.number + 1);
+    read_earlier(asker, task, &image, &session->earlier);
 }
 
-bool open_session(struct ptpm_asker *asker, const struct task *task, struct earlier *earlier) {
+void open_session(struct kept_session *session, const struct task *task) {
     static uint8_t octets[MOST_SESSION_OCTETS];
     size_t size;
     bool is_named = task->numbers != NULL;
-    earlier->is_left = false;
-    switch (open_session_file(is_named ? task->numbers : usual_file(&task->settings), is_named, octets, &size)) {
-    case NO_SESSION_FILE: start(asker, task); return false;
+    session->has_file = true;
+    session->earlier.is_left = false;
+    switch (open_session_file(&session->file, is_named ? task->numbers : usual_file(&task->settings), is_named, octets, &size)) {
+    case NO_SESSION_FILE:
+        start(&session->asker, task);
+        session->has_file = false;
+        break;
     case BROKEN_SESSION_FILE: refuse_octets(PTPM_DAMAGED);
-    case SESSION_FILE: open_octets(asker, task, octets, size, earlier);
+    case SESSION_FILE: open_octets(session, task, octets, size);
     }
-    return true;
 }
 
-bool save_session(const struct ptpm_asker *asker) {
+void renew_session(struct kept_session *session, const struct task *task) {
     static uint8_t octets[MOST_SESSION_OCTETS];
     size_t size;
-    enum ptpm_asked answer = ptpm_asker_image(asker, octets, PTPM_SESSION_IMAGE_OCTETS, &size);
+    enum ptpm_asked answer = ptpm_asker_image(&session->asker, octets, PTPM_SESSION_IMAGE_OCTETS, &size);
     if (answer != PTPM_ASKED) refuse("nothing was asked: %s", answer_name(answer));
-    return write_session_file(octets, size);
+    open_octets(session, task, octets, size);
+}
+
+bool save_session(struct kept_session *session) {
+    static uint8_t octets[MOST_SESSION_OCTETS];
+    size_t size;
+    enum ptpm_asked answer = ptpm_asker_image(&session->asker, octets, PTPM_SESSION_IMAGE_OCTETS, &size);
+    if (answer != PTPM_ASKED) refuse("nothing was asked: %s", answer_name(answer));
+    return write_session_file(session->file, octets, size);
 }

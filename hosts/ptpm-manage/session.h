@@ -3,6 +3,7 @@
 #ifndef SESSION_H
 #define SESSION_H
 
+#include "session_file.h"
 #include "task.h"
 #include <stdbool.h>
 #include <stdint.h>
@@ -15,12 +16,23 @@ struct earlier {
     struct task task;           /* it, as a task of this run, in the domain in which it is settled */
 };
 
+struct kept_session {
+    struct ptpm_asker asker;
+    struct session_file *file;
+    bool has_file;              /* there was one */
+    uint16_t next_number;       /* that it says is the next one's */
+    struct earlier earlier;
+};
+
 /* Takes the file of the task's session only for this run. The asker gets the session that it has, or a new one if there is no file.
    A file may have a number instead of an image: the session starts there. Ends the program, status 2, if the file has anything else,
-   or another session. Whether there is a file. */
-bool open_session(struct ptpm_asker *asker, const struct task *task, struct earlier *earlier);
+   or another session. */
+void open_session(struct kept_session *session, const struct task *task);
 
-/* Keeps the asker's session as it is now; whether it could. */
-bool save_session(const struct ptpm_asker *asker);
+/* Has the asker begin again with the session as it is, after a request without an answer. */
+void renew_session(struct kept_session *session, const struct task *task);
+
+/* Keeps the session as it is now; whether it could. */
+bool save_session(struct kept_session *session);
 
 #endif

@@ -1,9 +1,10 @@
 #define _GNU_SOURCE
 #include "session_file.h"
 #include "asking.h"
-#include "kept_file.h"
+#include "marks.h"
 #include "monotonic.h"
 #include "notices.h"
+#include "program.h"
 #include "stopping.h"
 #include "words.h"
 #include <errno.h>
@@ -18,29 +19,26 @@
 
 enum { TURN = 60000, TRY_AGAIN = 10 };     /* the times in milliseconds */
 
-/* The file, and its path as it was named. */
-static const char *path;
-static bool path_is_named;
-static struct kept_file file = { .folder = -1, .mode = 0666 };
-static uint64_t saves;      /* of the file, by its seal */
+/* The files that were opened, the latest one first. */
+static struct session_file *opened;
 
-const char *session_path(void) { return path; }
+const char *session_path(void) { return opened->path; }
 
-_Noreturn void refuse_session_file(const char *why) {
-    if (path_is_named) refuse("--numbers %s: %s", path, why);
-    refuse("nothing was sent: %s: %s", path, why);
+_Noreturn void refuse_session_file(const struct session_file *file, const char *why) {
+    if (file->is_named) refuse("--numbers %s: %s", file->path, why);
+    refuse("nothing was sent: %s: %s", file->path, why);
 }
 
-_Noreturn void refuse_place(void) {
+_Noreturn void refuse_place(const struct session_file *file) {
     const char *fault = kept_fault();
-    if (path_is_named) refuse("the request was not sent: --numbers %s%s: %s", path, fault, strerror(errno));
-    refuse("the request was not sent: %s%s: %s; --numbers FILE keeps the session elsewhere", path, fault, strerror(errno));
+    if (file->is_named) refuse("the request was not sent: --numbers %s%s: %s", file->path, fault, strerror(errno));
+    refuse("the request was not sent: %s%s: %s; --numbers FILE keeps the session elsewhere", file->path, fault, strerror(errno));
 }
 
-static void open_folder(void) {
-    if (open_kept_folder(&file, path)) return;
-    if (errno == EINVAL) refuse_session_file("no name of a file");
-    refuse_place();
+static void open_folder(struct session_file *file) {
+    if (open_kept_folder(&file->kept, file->path)) return;
+    if (errno == EINVAL) refuse_session_file(file, "no name of a file");
+    refuse_place(file);
 }
 
 _Noreturn static void end_by_signal(void) {
@@ -54,68 +52,83 @@ static long held_for(int lock) {
     return fstat(lock, &found) || found.st_mtime > time(NULL) ? 0 : (long)(time(NULL) - found.st_mtime);
 }
 
-_Noreturn static void refuse_turn(int lock) {
+_Noreturn static void refuse_turn(const struct session_file *file, int lock) {
     long owner = kept_lock_owner(lock);
-    if (owner == 0) refuse("nothing was sent: %s: another run has held it for %ld s", path, held_for(lock));
-    refuse("nothing was sent: %s: another run, process %ld, has held it for %ld s", path, owner, held_for(lock));
+    if (owner == 0) refuse("nothing was sent: %s: another run has held it for %ld s", file->path, held_for(lock));
+    refuse("nothing was sent: %s: another run, process %ld, has held it for %ld s", file->path, owner, held_for(lock));
 }
 
 /* The lock file, with the lock on it, until a time. Another run that had it may have removed it in the meantime. */
-static int lock_until(int64_t end) {
-    int lock = open_kept_lock(&file);
-    if (lock < 0) refuse_place();
+static int lock_until(const struct session_file *file, int64_t end) {
+    int lock = open_kept_lock(&file->kept);
+    if (lock < 0) refuse_place(file);
     while (!take_kept_lock(lock)) {
-        if (errno != EAGAIN && errno != EACCES) refuse_place();
+        if (errno != EAGAIN && errno != EACCES) refuse_place(file);
         if (stopped) end_by_signal();
-        if (milliseconds() >= end) refuse_turn(lock);
-        show_progress("another run has held %s for %ld s", path, held_for(lock));
+        if (milliseconds() >= end) refuse_turn(file, lock);
+        show_progress("another run has held %s for %ld s", file->path, held_for(lock));
         wait_for(NULL, 0, TRY_AGAIN);
     }
     return lock;
 }
 
 /* If no session is kept, for example of a clock that is not there, no lock stays either. */
-static void leave_nothing(void) { leave_no_lock(&file); }
+static void leave_nothing(void) {
+    for (const struct session_file *file = opened; file != NULL; file = file->next) leave_no_lock(&file->kept);
+}
 
 /* The lock is released when the program ends. Its time is that of this turn. */
-static void take_turn(void) {
+static void take_turn(struct session_file *file) {
     int64_t end = milliseconds() + TURN;
-    int lock = lock_until(end);
-    while (!is_kept_lock(&file, lock)) {
-        if (milliseconds() >= end) refuse_turn(lock);
+    int lock = lock_until(file, end);
+    while (!is_kept_lock(&file->kept, lock)) {
+        if (milliseconds() >= end) refuse_turn(file, lock);
         close(lock);
-        lock = lock_until(end);
+        lock = lock_until(file, end);
     }
     clear_progress();
     futimens(lock, NULL);
-    if (atexit(leave_nothing)) refuse_place();
+    if (opened == NULL && atexit(leave_nothing)) refuse_place(file);
+    file->next = opened;
+    opened = file;
 }
 
 /* Whether there is room for a session. */
-static void see_to_room(void) {
+static void see_to_room(const struct session_file *file) {
     static const uint8_t octets[PTPM_SESSION_IMAGE_OCTETS + PTPM_SEAL_OCTETS];
-    if (!try_room(&file, octets, sizeof octets)) refuse_place();
+    if (!try_room(&file->kept, octets, sizeof octets)) refuse_place(file);
 }
 
-enum session_file open_session_file(const char *at_path, bool is_named, uint8_t octets[MOST_SESSION_OCTETS], size_t *size) {
-    path = at_path;
-    path_is_named = is_named;
-    open_folder();
-    take_turn();
-    switch (read_kept(&file, octets, MOST_SESSION_OCTETS, size, &file.before)) {
-    case KEPT_FILE: return take_seal(octets, size, &saves) == PTPM_DAMAGED ? BROKEN_SESSION_FILE : SESSION_FILE;
-    case KEPT_LINK: refuse_session_file("it is a link");
-    case KEPT_OTHER: refuse_session_file("it is no file");
-    case KEPT_UNREADABLE: refuse_place();
+/* What is known of a file, without the file itself. */
+static struct session_file *new_file(const char *path, bool is_named) {
+    struct session_file *file = calloc(1, sizeof *file);
+    if (file == NULL || (file->path = strdup(path)) == NULL) give_up(path);
+    file->is_named = is_named;
+    file->kept.folder = -1;
+    file->kept.mode = 0666;
+    return file;
+}
+
+enum found_session open_session_file(struct session_file **opened_file, const char *path, bool is_named,
+                                     uint8_t octets[MOST_SESSION_OCTETS], size_t *size) {
+    struct session_file *file = *opened_file = new_file(path, is_named);
+    open_folder(file);
+    take_turn(file);
+    refuse_mark(path);
+    switch (read_kept(&file->kept, octets, MOST_SESSION_OCTETS, size, &file->kept.before)) {
+    case KEPT_FILE: return take_seal(octets, size, &file->saves) == PTPM_DAMAGED ? BROKEN_SESSION_FILE : SESSION_FILE;
+    case KEPT_LINK: refuse_session_file(file, "it is a link");
+    case KEPT_OTHER: refuse_session_file(file, "it is no file");
+    case KEPT_UNREADABLE: refuse_place(file);
     case KEPT_NONE: break;
     }
-    see_to_room();
+    see_to_room(file);
     return NO_SESSION_FILE;
 }
 
-bool write_session_file(uint8_t octets[MOST_SESSION_OCTETS], size_t size) {
-    enum replaced answer = replace_kept(&file, octets, write_seal(octets, size, saves + 1));
-    if (answer != NOT_REPLACED) saves++;
+bool write_session_file(struct session_file *file, uint8_t octets[MOST_SESSION_OCTETS], size_t size) {
+    enum replaced answer = replace_kept(&file->kept, octets, write_seal(octets, size, file->saves + 1));
+    if (answer != NOT_REPLACED) file->saves++;
     return answer == REPLACED;
 }
 
@@ -137,6 +150,10 @@ static size_t write_folder(void) {
     refuse("the request was not sent: neither XDG_STATE_HOME nor HOME names a folder for the session; --numbers FILE names a file");
 }
 
+_Noreturn static void refuse_long_path(void) {
+    refuse("the request was not sent: the path of the folder for the session is too long");
+}
+
 /* Makes the folders above the last one; that one is made with the file. */
 static void make_parents(void) {
     for (char *slash = strchr(usual_path + 1, '/'); slash != NULL; slash = strchr(slash + 1, '/')) {
@@ -150,6 +167,12 @@ static void make_parents(void) {
     }
 }
 
+const char *state_folder(void) {
+    if (write_folder() >= sizeof usual_path) refuse_long_path();
+    make_parents();
+    return usual_path;
+}
+
 const char *usual_file(const struct ptpm_session_settings *settings) {
     char manager[IDENTITY_TEXT], clock[IDENTITY_TEXT];
     size_t size = write_folder();
@@ -159,6 +182,6 @@ const char *usual_file(const struct ptpm_session_settings *settings) {
         make_parents();
         size += (size_t)snprintf(usual_path + size, sizeof usual_path - size, "/%s-%u.%s", manager, settings->port, clock);
     }
-    if (size >= sizeof usual_path) refuse("the request was not sent: the path of the folder for the session is too long");
+    if (size >= sizeof usual_path) refuse_long_path();
     return usual_path;
 }

@@ -5,6 +5,7 @@
 #include "message_places.h"
 #include "notices.h"
 #include "output_file.h"
+#include "ptpm_program.h"
 #include "report.h"
 #include "seen.h"
 #include "site_program.h"
@@ -72,7 +73,7 @@ static int look_at_site(struct look *look, const struct task *task, const struct
     *look = (struct look){ 0 };
     FILE *lines = open_memstream(&look->lines, &look->size);
     if (lines == NULL) refuse("nothing was asked: %s", strerror(errno));
-    look->status = collect_answers(task, domains, lines);
+    look->status = collect_answers(task, &of_site, domains, lines);
     bool is_whole = !ferror(lines);
     if (fclose(lines) != 0 || !is_whole || look->lines == NULL) {
         complain("there is no memory for the answers");
@@ -227,7 +228,7 @@ static int watch(struct look *earlier, const struct task *task, struct domains *
 int show_status(const struct task *task) {
     static struct look look;
     struct domains domains;
-    find_site_program();
+    find_ptpm_program();
     if (task->site.output != NULL) find_output_file(task->site.output);
     widen_transport();
     find_domains(&domains, task);

@@ -28,6 +28,11 @@ static const char help_text[] =
     "ptpm-manage [OPTION].. collect\n"
     "ptpm-manage [OPTION].. status\n"
     "\n"
+    "ptpm-manage [OPTION].. plan FILE\n"
+    "ptpm-manage [OPTION].. apply FILE\n"
+    "ptpm-manage [OPTION].. resume\n"
+    "ptpm-manage [OPTION].. rollback APPLY\n"
+    "\n"
     "Asks a PTP clock for a data set, sets a value, or has a command carried out, and prints what the\n"
     "clock answers. The request is sent again until it is answered. survey asks every clock and port.\n"
     "NAME is that of a member, as the answer prints it: set PRIORITY1 100, or set UTC_PROPERTIES\n"
@@ -35,6 +40,10 @@ static const char help_text[] =
     "\n"
     "collect asks every clock for a whole site, and prints the answers in hexadecimal.\n"
     "With status, ptpm site shows them: who is grandmaster, who follows whom, and what is wrong.\n"
+    "\n"
+    "plan says what FILE would change at several clocks, and in which order. It only reads. With apply\n"
+    "its SETs are asked too, one after the other. A kill or a missing answer leaves an apply open, and\n"
+    "resume goes on with it. With rollback what an apply set becomes what it was.\n"
     "\n"
     "The way to the clock:\n"
     "  -i, --interface NAME    over UDP at this interface, to every clock there, with IPv4; collect and\n"
@@ -53,11 +62,15 @@ static const char help_text[] =
     "  -p, --port PORT         the port, in place of one after IDENTITY; all, with get, asks each of them\n"
     "  -d, --domain N          domainNumber, 0 to 255 (0). collect and status also take several: 0-7, or\n"
     "                          all, which is those of Announce messages, 0 and 127\n"
-    "  -b, --hops N            how many boundary clocks pass the request on, 0 to 255 (1; collect and\n"
-    "                          status 7)\n"
+    "  -b, --hops N            how many boundary clocks pass the request on, 0 to 255 (1; collect,\n"
+    "                          status, plan and what follows it 7)\n"
     "  -x, --hexadecimal       VALUE and answers are octets of the dataField in hexadecimal\n"
     "      --text              VALUE is a text, for USER_DESCRIPTION\n"
     "      --json              each answer as a line, an object of JSON; status as one object\n"
+    "\n"
+    "Several clocks from one file:\n"
+    "      --expect PLAN       apply sends nothing if its plan is another one than this, of eight digits\n"
+    "      --give-up           resume ends the apply, whose last step may have been carried out\n"
     "\n"
     "A whole site:\n"
     "      --listen SECONDS    how long --domain all listens for Announce messages (4)\n"
@@ -98,7 +111,8 @@ static const char asking_text[] =
 static const char help_end[] =
     "Exit status: 0 answered, and of status nothing was found. 1 the clock refuses, or there are findings.\n"
     "2 nothing was asked or sent; 3 no answer came; 4 the answer could not be printed. 5 a set is\n"
-    "answered by another value than was asked. 128 and its number: a signal ended it.\n";
+    "answered by another value than was asked, or a value has been changed by somebody else. 128 and its\n"
+    "number: a signal ended it.\n";
 
 /* The names of all ids, in their order. */
 static void print_ids(void) {
@@ -129,7 +143,7 @@ static _Noreturn void version(void) {
 }
 
 /* Options without a letter of their own, and a word that is none: getopt's for a string that begins with a hyphen. */
-enum { WORD = 1, UDP = 256, TEXT, VERSION, GIVE_UP, JSON, ANY_SOURCE, NAMES };
+enum { WORD = 1, UDP = 256, TEXT, VERSION, GIVE_UP, JSON, ANY_SOURCE, NAMES, EXPECT };
 
 /* The same, only for `collect` and `status`. */
 enum site_option { LISTEN = 512, DRAW, HTML, OPENMETRICS, NAGIOS, OUTPUT, MAX_OFFSET, MAX_DELAY, TAI_UTC, ONCE, WATCH };
@@ -137,7 +151,7 @@ enum site_option { LISTEN = 512, DRAW, HTML, OPENMETRICS, NAGIOS, OUTPUT, MAX_OF
 enum { MOST_WORDS = 2 + MOST_FIELD_WORDS, MOST_FIELD = 1418, NOT_NAMED = -1 };
 
 /* What holds if no option says otherwise. A request to only one clock is repeated for two seconds. */
-enum { HOPS = 1, ATTEMPTS = 30, SITE_HOPS = 7, SITE_ATTEMPTS = 10, LISTENED = 4000 };
+enum { HOPS = 1, ATTEMPTS = 30, SITE_HOPS = 7, SITE_ATTEMPTS = 10, LISTENED = 4000, PLAN_DIGITS = 8 };
 
 enum { SECOND = 1000, MOST_SECONDS = 86400, MOST_TAI_UTC = 32767 };
 
@@ -152,7 +166,8 @@ static const struct option options[] = {
     { "wait", required_argument, NULL, 'w' }, { "attempts", required_argument, NULL, 'a' },
     { "timeout", required_argument, NULL, 't' }, { "times", required_argument, NULL, 'n' },
     { "give-up", no_argument, NULL, GIVE_UP }, { "listen", required_argument, NULL, LISTEN }, { "json", no_argument, NULL, JSON },
-    { "names", required_argument, NULL, NAMES }, { "draw", no_argument, NULL, DRAW }, { "html", no_argument, NULL, HTML },
+    { "names", required_argument, NULL, NAMES }, { "expect", required_argument, NULL, EXPECT }, { "draw", no_argument, NULL, DRAW },
+    { "html", no_argument, NULL, HTML },
     { "openmetrics", no_argument, NULL, OPENMETRICS }, { "nagios", no_argument, NULL, NAGIOS },
     { "output", required_argument, NULL, OUTPUT }, { "max-offset", required_argument, NULL, MAX_OFFSET },
     { "max-delay", required_argument, NULL, MAX_DELAY }, { "tai-utc", required_argument, NULL, TAI_UTC },
@@ -278,6 +293,13 @@ static void take_interface(struct task *task, const char *name) {
     task->interfaces[task->interface_count++] = name;
 }
 
+/* The id of a plan, eight hexadecimal digits. */
+static void take_expected(struct plan_options *plan, const char *text) {
+    bool is_id = strlen(text) == PLAN_DIGITS && strspn(text, "0123456789abcdef") == PLAN_DIGITS;
+    if (!is_id) refuse("--expect %s: it takes the eight digits of a plan", text);
+    plan->expected = text;
+}
+
 static void take_option(struct task *task, struct words *words, int option, const char *value) {
     switch (option) {
     case 'i': take_interface(task, value); break;
@@ -288,6 +310,7 @@ static void take_option(struct task *task, struct words *words, int option, cons
     case 'u': task->path = value; break;
     case 'T': words->target = value; break;
     case NAMES: read_clock_names(value); break;
+    case EXPECT: take_expected(&task->plan, value); break;
     case 'p': read_port(words, value); break;
     case 'd': words->domain = value; break;
     case 'b': words->hops = number("hops", value, 0, 255); break;
@@ -341,7 +364,16 @@ static const struct { const char *name; uint8_t action; } actions[ACTIONS] = {
     { "get", PTPM_GET }, { "set", PTPM_SET }, { "command", PTPM_COMMAND },
 };
 
+/* By their names: `plan` and what follows it. */
+static const char *const plan_verbs[] = { [PLAN] = "plan", [APPLY] = "apply", [RESUME] = "resume", [ROLLBACK] = "rollback" };
+
 static void read_verb(struct task *task, const char *verb) {
+    for (enum plan_verb one = PLAN; one <= ROLLBACK; one++) {
+        if (strcasecmp(verb, plan_verbs[one]) != 0) continue;
+        task->plan.verb = one;
+        task->action = PTPM_SET;
+        return;
+    }
     task->site.is_shown = strcasecmp(verb, "status") == 0;
     task->site.is_collected = task->site.is_shown || strcasecmp(verb, "collect") == 0;
     task->is_survey = task->site.is_collected || strcasecmp(verb, "survey") == 0;
@@ -350,7 +382,7 @@ static void read_verb(struct task *task, const char *verb) {
         task->action = actions[i].action;
         return;
     }
-    if (!task->is_survey) refuse("%s: it is none of get, set, command, survey, collect and status", verb);
+    if (!task->is_survey) refuse("%s: it is none of get, set, command, survey, collect, status, plan, apply, resume and rollback", verb);
 }
 
 /* A get of every port is a survey of one clock. It asks as nobody, since a clock numbers the requests that its managers send only
@@ -422,7 +454,7 @@ static void judge(const struct task *task, const struct words *words) {
     }
     if (task->address != NULL && task->interface_count > 1) refuse("--udp takes one --interface at most");
     if (task->is_ethernet && (task->address != NULL || task->is_six)) refuse("--ethernet excludes --udp and --ipv6");
-    bool asks_one = !task->is_survey || task->is_of_clock;
+    bool asks_one = (!task->is_survey || task->is_of_clock) && task->plan.verb == NO_PLAN;
     if (!asks_one && words->target != NULL) refuse("%s asks every clock: it takes no --target", words->at[0]);
     if (asks_one && words->target == NULL) refuse("--target is missing: the clock that is asked; survey asks every clock");
     if (words->is_every_port && words->target_port >= 0) refuse("--port all names every port, and --target names one");
@@ -443,12 +475,31 @@ static void judge_json(const struct task *task) {
    every clock. A GET by nobody needs none. On a Unix socket clock 0 asks with another port number each time. */
 static bool is_by_one_manager(const struct task *task) {
     if (task->is_survey) return false;
+    if (task->plan.verb != NO_PLAN) return true;
     return task->numbers != NULL || task->has_manager || (task->path == NULL && task->action != PTPM_GET);
+}
+
+/* The file of a plan, or the apply that is rolled back. */
+static void read_plan(struct task *task, const struct words *words) {
+    const char *verb = words->at[0];
+    int most = task->plan.verb == RESUME ? 1 : 2;
+    if (words->count > most) refuse("%s: there is a word too many; see ptpm-manage --help", words->at[most]);
+    if (words->count < most) refuse("%s: it takes %s", verb, task->plan.verb == ROLLBACK ? "the name of an apply" : "a file");
+    task->plan.word = words->at[1];
+    if (words->domain != NULL) refuse("--domain: %s takes the domains of its file", verb);
+    if (task->interface_count > 1) refuse("--interface: %s takes one", verb);
+    if (words->port >= 0 || words->is_every_port || words->is_text || task->is_in_octets || task->numbers != NULL || task->times != 1) {
+        refuse("%s takes none of --port, --text, --hexadecimal, --numbers and --times", verb);
+    }
 }
 
 /* The id that is asked, and its value. There is none if every clock is asked for all six ids of a site. */
 static void read_asked(struct task *task, const struct words *words) {
     const char *verb = words->at[0];
+    if (task->plan.verb != NO_PLAN) {
+        read_plan(task, words);
+        return;
+    }
     if (task->site.is_collected) {
         if (words->count > 1) refuse("%s %s: %s takes no managementId", verb, words->at[1], verb);
         if (task->has_manager) refuse("--manager: %s asks by no manager", verb);
@@ -469,7 +520,8 @@ static void read_reach(struct task *task, const struct words *words) {
     struct ptpm_session_settings *settings = &task->settings;
     if (words->domain != NULL && is_site) read_domains(&task->site, words->domain);
     else if (words->domain != NULL) settings->domain = (uint8_t)number("domain", words->domain, 0, 255);
-    settings->hops = (uint8_t)(words->hops >= 0 ? words->hops : is_site ? SITE_HOPS : HOPS);
+    bool is_far = is_site || task->plan.verb != NO_PLAN;
+    settings->hops = (uint8_t)(words->hops >= 0 ? words->hops : is_far ? SITE_HOPS : HOPS);
     settings->attempts = (uint8_t)(words->attempts >= 0 ? words->attempts : is_site ? SITE_ATTEMPTS : ATTEMPTS);
     if (is_site || task->interface_count < 2) return;
     task->interfaces[0] = task->interfaces[task->interface_count - 1];
@@ -485,7 +537,10 @@ void read_task(struct task *task, int argc, char **argv) {
         if (strcmp(argv[i], "--nagios") == 0) be_plugin();
     }
     read_words(task, &words, argc, argv);
-    if (words.count == 0) refuse("it takes get, set, command or survey and a managementId, or collect or status; see ptpm-manage --help");
+    if (words.count == 0) {
+        refuse("it takes get, set, command or survey and a managementId, or collect, status, plan, apply, resume or rollback; see "
+               "ptpm-manage --help");
+    }
     read_verb(task, words.at[0]);
     read_every_port(task, &words);
     read_asked(task, &words);
@@ -493,13 +548,15 @@ void read_task(struct task *task, int argc, char **argv) {
     judge(task, &words);
     judge_site_options(&task->site);
     judge_json(task);
+    if (task->plan.expected != NULL && task->plan.verb != APPLY) refuse("--expect: it is of apply alone");
     if (task->site.listen < 0) task->site.listen = LISTENED;
     long port = words.port >= 0 ? words.port : words.target_port;
     task->port = port < 0 ? 0 : (uint16_t)port;
     bool is_beyond = is_beyond_session(task->port);
     if (is_beyond && task->numbers != NULL) refuse("--numbers: no session is kept of a port above %d, which no clock of ptpm has", SESSION_PORTS);
     task->is_kept = is_by_one_manager(task) && !is_beyond;
-    if (task->is_letting_go && !task->is_kept) refuse("--give-up: no session is kept of what is asked");
+    bool may_let_go = task->is_kept && (task->plan.verb == NO_PLAN || task->plan.verb == RESUME);
+    if (task->is_letting_go && !may_let_go) refuse("--give-up: no session is kept of what is asked");
 }
 
 const char *task_words(const struct task *task) {

@@ -24,10 +24,19 @@ struct site_options {
     const char *given;                          /* an option only of `status` that was given, or NULL */
 };
 
+/* What is changed at several clocks by a file. */
+enum plan_verb { NO_PLAN, PLAN, APPLY, RESUME, ROLLBACK };
+struct plan_options {
+    enum plan_verb verb;
+    const char *word;                           /* the file, or the apply that is rolled back */
+    const char *expected;                       /* the id of the plan that was approved, or NULL */
+};
+
 struct task {
     bool is_survey;                             /* every clock is asked, or one, at every port */
     bool is_of_clock;                           /* a survey of one clock */
     struct site_options site;                   /* of a survey that collects, and what is shown of it */
+    struct plan_options plan;
     uint8_t action;                             /* PTPM_GET, PTPM_SET or PTPM_COMMAND, if it is no survey */
     uint16_t id;
     uint16_t port;                              /* the clock's; 0 if none is named */

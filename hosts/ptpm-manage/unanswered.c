@@ -9,11 +9,14 @@
 #include "words.h"
 #include <stdbool.h>
 
+/* How often nobody asks. */
+enum { READINGS = 10 };
+
 /* Whether the clock answers nobody's GET, if it did not answer the manager; then what it has is said. */
 static bool say_value(const struct task *task) {
     static struct answer answer;
     struct ptpm_session session = { 0 };
-    bool is_answered = begin_reading(&session, task, task->id) && finish_reading(&session, task);
+    bool is_answered = begin_reading(&session, task, task->id, READINGS) && finish_reading(&session, task);
     if (is_answered) {
         take_report(&session, &answer);
         complain("the clock answers reads%s", answer.outcome == PTPM_VALUE ? ", and has by now" : "");

@@ -50,7 +50,7 @@ def values_of_an_earlier_run():
     """What is sent again for an earlier run is judged too, and the session goes on after an answer that was not asked."""
     number = os.path.join(work, "number")
     words = ("-m", MANAGER + "/1", "-w", "0", "-k", number)
-    lost = Site(lambda request: by(bytes(20))(request) if request[52:54] == b"\x20\0" else [], *words, "-a", "1", "-t", "50", "--target", ME,
+    lost = Site(lambda request: by(bytes(20))(request) if request[52:54] == b"\x20\0" else [], *words, "-a", "1", "-t", "1000", "--target", ME,
                 "set", "PRIORITY1", "100")
     check("a SET has no answer", lost.status == 3)
     site = Site(by(b"\x07\x00"), *words, "--target", ME, "get", "PRIORITY1")

@@ -103,9 +103,9 @@ def strangers_that_are_one():
     check(f"1,000 clocks that are one are asked {len(times)} times, and {pace} in half a second", site.status == 0
           and 5000 < len(times) < 5100 and pace < 1700)
     check("they are let go", "1000 clocks gave no new answer when they were asked alone: they were let go\n" in site.said())
-    few = Site(lambda request: [answer(request, clock) for clock in many[:100]] if request[52:54] == b"\x20\0" else [], "-t", "100", "-a", "3",
+    few = Site(lambda request: [answer(request, clock) for clock in many[:100]] if request[52:54] == b"\x20\0" else [], "-t", "1000", "-a", "3",
                "collect")
-    check("a hundred are not", len(few.requests) == 6 + 3 * 500 and "let go" not in few.said())
+    check(f"a hundred are not, and are asked {len(few.requests)} times", len(few.requests) == 6 + 3 * 500 and "let go" not in few.said())
 
 
 def strangers_that_never_end():

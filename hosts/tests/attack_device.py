@@ -254,7 +254,7 @@ def floods_while_a_program_runs():
         answers += wire.sent(0.002)
     check(f"one program ran in a flood of {sent}", len(runs()) == 1)
     strangers = [one for one in answers if one[34:42].hex() == STRANGER]
-    check(f"strangers were answered meanwhile, {len(strangers)} times", len(strangers) > 50 and all(one[54] == 128 for one in strangers))
+    check(f"strangers were answered meanwhile, {len(strangers)} times", len(strangers) > 5 and all(one[54] == 128 for one in strangers))
     check("its manager was not", not [one for one in answers if one[34:42].hex() == MANAGER])
     found = []
     wait_until(lambda: found.extend(one for one in wire.sent(0.1) if one[34:42].hex() == MANAGER) or found)

@@ -116,7 +116,8 @@ def saves_that_fail_beside_strangers():
     disk.mend()
     check("and then it is as was saved", wait_until(lambda: asked(wire, 16)[0] == 60 << 8))
     check("it ends in order", clock.end()[0] == 0)
-    check("both are counted", re.search(r"^not saved: 4$", clock.text(), re.M) is not None)
+    # each of the two strangers may have it try once more
+    check("both are counted", re.search(r"^not saved: [2-4]$", clock.text(), re.M) is not None)
     wire.remove()
 
 

@@ -45,13 +45,13 @@ def is_refused(status, why, *words, user=None):
 
 def sets(number, *words):
     """A run of the manager that sets PRIORITY1: whether the clock answers it, and has the value."""
-    status, said, _ = manage("-u", path, "-k", session, "-t", "40", "-a", "4", *words, "set", "PRIORITY1", str(number))
+    status, said, _ = manage("-u", path, "-k", session, *words, "set", "PRIORITY1", str(number))
     return status == 0 and said.splitlines()[-1:] == [f"priority1 {number}"] and value() == number
 
 
 def value():
     """What the clock has, read by nobody; None where it does not answer."""
-    said = run(os.path.join(HOME, "manage"), "-u", path, "-a", "3", "-t", "40", "--target", ME, "get", "PRIORITY1").stdout
+    said = run(os.path.join(HOME, "manage"), "-u", path, "-a", "10", "--target", ME, "get", "PRIORITY1").stdout
     return int(said.split()[1]) if said.startswith("priority1 ") else None
 
 

@@ -32,7 +32,7 @@ from .requests import Requests, SessionSettings
 from .saving_clock import SavingClock, Turn
 from .saving_session import SavingSession
 from .session import Session
-from .session_file import DamagedFileError, SessionFile, SessionFileError, usual_path
+from .session_file import DamagedFileError, OpenApplyError, SessionFile, SessionFileError, usual_path
 from .settings import ClockSettings, DelayMechanism, Manager, PortSettings, PortState, Rights
 from .site import SiteError, site
 from .site_tree import Domain, Finding, Site, SiteClock, read_site
@@ -44,8 +44,8 @@ __all__ = [
     "__version__", "Action", "answer_name", "ask_as_nobody", "Asked", "Changed", "Clock", "ClockMembers", "ClockQuality",
     "ClockSettings", "CurrentDataSet", "DamagedFileError", "data_field", "DefaultDataSet", "DelayMechanism", "Domain",
     "Error", "error_name", "Finding", "get", "HandleAnswer", "Handled", "id_name", "id_of", "Identity", "Limit", "ManagementId",
-    "Manager", "members", "NoAnswer", "Objection", "ObservedClock", "ObservedGrandmaster", "ObservedPort", "ParentDataSet",
-    "PassedOn", "PortDataSet", "PortIdentity", "PortMembers", "PortSettings", "PortState", "PtpmError", "Rate", "read_site",
+    "Manager", "members", "NoAnswer", "Objection", "ObservedClock", "ObservedGrandmaster", "ObservedPort", "OpenApplyError",
+    "ParentDataSet", "PassedOn", "PortDataSet", "PortIdentity", "PortMembers", "PortSettings", "PortState", "PtpmError", "Rate", "read_site",
     "Report", "Requests", "Rights", "SavingClock", "SavingSession", "Session", "SessionAnswer", "SessionFile", "SessionFileError",
     "SessionSettings",
     "Site", "site", "SiteClock", "SiteError", "Survey", "survey", "SURVEY_PORT", "SurveyAnswer", "SurveySettings", "time_interval",

@@ -14,9 +14,10 @@ from .asking import NoAnswer
 from .identity import Identity, PortIdentity
 from .ids import Action, ManagementId, id_of
 from .members import data_field, has_one_member, lines, parse, takes_no_value
+from .named_port import SESSION_PORTS, is_beyond_session
 from .nobody import ask_as_nobody, ask_in_no_session, nobody, refuse_nobody
 from .report import Report
-from .requests import SESSION_PORTS, Requests, SessionSettings, begin_request, is_beyond_session
+from .requests import Requests, SessionSettings, begin_request
 from .session import Session
 from .session_file import SessionFile, SessionFileError
 from .site_command import main as show_site
@@ -185,7 +186,7 @@ class Task:
             with Session(settings, file, wait=words.wait / 1000) as session:
                 report = self._ask_in(session, way)
                 if is_new:
-                    complain(f"{file.path} is new: the session begins at number {session.settings.first}")
+                    complain(f"{file.path} is new: the session begins at number {(session.next_number - 1) % 65536}")
                 status = _print([report], words.hexadecimal)  # and then it is kept without the request
         except OSError as error:
             if status is None:

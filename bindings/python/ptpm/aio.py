@@ -42,8 +42,8 @@ _Result = TypeVar("_Result")
 _SLICE = 0.05
 
 
-class _Ended(Exception):
-    """The task was cancelled that asks over a transport."""
+class _Ended(OSError):
+    """The task was cancelled that asks over a transport: there is no way any more."""
 
 
 class _Asked(Transport):

@@ -2,7 +2,9 @@
 
 from __future__ import annotations
 
+import ctypes
 from enum import IntEnum
+from typing import Callable
 
 from . import _header as header
 from ._library import library, name_by
@@ -38,6 +40,13 @@ def judged(number: int) -> int:
     if number >= 32:
         raise Error(number)
     return number
+
+
+def written(call: Callable[..., int], what: Callable[..., int], room: int) -> bytes:
+    """The octets that a call of a handle writes."""
+    octets, size = (ctypes.c_uint8 * room)(), ctypes.c_size_t()
+    done(call(what, octets, room, ctypes.byref(size)))
+    return ctypes.string_at(octets, size.value)
 
 
 class Answer(IntEnum):

@@ -1,9 +1,8 @@
-"""Messages out and datagrams in, until a request is answered."""
+"""Messages out and datagrams in, until a request in no session is answered."""
 
 from __future__ import annotations
 
 import time
-from typing import Callable, Optional, Sequence
 
 from . import _header as header
 from .answers import Error, SessionAnswer
@@ -22,14 +21,9 @@ class NoAnswer(PtpmError, TimeoutError):
         self.was_sent = was_sent
 
 
-def next_message(session: Requests) -> Optional[bytes]:
-    """The message of the unanswered request, or None if no attempts are left."""
-    try:
-        return session.send()
-    except Error as error:
-        if error.number == header.PTPM_GAVE_UP:
-            return None
-        raise
+def no_answer(sent: int) -> NoAnswer:
+    """There is no answer to a request that was sent this often."""
+    return NoAnswer(f"no answer to {sent} messages", was_sent=sent > 0)
 
 
 def send_out(way: Transport, message: bytes, sent: int) -> int:
@@ -42,34 +36,24 @@ def send_out(way: Transport, message: bytes, sent: int) -> int:
         return sent
 
 
-def first_answered(sessions: Sequence[Requests], way: Transport, until: float) -> Optional[int]:
-    """Which of these sessions is answered first before a time, or None if none is."""
+def _is_answered(session: Requests, way: Transport, until: float) -> bool:
+    """Whether a session is answered before a time."""
     while True:
         datagram = way.receive(until)
-        if datagram is None:
-            return None
-        for place, session in enumerate(sessions):
-            if session.receive(datagram) == SessionAnswer.ANSWERED:
-                return place
+        if datagram is None or session.receive(datagram) == SessionAnswer.ANSWERED:
+            return datagram is not None
 
 
-def _stay() -> None:
-    """A request that did not leave stays unanswered."""
-
-
-def carry_out(session: Requests, way: Transport, timeout: float, take_back: Callable[[], None] = _stay) -> Report:
-    """Sends the unanswered request until it is answered, or its attempts are used. If no message of it left, it is taken back."""
+def carry_out(session: Requests, way: Transport, timeout: float) -> Report:
+    """Sends the unanswered request until it is answered, or its attempts are used."""
     sent = 0
     while True:
-        message = next_message(session)
-        if message is None:
-            if sent == 0:
-                take_back()
-            raise NoAnswer(f"no answer to {sent} messages", was_sent=sent > 0)
         try:
-            sent = send_out(way, message, sent)
-        except OSError:
-            take_back()
+            message = session.send()
+        except Error as error:
+            if error.number == header.PTPM_GAVE_UP:
+                raise no_answer(sent) from None
             raise
-        if first_answered([session], way, time.monotonic() + timeout) is not None:
+        sent = send_out(way, message, sent)
+        if _is_answered(session, way, time.monotonic() + timeout):
             return session.report()

@@ -8,7 +8,7 @@ from typing import Any, List, Optional, Sequence, Set, Tuple
 
 from . import _header as header
 from ._library import Handle, library
-from .answers import HandleAnswer, done, judged
+from .answers import HandleAnswer, done, judged, written
 from .changed import Changed
 from .device import Asked, Objection, say_of
 from .identity import Identity, IdentityLike
@@ -85,10 +85,7 @@ class Clock(Handle):
     def image(self) -> bytes:
         """The clock's image: what a host saves before it sends the messages of a turn that is ANSWERED_NEW. Managers and their rights
         are not in it."""
-        size = ctypes.c_size_t()
-        room = (ctypes.c_uint8 * header.PTPM_CLOCK_IMAGE_OCTETS)()
-        done(self._call(library.ptpm_clock_image, room, len(room), ctypes.byref(size)))
-        return bytes(room[: size.value])
+        return written(self._call, library.ptpm_clock_image, header.PTPM_CLOCK_IMAGE_OCTETS)
 
     def __enter__(self) -> Clock:
         return self

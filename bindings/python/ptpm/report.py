@@ -2,14 +2,16 @@
 
 from __future__ import annotations
 
+import ctypes
 from dataclasses import dataclass
-from typing import Dict, Optional
+from typing import Callable, Dict, Optional
 
 from . import _header as header
 from .answers import Error, judged
 from .identity import PortIdentity
 from .ids import error_name
 from .members import Member, lines, members
+from .session_image import Request
 
 MOST_DATA = 1418
 
@@ -55,3 +57,13 @@ def told(
         raise Error(number)
     is_refused = judged(number) == header.PTPM_REFUSED
     return Report(named, octets, error if is_refused else None, number == header.PTPM_DONE, source, asked)
+
+
+def told_by(call: Callable[..., int], what: Callable[..., int], request: Optional[Request]) -> Report:
+    """What a call of a handle reports of the request that was answered."""
+    size, error = ctypes.c_size_t(), ctypes.c_uint16()
+    room = (ctypes.c_uint8 * MOST_DATA)()
+    number = judged(call(what, room, MOST_DATA, ctypes.byref(size), ctypes.byref(error)))
+    if request is None:
+        raise Error(header.PTPM_NO_REPORT)
+    return told(number, request.id, ctypes.string_at(room, size.value), error.value, asked=request.set_to)

@@ -8,26 +8,14 @@ from typing import Callable, Optional
 
 from . import _header as header
 from ._library import Handle, library
-from .answers import SessionAnswer, done, judged
+from .answers import SessionAnswer, done, judged, written
 from .clock import port_number
 from .identity import Identity, IdentityLike, PortIdentity, PortIdentityLike
 from .ids import Action, IdLike, id_of
-from .report import MOST_DATA, Report, told
-from .session_image import is_under_way, unanswered_set
+from .named_port import NamedPort, not_kept
+from .report import Report, told_by
+from .session_image import EVERY_PORT, Request, unanswered
 from .settings import write_number, write_octets
-
-
-# A tlvType (14.1): its TLV has a managementErrorId before the managementId (15.5.4).
-_MANAGEMENT_ERROR_STATUS = 2
-
-# A portNumber (15.4.1).
-EVERY_PORT = 65535
-
-# The last port that a session of the library names: no clock of ptpm has more.
-SESSION_PORTS = 8
-
-# The places of portNumbers in a message (13.3, 15.4).
-_SOURCE_PORT, _TARGET_PORT = 28, 42
 
 
 @dataclass(frozen=True)
@@ -56,30 +44,6 @@ class SessionSettings:
         return struct
 
 
-def is_beyond_session(port: int) -> bool:
-    """Whether a port is above those of a session, such as one of a switch. Nothing that is asked of it is kept."""
-    return SESSION_PORTS < port < EVERY_PORT
-
-
-def not_kept(port: int) -> ValueError:
-    """Why a request is refused that would be kept."""
-    return ValueError(f"port {port}: no session is kept of a port above {SESSION_PORTS}, which no clock of ptpm has")
-
-
-def _swapped(octets: bytes, place: int, beyond: int) -> bytes:
-    """A message whose portNumber at a place is swapped, if it is a session's last one or the one that takes its place."""
-    port = int.from_bytes(octets[place : place + 2], "big")
-    if beyond == 0 or len(octets) < place + 2 or port not in (beyond, SESSION_PORTS):
-        return octets
-    other = SESSION_PORTS if port == beyond else beyond
-    return octets[:place] + other.to_bytes(2, "big") + octets[place + 2 :]
-
-
-def _is_error_of(datagram: bytes, clock: bytes) -> bool:
-    """Whether it is a MANAGEMENT_ERROR_STATUS of a clock (15.5.4)."""
-    return len(datagram) >= 54 and datagram[48:50] == bytes([0, _MANAGEMENT_ERROR_STATUS]) and datagram[20:28] == clock
-
-
 class Requests(Handle):
     """One request at a time to one clock. A caller that uses these calls directly is responsible for the numbers. A request
     with one that was used before is answered with what the clock kept.
@@ -88,10 +52,8 @@ class Requests(Handle):
 
     def __init__(self, settings: SessionSettings) -> None:
         super().__init__(header.ptpm_session, library.ptpm_session_stop)
-        self._asked = 0  # the managementId of the latest answer
-        self._set: Optional[bytes] = None  # the dataField of the latest request, if it is a SET
-        self._target = bytes(10)  # of the latest message as the library has it: a clockIdentity and a portNumber
-        self._beyond = 0  # the port that takes the place of the session's last one, or 0
+        self._request: Optional[Request] = None  # the latest
+        self._port = NamedPort()
         self._start(settings)
 
     def _start(self, settings: SessionSettings) -> None:
@@ -110,10 +72,9 @@ class Requests(Handle):
         self._begin_by(library.ptpm_session_begin_at, action, named, port, bytes(data))
 
     def _begin_by(self, call: Callable[..., int], action: int, named: IdLike, port: int, octets: bytes) -> None:
-        is_beyond = is_beyond_session(port_number(port))
-        done(self._call(call, Action(action), id_of(named), SESSION_PORTS if is_beyond else port, octets, len(octets)))
-        self._beyond = port if is_beyond else 0
-        self._set = octets if action == Action.SET else None
+        request, place = Request(Action(action), id_of(named), port, octets), NamedPort(port_number(port))
+        done(self._call(call, request.action, request.id, place.inside, octets, len(octets)))
+        self._request, self._port = request, place
 
     def give_up(self) -> None:
         """Gives up the unanswered request, so that the next can be begun. Its number is used for no other, and an answer to it
@@ -123,34 +84,21 @@ class Requests(Handle):
 
     def send(self) -> bytes:
         """The message of the unanswered request; it uses one of its attempts."""
-        size = ctypes.c_size_t()
-        room = (ctypes.c_uint8 * header.PTPM_MOST_OCTETS)()
-        done(self._call(library.ptpm_session_send, room, len(room), ctypes.byref(size)))
-        self._target = bytes(room[34:44])
-        return _swapped(bytes(room[: size.value]), _TARGET_PORT, self._beyond)
-
-    def _judge_datagram(self, datagram: bytes) -> SessionAnswer:
-        return SessionAnswer(judged(self._call(library.ptpm_session_receive, datagram, len(datagram))))
+        return self._port.goes_out(written(self._call, library.ptpm_session_send, header.PTPM_MOST_OCTETS))
 
     def receive(self, octets: bytes) -> SessionAnswer:
         """Judges a datagram that came in. After ANSWERED the next request can be begun. A clock that is not one of ptpm may refuse
         at the port where the request came in, not at the one that was named. So its error is judged as one of the named port."""
-        datagram = _swapped(bytes(octets), _SOURCE_PORT, self._beyond)
-        answer = self._judge_datagram(datagram)
-        if answer != SessionAnswer.ANSWERED and _is_error_of(datagram, self._target[:8]):
-            answer = self._judge_datagram(datagram[:20] + self._target + datagram[30:])
-        if answer == SessionAnswer.ANSWERED:
-            place = 54 if datagram[49] == _MANAGEMENT_ERROR_STATUS else 52
-            self._asked = int.from_bytes(datagram[place : place + 2], "big")
+        answer = SessionAnswer.NOTHING_ASKED
+        for datagram in self._port.comes_in(bytes(octets)):
+            answer = SessionAnswer(judged(self._call(library.ptpm_session_receive, datagram, len(datagram))))
+            if answer == SessionAnswer.ANSWERED:
+                break
         return answer
 
     def report(self) -> Report:
         """What the answer to the latest request says."""
-        size, error = ctypes.c_size_t(), ctypes.c_uint16()
-        room = (ctypes.c_uint8 * MOST_DATA)()
-        words = (room, len(room), ctypes.byref(size), ctypes.byref(error))
-        number = self._call(library.ptpm_session_report, *words)
-        return told(number, self._asked, bytes(room[: size.value]), error.value, asked=self._set)
+        return told_by(self._call, library.ptpm_session_report, self._request)
 
     def resume(self, attempts: int) -> None:
         """Gives the unanswered request this many attempts, whatever was left."""
@@ -169,15 +117,12 @@ class Requests(Handle):
         are left, and the answer to the latest request, are not in it. There is none (ValueError) while a request to a port above 8
         is unanswered: another session would ask port 8."""
         octets = self._image()
-        if self._beyond and is_under_way(octets):
-            raise not_kept(self._beyond)
+        if self._port.beyond and unanswered(octets) is not None:
+            raise not_kept(self._port.beyond)
         return octets
 
     def _image(self) -> bytes:
-        size = ctypes.c_size_t()
-        room = (ctypes.c_uint8 * header.PTPM_SESSION_IMAGE_OCTETS)()
-        done(self._call(library.ptpm_session_image, room, len(room), ctypes.byref(size)))
-        return bytes(room[: size.value])
+        return written(self._call, library.ptpm_session_image, header.PTPM_SESSION_IMAGE_OCTETS)
 
     def restore(self, image: bytes) -> None:
         """Continues as the session of an image of the same manager, clock, number of ports and first number, instead of this one.
@@ -185,8 +130,7 @@ class Requests(Handle):
         refused is no reason to start a fresh session: the clock would treat its requests as old, or as others."""
         octets, struct = bytes(image), self.settings.as_in_c()
         done(self._call(library.ptpm_session_restore, ctypes.byref(struct), octets, len(octets)))
-        self._beyond = 0
-        self._set = unanswered_set(octets)
+        self._request, self._port = unanswered(octets), NamedPort()
 
     @property
     def issued(self) -> int:
@@ -200,7 +144,7 @@ class Requests(Handle):
 
     def is_busy(self) -> bool:
         """Whether a request is unanswered."""
-        return is_under_way(self._image())
+        return unanswered(self._image()) is not None
 
 
 def begin_request(session: Requests, action: int, named: IdLike, data: bytes, port: int) -> None:

@@ -10,8 +10,9 @@ from . import _header as header
 from ._library import library
 from .answers import SessionAnswer, done
 from .ids import IdLike
+from .named_port import is_beyond_session, not_kept
 from .report import Report
-from .requests import Requests, is_beyond_session, not_kept
+from .requests import Requests
 
 
 def _refuse_beyond(port: int) -> None:

@@ -2,23 +2,27 @@
 
 from __future__ import annotations
 
+import contextlib
 import threading
 from dataclasses import replace
 from types import TracebackType
-from typing import Optional, Type
+from typing import Iterator, Optional, Type
 
 from . import _header as header
-from . import fresh_number
 from .answers import Error, SessionAnswer
-from .asking import NoAnswer, carry_out
+from .asker import Asker
+from .asking import NoAnswer, no_answer
+from .clock import port_number
+from .driver import Driver
 from .identity import Identity, PortIdentity
-from .ids import IdLike, id_of
+from .ids import Action, IdLike, id_of
 from .members import DataField, data_field
-from .nobody import draw, refuse_nobody
+from .named_port import NamedPort, is_beyond_session, not_kept
+from .nobody import ask_as_nobody, draw, refuse_nobody
 from .report import Report
-from .requests import Requests, SessionSettings, begin_request, is_beyond_session, not_kept
+from .requests import Requests, SessionSettings, begin_request
 from .session_file import DamagedFileError, SessionFile
-from .session_image import domain_of_unanswered, first_number, has_question, number_of_line
+from .session_image import EVERY_PORT, Request, domain_of, first_number, is_same, latest_number, number_of_line, unanswered
 from .transport import Transport
 
 
@@ -27,8 +31,8 @@ class Session(Requests):
 
     `ask` sends a request until it is answered, and reports nothing that the clock had kept for an earlier session. It first
     makes sure that its number is new. With a file the next session continues from this one. A request is in the file before it is
-    sent. If it had no answer, the next session finishes it first, and has what came of it in `earlier`. A SET or a COMMAND is
-    finished in the domain in which it was asked, whichever this session's is.
+    sent, and until the caller goes on after its answer. If it had no answer, the next session finishes it first, and has what came
+    of it in `earlier`. A SET or a COMMAND is finished in the domain in which it was asked, whichever this session's is.
 
     Threads that ask in one session take turns: a request is answered before the next one begins.
     """
@@ -39,27 +43,31 @@ class Session(Requests):
         refuse_nobody(PortIdentity.of(settings.manager))
         octets = None if file is None else file.octets
         self._asking = threading.RLock()
+        self._asker: Optional[Asker] = None  # it has the session, unless calls of Requests changed that one
+        self._saved: Optional[bytes] = None  # what it goes on from after a failure; None if the next number is not known
+        self._in_file: Optional[bytes] = None
+        self._told: Optional[Report] = None
         self._file = file
         self._wait = wait
-        self._is_known = settings.first is not None or octets is not None
-        self._is_fresh = False
         self.is_under_way = False
         """Whether a request of an earlier run has no answer yet."""
         self.earlier: Optional[Report] = None
         """What came of it."""
         self.earlier_domain = settings.domain
         """The domain in which it is sent again."""
-        first = settings.first if octets is None else first_number(octets)
-        super().__init__(replace(settings, first=draw() if first is None else first))
+        super().__init__(replace(settings, first=draw()) if settings.first is None else settings)
         if octets is not None:
-            self._go_on_from(octets)
+            self._open(octets)
+        elif settings.first is not None:
+            self._saved = self._image()
         if file is not None:
             file.keep_for(self)
 
-    def _go_on_from(self, octets: bytes) -> None:
+    def _open(self, octets: bytes) -> None:
+        """Goes on from what a file has."""
         settings = self.settings
         try:
-            self.restore(octets)
+            left, there = Asker(settings, octets).earlier(settings.domain)
         except Error as error:
             if error.number == header.PTPM_DAMAGED and self._file is not None:
                 raise DamagedFileError(self._file.path) from None
@@ -67,10 +75,13 @@ class Session(Requests):
             if error.number != header.PTPM_NOT_AN_IMAGE or number is None:
                 raise
             self._start(replace(settings, first=number))
+            self._saved = self._in_file = self._image()
             return
-        self.is_under_way = self.is_busy() and not (has_question(octets) and self._gives_up())
+        self._saved = self._in_file = octets
+        self._go_on_from(octets)
+        self.is_under_way = left in (header.PTPM_GET_LEFT, header.PTPM_CHANGE_LEFT)
         if self.is_under_way:
-            self.earlier_domain = domain_of_unanswered(octets, settings.domain)
+            self.earlier_domain = there
         self.retune(self.earlier_domain)
 
     def __enter__(self) -> Session:
@@ -91,28 +102,43 @@ class Session(Requests):
     def close(self) -> None:
         """Stops it. A file then has it without the request whose answer was reported."""
         with self._asking:
-            if self._file is not None and self._file.is_open and self._is_fresh and not self.is_busy():
-                self._file.write(self.image())
+            if self._file is not None and self._file.is_open:
+                if self._asker is not None:
+                    self._note(self._asker)
+                image = self._image()
+                if self._in_file is not None and unanswered(image) is None and not is_same(image, self._in_file):
+                    self._file.write(image)  # calls of Requests changed it
             self._leave_file()
             super().close()
 
-    def _gives_up(self) -> bool:
-        """Gives up a question. One that can't be given up is finished like any request."""
-        try:
-            self.give_up()
-        except Error:
-            return False
-        return True
+    # ---- the session, which calls of Requests see as it is between two requests of the asker
+
+    def _go_on_from(self, image: bytes) -> None:
+        self.settings, port = replace(self.settings, first=first_number(image)), self._port
+        self.restore(image)
+        self._port = port
+
+    def _holder(self, attempts: Optional[int] = None) -> Asker:
+        """An asker that has the session as it is."""
+        settings = self.settings if attempts is None else replace(self.settings, attempts=attempts)
+        asker, image = self._asker, self._image()
+        if asker is None or asker.attempts != settings.attempts or not is_same(image, asker.image()):
+            if self._saved is not None or unanswered(image) is not None:
+                self._saved = image
+            self._asker = asker = Asker(settings, self._saved)
+        return asker
+
+    def is_busy(self) -> bool:
+        """Whether a request is unanswered. A question whether a number is new is none."""
+        return super().is_busy() and self._holder().earlier(0)[0] != header.PTPM_QUESTION_LEFT
+
+    def report(self) -> Report:
+        is_askers = self._asker is not None and is_same(self._image(), self._asker.image())
+        return self._told if is_askers and self._told is not None else super().report()
 
     def give_up(self) -> None:
         super().give_up()
         self._come_back()
-
-    def let_go(self) -> None:
-        """Continues with the next number, without the request that has no answer. Once the clock has answered a later one, it was
-        carried out, or never will be. It is refused if 32,767 one after the other had no answer (OUT_OF_REACH)."""
-        with self._asking:
-            self.give_up()
 
     def receive(self, octets: bytes) -> SessionAnswer:
         answer = super().receive(octets)
@@ -126,58 +152,88 @@ class Session(Requests):
             self.is_under_way = False
             self.retune(self.settings.domain)
 
-    def _judge(self, action: int, number: int, data: bytes, port: int) -> None:
-        """Refuses what the library refuses to begin, before anything is sent. And what a file would keep for another port."""
-        if self._file is not None and is_beyond_session(port):
-            raise not_kept(port)
-        if not self.is_under_way and self.is_busy():
-            raise Error(header.PTPM_BUSY)
-        probe = Requests(self.settings)
-        begin_request(probe, action, number, data, port)
-        probe.close()
+    # ---- what the asker hands out
 
-    def finish(self, way: Transport, *, timeout: float = 0.2) -> Report:
-        """Sends the request of an earlier run until it is answered, and returns what became of it. `ask` also does so, but the
-        file is then kept without that request before `earlier` can be read."""
-        with self._asking:
-            self.resume(self.settings.attempts)
-            try:
-                self.earlier = carry_out(self, way, timeout)
-            except NoAnswer as error:
-                where = "" if self.earlier_domain == self.settings.domain else f" in domain {self.earlier_domain}"
-                why = f"{error} of an earlier request{where}: the request itself was not sent"
-                raise NoAnswer(why, was_sent=False) from None
-            return self.earlier
-
-    def _keep_number(self, number: int) -> None:
-        """Has the file say that the next request has this number."""
+    def _save(self, asker: Asker) -> None:
+        image = asker.image()
         if self._file is not None:
-            self._file.write(Requests(replace(self.settings, first=number)).image())
+            self._file.write(image)
+            self._in_file = image
+        self._saved = image
+        asker.saved()
 
-    def _find_number(self, way: Transport, number: int, port: int, timeout: float) -> None:
-        """Has the session continue from a number that is new to the clock."""
-        begun = replace(self.settings, first=self.next_number if self._is_known else None)
-        question = fresh_number.Question(begun, number, port, timeout, self._wait)
-        self._start(replace(begun, first=fresh_number.find(question, way, self._keep_number)))
-        self._is_fresh = self._is_known = True
+    def _note(self, asker: Asker) -> None:
+        """The caller goes on, so it has noted the answer. The file then has the session without the request."""
+        if asker.next == header.PTPM_NOTE_ANSWER:
+            asker.noted()
+        if asker.next == header.PTPM_SAVE_IT:
+            self._save(asker)
 
-    def _begin(self, action: int, number: int, data: bytes, port: int) -> None:
-        """Begins a request, and keeps it. A session that has begun as many as it can continues as a new one, with its next number."""
+    @contextlib.contextmanager
+    def _turn_of(self, asker: Asker) -> Iterator[None]:
+        """The session is as the asker leaves it. If that fails, it is what was saved, as another run would have it."""
+        self._told = None
         try:
-            begin_request(self, action, number, data, port)
-        except Error as error:
-            if error.number != header.PTPM_COUNT_AT_MAXIMUM:
-                raise
-            self._start(replace(self.settings, first=self.next_number))
-            begin_request(self, action, number, data, port)
-        if self._file is not None:
-            self._file.write(self.image())
+            yield
+        except BaseException:
+            self._asker = None
+            if self._saved is None:
+                self._start(replace(self.settings, first=draw()))
+            else:
+                self._go_on_from(self._saved)
+            raise
+        self._go_on_from(asker.image())
+        self._come_back()
 
-    def _take_back(self) -> None:
-        """The latest request did not leave: its number is that of the next one, and no later run sends it."""
-        self._start(replace(self.settings, first=(self.next_number - 1) % 65536))
-        if self._file is not None:
-            self._file.write(self.image())
+    def _carry_out(self, asker: Asker, way: Transport, timeout: float, request: Request, is_begun: bool) -> Report:
+        """Carries out what was asked, or what is settled."""
+        driver = Driver(asker, way, self._port, timeout, self._wait, self._save, is_begun)
+        with self._turn_of(asker):
+            if not driver.run():
+                raise driver.why or self._why(asker, driver, way, request, timeout)
+            self._told = asker.report(request)
+        return self._told
+
+    def _why(self, asker: Asker, driver: Driver, way: Transport, request: Request, timeout: float) -> NoAnswer:
+        """Why there is no answer."""
+        if driver.is_begun or driver.sent == 0:
+            return no_answer(driver.sent)
+        image = asker.image()
+        if self._saved is None:
+            what, is_read = "each of four numbers", asker.is_read_answered
+        else:
+            what, is_read = f"number {latest_number(image)}", self._is_read(way, image, request.port, timeout)
+        why = f"the clock answers reads, and drops {what} of manager {PortIdentity.of(self.settings.manager)}"
+        return NoAnswer(f"{why if is_read else 'no answer, and to no read either'}: the request itself was not sent", was_sent=False)
+
+    def _is_read(self, way: Transport, image: bytes, port: int, timeout: float) -> bool:
+        """Whether the clock answers nobody what a session's question asks."""
+        question, settings = unanswered(image), replace(self.settings, domain=domain_of(image))
+        assert question is not None
+        try:
+            ask_as_nobody(way, settings, Action.GET, question.id, b"", port, timeout=timeout)
+        except OSError:  # NoAnswer is one, too
+            return False
+        return True
+
+    # ---- what a caller asks
+
+    def _judge(self, request: Request) -> None:
+        """Refuses what a file would keep for another port. And what the library would refuse after an earlier request is finished."""
+        if self._file is not None and is_beyond_session(request.port):
+            raise not_kept(request.port)
+        if self.is_under_way:
+            probe = Requests(self.settings)
+            begin_request(probe, request.action, request.id, request.data, request.port)
+            probe.close()
+
+    def _leave_question(self, asker: Asker, port: int) -> None:
+        """Gives up a question that names another port, unless the library refuses to. A clock without that port never answers it."""
+        question = unanswered(asker.image())
+        if question is None or asker.earlier(0)[0] != header.PTPM_QUESTION_LEFT or self._port.outside(question.port) == port:
+            return
+        with contextlib.suppress(Error):
+            self.give_up()
 
     def ask(
         self,
@@ -194,23 +250,56 @@ class Session(Requests):
         the id. One above 8 is asked only without a file, else it is a ValueError. If no answer came, NoAnswer says whether the
         request itself was sent; if it was, `go_on` asks the same again."""
         number = id_of(named)
-        data = data_field(number, value)
+        request = Request(Action(action), number, port_number(port), data_field(number, value))
+        place = NamedPort(0 if port == EVERY_PORT else port)
         with self._asking:
-            self._judge(action, number, data, port)
+            self._judge(request)
             if self.is_under_way:
                 self.finish(way, timeout=timeout)
-            if not self._is_fresh:
-                self._find_number(way, number, port, timeout)
-            self._begin(action, number, data, port)
-            return carry_out(self, way, timeout, self._take_back)
+            self._note(self._holder())
+            self._leave_question(self._holder(), place.named)
+            asker = self._holder()
+            asker.ask(replace(request, port=place.inside), domain_of(self._image()))
+            self._port = place
+            return self._carry_out(asker, way, timeout, request, False)
+
+    def _settle(self, way: Transport, timeout: float, attempts: Optional[int] = None) -> Report:
+        """Sends the unanswered request again."""
+        if not self.is_busy():
+            raise Error(header.PTPM_IDLE)
+        asker, image = self._holder(attempts), self._image()
+        request = unanswered(image)
+        assert request is not None
+        asker.settle(domain_of(image))
+        return self._carry_out(asker, way, timeout, request, True)
+
+    def finish(self, way: Transport, *, timeout: float = 0.2) -> Report:
+        """Sends the request of an earlier run until it is answered, and returns what became of it. `ask` also does so, but the
+        file is then kept without that request before `earlier` can be read."""
+        with self._asking:
+            try:
+                self.earlier = self._settle(way, timeout)
+            except NoAnswer as error:
+                where = "" if self.earlier_domain == self.settings.domain else f" in domain {self.earlier_domain}"
+                why = f"{error} of an earlier request{where}: the request itself was not sent"
+                raise NoAnswer(why, was_sent=False) from None
+            return self.earlier
 
     def go_on(self, way: Transport, attempts: int = 30, *, timeout: float = 0.2) -> Report:
         """Asks the unanswered request again. The clock still carries it out once. If it is one of an earlier run, what became
         of it is in `earlier` too."""
         with self._asking:
             is_earlier = self.is_under_way
-            self.resume(attempts)
-            report = carry_out(self, way, timeout)
+            report = self._settle(way, timeout, attempts)
             if is_earlier:
                 self.earlier = report
             return report
+
+    def let_go(self) -> None:
+        """Continues with the next number, without the request that has no answer. Once the clock has answered a later one, it was
+        carried out, or never will be. It is refused if 32,767 one after the other had no answer (OUT_OF_REACH)."""
+        with self._asking:
+            asker = self._holder()
+            asker.let_go()
+            with self._turn_of(asker):
+                self._save(asker)

@@ -22,6 +22,7 @@ _TURN = 60.0
 _TRY_AGAIN = 0.01
 _ROOM = header.PTPM_SESSION_IMAGE_OCTETS + seal.OCTETS
 _MOST = _ROOM + 1  # of a larger file these are read
+_MOST_PATH = 4096
 
 # The locks of a process do not keep it from itself.
 _own: Set[str] = set()
@@ -45,6 +46,16 @@ def usual_path(manager: PortIdentityLike, target: IdentityLike) -> str:
     else:
         raise SessionFileError("neither XDG_STATE_HOME nor HOME names a folder for the session")
     return f"{folder}/{who.clock}-{who.port}.{Identity.of(target)}"
+
+
+class OpenApplyError(SessionFileError):
+    """An apply of ptpm-manage is open that asks in this session. Another request would settle a step that its journal then lacks.
+    `journal` is the path of the journal, or None if the mark can't be read."""
+
+    def __init__(self, mark: str, journal: Optional[str]) -> None:
+        why = f"{mark}: it can't be read: an apply may be open" if journal is None else f"the apply of {journal} is open"
+        super().__init__(f"nothing was asked: {why}: ptpm-manage resume goes on with it")
+        self.journal = journal
 
 
 class DamagedFileError(Error):
@@ -80,6 +91,7 @@ class SessionFile:
         self._process = os.getpid()
         self._lock = self._take_turn()
         try:
+            self._refuse_mark()
             self.octets = self._read()
         except BaseException:
             self.close()
@@ -136,6 +148,23 @@ class SessionFile:
         except FileNotFoundError:
             return False
         return os.path.samestat(found, os.fstat(lock))
+
+    def _refuse_mark(self) -> None:
+        """Refuses a session that is marked by an apply. The mark beside its file has the journal's path, and stays."""
+        mark = f"{self.path}.apply"
+        try:
+            opened = os.open(mark, os.O_RDONLY | os.O_NOFOLLOW | os.O_NONBLOCK | os.O_CLOEXEC)
+        except FileNotFoundError:
+            return
+        except OSError:
+            raise OpenApplyError(mark, None) from None
+        try:
+            journal = os.fsdecode(os.read(opened, _MOST_PATH).split(b"\n")[0])
+        except OSError:
+            raise OpenApplyError(mark, None) from None
+        finally:
+            os.close(opened)
+        raise OpenApplyError(mark, journal)
 
     def _read(self) -> Optional[bytes]:
         try:

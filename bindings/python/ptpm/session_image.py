@@ -1,9 +1,10 @@
 """What this module itself reads of a session's image, and of the number that earlier versions kept in its place. The library
-decides whether octets are an image."""
+decides whether octets are an image, and what is to be done with the request that it has."""
 
 from __future__ import annotations
 
 import re
+from dataclasses import dataclass
 from typing import Optional
 
 from . import _header as header
@@ -11,17 +12,32 @@ from .answers import Error
 from .identity import Identity, PortIdentity
 from .ids import Action
 
-# Where the members are. Numbers of two octets have the higher one first.
-_FIRST, _DOMAIN, _IS_UNDER_WAY, _ACTION, _ID, _SIZE, _DATA = 31, 35, 52, 53, 54, 58, 60
+# A portNumber (15.4.1).
+EVERY_PORT = 65535
 
-# The octets of a dataField of DOMAIN: the domainNumber, and a reserved one (IEEE 1588-2019, 15.5.3).
-_SIZE_OF_DOMAIN = 2
+# Where the members are. Numbers have the highest octet first.
+_FIRST, _DOMAIN, _ISSUED, _IS_UNDER_WAY, _ACTION, _ID, _PORT, _SIZE, _DATA = 31, 35, 36, 52, 53, 54, 56, 58, 60
 
 _LINE = re.compile(rb"([0-9]{1,5})( [0-9a-f]{16}/[0-9]{1,5} [0-9a-f]{16})?\n?")
 
 
-def _number_at(octets: bytes, place: int) -> int:
-    return int.from_bytes(octets[place : place + 2], "big")
+@dataclass(frozen=True)
+class Request:
+    """What a session asks."""
+
+    action: int
+    id: int
+    port: int
+    data: bytes
+
+    @property
+    def set_to(self) -> Optional[bytes]:
+        """The dataField, if it is a SET."""
+        return self.data if self.action == Action.SET else None
+
+
+def _number_at(octets: bytes, place: int, size: int = 2) -> int:
+    return int.from_bytes(octets[place : place + size], "big")
 
 
 def first_number(image: bytes) -> int:
@@ -29,34 +45,29 @@ def first_number(image: bytes) -> int:
     return _number_at(image, _FIRST)
 
 
-def is_under_way(image: bytes) -> bool:
-    """Whether a request of an image's session has no answer yet."""
-    return image[_IS_UNDER_WAY] == 1
+def latest_number(image: bytes) -> int:
+    """The sequenceId of the latest one."""
+    return (first_number(image) + _number_at(image, _ISSUED, 8) - 1) % 65536
 
 
-def has_question(image: bytes) -> bool:
-    """Whether what has no answer yet is a GET that asked if a number is new. Nobody waits for its answer."""
-    if not is_under_way(image) or image[_ACTION] != Action.GET:
-        return False
-    asked = (_number_at(image, _ID), _number_at(image, _SIZE))
-    return asked in ((header.PTPM_ID_DEFAULT_DATA_SET, 20), (header.PTPM_ID_PORT_DATA_SET, 26))
+def domain_of(image: bytes) -> int:
+    """The domain in which an image's session asks."""
+    return image[_DOMAIN]
 
 
-def unanswered_set(image: bytes) -> Optional[bytes]:
-    """The dataField of what has no answer yet, if it is a SET."""
-    if not is_under_way(image) or image[_ACTION] != Action.SET:
+def unanswered(image: bytes) -> Optional[Request]:
+    """The request of an image's session that has no answer yet. Its port is 0 if it is asked of every port."""
+    if image[_IS_UNDER_WAY] != 1:
         return None
-    return image[_DATA : _DATA + _number_at(image, _SIZE)]
+    port, size = _number_at(image, _PORT), _number_at(image, _SIZE)
+    return Request(image[_ACTION], _number_at(image, _ID), 0 if port == EVERY_PORT else port, image[_DATA : _DATA + size])
 
 
-def domain_of_unanswered(image: bytes, domain: int) -> int:
-    """The domain in which what has no answer yet is sent again: the one in which it was asked. PTP instances of other domains may
-    have the same clockIdentity, and nobody asked them to change anything. A GET changes nothing, so it is sent in this session's
-    domain. So is a SET of DOMAIN to that one: the clock may be there by now."""
-    action, asked = image[_ACTION], (_number_at(image, _ID), _number_at(image, _SIZE))
-    is_of_domain = action == Action.SET and asked == (header.PTPM_ID_DOMAIN, _SIZE_OF_DOMAIN)
-    has_moved_here = is_of_domain and image[_DATA] == domain
-    return domain if action == Action.GET or has_moved_here else image[_DOMAIN]
+def is_same(image: bytes, other: bytes) -> bool:
+    """Whether two images are of the same session. In another domain it is the same if it has nothing under way there."""
+    if unanswered(image) is None:
+        return image[:_DOMAIN] + image[_DOMAIN + 1 :] == other[:_DOMAIN] + other[_DOMAIN + 1 :]
+    return image == other
 
 
 def number_of_line(octets: bytes, manager: PortIdentity, target: Identity) -> Optional[int]:

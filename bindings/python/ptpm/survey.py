@@ -9,7 +9,7 @@ from typing import Generator, Iterator, Optional
 
 from . import _header as header
 from ._library import Handle, library
-from .answers import SurveyAnswer, done, judged
+from .answers import SurveyAnswer, done, judged, written
 from .asking import send_out
 from .identity import Identity, IdentityLike, PortIdentity, PortIdentityLike
 from .ids import IdLike, id_of
@@ -72,10 +72,7 @@ class Survey(Handle):
 
     def send(self) -> bytes:
         """The message of the GET, the same each time."""
-        size = ctypes.c_size_t()
-        room = (ctypes.c_uint8 * header.PTPM_MOST_OCTETS)()
-        done(self._call(library.ptpm_survey_send, room, len(room), ctypes.byref(size)))
-        return bytes(room[: size.value])
+        return written(self._call, library.ptpm_survey_send, header.PTPM_MOST_OCTETS)
 
     def receive(self, octets: bytes) -> SurveyAnswer:
         """Judges a datagram that came in, and keeps it if it is the first answer of its port."""

@@ -49,6 +49,17 @@ class Awaited(Folder):
 
         self.assertEqual(asyncio.run(ask()), (True, {"priority1": 100}, [f"{CLOCK}/1"]))
 
+    def test_a_set_that_was_cancelled_goes_on(self) -> None:
+        async def ask() -> Tuple[object, ...]:
+            async with self.session() as session:
+                await session.ask(self.way, ptpm.Action.GET, "PRIORITY1", timeout=5)
+                with self.assertRaises(asyncio.TimeoutError):
+                    await asyncio.wait_for(session.ask(Silent(), ptpm.Action.SET, "PRIORITY1", 100, timeout=5), 0.3)
+                is_busy = session.session.is_busy()
+                return is_busy, (await session.go_on(self.way)).members, session.session.is_busy()
+
+        self.assertEqual(asyncio.run(ask()), (True, {"priority1": 100}, False))
+
     def test_tasks_take_turns(self) -> None:
         async def ask() -> List[object]:
             async with self.session() as session:

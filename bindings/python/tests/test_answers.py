@@ -46,6 +46,21 @@ class Way(ptpm.Transport):
         return datagram
 
 
+class Full(Way):
+    """A way that has no room for the first messages, and on which something else comes in."""
+
+    def __init__(self, answers: Answers, refused: int) -> None:
+        super().__init__(answers)
+        self._refused = refused
+
+    def send(self, octets: bytes) -> bool:
+        if self._refused == 0:
+            return super().send(octets)
+        self._refused -= 1
+        self._datagram = b"\x0d"
+        return False
+
+
 def by(field: bytes) -> Answers:
     return lambda request: response(request, request[52:54] + field)
 
@@ -68,6 +83,22 @@ class AnswersOfOthers(Folder):
         later = ptpm.Requests(settings)
         later.restore(session.image())
         self.assertFalse(carry_out(later, Way(by(b"\x07\0")), 1).is_as_asked)
+
+    def test_the_first_message_waits_for_room(self) -> None:
+        heard: List[bytes] = []
+
+        def answers(request: bytes) -> bytes:  # each second copy
+            heard.append(request)
+            return b"" if heard.count(request) == 1 else by(b"\x64\0")(request)
+
+        with ptpm.Session(ptpm.SessionSettings(MANAGER, CLOCK, 7, attempts=3)) as session:
+            for refused, issued in ((2, 2), (1, 3)):  # the question is of the first alone
+                report = session.ask(Full(answers, refused), ptpm.Action.SET, "PRIORITY1", 100, timeout=0.05)
+                self.assertEqual((str(report), session.issued), ("priority1 100", issued))
+            with self.assertRaises(ptpm.NoAnswer) as caught:
+                session.ask(Full(by(b"\x64\0"), 9), ptpm.Action.SET, "PRIORITY1", 101, timeout=0.01)
+            self.assertEqual((str(caught.exception), caught.exception.was_sent), ("no answer to 0 messages", False))
+            self.assertEqual((session.is_busy(), session.next_number), (False, 10))
 
     def test_an_error_from_another_port_is_an_answer(self) -> None:
         def error(request: bytes) -> bytes:

@@ -75,7 +75,6 @@ class Losing(ptpm.Transport):
         return self._answers.pop() if self._has_lost and self._answers else self._way.receive(until)
 
 
-@unittest.skipUnless((TOP / "hosts/clock").exists(), "hosts/clock is not built")
 class Failing(ptpm.Transport):
     """A way that fails after so many messages."""
 
@@ -92,6 +91,7 @@ class Failing(ptpm.Transport):
         return self._way.receive(until)
 
 
+@unittest.skipUnless((TOP / "hosts/clock").exists(), "hosts/clock is not built")
 class Asking(Folder):
     def setUp(self) -> None:
         super().setUp()
@@ -393,6 +393,30 @@ class Asking(Folder):
             self.assertEqual(ptpm.Session(ptpm.SessionSettings(MANAGER, CLOCK), file).next_number, 11)
         self.assertEqual(os.stat(path).st_mode & 0o777, 0o640)
 
+    def test_a_file_that_an_apply_has_marked_is_refused(self) -> None:
+        path, journal = f"{self.folder}/session", f"{self.folder}/apply/20261127T170000.journal"
+        with open(f"{path}.apply", "w", encoding="utf-8") as mark:
+            mark.write(f"{journal}\n")
+        for _ in range(2):
+            with self.assertRaises(ptpm.OpenApplyError) as caught:
+                ptpm.SessionFile(MANAGER, CLOCK, path)
+            self.assertEqual(caught.exception.journal, journal)
+        why = f"nothing was asked: the apply of {journal} is open: ptpm-manage resume goes on with it"
+        self.assertEqual(str(caught.exception), why)
+        words = [sys.executable, "-m", "ptpm", "-u", self.path, "-m", MANAGER, "-k", path, "-T", CLOCK, "set", "PRIORITY1", "1"]
+        ran = subprocess.run(words, capture_output=True, text=True, check=False)
+        self.assertEqual((ran.returncode, ran.stdout, ran.stderr), (2, "", f"ptpm: {why}\n"))
+        self.assertEqual([name for name in sorted(os.listdir(self.folder)) if name.startswith("session")], ["session.apply"])
+        os.unlink(f"{path}.apply")
+        os.mkdir(f"{path}.apply")
+        with self.assertRaisesRegex(ptpm.OpenApplyError, "session.apply: it can't be read: an apply may be open") as caught:
+            ptpm.SessionFile(MANAGER, CLOCK, path)
+        self.assertIsNone(caught.exception.journal)
+        os.rmdir(f"{path}.apply")
+        with ptpm.SessionFile(MANAGER, CLOCK, path) as file:
+            self.assertIsNone(file.octets)
+        self.assertEqual(ptpm.get(self.way, CLOCK, "PRIORITY1").members, {"priority1": 128})
+
     def test_a_file_keeps_one_session_at_a_time(self) -> None:
         settings = ptpm.SessionSettings(MANAGER, CLOCK)
         with ptpm.SessionFile(MANAGER, CLOCK) as file:
@@ -424,6 +448,45 @@ class Asking(Folder):
             self.assertEqual((session.is_under_way, session.next_number), (False, number))
             session.ask(self.way, ptpm.Action.SET, "PRIORITY2", 7, timeout=1)
         self.assertEqual(ptpm.get(self.way, CLOCK, "PRIORITY1").members, {"priority1": 128})
+
+    def test_what_can_not_be_saved_is_not_sent(self) -> None:
+        full = OSError(28, "No space left on device")
+        with ptpm.SessionFile(MANAGER, CLOCK) as file, ptpm.Session(ptpm.SessionSettings(MANAGER, CLOCK), file, wait=0) as session:
+            session.ask(self.way, ptpm.Action.GET, "PRIORITY1", timeout=1)
+            for saves in ([full], [unittest.mock.DEFAULT, full]):  # without the GET; with the SET
+                with unittest.mock.patch.object(file, "write", wraps=file.write, side_effect=saves), self.assertRaises(OSError):
+                    session.ask(self.way, ptpm.Action.SET, "PRIORITY1", 100, timeout=1)
+                self.assertFalse(session.is_busy())
+                self.assertEqual(ptpm.get(self.way, CLOCK, "PRIORITY1").members, {"priority1": 128})
+            self.assertEqual(str(session.ask(self.way, ptpm.Action.SET, "PRIORITY1", 101, timeout=1)), "priority1 101")
+
+    def test_a_question_at_a_port_that_the_clock_lacks_is_left(self) -> None:
+        settings = ptpm.SessionSettings(MANAGER, CLOCK, attempts=1)
+        with ptpm.SessionFile(MANAGER, CLOCK) as file, ptpm.Session(settings, file, wait=0) as session:
+            session.ask(self.way, ptpm.Action.GET, "PRIORITY1", timeout=5)
+        with ptpm.SessionFile(MANAGER, CLOCK) as file, ptpm.Session(settings, file) as session:
+            with self.assertRaisesRegex(ptpm.NoAnswer, "no answer, and to no read either: the request itself was not sent"):
+                session.ask(self.way, ptpm.Action.GET, "PRIORITY1", port=5, timeout=0.05)
+            self.assertFalse(session.is_busy())
+            self.assertRaisesRegex(ptpm.Error, "IDLE", session.go_on, self.way)
+            self.assertEqual(str(session.ask(self.way, ptpm.Action.GET, "PRIORITY1", port=1, timeout=5)), "priority1 128")
+
+    def test_calls_of_requests_between_two_requests(self) -> None:
+        settings = ptpm.SessionSettings(MANAGER, CLOCK)
+        with ptpm.SessionFile(MANAGER, CLOCK) as file, ptpm.Session(settings, file, wait=0) as session:
+            session.ask(self.way, ptpm.Action.SET, "PRIORITY1", 1, timeout=1)
+            number = session.next_number
+            session.begin(ptpm.Action.SET, "PRIORITY1", b"\2\0")
+            self.way.send(session.send())
+            self.assertEqual(session.receive(self.way.receive(time.monotonic() + 5) or b""), ptpm.SessionAnswer.ANSWERED)
+            self.assertEqual((str(session.report()), session.next_number), ("priority1 2", (number + 1) % 65536))
+            session.ask(self.way, ptpm.Action.SET, "PRIORITY1", 3, timeout=1)  # a question before it
+            session.begin(ptpm.Action.GET, "PRIORITY1")
+            session.give_up()
+            self.assertRaisesRegex(ptpm.Error, "IDLE", session.let_go)
+        with ptpm.SessionFile(MANAGER, CLOCK) as file:
+            later = ptpm.Session(settings, file)
+            self.assertEqual((later.is_under_way, later.next_number), (False, (number + 4) % 65536))
 
     def test_the_command_line(self) -> None:
         def run(*words: str) -> "tuple[int, str]":

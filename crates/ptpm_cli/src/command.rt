@@ -1,5 +1,6 @@
 //! The command line.
 
+use crate::plan::{PlanShown, PlanWords, plan};
 use clap::error::ErrorKind;
 use clap::{Arg, ArgAction, ArgGroup, ArgMatches, Command, value_parser};
 use ptpm_commands::answer::{answer, answer_lines};
@@ -9,6 +10,7 @@ use ptpm_commands::show::{Values, show_as, show_good_lines_as, show_lines_as};
 use ptpm_commands::{Fault, tell};
 use ptpm_draw::{Chosen, draw};
 use ptpm_findings::check_script;
+use ptpm_plan::Form as PlanForm;
 use ptpm_schedule::{Chances, schedule};
 use ptpm_site::limits::Limits;
 use ptpm_site_report::names::Names;
@@ -17,6 +19,7 @@ use ptpm_world::{ScriptError, run_script};
 use std::alloc::{AllocError, Global};
 use std::fmt;
 use std::io::{Read, Write};
+use std::rt::Files;
 use std::str::FromStr;
 
 /// What `--version` prints after the program's name; CHANGELOG.md says what came with each.
@@ -30,18 +33,20 @@ const TAI_UTC: i16 = 37;
 
 /// Does what the words say, and answers the exit status. The first word is the program's name. 0: it was done.
 /// 1: a fault, with the line `ptpm: FAULT` on `err`, or `check` wrote faults on `out`. 2: the words were refused,
-/// with the reason on `err`. `site` answers 1 if it found something, and 3 if no clock answered. With
+/// with the reason on `err`. `plan` answers 1 if something can't be set, 2 if its file is refused, and 3 if something is not
+/// reached. `site` answers 1 if it found something, and 3 if no clock answered. With
 /// `--nagios` it answers as a plugin of Nagios: 3 at a fault and if the words were refused, too. What `err` does changes nothing.
-/// Only `run`, `check`, `schedule`, `draw`, `site` and the option `--lines` read.
+/// Only `run`, `check`, `schedule`, `draw`, `site`, `plan` and the option `--lines` read.
 /// Whatever was written on `out` is flushed, at a fault too.
-pub fn command<R: Read, O: Write, E: Write>(
+pub fn command<F: Files, R: Read, O: Write, E: Write>(
     alloc: Global,
+    files: &F,
     words: &[&str],
     reader: &mut R,
     out: &mut O,
     err: &mut E,
 ) -> u8 {
-    match run(alloc, words, reader, out, err) {
+    match run(alloc, files, words, reader, out, err) {
         Ok(status) => status,
         Err(failure) => {
             let status = end_at_failure(&failure, out, err);
@@ -109,15 +114,16 @@ impl From<Fault> for Failure {
     }
 }
 
-fn run<R: Read, O: Write, E: Write>(
+fn run<F: Files, R: Read, O: Write, E: Write>(
     alloc: Global,
+    files: &F,
     words: &[&str],
     reader: &mut R,
     out: &mut O,
     err: &mut E,
 ) -> Result<u8, Failure> {
     let status = match parse(alloc, words) {
-        Ok(task) => carry_out(alloc, task, reader, out, err)?,
+        Ok(task) => carry_out(alloc, files, task, reader, out, err)?,
         Err(error) => end_without_task(error, out)?,
     };
     out.flush().map_err(Fault::from)?;
@@ -137,8 +143,9 @@ fn end_without_task<O: Write>(error: clap::Error, out: &mut O) -> Result<u8, Fai
 }
 
 /// Does what a task asks for, and answers the exit status.
-fn carry_out<R: Read, O: Write, E: Write>(
+fn carry_out<F: Files, R: Read, O: Write, E: Write>(
     alloc: Global,
+    files: &F,
     task: Task<'_>,
     reader: &mut R,
     out: &mut O,
@@ -159,6 +166,7 @@ fn carry_out<R: Read, O: Write, E: Write>(
         Task::Schedule(chances) => played(schedule(alloc, chances, reader, out, err)),
         Task::Draw(chosen) => played(draw(alloc, chosen, reader, out)),
         Task::Site(shown, names) => show_site(alloc, shown, &names, reader, out),
+        Task::Plan(words) => Ok(plan(alloc, files, words, reader, out, err)?),
         Task::Check => check(alloc, reader, out),
     }
 }
@@ -221,6 +229,8 @@ enum Task<'a> {
     Check,
     /// `draw`, with a script on standard input.
     Draw(Chosen),
+    /// `plan`, with answers on standard input.
+    Plan(PlanWords<'a>),
     /// `site`, with answers on standard input, and the names of clocks.
     Site(Shown, Names),
 }
@@ -342,6 +352,7 @@ fn task_without_members<'a>(name: &str, values: &ArgMatches<'a>) -> Option<Task<
         "schedule" => Some(Task::Schedule(chances(values)?)),
         "check" => Some(Task::Check),
         "draw" => Some(Task::Draw(chosen(values)?)),
+        "plan" => Some(Task::Plan(plan_words(values)?)),
         _ => None,
     }
 }
@@ -390,6 +401,22 @@ fn chosen(values: &ArgMatches<'_>) -> Option<Chosen> {
     Some(Chosen {
         from: values.get_one("from")?,
         to: values.get_one("to")?,
+    })
+}
+
+fn plan_words<'a>(values: &ArgMatches<'a>) -> Option<PlanWords<'a>> {
+    let shown = if values.get_flag("asks") {
+        PlanShown::Questions
+    } else if values.get_flag("steps") {
+        PlanShown::InForm(PlanForm::Steps)
+    } else if values.get_flag("json") {
+        PlanShown::InForm(PlanForm::Json)
+    } else {
+        PlanShown::InForm(PlanForm::Text)
+    };
+    Some(PlanWords {
+        file: values.get_str("FILE")?,
+        shown,
     })
 }
 
@@ -454,7 +481,8 @@ fn command_line<'a>(alloc: Global) -> Result<Command<'a>, AllocError> {
     let ptpm = with_command(ptpm, check_command(alloc))?;
     let ptpm = with_command(ptpm, schedule_command(alloc))?;
     let ptpm = with_command(ptpm, draw_command(alloc))?;
-    with_command(ptpm, site_command(alloc))
+    let ptpm = with_command(ptpm, site_command(alloc))?;
+    with_command(ptpm, plan_command(alloc))
 }
 
 /// The program, which has no subcommand yet.
@@ -677,6 +705,30 @@ fn site_command<'a>(alloc: Global) -> Result<Command<'a>, AllocError> {
         "A person calls the clock with this identity NAME; may be given more than once",
     );
     with(site, name.action(ArgAction::Append))
+}
+
+fn plan_command<'a>(alloc: Global) -> Result<Command<'a>, AllocError> {
+    let plan = described(
+        alloc,
+        "plan",
+        "Shows what a file would change at the clocks whose answers are on standard input, a datagram a line",
+    );
+    let file = required_word(alloc, "FILE", "The plan file, in TOML");
+    let plan = with(plan, file)?;
+    let json = flag(alloc, "json", "Prints one JSON object");
+    let plan = with(plan, json)?;
+    let steps = flag(
+        alloc,
+        "steps",
+        "Prints, after the plan, a line for each change with its dataFields",
+    );
+    let plan = with_either(plan, steps, "json")?;
+    let asks = flag(
+        alloc,
+        "asks",
+        "Prints only which GETs are to be answered, and reads no answers",
+    );
+    with_either(plan, asks.conflicts_with("json")?, "steps")
 }
 
 /// The command, with the forms in which a site is shown. One of them is taken at most.

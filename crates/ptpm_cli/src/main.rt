@@ -2,6 +2,7 @@
 #![tactic(auto)]
 
 mod command;
+mod plan;
 
 use std::io;
 use std::io::BufWriter;
@@ -31,6 +32,7 @@ fn run(rt: &HostRuntime) -> io::Result<u8> {
     let mut out = BufWriter::new(alloc, rt.stdout())?;
     Ok(command::command(
         alloc,
+        rt,
         words.as_slice(),
         &mut rt.stdin(),
         &mut out,

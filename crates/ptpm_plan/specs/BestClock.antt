@@ -1,0 +1,141 @@
+-- Which clock of a domain is the best one, by what a survey says and by the changes that are done (IEEE 1588-2019, 9.3.4).
+use Rattle.std.specs.Prelude.{ℕ, ◌≡◌, ◌≤◌, ◌+◌, ◌==◌, ◌&&◌, zero, suc, List, [], ◌++◌, map, take, length, Option, None, Some, if◌then◌else◌, Bool, true, false}
+use Rattle.std.specs.List.{All, count_by, filter_map, find, fold, list_any}
+use Rattle.std.specs.Option.{option_map, option_to_list}
+use Rattle.std.specs.Ordering.{is_lt, nat_cmp, ord_min, ordering_then}
+use Rattle.std.specs.declared.cmp.Ordering.{Ordering}
+use Rattle.std.specs.Cmp.Lexicographic.{slice_cmp}
+use Rattle.ptpm_codec.specs.Identity.{same_clock}
+use Rattle.ptpm_codec.specs.Layout.{octet}
+use Rattle.ptpm_codec.specs.declared.identity.ClockIdentity.{ClockIdentity}
+use Rattle.ptpm_data.specs.declared.data_sets.ClockPrecedence.{ClockPrecedence}
+use Rattle.ptpm_plan.specs.declared.best_clock.Alteration.{Alteration}
+use Rattle.ptpm_plan.specs.declared.best_clock.BestClocks.{BestClocks}
+use Rattle.ptpm_plan.specs.declared.best_clock.Rank.{Rank}
+use Rattle.ptpm_plan.specs.declared.best_clock.RankedClock.{RankedClock}
+use Rattle.ptpm_plan.specs.declared.change.Change.{Change}
+use Rattle.ptpm_plan.specs.declared.change.PlannedId.{PlannedId}
+use Rattle.ptpm_plan.specs.declared.change.PlannedId.TheVariants as ids
+use Rattle.ptpm_plan.specs.declared.surveyed.SurveyedClock.{SurveyedClock}
+
+-- ---- ranks
+
+-- one member after the other decides; the lesser rank is the better one
+abbrev pub rank_cmp : Rank → Rank → Ordering
+rank_cmp a b = ordering_then (nat_cmp a.priority1 b.priority1)
+    (ordering_then (nat_cmp a.class b.class)
+    (ordering_then (nat_cmp a.accuracy b.accuracy)
+    (ordering_then (nat_cmp a.variance b.variance)
+    (ordering_then (nat_cmp a.priority2 b.priority2)
+    (slice_cmp nat_cmp a.identity.0 b.identity.0)))))
+
+unfoldable pub is_better : Rank → Rank → Bool
+is_better a b = is_lt (rank_cmp a b)
+
+abbrev pub rank_of : ClockIdentity → ClockPrecedence → Rank
+rank_of identity p = record {
+  priority1 = p.priority1;
+  class = p.class;
+  accuracy = p.accuracy;
+  variance = p.variance;
+  priority2 = p.priority2;
+  identity = identity;
+}
+
+-- a clock has a rank if its DEFAULT_DATA_SET was answered
+abbrev pub ranked : SurveyedClock → Option RankedClock
+ranked c = option_map (λ p. record { domain = c.domain; rank = rank_of c.identity p }) c.precedence
+
+abbrev pub ranks_of : List SurveyedClock → List RankedClock
+ranks_of = filter_map ranked
+
+-- ---- changes of ranks
+
+abbrev pub is_of_rank : PlannedId → Bool
+is_of_rank ids.Priority1 = true
+is_of_rank ids.Priority2 = true
+is_of_rank ids.ClockAccuracy = true
+is_of_rank _ = false
+
+-- a rank with another value of an id's member
+abbrev pub rank_with : PlannedId → ℕ → Rank → Rank
+rank_with ids.Priority1 value r = record r { priority1 = value }
+rank_with ids.Priority2 value r = record r { priority2 = value }
+rank_with ids.ClockAccuracy value r = record r { accuracy = value }
+rank_with _ value r = r
+
+-- it is this clock of this domain
+abbrev pub is_ranked : ℕ → ClockIdentity → RankedClock → Bool
+is_ranked domain clock r = (r.domain == domain) && same_clock r.rank.identity clock
+
+-- it is a change of this clock's rank
+abbrev pub changes_rank : RankedClock → Change → Bool
+changes_rank r c = is_of_rank c.id && is_ranked c.domain c.clock r
+
+abbrev pub after_change : Change → RankedClock → RankedClock
+after_change c r = if changes_rank r c then record r { rank = rank_with c.id (octet 0 c.after.items) r.rank } else r
+
+-- the ranks of all after some changes, one after the other
+abbrev pub ranks_after : List Change → List RankedClock → List RankedClock
+ranks_after changes ranks = fold (λ (rs : List RankedClock) (c : Change). map (after_change c) rs) ranks changes
+
+-- ---- the best clock
+
+abbrev pub better_of : Option Rank → Rank → Option Rank
+better_of None r = Some r
+better_of (Some best) r = Some (ord_min rank_cmp best r)
+
+-- the least rank in a domain
+abbrev pub best_in : ℕ → List RankedClock → Option Rank
+best_in domain ranks = fold (λ (best : Option Rank) (r : RankedClock). if r.domain == domain then better_of best r.rank else best) None ranks
+
+-- the best clock after the first n changes
+abbrev pub best_after : ℕ → List Change → List RankedClock → ℕ → Option Rank
+best_after domain changes ranks n = best_in domain (ranks_after (take n changes) ranks)
+
+-- another clock is the best one after a change
+abbrev pub altered : ℕ → Option Rank → Option Rank → Option Alteration
+altered number (Some was) (Some is) = if same_clock is.identity was.identity then None else Some (record { after = number; clock = is.identity })
+altered number (Some was) None = None
+altered number None is = None
+
+-- among the first n changes, each that alters which clock is the best one
+abbrev pub alterations : ℕ → List Change → List RankedClock → ℕ → List Alteration
+alterations domain changes ranks zero = []
+alterations domain changes ranks (suc n) =
+    alterations domain changes ranks n ++ option_to_list (altered (n + 1) (best_after domain changes ranks n) (best_after domain changes ranks (n + 1)))
+
+-- a change of a rank in a domain
+abbrev pub is_rank_change_in : ℕ → Change → Bool
+is_rank_change_in domain c = is_of_rank c.id && (c.domain == domain)
+
+-- what is said of a domain: its best clock now, and the alterations
+pub record Said : Type 0 where
+  pub domain : ℕ
+  pub first : ClockIdentity
+  pub alterations : List Alteration
+
+abbrev pub shown : BestClocks → Said
+shown b = record { domain = b.domain; first = b.first; alterations = b.alterations.items }
+
+-- it is said of a domain if a clock in it has a rank, and if there is a change of a rank in it
+abbrev pub best_clocks_in : List Change → List RankedClock → ℕ → Option Said
+best_clocks_in changes ranks domain =
+    if list_any (is_rank_change_in domain) changes
+    then option_map (λ best. record { domain = domain; first = best.identity; alterations = alterations domain changes ranks (length changes) }) (best_in domain ranks)
+    else None
+
+-- of the domains below n
+unfoldable pub best_clocks : List Change → List RankedClock → ℕ → List Said
+best_clocks changes ranks zero = []
+best_clocks changes ranks (suc n) = best_clocks changes ranks n ++ option_to_list (best_clocks_in changes ranks n)
+
+-- ---- one change each
+
+-- no clock is there twice: a look-up of a clock finds this one
+abbrev pub AreApart : List RankedClock → Type 0
+AreApart ranks = All (λ (r : RankedClock). find (is_ranked r.domain r.rank.identity) ranks ≡ Some r) ranks
+
+-- each clock of a domain has one change of its rank at most
+abbrev pub HaveOneEach : ℕ → List RankedClock → List Change → Type 0
+HaveOneEach domain ranks changes = All (λ (r : RankedClock). r.domain ≡ domain → count_by (changes_rank r) changes ≤ 1) ranks

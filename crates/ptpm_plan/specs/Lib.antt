@@ -1,0 +1,17 @@
+pub mod BestClock
+pub mod Order
+pub mod PlannedId
+pub mod Surveyed
+pub mod Answers
+pub mod Surveying
+pub mod Octets
+pub mod After
+pub mod Verdicts
+pub mod Rows
+pub mod Naming
+pub mod Asking
+pub mod Plans
+pub mod Digest
+pub mod Outcome
+pub mod Planned
+pub mod Warnings

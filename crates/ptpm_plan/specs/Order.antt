@@ -1,0 +1,85 @@
+-- In which order the changes of a plan are asked (this project's profile).
+use Rattle.std.specs.Prelude.{ℕ, nat_lt, int_lt, List, find, Option, None, Some, if◌then◌else◌, Bool, true, false}
+use Rattle.std.specs.Option.{option_map, option_map_or}
+use Rattle.ptpm_codec.specs.Identity.{same_clock}
+use Rattle.ptpm_codec.specs.Layout.{octet}
+use Rattle.ptpm_codec.specs.declared.identity.ClockIdentity.{ClockIdentity}
+use Rattle.ptpm_data.specs.ImageReading.{i8_at}
+use Rattle.ptpm_data.specs.declared.port_state.PortState.{PortState}
+use Rattle.ptpm_data.specs.declared.port_state.PortState.TheVariants as states
+use Rattle.ptpm_plan.specs.BestClock.{best_in, is_better, is_ranked, ranks_after, ranks_of}
+use Rattle.ptpm_plan.specs.Surveyed.{clock_in, port_in}
+use Rattle.ptpm_plan.specs.declared.best_clock.Rank.{Rank}
+use Rattle.ptpm_plan.specs.declared.best_clock.RankedClock.{RankedClock}
+use Rattle.ptpm_plan.specs.declared.change.Change.{Change}
+use Rattle.ptpm_plan.specs.declared.change.PlannedId.{PlannedId}
+use Rattle.ptpm_plan.specs.declared.change.PlannedId.TheVariants as ids
+use Rattle.ptpm_plan.specs.declared.order.OrderKey.{OrderKey}
+use Rattle.ptpm_plan.specs.declared.order.Turn.{Turn}
+use Rattle.ptpm_plan.specs.declared.order.Turn.TheVariants as turns
+use Rattle.ptpm_plan.specs.declared.surveyed.Surveyed.{Surveyed}
+
+-- ---- what the survey says
+
+abbrev pub is_master : Option PortState → Bool
+is_master (Some states.Master) = true
+is_master _ = false
+
+-- the port of a change is in MASTER, and so it sends
+abbrev pub is_sender : Surveyed → Change → Bool
+is_sender s c = option_map_or (λ p. is_master p.state) (port_in c.domain c.clock c.port s.ports.items) false
+
+-- how many boundary clocks the answers of its clock passed
+abbrev pub hops_of : Surveyed → Change → ℕ
+hops_of s c = option_map_or (λ clock. clock.hops) (clock_in c.domain c.clock s.clocks.items) 0
+
+-- ---- patience: how long a receiver of Announces waits
+
+-- the octet, and the Integer8, that a dataField begins with
+abbrev pub grows : Change → Bool
+grows c = nat_lt (octet 0 c.before.items) (octet 0 c.after.items)
+
+abbrev pub is_longer : Change → Bool
+is_longer c = int_lt (i8_at 0 c.before.items) (i8_at 0 c.after.items)
+
+abbrev pub patience : Bool → Turn
+patience more = if more then turns.MorePatience else turns.LessPatience
+
+-- ---- ranks
+
+abbrev pub rank_in : ℕ → ClockIdentity → List RankedClock → Option Rank
+rank_in domain clock ranks = option_map (λ r. r.rank) (find (is_ranked domain clock) ranks)
+
+abbrev pub is_best : ℕ → ClockIdentity → List RankedClock → Bool
+is_best domain clock ranks = option_map_or (λ best. same_clock best.identity clock) (best_in domain ranks) false
+
+-- what becomes of a clock's rank, and whether the clock is the present best one
+abbrev pub rank_turn : Bool → Option Rank → Option Rank → Turn
+rank_turn best (Some before) (Some after) = if is_better after before then turns.Better after else turns.Worse best (record { 0 = after })
+rank_turn best (Some before) None = turns.Unranked
+rank_turn best None after = turns.Unranked
+
+-- ---- the six groups
+
+-- by the ranks before and after all changes
+module _ (s : Surveyed) (before after : List RankedClock) where
+  abbrev pub turn_by : PlannedId → Change → Turn
+  turn_by ids.AnnounceReceiptTimeout c = patience (grows c)
+  turn_by ids.LogAnnounceInterval c = if is_sender s c then turns.Sender else patience (is_longer c)
+  turn_by ids.LogSyncInterval c = if is_sender s c then turns.Sender else patience (is_longer c)
+  turn_by ids.UserDescription c = turns.Free
+  turn_by ids.UtcProperties c = turns.Free
+  turn_by ids.DelayMechanism c = turns.Free
+  turn_by ids.LogMinPdelayReqInterval c = turns.Free
+  turn_by ids.Priority1 c = rank_turn (is_best c.domain c.clock before) (rank_in c.domain c.clock before) (rank_in c.domain c.clock after)
+  turn_by ids.Priority2 c = rank_turn (is_best c.domain c.clock before) (rank_in c.domain c.clock before) (rank_in c.domain c.clock after)
+  turn_by ids.ClockAccuracy c = rank_turn (is_best c.domain c.clock before) (rank_in c.domain c.clock before) (rank_in c.domain c.clock after)
+  turn_by ids.Domain c = turns.Move (record { 0 = hops_of s c })
+
+  -- its turn, and then the place in the file, the clock, the port and the id
+  abbrev pub key_by : Change → OrderKey
+  key_by c = record { turn = turn_by c.id c; place = c.place; clock = c.clock; port = c.port; id = c.id }
+
+-- by what a change is sorted into a plan of these changes
+abbrev pub order_key : Surveyed → List Change → Change → OrderKey
+order_key s changes = let before = ranks_of s.clocks.items in key_by s before (ranks_after changes before)

@@ -1,0 +1,90 @@
+-- What the answers of a survey say of its clocks and ports. The last answer counts.
+use Rattle.std.specs.Prelude.{◌≡◌, ℕ, List, Option, Some, None, reverse}
+use Rattle.std.specs.Int.{w8, cast_signed}
+use Rattle.std.specs.List.{All, find}
+use Rattle.std.specs.Option.{option_map}
+use Rattle.ptpm_codec.specs.declared.identity.ClockIdentity.{ClockIdentity}
+use Rattle.ptpm_data.specs.PortState.{state_of}
+use Rattle.ptpm_data.specs.SetField.{octet}
+use Rattle.ptpm_data.specs.declared.data_sets.ClockPrecedence.{ClockPrecedence}
+use Rattle.ptpm_plan.specs.Answers.{is_answer_of, last_answer}
+use Rattle.ptpm_plan.specs.Octets.{pair_at}
+use Rattle.ptpm_plan.specs.declared.answer.Answer.{Answer}
+use Rattle.ptpm_plan.specs.declared.answer.Said.{Said}
+use Rattle.ptpm_plan.specs.declared.answer.Said.TheVariants as says
+use Rattle.ptpm_plan.specs.declared.surveyed.Surveyed.{Surveyed}
+use Rattle.ptpm_plan.specs.declared.surveyed.SurveyedClock.{SurveyedClock}
+use Rattle.ptpm_plan.specs.declared.surveyed.SurveyedPort.{SurveyedPort}
+
+-- ---- what was answered
+
+abbrev pub field_of : Said → Option (List ℕ)
+field_of (says.Is field) = Some field.items
+field_of (says.Refused error) = None
+
+abbrev pub field_in : Option Answer → Option (List ℕ)
+field_in None = None
+field_in (Some a) = field_of a.said
+
+-- the dataField that a clock answered last for an id, if it did not refuse it
+abbrev pub field_by : ℕ → ClockIdentity → ℕ → ℕ → List Answer → Option (List ℕ)
+field_by domain clock port id answers = field_in (last_answer domain clock port id answers)
+
+abbrev pub hops_in : Option Answer → ℕ
+hops_in None = 0
+hops_in (Some a) = a.hops
+
+-- how many boundary clocks the last answer of a clock passed
+abbrev pub hops_by : ℕ → ClockIdentity → List Answer → ℕ
+hops_by domain clock answers = hops_in (find (is_answer_of domain clock) (reverse answers))
+
+-- ---- a clock
+
+-- what a DEFAULT_DATA_SET says of the clock's rank (IEEE 1588-2019, 9.3.4 and table 69)
+abbrev pub precedence_in : List ℕ → ClockPrecedence
+precedence_in field = record {
+  priority1 = octet 4 field;
+  class = octet 5 field;
+  accuracy = octet 6 field;
+  variance = pair_at 7 field;
+  priority2 = octet 9 field;
+}
+
+-- what its answers say of a clock
+abbrev pub clock_from : List Answer → ℕ → ClockIdentity → SurveyedClock
+clock_from answers domain identity = record {
+  domain = domain;
+  identity = identity;
+  hops = hops_by domain identity answers;
+  number_ports = option_map (pair_at 2) (field_by domain identity 0 0x2000 answers);
+  precedence = option_map precedence_in (field_by domain identity 0 0x2000 answers);
+}
+
+abbrev pub IsClockOf : List Answer → SurveyedClock → Type 0
+IsClockOf answers c = c ≡ clock_from answers c.domain c.identity
+
+-- ---- a port
+
+-- what a PORT_DATA_SET says of its port (15.5.3.5.1)
+abbrev pub port_with : ℕ → ClockIdentity → ℕ → List ℕ → SurveyedPort
+port_with domain clock number field = record {
+  domain = domain;
+  clock = clock;
+  number = number;
+  state = state_of (octet 10 field);
+  log_announce = cast_signed w8 (octet 20 field);
+  receipt_timeout = octet 21 field;
+}
+
+abbrev pub port_from : List Answer → ℕ → ClockIdentity → ℕ → Option SurveyedPort
+port_from answers domain clock number = option_map (port_with domain clock number) (field_by domain clock number 0x2004 answers)
+
+abbrev pub IsPortOf : List Answer → SurveyedPort → Type 0
+IsPortOf answers p = Some p ≡ port_from answers p.domain p.clock p.number
+
+-- ---- all of them
+
+-- each clock and each port is as its answers say
+pub record IsSurvey (answers : List Answer) (s : Surveyed) : Type 0 where
+  pub clocks : All (IsClockOf answers) s.clocks.items
+  pub ports : All (IsPortOf answers) s.ports.items

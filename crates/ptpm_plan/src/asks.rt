@@ -1,0 +1,76 @@
+//! What is asked of the clocks before a plan can be made.
+
+use crate::change::PlannedId;
+use crate::wish::{ClockWishes, EveryWishes, PlanFile, Wish};
+use std::alloc::{AllocError, Global};
+use std::io;
+use std::io::Write;
+
+/// Prints a line for each GET: the domain, and the id. Each id of the file is asked in each domain of the file.
+pub(crate) fn print_asks<O: Write>(file: &PlanFile, domains: &[u8], out: &mut O) -> io::Result<()> {
+    for domain in domains {
+        for name in ["DEFAULT_DATA_SET", "USER_DESCRIPTION", "PORT_DATA_SET"] {
+            writeln!(out, "{domain} {name}")?;
+        }
+        for id in &BY_NUMBER {
+            if file.names(*id) {
+                writeln!(out, "{domain} {}", id.name())?;
+            }
+        }
+    }
+    Ok(())
+}
+
+/// The ids of a plan but USER_DESCRIPTION, which is asked anyhow, in the order of their numbers.
+const BY_NUMBER: [PlannedId; 10] = [
+    PlannedId::Priority1,
+    PlannedId::Priority2,
+    PlannedId::Domain,
+    PlannedId::LogAnnounceInterval,
+    PlannedId::AnnounceReceiptTimeout,
+    PlannedId::LogSyncInterval,
+    PlannedId::ClockAccuracy,
+    PlannedId::UtcProperties,
+    PlannedId::DelayMechanism,
+    PlannedId::LogMinPdelayReqInterval,
+];
+
+impl PlanFile {
+    /// The domains that the file names, ascending, each once.
+    pub(crate) fn domains(&self, alloc: Global) -> Result<Vec<u8>, AllocError> {
+        let mut domains = Vec::new(alloc);
+        for domain in 0..=0xffu8 {
+            if self.has_domain(domain) {
+                domains.push(domain)?;
+            }
+        }
+        Ok(domains)
+    }
+
+    fn has_domain(&self, domain: u8) -> bool {
+        self.clocks.iter().any(|clock| clock.domain == domain)
+            || self.every.iter().any(|every| every.domain == domain)
+    }
+
+    /// Whether the file names an id.
+    fn names(&self, id: PlannedId) -> bool {
+        self.clocks.iter().any(|clock| clock_names(clock, id))
+            || self.every.iter().any(|every| every_names(every, id))
+    }
+}
+
+fn clock_names(clock: &ClockWishes, id: PlannedId) -> bool {
+    have(clock.wishes.as_slice(), id)
+        || clock
+            .ports
+            .iter()
+            .any(|port| have(port.wishes.as_slice(), id))
+}
+
+fn every_names(every: &EveryWishes, id: PlannedId) -> bool {
+    have(every.wishes.as_slice(), id) || have(every.port_wishes.as_slice(), id)
+}
+
+fn have(wishes: &[Wish], id: PlannedId) -> bool {
+    wishes.iter().any(|wish| wish.id == id)
+}

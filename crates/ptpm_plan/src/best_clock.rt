@@ -1,0 +1,287 @@
+//! Which clock of a domain is the best one (9.3.4), now and after each change of a plan. This is no forecast of the states of ports.
+
+ghost use Rattle.std.specs.Prelude.{◌≡◌, IfOk, length, map, option_map};
+ghost use Rattle.std.specs.List.{list_any};
+ghost use Rattle.ptpm_codec.specs.Layout.{octet};
+ghost use Rattle.ptpm_plan.specs.BestClock.{after_change, altered, alterations, best_clocks, best_clocks_in, best_in, changes_rank, is_better, is_of_rank, is_rank_change_in, rank_of, rank_with, ranked, ranks_after, ranks_of, shown};
+
+use crate::change::{Change, PlannedId};
+use crate::surveyed::{Surveyed, SurveyedClock};
+use ptpm_codec::ClockIdentity;
+use ptpm_data::{ClockPrecedence, Value};
+use std::alloc::{AllocError, Global};
+
+/// What decides which of two clocks is the better master, one member after the other (9.3.4). The lesser rank is the better one.
+#[derive(Clone, Copy, Debug, PartialEq, Eq, PartialOrd, Ord)]
+pub struct Rank {
+    pub priority1: u8,
+    /// clockClass.
+    pub class: u8,
+    /// clockAccuracy.
+    pub accuracy: u8,
+    /// offsetScaledLogVariance.
+    pub variance: u16,
+    pub priority2: u8,
+    pub identity: ClockIdentity,
+}
+
+/// A clock of a domain with its rank.
+#[derive(Clone, Copy, Debug)]
+pub struct RankedClock {
+    pub domain: u8,
+    pub rank: Rank,
+}
+
+/// Another clock is the best one of a domain from a change on.
+#[derive(Clone, Copy, Debug)]
+pub struct Alteration {
+    /// The number of the change, from 1.
+    pub after: usize,
+    /// The clock that is the best one then.
+    pub clock: ClockIdentity,
+}
+
+/// Which clock of a domain is the best one.
+#[derive(Debug, Drop)]
+pub struct BestClocks {
+    pub domain: u8,
+    /// The best one now.
+    pub first: ClockIdentity,
+    /// Each change after which it is another one.
+    pub alterations: Vec<Alteration>,
+}
+
+impl PlannedId {
+    /// Whether it is of what decides which clock is the best one.
+    pub fn is_of_rank(self) -> bool
+        ensures { result ≡ is_of_rank self }
+    {
+        matches!(
+            self,
+            PlannedId::Priority1 | PlannedId::Priority2 | PlannedId::ClockAccuracy
+        )
+    }
+}
+
+impl Rank {
+    /// Whether it is the better one of two.
+    #[tactic(auto, unfolding(crate::specs::BestClock::is_better))]
+    pub fn is_better(&self, other: &Rank) -> bool
+        ensures { result ≡ is_better self.now other.now }
+    {
+        self.cmp(other).is_lt()
+    }
+
+    fn of(identity: ClockIdentity, precedence: ClockPrecedence) -> Rank
+        ensures { result ≡ rank_of identity precedence }
+    {
+        Rank {
+            priority1: precedence.priority1,
+            class: precedence.class,
+            accuracy: precedence.accuracy,
+            variance: precedence.variance,
+            priority2: precedence.priority2,
+            identity,
+        }
+    }
+
+    /// This rank with another value of an id's member.
+    fn with(self, id: PlannedId, value: u8) -> Rank
+        ensures { result ≡ rank_with id value self }
+    {
+        match id {
+            PlannedId::Priority1 => Rank {
+                priority1: value,
+                ..self
+            },
+            PlannedId::Priority2 => Rank {
+                priority2: value,
+                ..self
+            },
+            PlannedId::ClockAccuracy => Rank {
+                accuracy: value,
+                ..self
+            },
+            _ => self,
+        }
+    }
+}
+
+impl RankedClock {
+    /// A clock with its rank, if its DEFAULT_DATA_SET was answered.
+    fn of(clock: &SurveyedClock) -> Option<RankedClock>
+        ensures { result ≡ ranked clock.now }
+    {
+        match clock.precedence {
+            Some(precedence) => Some(RankedClock {
+                domain: clock.domain,
+                rank: Rank::of(clock.identity, precedence),
+            }),
+            None => None,
+        }
+    }
+
+    /// Whether a change is one of this clock's rank.
+    fn is_changed_by(&self, change: &Change) -> bool
+        ensures { result ≡ changes_rank self.now change.now }
+    {
+        change.id.is_of_rank() && self.domain == change.domain && self.rank.identity == change.clock
+    }
+
+    /// This clock after a change.
+    fn after(&self, change: &Change) -> RankedClock
+        ensures { result ≡ after_change change.now self.now }
+    {
+        if self.is_changed_by(change) {
+            RankedClock {
+                domain: self.domain,
+                rank: self.rank.with(change.id, first_octet(&change.after)),
+            }
+        } else {
+            *self
+        }
+    }
+}
+
+/// The octet that a dataField begins with; 0 if it has none.
+pub(crate) fn first_octet(field: &Value) -> u8
+    ensures { result ≡ octet 0 field.now.items }
+{
+    match field.first() {
+        Some(octet) => *octet,
+        None => 0,
+    }
+}
+
+/// The ranks of all clocks that have one.
+pub fn ranks_of(alloc: Global, clocks: &[SurveyedClock]) -> Result<Vec<RankedClock>, AllocError>
+    ensures { IfOk result (λ ranks. ranks.items ≡ ranks_of clocks.now) }
+{
+    clocks.iter().filter_map(RankedClock::of).collect(alloc)
+}
+
+/// Carries out a change.
+fn change_ranks(ranks: &mut [RankedClock], change: &Change)
+    ensures { ranks.new ≡ map (after_change change.now) ranks.old }
+{
+    for clock in ranks.iter_mut() {
+        *clock = clock.after(change);
+    }
+}
+
+/// The ranks after all changes.
+pub fn ranks_after(
+    alloc: Global,
+    ranks: &[RankedClock],
+    changes: &[Change],
+) -> Result<Vec<RankedClock>, AllocError>
+    ensures { IfOk result (λ after. after.items ≡ ranks_after changes.now ranks.now) }
+{
+    let mut after = Vec::from_slice(alloc, ranks)?;
+    for change in changes {
+        change_ranks(after.as_mut_slice(), change);
+    }
+    Ok(after)
+}
+
+/// The least rank in a domain.
+pub fn best_in(domain: u8, ranks: &[RankedClock]) -> Option<Rank>
+    ensures { result ≡ best_in domain ranks.now }
+{
+    let mut best = None;
+    for clock in ranks {
+        if clock.domain == domain {
+            best = match best {
+                Some(best) => Some(Ord::min(best, clock.rank)),
+                None => Some(clock.rank),
+            };
+        }
+    }
+    best
+}
+
+/// Whether another clock is the best one after a change.
+fn altered(number: usize, was: Option<Rank>, is: Option<Rank>) -> Option<Alteration>
+    ensures { result ≡ altered number was is }
+{
+    match (was, is) {
+        (Some(was), Some(is)) if is.identity != was.identity => Some(Alteration {
+            after: number,
+            clock: is.identity,
+        }),
+        _ => None,
+    }
+}
+
+/// Each change that alters which clock of a domain is the best one.
+fn alterations(
+    alloc: Global,
+    domain: u8,
+    ranks: &[RankedClock],
+    changes: &[Change],
+) -> Result<Vec<Alteration>, AllocError>
+    ensures { IfOk result (λ found. found.items ≡ alterations domain changes.now ranks.now (length changes.now)) }
+{
+    let mut found = Vec::new(alloc);
+    let mut after = Vec::from_slice(alloc, ranks)?;
+    let mut was = best_in(domain, ranks);
+    for (place, change) in changes.iter().enumerate() {
+        change_ranks(after.as_mut_slice(), change);
+        let is = best_in(domain, after.as_slice());
+        if let Some(next) = altered(place + 1, was, is) {
+            found.push(next)?;
+        }
+        was = is;
+    }
+    Ok(found)
+}
+
+/// Whether a change of a rank is in a domain.
+fn has_rank_change(domain: u8, changes: &[Change]) -> bool
+    ensures { result ≡ list_any (is_rank_change_in domain) changes.now }
+{
+    changes
+        .iter()
+        .any(|change| change.id.is_of_rank() && change.domain == domain)
+}
+
+/// The best clock of a domain, now and after each of these changes that alters it. `None` if no clock of the domain has a rank, or
+/// if no change is one of a rank in it.
+fn best_clocks_in(
+    alloc: Global,
+    domain: u8,
+    ranks: &[RankedClock],
+    changes: &[Change],
+) -> Result<Option<BestClocks>, AllocError>
+    ensures { IfOk result (λ best. option_map shown best ≡ best_clocks_in changes.now ranks.now domain) }
+{
+    if !has_rank_change(domain, changes) {
+        return Ok(None);
+    }
+    match best_in(domain, ranks) {
+        Some(best) => Ok(Some(BestClocks {
+            domain,
+            first: best.identity,
+            alterations: alterations(alloc, domain, ranks, changes)?,
+        })),
+        None => Ok(None),
+    }
+}
+
+/// The best clock of each domain in which there is a change of a rank, by the domains' numbers.
+pub fn best_clocks(
+    alloc: Global,
+    changes: &[Change],
+    surveyed: &Surveyed,
+) -> Result<Vec<BestClocks>, AllocError>
+    ensures { IfOk result (λ found. map shown found.items ≡ best_clocks changes.now (ranks_of surveyed.now.clocks.items) 256) }
+{
+    let ranks = ranks_of(alloc, surveyed.clocks.as_slice())?;
+    let mut found = Vec::new(alloc);
+    for domain in 0..256u16 {
+        if let Some(best) = best_clocks_in(alloc, domain as u8, ranks.as_slice(), changes)? {
+            found.push(best)?;
+        }
+    }
+    Ok(found)
+}

@@ -1,0 +1,129 @@
+//! The table of a clock in a plan file.
+
+use crate::file::tables_at;
+use crate::file_fault::{FileFault, Place, TableFault};
+use crate::table_values::{domain_at, shaped, text_at};
+use crate::text::Text;
+use crate::wish::{ClockWishes, PortWishes, Target};
+use crate::wishes_table::{Owner, read_wishes};
+use hex::FromHex;
+use ptpm_codec::ClockIdentity;
+use std::alloc::Global;
+use toml::{Table, Value};
+
+/// The keys of a clock that are no managementId.
+const CLOCK_KEYS: [&str; 5] = ["identity", "description", "alias", "domain", "port"];
+
+/// Reads the table of the clock that comes after these.
+pub(crate) fn read_clock(
+    alloc: Global,
+    value: &Value,
+    earlier: &[ClockWishes],
+) -> Result<ClockWishes, FileFault> {
+    let number = earlier.len();
+    let place = Place::Clock(number);
+    let table = shaped(value, "clock", place)?;
+    let target = read_target(alloc, table, place)?;
+    let alias = read_alias(alloc, table, place, earlier)?;
+    let domain = domain_at(table, place)?;
+    let wishes = read_wishes(alloc, table, Owner::Clock, &CLOCK_KEYS, place)?;
+    let ports = read_ports(alloc, table, number)?;
+    Ok(ClockWishes {
+        place: number,
+        target,
+        alias,
+        domain,
+        wishes,
+        ports,
+    })
+}
+
+fn read_target(alloc: Global, table: &Table, place: Place) -> Result<Target, FileFault> {
+    let identity = text_at(table, "identity", place)?;
+    let description = text_at(table, "description", place)?;
+    match (identity, description) {
+        (Some(text), None) => match identity_of(text) {
+            Some(identity) => Ok(Target::Identity(identity)),
+            None => Err(FileFault::at(
+                place,
+                TableFault::Takes("identity", "sixteen hexadecimal digits"),
+            )),
+        },
+        (None, Some(text)) => Ok(Target::Description(Text::copy_of(alloc, text)?)),
+        _ => Err(FileFault::at(place, TableFault::NotOneName)),
+    }
+}
+
+/// The clock of sixteen hexadecimal digits.
+pub(crate) fn identity_of(text: &str) -> Option<ClockIdentity> {
+    let octets = <[u8; 8] as FromHex>::from_hex(text).ok()?;
+    Some(ClockIdentity(octets))
+}
+
+fn read_alias(
+    alloc: Global,
+    table: &Table,
+    place: Place,
+    earlier: &[ClockWishes],
+) -> Result<Option<Text>, FileFault> {
+    let Some(alias) = text_at(table, "alias", place)? else {
+        return Ok(None);
+    };
+    let text = Text::copy_of(alloc, alias)?;
+    if clock_of_alias(earlier, alias).is_some() {
+        return Err(FileFault::at(place, TableFault::AliasTwice(text)));
+    }
+    Ok(Some(text))
+}
+
+/// The clock that has an alias.
+pub(crate) fn clock_of_alias<'a>(
+    clocks: &'a [ClockWishes],
+    alias: &str,
+) -> Option<&'a ClockWishes> {
+    clocks.iter().find(|clock| has_alias(clock, alias))
+}
+
+fn has_alias(clock: &ClockWishes, alias: &str) -> bool {
+    match &clock.alias {
+        Some(text) => text.as_str() == alias,
+        None => false,
+    }
+}
+
+fn read_ports(alloc: Global, table: &Table, clock: usize) -> Result<Vec<PortWishes>, FileFault> {
+    let mut ports = Vec::new(alloc);
+    for value in tables_at(table, "port", Place::Clock(clock))? {
+        let place = Place::Port(clock, ports.len());
+        ports.push(read_port(alloc, value, clock, place)?)?;
+    }
+    Ok(ports)
+}
+
+fn read_port(
+    alloc: Global,
+    value: &Value,
+    clock: usize,
+    place: Place,
+) -> Result<PortWishes, FileFault> {
+    let table = shaped(value, "port", place)?;
+    let number = number_of(table, place)?;
+    let place = Place::NumberedPort(clock, number);
+    let wishes = read_wishes(alloc, table, Owner::Port, &["number"], place)?;
+    Ok(PortWishes { number, wishes })
+}
+
+/// The portNumber of a port's table. 0 and 0xFFFF are of no port (7.5.2.3).
+fn number_of(table: &Table, place: Place) -> Result<u16, FileFault> {
+    let number = match table.get("number") {
+        Some(value) => value.as_integer(),
+        None => None,
+    };
+    match number {
+        Some(number) if 1 <= number && number <= 0xfffe => Ok(number as u16),
+        _ => Err(FileFault::at(
+            place,
+            TableFault::Takes("number", "a number from 1 to 65534"),
+        )),
+    }
+}

@@ -1,0 +1,95 @@
+//! A plan file as a whole: its version, its clocks, and what it asks of every clock.
+
+use crate::clock_table::read_clock;
+use crate::every_table::read_every;
+use crate::file_fault::{FileFault, Place, TableFault};
+use crate::text::Text;
+use crate::wish::{ClockWishes, EveryWishes, PlanFile};
+use std::alloc::Global;
+use toml::{Table, Value};
+
+/// A plan file has at most this many octets.
+const TEXT_OCTETS: usize = 262_144;
+
+impl PlanFile {
+    /// Reads a TOML document. Of several faults the first one in the order of the file's tables is named.
+    pub fn read(alloc: Global, text: &str) -> Result<PlanFile, FileFault> {
+        if text.len() > TEXT_OCTETS {
+            return Err(FileFault::TooLong);
+        }
+        match toml::table_from_str(alloc, text) {
+            Ok(table) => read_tables(alloc, &table),
+            Err(error) if error.is_memory() => Err(FileFault::OutOfMemory),
+            Err(_) => Err(FileFault::NotToml),
+        }
+    }
+}
+
+fn read_tables(alloc: Global, table: &Table) -> Result<PlanFile, FileFault> {
+    check_version(table)?;
+    check_keys(alloc, table)?;
+    let mut clocks = Vec::new(alloc);
+    for value in tables_at(table, "clock", Place::File)? {
+        let clock = read_clock(alloc, value, clocks.as_slice())?;
+        clocks.push(clock)?;
+    }
+    let every = read_everies(alloc, table, clocks.as_slice())?;
+    Ok(PlanFile { clocks, every })
+}
+
+fn check_version(table: &Table) -> Result<(), FileFault> {
+    let version = match table.get("version") {
+        Some(value) => value.as_integer(),
+        None => None,
+    };
+    if version == Some(1) {
+        Ok(())
+    } else {
+        Err(FileFault::at(Place::File, TableFault::Version))
+    }
+}
+
+/// Whether the document has just the keys of a plan.
+fn check_keys(alloc: Global, table: &Table) -> Result<(), FileFault> {
+    for key in table.keys() {
+        match key.as_str() {
+            "version" | "clock" | "every" => {}
+            other => {
+                let key = Text::copy_of(alloc, other)?;
+                return Err(FileFault::at(Place::File, TableFault::NoKey(key)));
+            }
+        }
+    }
+    Ok(())
+}
+
+/// The elements of the array at a key, none if the key is absent.
+pub(crate) fn tables_at<'a>(
+    table: &'a Table,
+    key: &'static str,
+    place: Place,
+) -> Result<&'a [Value], FileFault> {
+    match table.get(key) {
+        None => Ok(&[]),
+        Some(value) => match value.as_array() {
+            Some(array) => Ok(array.as_slice()),
+            None => Err(FileFault::at(
+                place,
+                TableFault::Takes(key, "tables, each after its name in double brackets"),
+            )),
+        },
+    }
+}
+
+fn read_everies(
+    alloc: Global,
+    table: &Table,
+    clocks: &[ClockWishes],
+) -> Result<Vec<EveryWishes>, FileFault> {
+    let mut every = Vec::new(alloc);
+    for value in tables_at(table, "every", Place::File)? {
+        let number = every.len();
+        every.push(read_every(alloc, value, number, clocks)?)?;
+    }
+    Ok(every)
+}

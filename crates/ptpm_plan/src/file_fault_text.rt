@@ -1,0 +1,91 @@
+//! Why a file is no plan, as a line.
+
+use crate::file_fault::{FileFault, Place, TableFault};
+use crate::places::Who;
+use std::fmt;
+
+impl fmt::Display for FileFault {
+    fn fmt<W: fmt::Write>(&self, f: &mut fmt::Formatter<W>) -> fmt::Result {
+        match self {
+            FileFault::OutOfMemory => f.write_str("OutOfMemory"),
+            FileFault::TooLong => f.write_str("it has over 262144 octets"),
+            FileFault::NotToml => f.write_str("it is no TOML document"),
+            FileFault::At(place, fault) => write!(f, "{place}{fault}"),
+            FileFault::TwoValues(subject) => {
+                let who = Who {
+                    clock: subject.clock,
+                    port: subject.port,
+                };
+                write!(f, "{who} {}: two values", subject.id.name())
+            }
+        }
+    }
+}
+
+/// `clock 2, port 1: `; nothing for the file itself.
+impl fmt::Display for Place {
+    fn fmt<W: fmt::Write>(&self, f: &mut fmt::Formatter<W>) -> fmt::Result {
+        match *self {
+            Place::File => Ok(()),
+            Place::Clock(clock) => write!(f, "clock {}: ", counted(clock)),
+            Place::Port(clock, port) => {
+                write!(
+                    f,
+                    "clock {}, table {} of its ports: ",
+                    counted(clock),
+                    counted(port)
+                )
+            }
+            Place::NumberedPort(clock, port) => write!(
+                f,
+                "clock {}, port {port}: ",
+                counted(clock)
+            ),
+            Place::Every(every) => write!(f, "every {}: ", counted(every)),
+            Place::EveryPort(every) => write!(f, "every {}, port: ", counted(every)),
+        }
+    }
+}
+
+/// A place counted from 1.
+fn counted(place: usize) -> usize {
+    place.saturating_add(1)
+}
+
+impl fmt::Display for TableFault {
+    fn fmt<W: fmt::Write>(&self, f: &mut fmt::Formatter<W>) -> fmt::Result {
+        match self {
+            TableFault::Version => f.write_str("version: it takes 1"),
+            TableFault::NoKey(key) => write!(f, "{:?} is no key of a plan", key.as_str()),
+            TableFault::UnknownKey(key) => {
+                write!(f, "{:?} is neither a key nor a managementId", key.as_str())
+            }
+            TableFault::NotPlanned(key) => write!(f, "{} is no id that a plan sets", key.as_str()),
+            TableFault::OfPort(id) => {
+                write!(f, "{} is of a port: write it in a table port", id.name())
+            }
+            TableFault::OfClock(id) => {
+                write!(
+                    f,
+                    "{} is of the clock: write it in the clock's table",
+                    id.name()
+                )
+            }
+            TableFault::OneClocks => f.write_str("USER_DESCRIPTION is of one clock"),
+            TableFault::NotOneName => f.write_str("it takes one of identity and description"),
+            TableFault::AliasTwice(alias) => write!(f, "alias {:?} is given twice", alias.as_str()),
+            TableFault::UnknownClock(name) => {
+                write!(
+                    f,
+                    "except: {:?} is neither an alias nor an identity",
+                    name.as_str()
+                )
+            }
+            TableFault::Takes(key, what) => write!(f, "{key} takes {what}"),
+            TableFault::IdTakes(id, what) => write!(f, "{} takes {what}", id.name()),
+            TableFault::NoMember(id, name) => {
+                write!(f, "{} has no member {:?}", id.name(), name.as_str())
+            }
+        }
+    }
+}

@@ -1,0 +1,255 @@
+//! A plan as one JSON object, by the standard's names.
+
+use crate::best_clock::BestClocks;
+use crate::change::{Change, PlannedId};
+use crate::octets::{octet, pair_at};
+use crate::outcome::{not_reached, why_not};
+use crate::places::Values;
+use crate::report::{Report, id_text, no_memory, who_of_row};
+use crate::rows::Row;
+use crate::subject::Subject;
+use crate::verdict::{Verdict, text_of};
+use ptpm_codec::{ClockIdentity, is_ptp_text, text_of_ptp_text};
+use ptpm_commands::Fault;
+use serde_json::{Map, Value, json, put};
+use std::alloc::{AllocError, Global};
+use std::io::Write;
+
+impl Report<'_> {
+    /// Prints one object, in a line.
+    pub(crate) fn print_json<O: Write>(&self, alloc: Global, out: &mut O) -> Result<(), Fault> {
+        let value = self.value(alloc).map_err(no_memory)?;
+        let text = value.to_string(alloc).map_err(no_memory)?;
+        writeln!(out, "{text}")?;
+        Ok(())
+    }
+
+    fn value(&self, alloc: Global) -> Result<Value, AllocError> {
+        let mut map = Map::new(alloc);
+        let id = id_text(alloc, self.plan.changes.as_slice())?;
+        put(&mut map, alloc, "plan", Value::String(id))?;
+        put(
+            &mut map,
+            alloc,
+            "changes",
+            changes_value(alloc, self.plan.changes.as_slice())?,
+        )?;
+        let rows = self.plan.rows.as_slice();
+        put(&mut map, alloc, "stays", staying_value(alloc, rows)?)?;
+        put(&mut map, alloc, "cannotBeSet", refused_value(alloc, rows)?)?;
+        put(
+            &mut map,
+            alloc,
+            "notReached",
+            self.not_reached_value(alloc)?,
+        )?;
+        put(
+            &mut map,
+            alloc,
+            "bestClock",
+            best_value(alloc, self.plan.best.as_slice())?,
+        )?;
+        put(&mut map, alloc, "warnings", self.warnings_value(alloc)?)?;
+        Ok(Value::Object(map))
+    }
+
+    fn not_reached_value(&self, alloc: Global) -> Result<Value, AllocError> {
+        let mut lines = Vec::new(alloc);
+        for line in not_reached(alloc, self.plan, self.file)? {
+            lines.push(Value::String(line))?;
+        }
+        Ok(Value::Array(lines))
+    }
+
+    fn warnings_value(&self, alloc: Global) -> Result<Value, AllocError> {
+        let mut lines = Vec::new(alloc);
+        for warning in self.plan.warnings.as_slice() {
+            lines.push(Value::String(format!(in alloc; "{warning}")?))?;
+        }
+        Ok(Value::Array(lines))
+    }
+}
+
+fn changes_value(alloc: Global, changes: &[Change]) -> Result<Value, AllocError> {
+    let mut values = Vec::new(alloc);
+    for change in changes {
+        let number = values.len().saturating_add(1);
+        values.push(change_value(alloc, number, change)?)?;
+    }
+    Ok(Value::Array(values))
+}
+
+fn change_value(alloc: Global, number: usize, change: &Change) -> Result<Value, AllocError> {
+    let subject = Subject {
+        domain: change.domain,
+        clock: change.clock,
+        port: change.port,
+        id: change.id,
+    };
+    let mut map = subject_map(alloc, subject)?;
+    put(&mut map, alloc, "number", Value::from(number as u64))?;
+    let before = members_value(alloc, change.id, change.before.as_slice())?;
+    put(&mut map, alloc, "before", before)?;
+    let after = members_value(alloc, change.id, change.after.as_slice())?;
+    put(&mut map, alloc, "after", after)?;
+    Ok(Value::Object(map))
+}
+
+/// Which member it is. A member of the clock has no portNumber.
+fn subject_map(alloc: Global, subject: Subject) -> Result<Map<String, Value>, AllocError> {
+    let mut map = Map::new(alloc);
+    put(&mut map, alloc, "domainNumber", Value::from(subject.domain))?;
+    put(
+        &mut map,
+        alloc,
+        "clockIdentity",
+        clock_value(alloc, subject.clock)?,
+    )?;
+    let port = if subject.port == 0 {
+        Value::Null
+    } else {
+        Value::from(subject.port)
+    };
+    put(&mut map, alloc, "portNumber", port)?;
+    let id = text_value(alloc, subject.id.name())?;
+    put(&mut map, alloc, "managementId", id)?;
+    Ok(map)
+}
+
+fn staying_value(alloc: Global, rows: &[Row]) -> Result<Value, AllocError> {
+    let mut values = Vec::new(alloc);
+    for row in rows {
+        if let Verdict::Stays(field) = &row.verdict {
+            let mut map = subject_map(alloc, row.subject)?;
+            let members = members_value(alloc, row.subject.id, field.as_slice())?;
+            put(&mut map, alloc, "members", members)?;
+            values.push(Value::Object(map))?;
+        }
+    }
+    Ok(Value::Array(values))
+}
+
+fn refused_value(alloc: Global, rows: &[Row]) -> Result<Value, AllocError> {
+    let mut values = Vec::new(alloc);
+    for row in rows {
+        if let Some(why) = why_not(&row.verdict) {
+            let who = who_of_row(row);
+            let name = row.subject.id.name();
+            let what = format!(in alloc; "{who} {name}")?;
+            let why = format!(in alloc; "{why}")?;
+            values.push(json!(in alloc; {"what": what, "why": why})?)?;
+        }
+    }
+    Ok(Value::Array(values))
+}
+
+fn best_value(alloc: Global, best: &[BestClocks]) -> Result<Value, AllocError> {
+    let mut values = Vec::new(alloc);
+    for of_domain in best {
+        let mut map = Map::new(alloc);
+        put(
+            &mut map,
+            alloc,
+            "domainNumber",
+            Value::from(of_domain.domain),
+        )?;
+        put(
+            &mut map,
+            alloc,
+            "clockIdentity",
+            clock_value(alloc, of_domain.first)?,
+        )?;
+        let mut changes = Vec::new(alloc);
+        for altered in of_domain.alterations.as_slice() {
+            let clock = clock_value(alloc, altered.clock)?;
+            changes.push(
+                json!(in alloc; {"after": altered.after as u64, "clockIdentity": clock})?,
+            )?;
+        }
+        put(&mut map, alloc, "changes", Value::Array(changes))?;
+        values.push(Value::Object(map))?;
+    }
+    Ok(Value::Array(values))
+}
+
+fn clock_value(alloc: Global, clock: ClockIdentity) -> Result<Value, AllocError> {
+    Ok(Value::String(format!(in alloc; "{clock}")?))
+}
+
+fn text_value(alloc: Global, text: &str) -> Result<Value, AllocError> {
+    Ok(Value::String(String::from_str(alloc, text)?))
+}
+
+/// The members of a dataField, by the standard's names.
+fn members_value(alloc: Global, id: PlannedId, field: &[u8]) -> Result<Value, AllocError> {
+    let mut map = Map::new(alloc);
+    match id {
+        PlannedId::UtcProperties => put_utc(alloc, field, &mut map)?,
+        _ => put(
+            &mut map,
+            alloc,
+            member_name(id),
+            member_value(alloc, id, field)?,
+        )?,
+    }
+    Ok(Value::Object(map))
+}
+
+/// Puts the members of UTC_PROPERTIES (15.5.3.6.2).
+fn put_utc(alloc: Global, field: &[u8], map: &mut Map<String, Value>) -> Result<(), AllocError> {
+    let flags = octet(field, 2);
+    put(
+        map,
+        alloc,
+        "currentUtcOffset",
+        Value::from(pair_at(field, 0).cast_signed()),
+    )?;
+    put(map, alloc, "leap61", Value::Bool(flags & 1 != 0))?;
+    put(map, alloc, "leap59", Value::Bool(flags & 2 != 0))?;
+    put(
+        map,
+        alloc,
+        "currentUtcOffsetValid",
+        Value::Bool(flags & 4 != 0),
+    )
+}
+
+/// The standard's name of an id's sole member.
+fn member_name(id: PlannedId) -> &'static str {
+    match id {
+        PlannedId::UserDescription => "userDescription",
+        PlannedId::UtcProperties => "currentUtcOffset",
+        PlannedId::Priority1 => "priority1",
+        PlannedId::Priority2 => "priority2",
+        PlannedId::ClockAccuracy => "clockAccuracy",
+        PlannedId::Domain => "domainNumber",
+        PlannedId::AnnounceReceiptTimeout => "announceReceiptTimeout",
+        PlannedId::LogAnnounceInterval => "logAnnounceInterval",
+        PlannedId::LogSyncInterval => "logSyncInterval",
+        PlannedId::DelayMechanism => "delayMechanism",
+        PlannedId::LogMinPdelayReqInterval => "logMinPdelayReqInterval",
+    }
+}
+
+/// The value of an id's sole member: a number, or a text.
+fn member_value(alloc: Global, id: PlannedId, field: &[u8]) -> Result<Value, AllocError> {
+    match id {
+        PlannedId::UserDescription => {
+            let text = if is_ptp_text(field) {
+                text_of_ptp_text(field)
+            } else {
+                &[]
+            };
+            Ok(Value::String(String::from_utf8_lossy(alloc, text)?))
+        }
+        PlannedId::DelayMechanism => {
+            let lines = text_of(alloc, id, field)?;
+            let lines = lines.as_str();
+            Ok(Value::String(format!(in alloc; "{}", Values { id, lines })?))
+        }
+        PlannedId::LogAnnounceInterval
+        | PlannedId::LogSyncInterval
+        | PlannedId::LogMinPdelayReqInterval => Ok(Value::from(octet(field, 0).cast_signed())),
+        _ => Ok(Value::from(octet(field, 0))),
+    }
+}

@@ -1,0 +1,19 @@
+//! What is promised of the order of a plan.
+
+ghost use Rattle.std.specs.Prelude.{ℕ, ◌≤◌, List, length};
+ghost use Rattle.std.specs.List.Sorted.{IsPermutation, IsSortedByKey};
+ghost use Rattle.ptpm_plan.specs.declared.change.Change.{Change};
+ghost use Rattle.ptpm_plan.specs.declared.surveyed.Surveyed.{Surveyed};
+ghost use Rattle.ptpm_plan.specs.BestClock.{alterations, AreApart, HaveOneEach, ranks_of};
+ghost use Rattle.ptpm_plan.specs.Order.{order_key};
+
+use crate::order::OrderKey;
+
+/// If each clock of a domain has one change of its rank at most, its best clock changes once at most along the order.
+/// So it changes from the present one straight to the final one.
+pub fn best_clock_once_law()
+    ensures { (s : Surveyed) (given asked : List Change) (domain : ℕ)
+        → IsPermutation given asked → IsSortedByKey (order_key s given) ⟦<OrderKey as Ord>⟧.cmp asked
+        → AreApart (ranks_of s.clocks.items) → HaveOneEach domain (ranks_of s.clocks.items) given
+        → length (alterations domain asked (ranks_of s.clocks.items) (length asked)) ≤ 1 }
+{}

@@ -1,0 +1,208 @@
+//! In which order the changes of a plan are asked. A port that receives is to keep its master meanwhile, and the best clock of a
+//! domain is to change once at most.
+
+ghost use Rattle.std.specs.Prelude.{◌≡◌, IfOk, List, Option, Some};
+ghost use Rattle.std.specs.List.Sorted.{IsPermutation, IsSortedByKey, IsStableByKey};
+ghost use Rattle.ptpm_plan.specs.Order.{grows, hops_of, is_best, is_longer, is_master, is_sender, key_by, order_key, patience, rank_in, rank_turn, turn_by};
+
+use crate::best_clock::{Rank, RankedClock, best_in, first_octet, ranks_after, ranks_of};
+use crate::change::{Change, PlannedId};
+use crate::surveyed::Surveyed;
+use ptpm_codec::ClockIdentity;
+use ptpm_data::PortState;
+use std::alloc::{AllocError, Global};
+use std::cmp::Reverse;
+
+/// When a change is asked: the earlier variants first. The ranks are those after all changes.
+#[derive(Clone, Copy, Debug, PartialEq, Eq, PartialOrd, Ord)]
+pub enum Turn {
+    /// A port that receives waits longer.
+    MorePatience,
+    /// A port in MASTER sends more often, or less often.
+    Sender,
+    /// What has no order.
+    Free,
+    /// A port that receives waits less long.
+    LessPatience,
+    /// The rank of a clock whose DEFAULT_DATA_SET was not answered.
+    Unranked,
+    /// A clock gets a better rank: the best-to-be first.
+    Better(Rank),
+    /// A clock gets a worse rank: the present best clock last, of the others the worst-to-be first.
+    Worse(bool, Reverse<Rank>),
+    /// A clock moves to another domain: the one with most hops first.
+    Move(Reverse<u8>),
+}
+
+/// What the changes of a plan are sorted by.
+#[derive(Clone, Copy, Debug, PartialEq, Eq, PartialOrd, Ord)]
+pub struct OrderKey {
+    pub turn: Turn,
+    pub place: usize,
+    pub clock: ClockIdentity,
+    pub port: u16,
+    pub id: PlannedId,
+}
+
+/// What the order depends on, beside the changes.
+#[derive(Clone, Copy)]
+struct Outlook<'a> {
+    surveyed: &'a Surveyed,
+    /// The ranks now, and after all changes.
+    before: &'a [RankedClock],
+    after: &'a [RankedClock],
+}
+
+impl Outlook<'_> {
+    /// Whether the port of a change is in MASTER.
+    fn is_sender(&self, change: &Change) -> bool
+        ensures { result ≡ is_sender self.now.surveyed.now change.now }
+    {
+        match self.surveyed.port(change.domain, change.clock, change.port) {
+            Some(port) => port.state == Some(PortState::Master),
+            None => false,
+        }
+    }
+
+    fn interval_turn(&self, change: &Change) -> Turn
+        ensures { result ≡ turn_by self.now.surveyed.now self.now.before.now self.now.after.now PlannedId.LogSyncInterval change.now }
+    {
+        if self.is_sender(change) {
+            Turn::Sender
+        } else {
+            patience(is_longer(change))
+        }
+    }
+
+    fn rank_turn(&self, change: &Change) -> Turn
+        ensures { result ≡ turn_by self.now.surveyed.now self.now.before.now self.now.after.now PlannedId.Priority1 change.now }
+    {
+        rank_turn(
+            is_best(change.domain, change.clock, self.before),
+            rank_in(change.domain, change.clock, self.before),
+            rank_in(change.domain, change.clock, self.after),
+        )
+    }
+
+    fn move_turn(&self, change: &Change) -> Turn
+        ensures { result ≡ turn_by self.now.surveyed.now self.now.before.now self.now.after.now PlannedId.Domain change.now }
+    {
+        let hops = match self.surveyed.clock(change.domain, change.clock) {
+            Some(clock) => clock.hops,
+            None => 0,
+        };
+        Turn::Move(Reverse(hops))
+    }
+
+    fn turn(&self, change: &Change) -> Turn
+        ensures { result ≡ turn_by self.now.surveyed.now self.now.before.now self.now.after.now change.now.id change.now }
+    {
+        match change.id {
+            PlannedId::AnnounceReceiptTimeout => patience(grows(change)),
+            PlannedId::LogAnnounceInterval | PlannedId::LogSyncInterval => {
+                self.interval_turn(change)
+            }
+            PlannedId::Priority1 | PlannedId::Priority2 | PlannedId::ClockAccuracy => {
+                self.rank_turn(change)
+            }
+            PlannedId::Domain => self.move_turn(change),
+            PlannedId::UserDescription
+            | PlannedId::UtcProperties
+            | PlannedId::DelayMechanism
+            | PlannedId::LogMinPdelayReqInterval => Turn::Free,
+        }
+    }
+
+    fn key(&self, change: &Change) -> OrderKey
+        ensures { result ≡ key_by self.now.surveyed.now self.now.before.now self.now.after.now change.now }
+    {
+        OrderKey {
+            turn: self.turn(change),
+            place: change.place,
+            clock: change.clock,
+            port: change.port,
+            id: change.id,
+        }
+    }
+}
+
+/// Whether the octet that a member is gets greater.
+fn grows(change: &Change) -> bool
+    ensures { result ≡ grows change.now }
+{
+    first_octet(&change.before) < first_octet(&change.after)
+}
+
+/// Whether the Integer8 that a member is gets greater.
+#[tactic(auto, unfolding(ptpm_data::specs::ImageReading::i8_at))]
+fn is_longer(change: &Change) -> bool
+    ensures { result ≡ is_longer change.now }
+{
+    first_octet(&change.before).cast_signed() < first_octet(&change.after).cast_signed()
+}
+
+fn patience(more: bool) -> Turn
+    ensures { result ≡ patience more }
+{
+    if more {
+        Turn::MorePatience
+    } else {
+        Turn::LessPatience
+    }
+}
+
+/// What becomes of a clock's rank, and whether the clock is the present best one.
+fn rank_turn(is_best: bool, before: Option<Rank>, after: Option<Rank>) -> Turn
+    ensures { result ≡ rank_turn is_best before after }
+{
+    match (before, after) {
+        (Some(before), Some(after)) => {
+            if after.is_better(&before) {
+                Turn::Better(after)
+            } else {
+                Turn::Worse(is_best, Reverse(after))
+            }
+        }
+        _ => Turn::Unranked,
+    }
+}
+
+/// The rank of a clock of a domain.
+fn rank_in(domain: u8, clock: ClockIdentity, ranks: &[RankedClock]) -> Option<Rank>
+    ensures { result ≡ rank_in domain clock ranks.now }
+{
+    let found = ranks.iter().find(|ranked| ranked.domain == domain
+        && ranked.rank.identity == clock)?;
+    Some(found.rank)
+}
+
+/// Whether a clock is the best one of its domain.
+fn is_best(domain: u8, clock: ClockIdentity, ranks: &[RankedClock]) -> bool
+    ensures { result ≡ is_best domain clock ranks.now }
+{
+    match best_in(domain, ranks) {
+        Some(best) => best.identity == clock,
+        None => false,
+    }
+}
+
+/// The changes in the order in which they are asked.
+pub fn in_order(
+    alloc: Global,
+    mut changes: Vec<Change>,
+    surveyed: &Surveyed,
+) -> Result<Vec<Change>, AllocError>
+    ensures permutation { IfOk result (λ ordered. IsPermutation changes.items ordered.items) }
+    ensures sorted { IfOk result (λ ordered. IsSortedByKey (order_key surveyed.now changes.items) ⟦<OrderKey as Ord>⟧.cmp ordered.items) }
+    ensures stable { IfOk result (λ ordered. IsStableByKey (order_key surveyed.now changes.items) ⟦<OrderKey as Ord>⟧.cmp changes.items ordered.items) }
+{
+    let before = ranks_of(alloc, surveyed.clocks.as_slice())?;
+    let after = ranks_after(alloc, before.as_slice(), changes.as_slice())?;
+    let outlook = Outlook {
+        surveyed,
+        before: before.as_slice(),
+        after: after.as_slice(),
+    };
+    changes.sort_by_cached_key(|change| outlook.key(change))?;
+    Ok(changes)
+}

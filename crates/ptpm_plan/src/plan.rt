@@ -1,0 +1,123 @@
+//! A plan: what becomes of each member that a file asks for, and the changes in the order in which they are asked.
+
+ghost use Rattle.std.specs.Prelude.{◌≡◌, [], IfOk, fold};
+ghost use Rattle.std.specs.List.{filter_map};
+ghost use Rattle.ptpm_plan.specs.Asking.{rows_of_file, unnamed_of};
+ghost use Rattle.ptpm_plan.specs.Plans.{change_of};
+ghost use Rattle.ptpm_plan.specs.Rows.{with_row};
+
+use crate::answer::value_of;
+use crate::answers::Answers;
+use crate::asking::{Unnamed, ask_clocks, unnamed_of};
+use crate::best_clock::{BestClocks, best_clocks};
+use crate::change::Change;
+use crate::every::ask_all;
+use crate::file_fault::FileFault;
+use crate::order::in_order;
+use crate::rows::Row;
+use crate::surveyed::{Surveyed, SurveyedClock};
+use crate::verdict::Verdict;
+use crate::warning::Warning;
+use crate::warnings::warnings_of;
+use crate::wish::{ClockWishes, PlanFile};
+use std::alloc::{AllocError, Global};
+
+/// What a file changes at the clocks of a site.
+#[derive(Debug, Drop)]
+pub struct Plan {
+    pub surveyed: Surveyed,
+    pub rows: Vec<Row>,
+    /// The changes, in the order in which they are asked.
+    pub changes: Vec<Change>,
+    /// The tables whose description is not that of one clock.
+    pub unnamed: Vec<Unnamed>,
+    /// The best clock of each domain in which a rank changes.
+    pub best: Vec<BestClocks>,
+    pub warnings: Vec<Warning>,
+}
+
+impl Plan {
+    ghost use Rattle.ptpm_plan.specs.Planned.{IsPlanOf};
+
+    /// The plan of a file, by the answers of a survey.
+    pub fn of(alloc: Global, file: &PlanFile, answers: &Answers) -> Result<Plan, FileFault>
+        ensures { IfOk result (IsPlanOf file.now answers.now.list.items) }
+    {
+        let surveyed = answers.surveyed(alloc)?;
+        let rows = rows_of_file(alloc, file, answers, &surveyed)?;
+        let unnamed = all_unnamed(
+            alloc,
+            answers,
+            surveyed.clocks.as_slice(),
+            file.clocks.as_slice(),
+        )?;
+        let changes = changes_of(alloc, rows.as_slice())?;
+        let changes = in_order(alloc, changes, &surveyed)?;
+        let best = best_clocks(alloc, changes.as_slice(), &surveyed)?;
+        let warnings = warnings_of(alloc, changes.as_slice(), &surveyed)?;
+        Ok(Plan {
+            surveyed,
+            rows,
+            changes,
+            unnamed,
+            best,
+            warnings,
+        })
+    }
+}
+
+/// What becomes of each member that a file asks for.
+fn rows_of_file(
+    alloc: Global,
+    file: &PlanFile,
+    answers: &Answers,
+    surveyed: &Surveyed,
+) -> Result<Vec<Row>, FileFault>
+    ensures { IfOk result (λ v. v.items ≡ fold with_row [] (rows_of_file answers.now.list.items surveyed.now file.now)) }
+{
+    let mut rows = Vec::new(alloc);
+    let clocks = surveyed.clocks.as_slice();
+    ask_clocks(alloc, answers, clocks, file.clocks.as_slice(), &mut rows)?;
+    ask_all(alloc, answers, surveyed, file.every.as_slice(), &mut rows)?;
+    Ok(rows)
+}
+
+/// The tables that name no clock.
+fn all_unnamed(
+    alloc: Global,
+    answers: &Answers,
+    clocks: &[SurveyedClock],
+    tables: &[ClockWishes],
+) -> Result<Vec<Unnamed>, AllocError>
+    ensures { IfOk result (λ v. v.items ≡ filter_map (unnamed_of answers.now.list.items clocks.now) tables.now) }
+{
+    tables
+        .iter()
+        .filter_map(|table| unnamed_of(answers, clocks, table))
+        .collect(alloc)
+}
+
+/// The changes among rows.
+fn changes_of(alloc: Global, rows: &[Row]) -> Result<Vec<Change>, AllocError>
+    ensures { IfOk result (λ v. v.items ≡ filter_map change_of rows.now) }
+{
+    rows.iter().filter_map(|row| change_of(row)).collect(alloc)
+}
+
+/// The change that a row is.
+fn change_of(row: &Row) -> Option<Change>
+    ensures { result ≡ change_of row.now }
+{
+    match &row.verdict {
+        Verdict::Changes(before, after) => Some(Change {
+            place: row.place,
+            domain: row.subject.domain,
+            clock: row.subject.clock,
+            port: row.subject.port,
+            id: row.subject.id,
+            before: value_of(before.as_slice()),
+            after: value_of(after.as_slice()),
+        }),
+        _ => None,
+    }
+}

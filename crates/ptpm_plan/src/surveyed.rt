@@ -1,0 +1,83 @@
+//! What clocks and ports were when they were surveyed.
+
+ghost use Rattle.std.specs.Prelude.{◌≡◌};
+ghost use Rattle.std.specs.Option.{option_copied};
+ghost use Rattle.ptpm_plan.specs.Surveyed.{clock_in, port_in};
+
+use ptpm_codec::ClockIdentity;
+use ptpm_data::{ClockPrecedence, PortState};
+
+/// A clock that answered in a domain.
+#[derive(Clone, Copy, Debug)]
+pub struct SurveyedClock {
+    pub domain: u8,
+    pub identity: ClockIdentity,
+    /// How many boundary clocks its answers passed: startingBoundaryHops less boundaryHops (15.4.1).
+    pub hops: u8,
+    /// numberPorts, by DEFAULT_DATA_SET. `None` if it gave no such answer.
+    pub number_ports: Option<u16>,
+    /// What DEFAULT_DATA_SET says of its rank (9.3.4). `None` if it gave no such answer.
+    pub precedence: Option<ClockPrecedence>,
+}
+
+/// A port whose PORT_DATA_SET was answered.
+#[derive(Clone, Copy, Debug)]
+pub struct SurveyedPort {
+    pub domain: u8,
+    pub clock: ClockIdentity,
+    pub number: u16,
+    /// portState. `None` if its number is reserved.
+    pub state: Option<PortState>,
+    /// logAnnounceInterval.
+    pub log_announce: i8,
+    /// announceReceiptTimeout.
+    pub receipt_timeout: u8,
+}
+
+/// The clocks and ports of a site. Of each there is one entry at most.
+#[derive(Debug, Drop)]
+pub struct Surveyed {
+    pub clocks: Vec<SurveyedClock>,
+    pub ports: Vec<SurveyedPort>,
+}
+
+impl Surveyed {
+    /// A clock of a domain, if it answered there.
+    pub fn clock(&self, domain: u8, identity: ClockIdentity) -> Option<&SurveyedClock>
+        ensures { option_copied result ≡ clock_in domain identity self.now.clocks.items }
+    {
+        clock_in(self.clocks.as_slice(), domain, identity)
+    }
+
+    /// A port of a clock, if its PORT_DATA_SET was answered.
+    pub fn port(&self, domain: u8, clock: ClockIdentity, number: u16) -> Option<&SurveyedPort>
+        ensures { option_copied result ≡ port_in domain clock number self.now.ports.items }
+    {
+        port_in(self.ports.as_slice(), domain, clock, number)
+    }
+}
+
+/// A clock of a domain among these.
+pub(crate) fn clock_in(
+    clocks: &[SurveyedClock],
+    domain: u8,
+    identity: ClockIdentity,
+) -> Option<&SurveyedClock>
+    ensures { option_copied result ≡ clock_in domain identity clocks.now }
+{
+    clocks.iter().find(|clock| clock.domain == domain && clock.identity == identity)
+}
+
+/// A port of a clock among these.
+pub(crate) fn port_in(
+    ports: &[SurveyedPort],
+    domain: u8,
+    clock: ClockIdentity,
+    number: u16,
+) -> Option<&SurveyedPort>
+    ensures { option_copied result ≡ port_in domain clock number ports.now }
+{
+    ports.iter().find(|port| {
+        port.domain == domain && port.clock == clock && port.number == number
+    })
+}

@@ -1,0 +1,158 @@
+//! What the answers of a survey say of its clocks and ports.
+
+ghost use Rattle.std.specs.Prelude.{◌≡◌, IfOk, OnOk, reverse};
+ghost use Rattle.std.specs.List.{All, find};
+ghost use Rattle.std.specs.Option.{option_copied, option_map};
+ghost use Rattle.ptpm_plan.specs.Answers.{is_answer_of};
+ghost use Rattle.ptpm_plan.specs.Surveying.{IsClockOf, IsPortOf, IsSurvey, clock_from, field_by, hops_by, port_from, precedence_in};
+
+use crate::answer::{Answer, Said};
+use crate::answers::{Answers, is_answer_of};
+use crate::octets::{octet, pair_at};
+use crate::surveyed::{Surveyed, SurveyedClock, SurveyedPort, clock_in, port_in};
+use ptpm_codec::ClockIdentity;
+use ptpm_data::{ClockPrecedence, PortState};
+use std::alloc::{AllocError, Global};
+
+/// managementIds of DEFAULT_DATA_SET and PORT_DATA_SET.
+const DEFAULT_DATA_SET: u16 = 0x2000;
+
+const PORT_DATA_SET: u16 = 0x2004;
+
+impl Answers {
+    /// The clocks that answered, and the ports whose PORT_DATA_SET they answered, ascending.
+    pub fn surveyed(&self, alloc: Global) -> Result<Surveyed, AllocError>
+        ensures { IfOk result (IsSurvey self.now.list.items) }
+    {
+        let mut surveyed = self.found(alloc)?;
+        surveyed
+            .clocks
+            .sort_by_key(|clock| (clock.domain, clock.identity))?;
+        surveyed
+            .ports
+            .sort_by_key(|port| (port.domain, port.clock, port.number))?;
+        Ok(surveyed)
+    }
+
+    /// The same, each in the order of its first answer.
+    fn found(&self, alloc: Global) -> Result<Surveyed, AllocError>
+        ensures { IfOk result (IsSurvey self.now.list.items) }
+    {
+        let mut surveyed = Surveyed {
+            clocks: Vec::new(alloc),
+            ports: Vec::new(alloc),
+        };
+        for answer in self.list.as_slice() {
+            self.add_clock(answer, &mut surveyed.clocks)?;
+            self.add_port(answer, &mut surveyed.ports)?;
+        }
+        Ok(surveyed)
+    }
+
+    /// Adds the clock of an answer, unless it is there.
+    fn add_clock(&self, answer: &Answer, clocks: &mut Vec<SurveyedClock>) -> Result<(), AllocError>
+        requires { All (IsClockOf self.now.list.items) clocks.old.items }
+        ensures { OnOk result (All (IsClockOf self.now.list.items) clocks.new.items) }
+    {
+        let (domain, clock) = (answer.domain, answer.source.clock);
+        if clock_in(clocks.as_slice(), domain, clock).is_none() {
+            clocks.push(self.clock_from(domain, clock))?;
+        }
+        Ok(())
+    }
+
+    /// Adds the port that an answer is of, if it is one to PORT_DATA_SET, unless it is there.
+    fn add_port(&self, answer: &Answer, ports: &mut Vec<SurveyedPort>) -> Result<(), AllocError>
+        requires { All (IsPortOf self.now.list.items) ports.old.items }
+        ensures { OnOk result (All (IsPortOf self.now.list.items) ports.new.items) }
+    {
+        let (domain, clock, number) = (answer.domain, answer.source.clock, answer.source.port);
+        if answer.id != PORT_DATA_SET
+            || port_in(ports.as_slice(), domain, clock, number).is_some()
+        {
+            return Ok(());
+        }
+        if let Some(port) = self.port_from(domain, clock, number) {
+            ports.push(port)?;
+        }
+        Ok(())
+    }
+
+    /// What its answers say of a clock.
+    fn clock_from(&self, domain: u8, identity: ClockIdentity) -> SurveyedClock
+        ensures { result ≡ clock_from self.now.list.items domain identity }
+    {
+        let field = self.field(domain, identity, 0, DEFAULT_DATA_SET);
+        SurveyedClock {
+            domain,
+            identity,
+            hops: self.hops(domain, identity),
+            number_ports: match field {
+                Some(field) => Some(pair_at(field, 2)),
+                None => None,
+            },
+            precedence: match field {
+                Some(field) => Some(precedence_in(field)),
+                None => None,
+            },
+        }
+    }
+
+    /// What PORT_DATA_SET says of a port, if the last answer has it.
+    fn port_from(&self, domain: u8, clock: ClockIdentity, number: u16) -> Option<SurveyedPort>
+        ensures { result ≡ port_from self.now.list.items domain clock number }
+    {
+        let field = self.field(domain, clock, number, PORT_DATA_SET)?;
+        Some(SurveyedPort {
+            domain,
+            clock,
+            number,
+            state: PortState::from_number(octet(field, 10)),
+            log_announce: octet(field, 20).cast_signed(),
+            receipt_timeout: octet(field, 21),
+        })
+    }
+
+    /// The dataField that a clock answered last for an id, if it did not refuse it.
+    fn field(&self, domain: u8, clock: ClockIdentity, port: u16, id: u16) -> Option<&[u8]>
+        ensures { option_map (λ f. f.now) result ≡ field_by domain clock port id self.now.list.items }
+    {
+        match &self.last(domain, clock, port, id)?.said {
+            Said::Is(field) => Some(field.as_slice()),
+            Said::Refused(_) => None,
+        }
+    }
+
+    /// How many boundary clocks the last answer of a clock passed.
+    fn hops(&self, domain: u8, clock: ClockIdentity) -> u8
+        ensures { result ≡ hops_by domain clock self.now.list.items }
+    {
+        match self.last_of_clock(domain, clock) {
+            Some(answer) => answer.hops,
+            None => 0,
+        }
+    }
+
+    /// The last answer of a clock.
+    fn last_of_clock(&self, domain: u8, clock: ClockIdentity) -> Option<&Answer>
+        ensures { option_copied result ≡ find (is_answer_of domain clock) (reverse self.now.list.items) }
+    {
+        self.list
+            .iter()
+            .rev()
+            .find(|answer| is_answer_of(answer, domain, clock))
+    }
+}
+
+/// What a DEFAULT_DATA_SET says of the clock's rank (table 69).
+fn precedence_in(field: &[u8]) -> ClockPrecedence
+    ensures { result ≡ precedence_in field.now }
+{
+    ClockPrecedence {
+        priority1: octet(field, 4),
+        class: octet(field, 5),
+        accuracy: octet(field, 6),
+        variance: pair_at(field, 7),
+        priority2: octet(field, 9),
+    }
+}

@@ -1,0 +1,42 @@
+//! Values at the keys of a plan file's tables.
+
+use crate::file_fault::{FileFault, Place, TableFault};
+use toml::{Table, Value};
+
+/// The table that a value is.
+pub(crate) fn shaped<'a>(
+    value: &'a Value,
+    key: &'static str,
+    place: Place,
+) -> Result<&'a Table, FileFault> {
+    match value.as_table() {
+        Some(table) => Ok(table),
+        None => Err(FileFault::at(place, TableFault::Takes(key, "a table"))),
+    }
+}
+
+/// The text at a key, if the key is there.
+pub(crate) fn text_at<'a>(
+    table: &'a Table,
+    key: &'static str,
+    place: Place,
+) -> Result<Option<&'a str>, FileFault> {
+    match table.get(key) {
+        None => Ok(None),
+        Some(value) => match value.as_str() {
+            Some(text) => Ok(Some(text)),
+            None => Err(FileFault::at(place, TableFault::Takes(key, "a text"))),
+        },
+    }
+}
+
+/// The domainNumber at `domain`, 0 if it is absent.
+pub(crate) fn domain_at(table: &Table, place: Place) -> Result<u8, FileFault> {
+    let Some(value) = table.get("domain") else {
+        return Ok(0);
+    };
+    match value.as_integer() {
+        Some(number) if 0 <= number && number <= 0xff => Ok(number as u8),
+        _ => Err(FileFault::at(place, TableFault::Takes("domain", "a number from 0 to 255"))),
+    }
+}

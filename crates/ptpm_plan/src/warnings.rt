@@ -1,0 +1,232 @@
+//! Of what a plan warns.
+
+ghost use Rattle.std.specs.Prelude.{◌≡◌, IfOk};
+ghost use Rattle.std.specs.List.{filter_map};
+ghost use Rattle.ptpm_plan.specs.Warnings.{refusal, setting_of, takes};
+
+use crate::best_clock::{BestClocks, best_clocks, first_octet};
+use crate::change::{Change, PlannedId};
+use crate::surveyed::{Surveyed, SurveyedPort};
+use crate::warning::Warning;
+use ptpm_codec::PortIdentity;
+use ptpm_data::{PortSetting, PortState, Value};
+use std::alloc::{AllocError, Global};
+
+/// The warnings of a plan with these changes, in the order in which they are asked.
+pub fn warnings_of(
+    alloc: Global,
+    changes: &[Change],
+    surveyed: &Surveyed,
+) -> Result<Vec<Warning>, AllocError> {
+    let mut found = refusals(alloc, changes)?;
+    let best = best_clocks(alloc, changes, surveyed)?;
+    add_best_clocks(best.as_slice(), &mut found)?;
+    add_impatient(alloc, changes, surveyed, &mut found)?;
+    add_mechanisms(changes, &mut found)?;
+    Ok(found)
+}
+
+/// The values that a clock with this project's agent refuses.
+fn refusals(alloc: Global, changes: &[Change]) -> Result<Vec<Warning>, AllocError>
+    ensures { IfOk result (λ found. found.items ≡ filter_map refusal changes.now) }
+{
+    changes
+        .iter()
+        .filter_map(|change| refusal(change))
+        .collect(alloc)
+}
+
+fn refusal(change: &Change) -> Option<Warning>
+    ensures { result ≡ refusal change.now }
+{
+    let setting = setting_of(change.id)?;
+    if takes(setting, &change.after) {
+        return None;
+    }
+    let port = PortIdentity {
+        clock: change.clock,
+        port: change.port,
+    };
+    Some(Warning::Refused(port, change.id, setting))
+}
+
+/// The setting of a port that an id is.
+fn setting_of(id: PlannedId) -> Option<PortSetting>
+    ensures { result ≡ setting_of id }
+{
+    match id {
+        PlannedId::AnnounceReceiptTimeout => Some(PortSetting::AnnounceReceiptTimeout),
+        PlannedId::LogAnnounceInterval => Some(PortSetting::LogAnnounceInterval),
+        PlannedId::LogSyncInterval => Some(PortSetting::LogSyncInterval),
+        PlannedId::DelayMechanism => Some(PortSetting::DelayMechanism),
+        PlannedId::LogMinPdelayReqInterval => Some(PortSetting::LogMinPdelayReqInterval),
+        PlannedId::UserDescription
+        | PlannedId::UtcProperties
+        | PlannedId::Priority1
+        | PlannedId::Priority2
+        | PlannedId::ClockAccuracy
+        | PlannedId::Domain => None,
+    }
+}
+
+/// Whether a clock with this project's agent takes a value of a port's setting.
+#[tactic(auto, unfolding(crate::specs::Warnings::takes, ptpm_data::specs::PortSetting::said_of))]
+fn takes(setting: PortSetting, field: &Value) -> bool
+    ensures { result ≡ takes setting field.now.items }
+{
+    let octet = first_octet(field);
+    let signed = octet.cast_signed();
+    match setting {
+        PortSetting::AnnounceReceiptTimeout => 2 <= octet && octet <= 10,
+        PortSetting::LogAnnounceInterval => -4 <= signed && signed <= 4,
+        PortSetting::LogSyncInterval => -8 <= signed && signed <= 1,
+        PortSetting::LogMinPdelayReqInterval => -8 <= signed && signed <= 5,
+        PortSetting::DelayMechanism => octet == 1 || octet == 2 || octet == 0xfe,
+    }
+}
+
+/// Adds the domains whose best clock changes more than once.
+fn add_best_clocks(best: &[BestClocks], found: &mut Vec<Warning>) -> Result<(), AllocError> {
+    for clocks in best {
+        let times = clocks.alterations.len();
+        if times > 1 {
+            found.push(Warning::BestClock(clocks.domain, times))?;
+        }
+    }
+    Ok(())
+}
+
+/// Adds the changes of how a port measures delay.
+fn add_mechanisms(changes: &[Change], found: &mut Vec<Warning>) -> Result<(), AllocError> {
+    for (place, change) in changes.iter().enumerate() {
+        if change.id == PlannedId::DelayMechanism {
+            found.push(Warning::Mechanism(place + 1))?;
+        }
+    }
+    Ok(())
+}
+
+/// A port that sends Announces, or waits for them.
+#[derive(Clone, Copy)]
+struct Announcing {
+    domain: u8,
+    port: PortIdentity,
+    is_sender: bool,
+    log_interval: i8,
+    receipt_timeout: u8,
+    /// It waited for less than two Announces before.
+    is_known: bool,
+}
+
+impl Announcing {
+    fn of(port: &SurveyedPort) -> Announcing {
+        Announcing {
+            domain: port.domain,
+            port: PortIdentity {
+                clock: port.clock,
+                port: port.number,
+            },
+            is_sender: port.state == Some(PortState::Master),
+            log_interval: port.log_announce,
+            receipt_timeout: port.receipt_timeout,
+            is_known: false,
+        }
+    }
+
+    /// Carries out a change, if it is one of this port.
+    fn take(&mut self, change: &Change) {
+        let is_own = change.domain == self.domain
+            && change.clock == self.port.clock
+            && change.port == self.port.port;
+        if !is_own {
+            return;
+        }
+        let octet = first_octet(&change.after);
+        match change.id {
+            PlannedId::LogAnnounceInterval => self.log_interval = octet.cast_signed(),
+            PlannedId::AnnounceReceiptTimeout => self.receipt_timeout = octet,
+            _ => {}
+        }
+    }
+
+    /// Whether it waits for less than two intervals of a sender, and did not before.
+    fn becomes_impatient(&mut self, domain: u8, slowest: i8) -> bool {
+        let is_one = self.domain == domain
+            && !self.is_sender
+            && !self.is_known
+            && is_below_two(slowest, self.log_interval, self.receipt_timeout);
+        if is_one {
+            self.is_known = true;
+        }
+        is_one
+    }
+}
+
+/// Whether a time-out, in intervals of a receiver, is below two intervals of a sender. The intervals are logarithms to the base 2 of
+/// seconds.
+fn is_below_two(sender: i8, receiver: i8, timeout: u8) -> bool {
+    let doublings = i16::from(sender) + 1 - i16::from(receiver);
+    if doublings < 0 {
+        timeout == 0
+    } else if doublings < 8 {
+        timeout < 1 << doublings
+    } else {
+        true
+    }
+}
+
+/// The longest interval at which a port in MASTER of a domain sends Announces.
+fn slowest_sender(domain: u8, ports: &[Announcing]) -> Option<i8> {
+    ports
+        .iter()
+        .filter(|port| port.is_sender && port.domain == domain)
+        .map(|port| port.log_interval)
+        .max()
+}
+
+/// Adds the ports of a domain that wait for less than two Announces from a change on.
+fn add_newly_impatient(
+    number: usize,
+    domain: u8,
+    ports: &mut [Announcing],
+    found: &mut Vec<Warning>,
+) -> Result<(), AllocError> {
+    let Some(slowest) = slowest_sender(domain, ports) else {
+        return Ok(());
+    };
+    for port in ports.iter_mut() {
+        if port.becomes_impatient(domain, slowest) {
+            found.push(Warning::Impatient(number, port.port))?;
+        }
+    }
+    Ok(())
+}
+
+/// Marks the ports that wait for less than two Announces before any change.
+fn mark_impatient(ports: &mut [Announcing], changes: &[Change]) {
+    for change in changes {
+        if let Some(slowest) = slowest_sender(change.domain, ports) {
+            for port in ports.iter_mut() {
+                let _known = port.becomes_impatient(change.domain, slowest);
+            }
+        }
+    }
+}
+
+/// Adds the ports that may lose their masters meanwhile, each after the first change from which on it waits for less than two Announces.
+fn add_impatient(
+    alloc: Global,
+    changes: &[Change],
+    surveyed: &Surveyed,
+    found: &mut Vec<Warning>,
+) -> Result<(), AllocError> {
+    let mut ports: Vec<Announcing> = surveyed.ports.iter().map(Announcing::of).collect(alloc)?;
+    mark_impatient(ports.as_mut_slice(), changes);
+    for (place, change) in changes.iter().enumerate() {
+        for port in ports.iter_mut() {
+            port.take(change);
+        }
+        add_newly_impatient(place + 1, change.domain, ports.as_mut_slice(), found)?;
+    }
+    Ok(())
+}

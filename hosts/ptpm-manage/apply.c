@@ -1,0 +1,225 @@
+#define _GNU_SOURCE
+#include "apply.h"
+#include "apply_report.h"
+#include "asking.h"
+#include "exchange.h"
+#include "journals.h"
+#include "marks.h"
+#include "notices.h"
+#include "plan.h"
+#include "program.h"
+#include "steps.h"
+#include "transport.h"
+#include <errno.h>
+#include <stdlib.h>
+#include <string.h>
+
+/* The program's status after this end. */
+static int status_of(enum ending ending) {
+    switch (ending) {
+    case COMPLETE:
+    case ROLLED_BACK: return ANSWERED;
+    case ENDED_REFUSED:
+    case ENDED_ANSWERED: return REFUSED;
+    case ENDED_CHANGED: return NOT_AS_ASKED;
+    default: return NOT_ANSWERED;
+    }
+}
+
+/* ---- plan */
+
+static int show_plan(const struct task *task) {
+    struct plan plan;
+    int status = make_plan(&plan, task);
+    print_plan(&plan);
+    return status;
+}
+
+/* ---- a journal is carried out */
+
+/* No session is kept of a port that no clock of ptpm has. */
+static void judge_ports(const struct step *steps, size_t count) {
+    for (size_t i = 0; i < count; i++) {
+        if (!is_beyond_session(steps[i].port)) continue;
+        refuse("nothing was sent: change %zu: no session is kept of a port above %d", i + 1, SESSION_PORTS);
+    }
+}
+
+/* Goes on with a journal whose sessions are taken and marked, and says what became of it. */
+static int carry_out(const struct task *task, struct journal *journal) {
+    int status = carry_out_steps(task, journal);
+    if (status == ANSWERED) status = status_of(journal->ending);
+    print_apply(journal, task->is_json);
+    leave_sessions();
+    return status;
+}
+
+/* Begins a new one: the sessions are taken, the journal is made, and then the marks that name it. */
+static int begin(const struct task *task, struct journal *journal) {
+    struct ptpm_session_settings settings = task->settings;
+    memcpy(journal->manager, settings.clock, 8);
+    journal->manager_port = settings.port;
+    own_marks(journal->path);
+    judge_ports(journal->steps, journal->count);
+    take_sessions(task, journal);
+    if (!make_journal(journal)) {
+        complain("nothing was sent: %s: %s", journal->path, strerror(errno));
+        return NOT_WRITTEN;
+    }
+    return mark_sessions() ? carry_out(task, journal) : NOT_WRITTEN;
+}
+
+/* ---- apply */
+
+static int apply_plan(const struct task *task, const struct plan *plan) {
+    struct journal journal = { 0 };
+    if (task->plan.expected != NULL && strcmp(task->plan.expected, plan->id) != 0) {
+        complain("nothing was sent: the plan is %s by now, and not %s", plan->id, task->plan.expected);
+        return NOT_AS_ASKED;
+    }
+    if (plan->count == 0) return ANSWERED;
+    give_steps(&journal, plan->steps, plan->count);
+    name_journal(&journal, plan->id);
+    int status = begin(task, &journal);
+    leave_journal(&journal);
+    return status;
+}
+
+static int apply(const struct task *task) {
+    struct journal open;
+    struct plan plan;
+    take_journals();
+    if (find_open_journal(&open)) refuse("nothing was sent: %s is open: ptpm-manage resume or rollback comes first", open.name);
+    int status = make_plan(&plan, task);
+    print_plan(&plan);
+    if (status == ANSWERED && fflush(stdout)) return NOT_WRITTEN;
+    if (status == REFUSED || status == NOT_ANSWERED) complain("nothing was sent");
+    return status == ANSWERED ? apply_plan(task, &plan) : status;
+}
+
+/* ---- resume */
+
+/* The task as the journal's manager, whichever the way has by itself. */
+static const struct task *as_manager(const struct task *task, const struct journal *journal) {
+    static struct task own;
+    own = *task;
+    bool is_other = memcmp(journal->manager, task->settings.clock, 8) != 0 || journal->manager_port != task->settings.port;
+    if (task->has_manager && is_other) refuse("nothing was sent: %s is by another manager than --manager says", journal->name);
+    memcpy(own.settings.clock, journal->manager, 8);
+    own.settings.port = journal->manager_port;
+    return &own;
+}
+
+/* Takes the journal up where a run before left it. */
+static void take_up(const struct task *task, struct journal *journal) {
+    own_marks(journal->path);
+    take_sessions(task, journal);
+    if (!continue_journal(journal)) refuse("nothing was sent: %s: %s", journal->path, strerror(errno));
+    if (!mark_sessions()) exit(NOT_WRITTEN);
+}
+
+/* Ends it without an answer to the uncertain step. */
+static int give_up_apply(const struct task *task, struct journal *journal) {
+    if (!note_begun_step(journal) || !end_journal(journal, GIVEN_UP, journal->begun)) return NOT_WRITTEN;
+    if (journal->begun != NO_STEP) complain("step %ld may have been carried out", journal->begun + 1);
+    print_apply(journal, task->is_json);
+    return NOT_ANSWERED;
+}
+
+static int resume(const struct task *task) {
+    struct journal journal;
+    take_journals();
+    if (!find_open_journal(&journal)) refuse("nothing was sent: no apply is open");
+    task = as_manager(task, &journal);
+    take_up(task, &journal);
+    open_transport(task);
+    int status = task->is_letting_go ? give_up_apply(task, &journal) : carry_out(task, &journal);
+    leave_journal(&journal);
+    return status;
+}
+
+/* ---- rollback */
+
+/* The step that takes another one back. */
+static struct step back_of(const struct step *step) {
+    struct step back = *step;
+    back.before = step->after;
+    back.after = step->before;
+    if (step->id == PTPM_ID_DOMAIN) back.domain = step->after.octets[0];
+    return back;
+}
+
+/* The steps that take back what was done. Moves of DOMAIN come first, in the order of the apply: the farthest clock first again. The others
+   follow in reverse order. */
+static void take_back(struct journal *back, const struct journal *journal) {
+    size_t count = 0;
+    struct step *steps = calloc(journal->count + 1, sizeof *steps);
+    if (steps == NULL) give_up("the steps");
+    for (size_t i = 0; i < journal->count; i++) {
+        const struct step *step = &journal->steps[i];
+        if (journal->told[i].outcome == DONE && step->id == PTPM_ID_DOMAIN) steps[count++] = back_of(step);
+    }
+    for (size_t i = journal->count; i > 0; i--) {
+        const struct step *step = &journal->steps[i - 1];
+        if (journal->told[i - 1].outcome == DONE && step->id != PTPM_ID_DOMAIN) steps[count++] = back_of(step);
+    }
+    give_steps(back, steps, count);
+    free(steps);
+}
+
+/* An apply that is open is ended: its uncertain step is settled first. ANSWERED, or the program's status. */
+static int close_apply(const struct task *task, struct journal *journal) {
+    take_up(task, journal);
+    int status = settle_begun_step(journal);
+    if (status != ANSWERED) complain("nothing was rolled back");
+    return status;
+}
+
+static int roll_back(const struct task *task, struct journal *journal) {
+    struct journal back = { 0 };
+    bool is_open = journal->ending == IS_OPEN;
+    int status = is_open ? close_apply(task, journal) : ANSWERED;
+    if (status != ANSWERED) return status;
+    take_back(&back, journal);
+    status = find_changed(task, &back);
+    if (status != ANSWERED) {
+        complain("nothing was rolled back");
+        return status;
+    }
+    if (journal->ending == GIVEN_UP && journal->end_step != NO_STEP) {
+        complain("step %ld may have been carried out, and is left out", journal->end_step + 1);
+    }
+    if (is_open && !end_journal(journal, ROLLED_BACK, NO_STEP)) return NOT_WRITTEN;
+    leave_sessions();
+    snprintf(back.rolls_back, sizeof back.rolls_back, "%s", journal->name);
+    name_journal(&back, "rollback");
+    if (back.count == 0) {
+        complain("%s: no step was done, so none is rolled back", journal->name);
+        return ANSWERED;
+    }
+    status = begin(task, &back);
+    leave_journal(&back);
+    return status;
+}
+
+static int rollback(const struct task *task) {
+    struct journal journal, open;
+    take_journals();
+    find_journal(&journal, task->plan.word);
+    if (journal.ending != IS_OPEN && find_open_journal(&open)) {
+        refuse("nothing was sent: %s is open: ptpm-manage resume or rollback comes first", open.name);
+    }
+    open_transport(task);
+    int status = roll_back(as_manager(task, &journal), &journal);
+    leave_journal(&journal);
+    return status;
+}
+
+int change_site(const struct task *task) {
+    switch (task->plan.verb) {
+    case APPLY: return apply(task);
+    case RESUME: return resume(task);
+    case ROLLBACK: return rollback(task);
+    default: return show_plan(task);
+    }
+}

@@ -1,0 +1,148 @@
+#include "apply_report.h"
+#include "answer.h"
+#include "field_text.h"
+#include "names.h"
+#include "notices.h"
+#include "text.h"
+#include "words.h"
+#include <string.h>
+
+/* ---- members */
+
+void write_member_name(FILE *to, const struct step *step) {
+    char clock[IDENTITY_TEXT];
+    const char *id = id_name(step->id);
+    write_identity(clock, step->clock);
+    fputs(clock, to);
+    if (step->port != 0) fprintf(to, "/%u", step->port);
+    if (id != NULL) fprintf(to, " %s", id);
+    else fprintf(to, " %04x", step->id);
+}
+
+/* A text comes from a network, and is printed as the locale has it. */
+static void write_one(FILE *to, const struct member *member, const uint8_t *octets) {
+    if (is_named(member, "userDescription")) print_text(to, octets + 1, octets[0]);
+    else fputs(member->value, to);
+}
+
+static bool has_one_member(uint16_t id, const struct value *value) {
+    static struct field_lines lines;
+    struct member member;
+    start_lines(&lines, id, value->octets, value->size);
+    return next_member(&lines, &member) && !next_member(&lines, &member);
+}
+
+void write_value(FILE *to, uint16_t id, const uint8_t *octets, size_t size) {
+    static struct field_lines lines;
+    struct member member;
+    start_lines(&lines, id, octets, size);
+    for (bool is_first = true; next_member(&lines, &member); is_first = false) {
+        fprintf(to, "%s%s ", is_first ? "" : ", ", member.name);
+        write_one(to, &member, octets);
+    }
+}
+
+/* Each member that it changes, `37 -> 38`, with its name if there are more. */
+static void write_change(FILE *to, const struct step *step) {
+    static struct field_lines before, after;
+    struct member was, is;
+    bool is_one = has_one_member(step->id, &step->after), is_first = true;
+    start_lines(&before, step->id, step->before.octets, step->before.size);
+    start_lines(&after, step->id, step->after.octets, step->after.size);
+    while (next_member(&before, &was) && next_member(&after, &is)) {
+        if (!is_one && strcmp(was.value, is.value) == 0) continue;
+        fputs(is_first ? " " : ", ", to);
+        if (!is_one) fprintf(to, "%s ", is.name);
+        write_one(to, &was, step->before.octets);
+        fputs(" -> ", to);
+        write_one(to, &is, step->after.octets);
+        is_first = false;
+    }
+}
+
+/* ---- text */
+
+static void print_state(const struct journal *journal, size_t place) {
+    const struct told *told = &journal->told[place];
+    const char *error = error_name(told->error);
+    switch (told->outcome) {
+    case DONE: fputs("done", stdout); break;
+    case IS_REFUSED:
+        if (error != NULL) printf("refused %s", error);
+        else printf("refused 0x%04x", told->error);
+        break;
+    case OTHER_VALUE:
+        fputs("answered ", stdout);
+        write_value(stdout, journal->steps[place].id, told->answer.octets, told->answer.size);
+        break;
+    case NOT_TOLD: fputs(journal->begun == (long)place ? "may be: it was sent, and has no answer" : "not asked", stdout); break;
+    }
+}
+
+static size_t count_done(const struct journal *journal) {
+    size_t count = 0;
+    for (size_t i = 0; i < journal->count; i++) count += journal->told[i].outcome == DONE;
+    return count;
+}
+
+static void print_text_of(const struct journal *journal) {
+    const char *what = *journal->rolls_back != '\0' ? "rollback" : "apply";
+    printf("%s %s: %s: %zu of %zu done\n", what, journal->name, ending_name(journal->ending), count_done(journal), journal->count);
+    for (size_t i = 0; i < journal->count; i++) {
+        printf("  %zu ", i + 1);
+        print_state(journal, i);
+        fputs(": ", stdout);
+        write_member_name(stdout, &journal->steps[i]);
+        write_change(stdout, &journal->steps[i]);
+        putchar('\n');
+    }
+}
+
+/* ---- JSON */
+
+static void print_state_as_json(const struct journal *journal, size_t place) {
+    static const char *const names[] = { "notAsked", "done", "refused", "answered" };
+    const struct told *told = &journal->told[place];
+    const char *error = error_name(told->error);
+    printf(",\"state\":\"%s\"", told->outcome == NOT_TOLD && journal->begun == (long)place ? "mayBe" : names[told->outcome]);
+    if (told->outcome != IS_REFUSED) return;
+    if (error != NULL) printf(",\"managementErrorId\":\"%s\"", error);
+    else printf(",\"managementErrorId\":\"0x%04x\"", told->error);
+}
+
+static void print_value_as_json(const char *name, uint16_t id, const struct value *value) {
+    putchar(',');
+    print_members_as_json(stdout, name, id, value->octets, value->size);
+}
+
+static void print_step_as_json(const struct journal *journal, size_t place) {
+    const struct step *step = &journal->steps[place];
+    char clock[IDENTITY_TEXT];
+    const char *id = id_name(step->id);
+    write_identity(clock, step->clock);
+    printf("{\"number\":%zu,\"domainNumber\":%u,\"clockIdentity\":\"%s\",\"portNumber\":", place + 1, step->domain, clock);
+    if (step->port == 0) fputs("null", stdout);
+    else printf("%u", step->port);
+    printf(",\"managementId\":\"%s\"", id == NULL ? "" : id);
+    print_state_as_json(journal, place);
+    print_value_as_json("before", step->id, &step->before);
+    print_value_as_json("after", step->id, &step->after);
+    putchar('}');
+}
+
+static void print_json_of(const struct journal *journal) {
+    printf("{\"apply\":\"%s\"", journal->name);
+    if (*journal->rolls_back != '\0') printf(",\"rollsBack\":\"%s\"", journal->rolls_back);
+    printf(",\"end\":\"%s\",\"steps\":[", ending_name(journal->ending));
+    for (size_t i = 0; i < journal->count; i++) {
+        if (i > 0) putchar(',');
+        print_step_as_json(journal, i);
+    }
+    puts("]}");
+}
+
+void print_apply(const struct journal *journal, bool is_json) {
+    clear_progress();
+    if (is_json) print_json_of(journal);
+    else print_text_of(journal);
+}

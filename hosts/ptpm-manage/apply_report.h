@@ -1,0 +1,18 @@
+/* What became of an apply: a line for each step, or an object of JSON. */
+#ifndef APPLY_REPORT_H
+#define APPLY_REPORT_H
+
+#include "journal.h"
+#include <stdbool.h>
+#include <stdio.h>
+
+/* Prints it on standard output. */
+void print_apply(const struct journal *journal, bool is_json);
+
+/* Writes whose member a step sets: `aabbccfffeddee01/1 LOG_SYNC_INTERVAL`. */
+void write_member_name(FILE *to, const struct step *step);
+
+/* Writes a dataField on one line: the value of its one member, or each member with its name. */
+void write_value(FILE *to, uint16_t id, const uint8_t *octets, size_t size);
+
+#endif

@@ -1,0 +1,218 @@
+#include "desk.h"
+#include "as_asked.h"
+#include "asking.h"
+#include "exchange.h"
+#include "names.h"
+#include "notices.h"
+#include "reading.h"
+#include "standing.h"
+#include "stopping.h"
+#include "telling.h"
+#include "words.h"
+#include <errno.h>
+#include <string.h>
+
+void open_desk(struct desk *desk, const struct task *task, const struct step *first) {
+    *desk = (struct desk){ .task = *task };
+    memcpy(desk->task.settings.target, first->clock, 8);
+    desk->task.settings.domain = first->domain;
+    desk->task.port = first->port;
+    open_session(&desk->session, &desk->task);
+    desk->driver = (struct driver){ .asker = &desk->session.asker, .task = &desk->task };
+}
+
+void leave_desk(struct desk *desk) { ptpm_asker_stop(&desk->session.asker); }
+
+/* ---- what is noted */
+
+static int not_noted(const struct journal *journal) {
+    complain("%s: %s: the apply stays open", journal->path, strerror(errno));
+    return NOT_WRITTEN;
+}
+
+static bool is_step_of(const struct desk *desk, const struct journal *journal, long step) {
+    return memcmp(journal->steps[step].clock, desk->task.settings.target, 8) == 0;
+}
+
+/* What the answer that was handed out says of a step. */
+static struct told told_of(const struct step *step, const struct answer *answer) {
+    struct told told = { .outcome = OTHER_VALUE, .error = answer->error };
+    if (answer->outcome == PTPM_REFUSED) told.outcome = IS_REFUSED;
+    else if (answer->outcome == PTPM_VALUE && has_value(step->id, step->after.octets, step->after.size, answer)) told.outcome = DONE;
+    told.answer.size = answer->size < MOST_VALUE ? answer->size : MOST_VALUE;
+    memcpy(told.answer.octets, answer->octets, told.answer.size);
+    return told;
+}
+
+/* Notes the answer to a step. That to another program's request is said. NO_STEP is also a step whose answer is noted already. */
+static bool note_answer(struct desk *desk, struct journal *journal, long step, bool is_anothers) {
+    static struct answer answer;
+    answer.outcome = ptpm_asker_report(&desk->session.asker, answer.octets, sizeof answer.octets, &answer.size, &answer.error);
+    if (is_anothers) say_settled(&desk->session.earlier, &desk->task, &answer);
+    if (step == NO_STEP) return true;
+    struct told told = told_of(&journal->steps[step], &answer);
+    return note_told(journal, step, &told);
+}
+
+/* ---- what is asked */
+
+/* No answer came. If no message of a step left, it was not begun: the session was saved without it. */
+static int no_answer_to(struct desk *desk, struct journal *journal, long step) {
+    char clock[IDENTITY_TEXT];
+    const struct driver *driver = &desk->driver;
+    bool is_begun = step != NO_STEP && journal->begun == step;
+    write_identity(clock, desk->task.settings.target);
+    if (is_begun && driver->handed.what == PTPM_FAILED && !driver->handed.was_sent) {
+        if (!note_not_begun(journal)) return not_noted(journal);
+        is_begun = false;
+    }
+    if (stopped) {
+        complain("ended by a signal: the apply stays open");
+        return BY_SIGNAL + stopped;
+    }
+    if (driver->is_way_said) return NOT_ANSWERED;
+    complain("no answer of %s at %s to %ld message%s: %s", clock, transport_name(), driver->sent, driver->sent == 1 ? "" : "s",
+             is_begun ? "the step may have been carried out" : "the next step was not sent");
+    return NOT_ANSWERED;
+}
+
+static int not_saved(const struct desk *desk) {
+    complain("%s: %s: the apply stays open", desk->session.file->path, strerror(errno));
+    return NOT_WRITTEN;
+}
+
+/* Drives the asker until it rests. `step` is what it asks, or NO_STEP. */
+static int carry_out(struct desk *desk, struct journal *journal, long step, bool is_anothers) {
+    for (;;) {
+        switch (drive(&desk->driver)) {
+        case PTPM_NOTE_BEGUN:
+            if (!note_begun(journal, step, desk->driver.handed.number)) return not_noted(journal);
+            begin_driving(&desk->driver);
+            say_noted(&desk->driver);
+            break;
+        case PTPM_NOTE_ANSWER:
+            if (!note_answer(desk, journal, step, is_anothers)) return not_noted(journal);
+            say_noted(&desk->driver);
+            break;
+        case PTPM_SAVE_IT:
+            if (!save_session(&desk->session)) return not_saved(desk);
+            if (say_saved(&desk->driver)) return ANSWERED;
+            break;
+        default: return no_answer_to(desk, journal, step);
+        }
+    }
+}
+
+static int settle(struct desk *desk, struct journal *journal, long step, uint8_t domain, bool is_anothers) {
+    begin_driving(&desk->driver);
+    settle_request(&desk->driver, 0, domain);
+    return carry_out(desk, journal, step, is_anothers);
+}
+
+/* A clock that has carried a SET of DOMAIN out hears only what is sent in the new domain. So a step without an answer is sent there too. */
+static int settle_move(struct desk *desk, struct journal *journal, long step, int status) {
+    const struct step *move = &journal->steps[step];
+    if (status != NOT_ANSWERED || move->id != PTPM_ID_DOMAIN || journal->begun != step) return status;
+    renew_session(&desk->session, &desk->task);
+    return settle(desk, journal, step, move->after.octets[0], false);
+}
+
+static int settle_step(struct desk *desk, struct journal *journal, long step) {
+    int status = settle(desk, journal, step, journal->steps[step].domain, false);
+    return settle_move(desk, journal, step, status);
+}
+
+int ask_step(struct desk *desk, struct journal *journal, long step) {
+    static struct task request;
+    const struct step *asked = &journal->steps[step];
+    request = desk->task;
+    request.action = PTPM_SET;
+    request.id = asked->id;
+    request.port = asked->port;
+    request.settings.domain = asked->domain;
+    request.size = asked->after.size;
+    memcpy(request.octets, asked->after.octets, asked->after.size);
+    begin_driving(&desk->driver);
+    ask_request(&desk->driver, (uint64_t)step, &request);
+    return settle_move(desk, journal, step, carry_out(desk, journal, step, false));
+}
+
+/* ---- what an earlier run left */
+
+static struct in_file in_file_of(const struct desk *desk) {
+    const struct kept_session *session = &desk->session;
+    const struct task *left = &session->earlier.task;
+    return (struct in_file){
+        .is_there = session->has_file, .is_request = session->earlier.is_left, .number = session->earlier.number, .action = left->action,
+        .id = left->id, .port = left->port, .octets = left->octets, .size = left->size, .next_number = session->next_number,
+    };
+}
+
+static struct noted noted_of(const struct desk *desk, const struct journal *journal) {
+    struct noted noted = { 0 };
+    for (size_t i = 0; i < journal->count; i++) {
+        if (!is_step_of(desk, journal, (long)i) || journal->told[i].outcome == NOT_TOLD) continue;
+        noted.is_any_told = true;
+        noted.told_number = journal->numbers[i];
+    }
+    if (journal->begun == NO_STEP || !is_step_of(desk, journal, journal->begun)) return noted;
+    noted.begun = &journal->steps[journal->begun];
+    noted.number = journal->numbers[journal->begun];
+    return noted;
+}
+
+static enum standing find_standing(const struct desk *desk, const struct journal *journal) {
+    struct noted noted = noted_of(desk, journal);
+    struct in_file file = in_file_of(desk);
+    return standing_of(&noted, &file);
+}
+
+static int stop_at_stranger(const struct desk *desk, const struct journal *journal) {
+    long step = journal->begun;
+    complain("step %ld was begun under number %u, and another program has used its session since, or the file is gone: %s", step + 1,
+             journal->numbers[step], desk->session.file->path);
+    complain("nothing was sent; ptpm-manage resume --give-up ends the apply");
+    return NOT_ANSWERED;
+}
+
+bool note_standing(struct desk *desk, struct journal *journal) {
+    enum standing standing = find_standing(desk, journal);
+    return (standing != NEVER_BEGUN && standing != NUMBER_TAKEN) || note_not_begun(journal);
+}
+
+int see_to_desk(struct desk *desk, struct journal *journal) {
+    if (desk->is_seen_to) return ANSWERED;
+    desk->is_seen_to = true;
+    enum standing standing = find_standing(desk, journal);
+    uint8_t domain = desk->task.settings.domain;
+    switch (standing) {
+    case NOTHING_LEFT: return ANSWERED;
+    case UNKNOWN: return stop_at_stranger(desk, journal);
+    case UNDER_WAY: return settle_step(desk, journal, journal->begun);
+    case NEVER_BEGUN: return note_not_begun(journal) ? ANSWERED : not_noted(journal);
+    case IS_TOLD: return settle(desk, journal, NO_STEP, domain, false);
+    case NUMBER_TAKEN: if (!note_not_begun(journal)) return not_noted(journal); break;
+    case OF_ANOTHER: break;
+    }
+    return settle(desk, journal, NO_STEP, domain, true);
+}
+
+/* ---- what a member is */
+
+int read_member(const struct task *task, const struct step *step, uint8_t domain, struct answer *answer) {
+    static struct task reading;
+    char clock[IDENTITY_TEXT];
+    struct ptpm_session session = { 0 };
+    reading = *task;
+    memcpy(reading.settings.target, step->clock, 8);
+    reading.settings.domain = domain;
+    reading.port = step->port;
+    bool is_answered = begin_reading(&session, &reading, step->id, task->settings.attempts) && finish_reading(&session, &reading);
+    if (is_answered) take_report(&session, answer);
+    ptpm_session_stop(&session);
+    if (is_answered) return ANSWERED;
+    if (stopped) return BY_SIGNAL + stopped;
+    write_identity(clock, step->clock);
+    complain("no answer of %s at %s in domain %u to a read of %s", clock, transport_name(), domain, id_name(step->id));
+    return NOT_ANSWERED;
+}

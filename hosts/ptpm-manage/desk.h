@@ -1,0 +1,38 @@
+/* A clock that an apply changes: its session, held from the first use to the end. What becomes of a step is noted in the journal before it
+   leaves the session's file. */
+#ifndef DESK_H
+#define DESK_H
+
+#include "answer.h"
+#include "driving.h"
+#include "journal.h"
+#include "session.h"
+#include <stdbool.h>
+
+struct desk {
+    struct task task;                   /* what is asked of all clocks, with this one as the target */
+    struct kept_session session;
+    struct driver driver;
+    bool is_seen_to;                    /* what an earlier run left there is */
+};
+
+/* Takes the session of a task with the clock of its first step. A question that an earlier run left at another port than that step's is
+   given up. Ends the program with status 2 if the session can't be taken. */
+void open_desk(struct desk *desk, const struct task *task, const struct step *first);
+
+/* Sees to what an earlier run left in the session, before anything else is asked there. ANSWERED, or the status with which the program
+   ends, and then it is said why. */
+int see_to_desk(struct desk *desk, struct journal *journal);
+
+/* Finds whether the step that was begun last was never sent, and notes it then. Nothing is sent. */
+bool note_standing(struct desk *desk, struct journal *journal);
+
+/* Asks a step until it is answered, and notes what the answer is. ANSWERED, or the program's status. */
+int ask_step(struct desk *desk, struct journal *journal, long step);
+
+/* Reads the member of a step in a domain, by nobody. ANSWERED, or the program's status. */
+int read_member(const struct task *task, const struct step *step, uint8_t domain, struct answer *answer);
+
+void leave_desk(struct desk *desk);
+
+#endif

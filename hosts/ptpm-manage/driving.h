@@ -1,0 +1,40 @@
+/* An asker of the library is driven: what it hands out is sent, what comes in is handed in, and it is woken in time. What is to be noted
+   and saved is its owner's. */
+#ifndef DRIVING_H
+#define DRIVING_H
+
+#include "task.h"
+#include "transport.h"
+#include <stdbool.h>
+#include <stdint.h>
+
+struct driver {
+    struct ptpm_asker *asker;
+    const struct task *task;        /* how often and how long it asks */
+    struct ptpm_handed handed;      /* what is to be done next */
+    uint16_t number;                /* of the latest message, and how many with it there were */
+    int attempt;
+    long sent;                      /* messages of the request that went out */
+    int64_t now, wake;              /* the time as the asker knows it, and when it is woken */
+    bool is_unsent;                 /* nothing of the request left */
+    bool is_way_said;               /* that there is no way is said */
+};
+
+/* From now on messages of another request, or of a question before it, are counted. */
+void begin_driving(struct driver *driver);
+
+/* Drives the asker until there is something for its owner to do: PTPM_NOTE_BEGUN, PTPM_NOTE_ANSWER or PTPM_SAVE_IT, which `handed` has
+   too. Or PTPM_FAILED: no answer came, or a signal did. */
+uint32_t drive(struct driver *driver);
+
+/* The owner noted it. */
+void say_noted(struct driver *driver);
+
+/* The owner saved it; whether the asker rests now. */
+bool say_saved(struct driver *driver);
+
+/* Begins a request, or sends the one that an earlier run left again. */
+void ask_request(struct driver *driver, uint64_t tag, const struct task *request);
+void settle_request(struct driver *driver, uint64_t tag, uint8_t domain);
+
+#endif

@@ -1,0 +1,100 @@
+#define _GNU_SOURCE
+#include "journals.h"
+#include "kept_file.h"
+#include "notices.h"
+#include "random.h"
+#include "session_file.h"
+#include <dirent.h>
+#include <errno.h>
+#include <fcntl.h>
+#include <stdio.h>
+#include <stdlib.h>
+#include <string.h>
+#include <sys/stat.h>
+#include <time.h>
+#include <unistd.h>
+
+static const char ending[] = ".journal";
+static char folder[PATH_MAX - JOURNAL_NAME - 16];
+
+_Noreturn static void refuse_folder(const char *path) { refuse("nothing was sent: %s: %s", path, strerror(errno)); }
+
+static void make_folder(const char *path) {
+    if (mkdir(path, 0700) && errno != EEXIST) refuse_folder(path);
+}
+
+void take_journals(void) {
+    char path[PATH_MAX];
+    const char *state = state_folder();
+    int size = snprintf(folder, sizeof folder, "%s/apply", state);
+    if ((size_t)size >= sizeof folder) refuse("nothing was sent: %s: the path is too long", state);
+    make_folder(state);
+    make_folder(folder);
+    snprintf(path, sizeof path, "%s/lock", folder);
+    int lock = open(path, O_RDWR | O_CREAT | O_NOFOLLOW | O_CLOEXEC, 0660);
+    if (lock < 0) refuse_folder(path);
+    if (take_kept_lock(lock)) return;
+    if (errno != EAGAIN && errno != EACCES) refuse_folder(path);
+    refuse("nothing was sent: another apply, process %ld, has %s", (long)kept_lock_owner(lock), path);
+}
+
+static bool ends_with(const char *name, const char *end) {
+    size_t size = strlen(name), most = JOURNAL_NAME + strlen(end);
+    return size > strlen(end) && size < most && strcmp(name + size - strlen(end), end) == 0;
+}
+
+/* The path of a file in the folder. */
+static void write_path(char path[PATH_MAX], const char *name) {
+    snprintf(path, PATH_MAX, "%s/%.*s", folder, JOURNAL_NAME + 15, name);
+}
+
+/* Whether a file in the folder is a journal. What was written of one that never got its place is removed. */
+static bool is_journal(const char *name) {
+    char path[PATH_MAX];
+    write_path(path, name);
+    if (ends_with(name, ".journal.new")) unlink(path);
+    return ends_with(name, ending);
+}
+
+/* Reads one that is there. */
+static void read_it(struct journal *journal, const char *path) {
+    switch (read_journal(journal, path)) {
+    case FOUND_JOURNAL: return;
+    case NO_JOURNAL: refuse("nothing was sent: %s: there is no such journal", path);
+    case DAMAGED_JOURNAL:
+        refuse("nothing was sent: DAMAGED: %s: octets of the journal were lost or changed; without it no apply is open", path);
+    case UNREADABLE_JOURNAL: refuse_folder(path);
+    }
+}
+
+bool find_open_journal(struct journal *journal) {
+    char path[PATH_MAX];
+    DIR *names = opendir(folder);
+    bool is_found = false;
+    if (names == NULL) refuse_folder(folder);
+    for (struct dirent *one; !is_found && (one = readdir(names)) != NULL;) {
+        if (!is_journal(one->d_name)) continue;
+        write_path(path, one->d_name);
+        read_it(journal, path);
+        is_found = journal->ending == IS_OPEN;
+        if (!is_found) leave_journal(journal);
+    }
+    closedir(names);
+    return is_found;
+}
+
+void find_journal(struct journal *journal, const char *name) {
+    char path[PATH_MAX];
+    if (strchr(name, '/') != NULL || strlen(name) >= JOURNAL_NAME) refuse("%s: it is no name of an apply", name);
+    snprintf(path, sizeof path, "%s/%s%s", folder, name, ending);
+    read_it(journal, path);
+}
+
+void name_journal(struct journal *journal, const char *word) {
+    char text[32];
+    struct tm parts;
+    time_t now = time(NULL);
+    strftime(text, sizeof text, "%Y%m%d-%H%M%S", gmtime_r(&now, &parts));
+    snprintf(journal->name, sizeof journal->name, "%s-%s-%04x", text, word, draw_number());
+    snprintf(journal->path, sizeof journal->path, "%s/%s%s", folder, journal->name, ending);
+}

@@ -1,0 +1,21 @@
+/* The folder of the journals: STATE/apply, where STATE is the folder of the sessions. */
+#ifndef JOURNALS_H
+#define JOURNALS_H
+
+#include "journal.h"
+#include <stdbool.h>
+
+/* Makes the folder if it is missing, and takes its lock, which only one apply, resume or rollback at a time has. It is released at the end
+   of the program. Ends the program with status 2 if it can't be taken. */
+void take_journals(void);
+
+/* Finds the journal that is open; whether there is one. Ends the program with status 2 if one is damaged, or can't be read. */
+bool find_open_journal(struct journal *journal);
+
+/* Finds the journal of this name. Ends the program with status 2 if there is none, or it is damaged. */
+void find_journal(struct journal *journal, const char *name);
+
+/* Gives a new journal its name and path: the time in UTC, a word, and four digits that are drawn. */
+void name_journal(struct journal *journal, const char *word);
+
+#endif

@@ -1,0 +1,65 @@
+#include "marks.h"
+#include "journal.h"
+#include "kept_file.h"
+#include "notices.h"
+#include <errno.h>
+#include <limits.h>
+#include <stdint.h>
+#include <stdio.h>
+#include <string.h>
+#include <unistd.h>
+
+static const char *own;
+
+void own_marks(const char *journal) { own = journal; }
+
+/* Opens the folder of a mark; whether it could. */
+static bool find_mark(struct kept_file *mark, const char *session) {
+    char path[PATH_MAX];
+    *mark = (struct kept_file){ .folder = -1, .mode = 0666 };
+    if ((size_t)snprintf(path, sizeof path, "%s.apply", session) < sizeof path) return open_kept_folder(mark, path);
+    errno = ENAMETOOLONG;
+    return false;
+}
+
+/* The journal that a mark names. */
+static enum kept_found read_mark(const struct kept_file *mark, char journal[PATH_MAX]) {
+    struct stat found;
+    size_t size;
+    enum kept_found what = read_kept(mark, (uint8_t *)journal, PATH_MAX - 1, &size, &found);
+    journal[size] = '\0';
+    journal[strcspn(journal, "\n")] = '\0';
+    return what;
+}
+
+static bool is_own(const char *journal) { return own != NULL && strcmp(own, journal) == 0; }
+
+void refuse_mark(const char *session) {
+    struct kept_file mark;
+    char journal[PATH_MAX];
+    enum kept_found found = find_mark(&mark, session) ? read_mark(&mark, journal) : KEPT_NONE;
+    bool is_past = found == KEPT_FILE && !is_own(journal) && !may_be_open(journal);
+    if (is_past) unlinkat(mark.folder, mark.name, 0);
+    if (mark.folder >= 0) close(mark.folder);
+    if (is_past || found == KEPT_NONE || (found == KEPT_FILE && is_own(journal))) return;
+    if (found != KEPT_FILE) refuse("nothing was asked: %s.apply: it can't be read: an apply may be open", session);
+    refuse("nothing was asked: the apply of %s is open: ptpm-manage resume goes on with it", journal);
+}
+
+bool make_mark(const char *session) {
+    struct kept_file mark;
+    char line[PATH_MAX + 1];
+    int size = snprintf(line, sizeof line, "%s\n", own);
+    bool is_made = find_mark(&mark, session) && replace_kept(&mark, (const uint8_t *)line, (size_t)size) == REPLACED;
+    int failure = errno;
+    if (mark.folder >= 0) close(mark.folder);
+    errno = failure;
+    return is_made;
+}
+
+void remove_mark(const char *session) {
+    struct kept_file mark;
+    char journal[PATH_MAX];
+    if (find_mark(&mark, session) && read_mark(&mark, journal) == KEPT_FILE && is_own(journal)) unlinkat(mark.folder, mark.name, 0);
+    if (mark.folder >= 0) close(mark.folder);
+}

@@ -1,0 +1,21 @@
+/* The mark of an apply beside the file of a session, FILE.apply, which names the apply's journal. While that is open no other run may ask
+   in the session. It would settle a step and print an answer that the journal then lacks. */
+#ifndef MARKS_H
+#define MARKS_H
+
+#include <stdbool.h>
+
+/* From now on the marks of this journal are this run's own. The path stays. */
+void own_marks(const char *journal);
+
+/* Ends the program, status 2, if the file is marked by an apply of another journal that is open. The mark of one that has an end, or whose
+   journal is gone, is removed. The session's lock is this run's. */
+void refuse_mark(const char *session);
+
+/* Marks the file of a session as this run's; whether it could. If not, errno says why. */
+bool make_mark(const char *session);
+
+/* Takes the mark away, if it is this run's. */
+void remove_mark(const char *session);
+
+#endif

@@ -1,0 +1,161 @@
+#define _GNU_SOURCE
+#include "plan.h"
+#include "asking.h"
+#include "collect.h"
+#include "names.h"
+#include "notices.h"
+#include "program.h"
+#include "reading.h"
+#include "stopping.h"
+#include "transport.h"
+#include "words.h"
+#include <stdbool.h>
+#include <stdio.h>
+#include <stdlib.h>
+#include <string.h>
+
+enum { MOST_ARGUMENTS = 5, STEP_WORDS = 8 };
+
+/* Runs `ptpm plan` over these lines; its status. */
+static int run_plan(const struct task *task, const char *form, const struct piece *lines, struct printed *printed) {
+    char *arguments[MOST_ARGUMENTS] = { NULL, (char *)"plan", (char *)form, (char *)task->plan.word, NULL };
+    return run_ptpm_program(arguments, lines, lines == NULL ? 0 : 1, printed);
+}
+
+/* ---- what is asked */
+
+static bool is_collected(const struct collected *what, uint16_t id) {
+    for (size_t i = 0; i < what->count; i++) {
+        if (what->ids[i] == id) return true;
+    }
+    return false;
+}
+
+/* A line of `ptpm plan --asks`: a domainNumber, a space and a managementId's name. Whether it is one. */
+static bool take_ask(struct collected *what, struct domains *domains, char *line) {
+    char *space = strchrnul(line, ' ');
+    const char *name = *space == '\0' ? "" : space + 1;
+    *space = '\0';
+    long domain = decimal(line, DOMAINS - 1), id = id_named(name);
+    if (domain < 0 || id < 0) return false;
+    domains->is_in[domain] = true;
+    if (is_collected(what, (uint16_t)id)) return true;
+    if (what->count == MOST_COLLECTED) return false;
+    what->ids[what->count++] = (uint16_t)id;
+    return true;
+}
+
+/* What the file's plan has to know; 0, or the status with which the program ends. */
+static int find_asks(const struct task *task, struct collected *what, struct domains *domains) {
+    struct printed asks;
+    char *rest;
+    *what = (struct collected){ 0 };
+    *domains = (struct domains){ 0 };
+    int status = run_plan(task, "--asks", NULL, &asks);
+    if (status != 0 || asks.text == NULL) return status;
+    for (char *line = strtok_r(asks.text, "\n", &rest); line != NULL; line = strtok_r(NULL, "\n", &rest)) {
+        if (!take_ask(what, domains, line)) refuse("nothing was asked: ptpm plan --asks prints %s", line);
+    }
+    free(asks.text);
+    return status;
+}
+
+/* Asks the clocks, by nobody. The answers as lines, which the caller frees; the status. */
+static int ask_clocks(const struct task *task, const struct collected *what, const struct domains *domains, struct printed *lines) {
+    static struct task survey;
+    survey = *task;
+    survey.settings.port = port_of_nobody(PTPM_GET);
+    *lines = (struct printed){ 0 };
+    FILE *to = open_memstream(&lines->text, &lines->size);
+    if (to == NULL) give_up("the answers");
+    int status = what->count == 0 ? ANSWERED : collect_answers(&survey, what, domains, to);
+    bool is_whole = !ferror(to);
+    if (fclose(to) != 0 || !is_whole) give_up("the answers");
+    clear_progress();
+    return status;
+}
+
+/* ---- what it says */
+
+/* Reads a dataField in hexadecimal; whether it is one. */
+static bool take_value(struct value *value, const char *text) {
+    value->size = read_octets(&text, value->octets, sizeof value->octets);
+    return *text == '\0' && value->size > 0;
+}
+
+/* A line `step NUMBER DOMAIN IDENTITY PORT ID BEFORE AFTER TEXT`; whether it is one. */
+static bool take_step(struct step *step, char *line, size_t number) {
+    char *words[STEP_WORDS], *rest = NULL;
+    for (int i = 0; i < STEP_WORDS; i++) {
+        words[i] = strtok_r(i == 0 ? line : NULL, " ", &rest);
+        if (words[i] == NULL) return false;
+    }
+    long domain = decimal(words[2], DOMAINS - 1), port = decimal(words[4], UINT16_MAX), id = id_named(words[5]);
+    const char *after = identity_at(words[3], step->clock);
+    step->domain = (uint8_t)domain;
+    step->port = (uint16_t)port;
+    step->id = (uint16_t)id;
+    return strcmp(words[0], "step") == 0 && (size_t)decimal(words[1], LONG_MAX / 10) == number && domain >= 0 && port >= 0 && id >= 0
+           && after != NULL && *after == '\0' && take_value(&step->before, words[6]) && take_value(&step->after, words[7]);
+}
+
+/* Reads the steps after an empty line, and takes that and them off the text. */
+static void read_steps(struct plan *plan) {
+    char *end = plan->text.text == NULL ? NULL : strstr(plan->text.text, "\n\n"), *rest;
+    if (end == NULL) return;
+    end[1] = '\0';
+    plan->text.size = (size_t)(end + 1 - plan->text.text);
+    for (char *line = strtok_r(end + 2, "\n", &rest); line != NULL; line = strtok_r(NULL, "\n", &rest)) {
+        plan->steps = reallocarray(plan->steps, plan->count + 1, sizeof *plan->steps);
+        if (plan->steps == NULL) give_up("the steps");
+        if (!take_step(&plan->steps[plan->count], line, plan->count + 1)) refuse("nothing was sent: ptpm plan --steps prints %s", line);
+        plan->count++;
+    }
+}
+
+/* Reads the id after this text. */
+static void read_id(struct plan *plan, const char *lead) {
+    const char *found = plan->text.text == NULL ? NULL : strstr(plan->text.text, lead);
+    if (found == NULL) refuse("nothing was sent: ptpm plan prints no id of a plan");
+    found += strlen(lead);
+    snprintf(plan->id, sizeof plan->id, "%s", found + strspn(found, " :\""));
+}
+
+/* As an object of JSON. It is of the same plan, unless the file has changed in between. */
+static void take_json(struct plan *plan, const struct task *task, const struct piece *lines) {
+    char id[PLAN_ID + 1];
+    memcpy(id, plan->id, sizeof id);
+    free(plan->text.text);
+    run_plan(task, "--json", lines, &plan->text);
+    read_id(plan, "\"plan\"");
+    if (strcmp(id, plan->id) != 0) refuse("nothing was sent: %s has changed meanwhile", task->plan.word);
+}
+
+int make_plan(struct plan *plan, const struct task *task) {
+    struct collected what;
+    struct domains domains;
+    struct printed answers;
+    *plan = (struct plan){ 0 };
+    find_ptpm_program();
+    int status = find_asks(task, &what, &domains);
+    if (status != 0) return status;
+    open_transport(task);
+    widen_transport();
+    status = ask_clocks(task, &what, &domains, &answers);
+    struct piece lines = { answers.text, answers.size };
+    if (status == ANSWERED || status == NOT_ANSWERED) {
+        status = run_plan(task, "--steps", &lines, &plan->text);
+        if (plan->text.text != NULL) {
+            read_id(plan, "plan");
+            read_steps(plan);
+        }
+        if (plan->text.text != NULL && task->is_json) take_json(plan, task, &lines);
+    }
+    free(answers.text);
+    return stopped ? BY_SIGNAL + stopped : status;
+}
+
+void print_plan(const struct plan *plan) {
+    clear_progress();
+    if (plan->text.text != NULL) fputs(plan->text.text, stdout);
+}

@@ -1,0 +1,129 @@
+#define _GNU_SOURCE
+#include "ptpm_program.h"
+#include "notices.h"
+#include "program.h"
+#include "stopping.h"
+#include <errno.h>
+#include <fcntl.h>
+#include <limits.h>
+#include <spawn.h>
+#include <stdbool.h>
+#include <stdlib.h>
+#include <string.h>
+#include <sys/mman.h>
+#include <sys/stat.h>
+#include <sys/wait.h>
+#include <unistd.h>
+
+enum { PART = 65536, TURN = 1000, FAULT = 1 };
+
+static char ptpm_program[2 * PATH_MAX];
+
+/* Takes the program of a folder; whether there is one. */
+static bool find_in_folder(const char *folder, size_t size) {
+    struct stat found;
+    snprintf(ptpm_program, sizeof ptpm_program, "%.*s/ptpm", (int)size, folder);
+    return stat(ptpm_program, &found) == 0 && S_ISREG(found.st_mode) && access(ptpm_program, X_OK) == 0;
+}
+
+void find_ptpm_program(void) {
+    char own[PATH_MAX];
+    ssize_t size = readlink("/proc/self/exe", own, sizeof own - 1);
+    own[size > 0 ? size : 0] = '\0';
+    char *slash = strrchr(own, '/');
+    if (slash != NULL && find_in_folder(own, (size_t)(slash - own))) return;
+    for (const char *path = getenv("PATH"), *next; path != NULL; path = *next == ':' ? next + 1 : NULL) {
+        next = strchrnul(path, ':');
+        if (next > path && next - path < PATH_MAX && find_in_folder(path, (size_t)(next - path))) return;
+    }
+    refuse("nothing was asked: the program ptpm is neither beside this one nor in the PATH");
+}
+
+/* A file without a name that has the lines, and is read from its beginning. -1 if there is no room for it. */
+static int file_of(const struct piece *lines, size_t count) {
+    int opened = memfd_create("lines", MFD_CLOEXEC);
+    for (size_t i = 0; opened >= 0 && i < count; i++) {
+        for (size_t done = 0; done < lines[i].size;) {
+            ssize_t written = write(opened, lines[i].at + done, lines[i].size - done);
+            if (written <= 0) {
+                close(opened);
+                return -1;
+            }
+            done += (size_t)written;
+        }
+    }
+    if (opened >= 0) lseek(opened, 0, SEEK_SET);
+    return opened;
+}
+
+/* Starts it with a standard input and output; whether it is started. */
+static bool start_program(pid_t *process, char *const *arguments, int from, int to) {
+    posix_spawn_file_actions_t files;
+    posix_spawnattr_t attributes;
+    sigset_t none, usual;
+    sigemptyset(&none);
+    sigemptyset(&usual);
+    sigaddset(&usual, SIGPIPE);
+    if (posix_spawn_file_actions_init(&files) != 0 || posix_spawnattr_init(&attributes) != 0) return false;
+    errno = posix_spawn_file_actions_adddup2(&files, from, STDIN_FILENO);
+    if (errno == 0) errno = posix_spawn_file_actions_adddup2(&files, to, STDOUT_FILENO);
+    if (errno != 0) return false;               /* and without them it would read what this program reads */
+    posix_spawnattr_setsigmask(&attributes, &none);
+    posix_spawnattr_setsigdefault(&attributes, &usual);
+    posix_spawnattr_setflags(&attributes, POSIX_SPAWN_SETSIGMASK | POSIX_SPAWN_SETSIGDEF);
+    errno = posix_spawn(process, ptpm_program, &files, &attributes, arguments, environ);
+    posix_spawn_file_actions_destroy(&files);
+    posix_spawnattr_destroy(&attributes);
+    return errno == 0;
+}
+
+/* Reads what it prints until its end, or until a signal asks this program to end. */
+static void read_all(int from, struct printed *printed) {
+    for (size_t room = 0; !stopped;) {
+        struct pollfd waits = { from, POLLIN, 0 };
+        if (wait_for(&waits, 1, TURN) <= 0) continue;
+        if (room - printed->size <= PART) {
+            char *more = realloc(printed->text, room + 2 * PART + room / 2);
+            if (more == NULL) give_up("what the program ptpm prints");
+            printed->text = more;
+            room += 2 * PART + room / 2;
+        }
+        ssize_t size = read(from, printed->text + printed->size, PART);
+        if (size <= 0) return;
+        printed->size += (size_t)size;
+        printed->text[printed->size] = '\0';      /* there is room for it: more than a part was left */
+    }
+}
+
+static int status_of(pid_t process) {
+    int status;
+    wait_for(NULL, 0, 0);                   /* a signal of the terminal asks both programs to end */
+    if (stopped) kill(process, SIGTERM);
+    while (waitpid(process, &status, 0) < 0) {
+        if (errno != EINTR) return FAULT;
+    }
+    if (WIFEXITED(status)) return WEXITSTATUS(status);
+    if (!stopped) complain("%s was ended by signal %d", ptpm_program, WTERMSIG(status));
+    return FAULT;
+}
+
+int run_ptpm_program(char **arguments, const struct piece *lines, size_t count, struct printed *printed) {
+    int ends[2], status = FAULT, input = file_of(lines, count);
+    pid_t process;
+    *printed = (struct printed){ 0 };
+    arguments[0] = ptpm_program;
+    if (input < 0 || pipe2(ends, O_CLOEXEC)) {
+        complain("%s: %s", ptpm_program, strerror(errno));
+        return FAULT;
+    }
+    bool has_started = start_program(&process, arguments, input, ends[1]);
+    if (!has_started) complain("%s: %s", ptpm_program, strerror(errno));
+    close(input);
+    close(ends[1]);
+    if (has_started) {
+        read_all(ends[0], printed);
+        status = status_of(process);
+    }
+    close(ends[0]);
+    return status;
+}

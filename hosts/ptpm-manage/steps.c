@@ -1,0 +1,208 @@
+#define _GNU_SOURCE
+#include "steps.h"
+#include "answer.h"
+#include "apply_report.h"
+#include "as_asked.h"
+#include "asking.h"
+#include "desk.h"
+#include "marks.h"
+#include "notices.h"
+#include "program.h"
+#include <errno.h>
+#include <stdlib.h>
+#include <string.h>
+#include <sys/resource.h>
+
+static struct desk **desks;
+static size_t desk_count;
+
+/* ---- sessions */
+
+static struct desk *desk_of(const struct step *step) {
+    for (size_t i = 0; i < desk_count; i++) {
+        if (memcmp(desks[i]->task.settings.target, step->clock, 8) == 0) return desks[i];
+    }
+    return NULL;
+}
+
+static void take_session(const struct task *task, const struct step *first) {
+    struct desk **more = reallocarray(desks, desk_count + 1, sizeof *desks), *desk = malloc(sizeof *desk);
+    if (more == NULL || desk == NULL) give_up("the sessions");
+    open_desk(desk, task, first);
+    desks = more;
+    desks[desk_count++] = desk;
+}
+
+/* A session has two files open: as many as the system allows. */
+static void allow_files(void) {
+    struct rlimit files;
+    if (getrlimit(RLIMIT_NOFILE, &files)) return;
+    files.rlim_cur = files.rlim_max;
+    setrlimit(RLIMIT_NOFILE, &files);
+}
+
+/* The first step of each clock without an answer counts: its port is asked first. */
+void take_sessions(const struct task *task, const struct journal *journal) {
+    allow_files();
+    for (size_t i = 0; i < journal->count; i++) {
+        if (journal->told[i].outcome == NOT_TOLD && desk_of(&journal->steps[i]) == NULL) take_session(task, &journal->steps[i]);
+    }
+    for (size_t i = 0; i < journal->count; i++) {
+        if (desk_of(&journal->steps[i]) == NULL) take_session(task, &journal->steps[i]);
+    }
+}
+
+bool mark_sessions(void) {
+    for (size_t i = 0; i < desk_count; i++) {
+        if (make_mark(desks[i]->session.file->path)) continue;
+        complain("nothing was sent: %s.apply: %s", desks[i]->session.file->path, strerror(errno));
+        return false;
+    }
+    return true;
+}
+
+void leave_sessions(void) {
+    for (size_t i = 0; i < desk_count; i++) {
+        leave_desk(desks[i]);
+        free(desks[i]);
+    }
+    free(desks);
+    desks = NULL;
+    desk_count = 0;
+}
+
+/* ---- the end */
+
+bool end_journal(struct journal *journal, enum ending ending, long step) {
+    if (!note_end(journal, ending, step)) {
+        complain("%s: %s: the apply stays open", journal->path, strerror(errno));
+        return false;
+    }
+    for (size_t i = 0; i < desk_count; i++) remove_mark(desks[i]->session.file->path);
+    return true;
+}
+
+static int end_with(struct journal *journal, enum ending ending, long step) {
+    return end_journal(journal, ending, step) ? ANSWERED : NOT_WRITTEN;
+}
+
+/* ---- what members are */
+
+/* The domain in which the clock of a step is once all that are done are done: a SET of DOMAIN moves it. */
+static uint8_t domain_at_end(const struct journal *journal, const struct step *step) {
+    for (size_t i = 0; i < journal->count; i++) {
+        const struct step *move = &journal->steps[i];
+        bool is_of_clock = memcmp(move->clock, step->clock, 8) == 0 && move->domain == step->domain;
+        if (is_of_clock && move->id == PTPM_ID_DOMAIN) return move->after.octets[0];
+    }
+    return step->domain;
+}
+
+static bool has(const struct answer *answer, const struct step *step, const struct value *value) {
+    return answer->outcome == PTPM_VALUE && has_value(step->id, value->octets, value->size, answer);
+}
+
+/* Says that a member has another value than is wanted. */
+static void say_changed(const struct step *step, const struct answer *answer, const struct value *wanted) {
+    char *text = NULL;
+    size_t size;
+    FILE *to = open_memstream(&text, &size);
+    if (to == NULL) give_up("a notice");
+    write_member_name(to, step);
+    fputs(" is ", to);
+    if (answer->outcome == PTPM_VALUE) write_value(to, step->id, answer->octets, answer->size);
+    else fputs("refused", to);
+    fputs(", and not ", to);
+    write_value(to, step->id, wanted->octets, wanted->size);
+    if (fclose(to)) give_up("a notice");
+    complain("changed since: %s", text);
+    free(text);
+}
+
+/* Reads each member that was set once more. */
+static int verify(const struct task *task, struct journal *journal) {
+    static struct answer answer;
+    for (size_t i = 0; i < journal->count; i++) {
+        const struct step *step = &journal->steps[i];
+        int status = read_member(task, step, domain_at_end(journal, step), &answer);
+        if (status != ANSWERED) return status;
+        if (has(&answer, step, &step->after)) continue;
+        say_changed(step, &answer, &step->after);
+        return end_with(journal, ENDED_CHANGED, (long)i);
+    }
+    return end_with(journal, COMPLETE, NO_STEP);
+}
+
+/* Each move is read in the domain in which it is asked, and so are the other members of its clock. */
+static uint8_t domain_at_begin(const struct journal *journal, const struct step *step) {
+    for (size_t i = 0; i < journal->count && step->id != PTPM_ID_DOMAIN; i++) {
+        const struct step *move = &journal->steps[i];
+        bool is_of_clock = memcmp(move->clock, step->clock, 8) == 0 && move->after.octets[0] == step->domain;
+        if (is_of_clock && move->id == PTPM_ID_DOMAIN) return move->domain;
+    }
+    return step->domain;
+}
+
+int find_changed(const struct task *task, const struct journal *journal) {
+    static struct answer answer;
+    int found = ANSWERED;
+    for (size_t i = 0; i < journal->count; i++) {
+        const struct step *step = &journal->steps[i];
+        int status = read_member(task, step, domain_at_begin(journal, step), &answer);
+        if (status != ANSWERED) return status;
+        if (has(&answer, step, &step->before)) continue;
+        say_changed(step, &answer, &step->before);
+        found = NOT_AS_ASKED;
+    }
+    return found;
+}
+
+/* ---- the steps */
+
+/* Sees to the sessions in which this journal has begun steps before any other. */
+static int see_to_begun(struct journal *journal) {
+    if (journal->begun != NO_STEP) {
+        int status = see_to_desk(desk_of(&journal->steps[journal->begun]), journal);
+        if (status != ANSWERED) return status;
+    }
+    for (size_t i = 0; i < journal->count; i++) {
+        if (journal->told[i].outcome == NOT_TOLD) continue;
+        int status = see_to_desk(desk_of(&journal->steps[i]), journal);
+        if (status != ANSWERED) return status;
+    }
+    return ANSWERED;
+}
+
+int settle_begun_step(struct journal *journal) {
+    return journal->begun == NO_STEP ? ANSWERED : see_to_desk(desk_of(&journal->steps[journal->begun]), journal);
+}
+
+bool note_begun_step(struct journal *journal) {
+    return journal->begun == NO_STEP || note_standing(desk_of(&journal->steps[journal->begun]), journal);
+}
+
+/* Reads the member, and asks the step if that is as it was planned. */
+static int take_step(const struct task *task, struct journal *journal, long place) {
+    static struct answer answer;
+    const struct step *step = &journal->steps[place];
+    struct desk *desk = desk_of(step);
+    show_progress("step %ld of %zu", place + 1, journal->count);
+    int status = see_to_desk(desk, journal);
+    if (status == ANSWERED) status = read_member(task, step, step->domain, &answer);
+    if (status != ANSWERED) return status;
+    if (has(&answer, step, &step->before)) return ask_step(desk, journal, place);
+    say_changed(step, &answer, &step->before);
+    return end_with(journal, ENDED_CHANGED, place);
+}
+
+int carry_out_steps(const struct task *task, struct journal *journal) {
+    int status = see_to_begun(journal);
+    for (long place; status == ANSWERED && journal->ending == IS_OPEN && (place = next_step(journal)) != NO_STEP;) {
+        status = take_step(task, journal, place);
+    }
+    if (status != ANSWERED || journal->ending != IS_OPEN) return status;
+    long failed = failed_step(journal);
+    if (failed == NO_STEP) return verify(task, journal);
+    bool is_refused = journal->told[failed].outcome == IS_REFUSED;
+    return end_with(journal, is_refused ? ENDED_REFUSED : ENDED_ANSWERED, failed);
+}

@@ -1,0 +1,293 @@
+"""Runs of ptpm-manage that are killed while they change three clocks, for hosts/tests/apply: at random times, over a link that loses 30 and
+repeats 20 of a hundred frames each way, or at each call by which they save and send. `resume` ends each apply. After each kill what the
+clocks took as new is set beside the journal."""
+import glob
+import json
+import os
+import random
+import signal
+import subprocess
+import time
+import zlib
+from collections import Counter
+
+from apply_network import ANSWERED_NEW, HOME, MANAGER, SET, Clock, Network, within
+
+IDENTITIES = [f"02c0fffffe00010{number}" for number in (1, 2, 3)]
+VALUES = {"PRIORITY1": (0, 255), "PRIORITY2": (0, 255), "CLOCK_ACCURACY": (0x17, 0x31)}
+PORT_VALUES = {"LOG_SYNC_INTERVAL": (-8, 1), "ANNOUNCE_RECEIPT_TIMEOUT": (2, 10)}
+REFUSED_ID, REFUSED_FIELD = 0x6001, "f700"          # LOG_MIN_PDELAY_REQ_INTERVAL, -9: below the profile's range
+LOSS, REPEAT = 0.30, 0.20
+MOST_LIVES, PATIENT_AFTER, PATIENCE = 400, 60, 60
+MOST_CALLS = 25                                      # of a step and what comes before it
+SETTLED = 0.1                                       # by then what was on its way has come in,
+MOST_SAVING = 10                                    # and a clock has saved, and judged it
+
+
+class Broken(Exception):
+    """What was promised does not hold."""
+
+
+class Journal:
+    """What a journal's whole lines say."""
+
+    def __init__(self, path):
+        with open(path, "rb") as file:
+            lines = file.read().split(b"\n")[:-1]
+        notes = [json.loads(line[9:]) for line in lines if f"{zlib.crc32(line[9:]):08x} ".encode() == line[:9]]
+        if len(notes) != len(lines):
+            raise Broken(f"{path} has a wrong line")
+        self.steps, self.told, self.begun, self.end = notes[0]["steps"], {}, None, None
+        for note in notes[1:]:
+            self.take(note)
+
+    def take(self, note):
+        if "begun" in note:
+            self.begun = note["begun"]
+        elif "not_begun" in note:
+            self.begun = None
+        elif "told" in note:
+            self.told[note["told"]], self.begun = note, None
+        else:
+            self.end = note["end"]
+
+    def place(self):
+        return "ended" if self.end else "a step is begun" if self.begun is not None else "between steps"
+
+
+class Observed:
+    """What a clock took as new: each answer that it logged beside the request that passed on to it."""
+
+    def __init__(self, network, clock):
+        self.network, self.clock, self.counted = network, clock, 0
+
+    def asked(self):
+        passed = list(self.network.middle.passed)
+        return [request for request in passed if (request.source, request.target) == (MANAGER, self.clock.identity)]
+
+    def sets(self):
+        """The SETs that it took as new since the last `count`: the id and the dataField."""
+        end = time.monotonic() + MOST_SAVING
+        asked, answers = self.asked(), self.clock.answers()
+        while len(asked) != len(answers) and time.monotonic() < end:
+            time.sleep(0.05)
+            asked, answers = self.asked(), self.clock.answers()
+        if len(asked) != len(answers):
+            raise Broken(f"{self.clock.name}: {len(asked)} requests passed, and {len(answers)} were judged")
+        found = []
+        for request, (answer, size) in zip(asked, answers):
+            if request.whole != size:
+                raise Broken(f"{self.clock.name}: a request of {request.whole} octets beside one of {size}")
+            if answer == ANSWERED_NEW and request.action == SET:
+                found.append((request.id, request.field.hex()))
+        return found
+
+    def new(self):
+        return self.sets()[self.counted:]
+
+    def count(self):
+        self.counted = len(self.sets())
+
+
+class Changes:
+    """Plans for three clocks, and what is checked of what became of them."""
+
+    def __init__(self, work, seed, loss=0.0, repeat=0.0):
+        self.work, self.chance = work, random.Random(seed)
+        self.network = Network(work, [Clock(f"c{place}", identity) for place, identity in enumerate(IDENTITIES)], None, loss, repeat, seed)
+        self.observed = [Observed(self.network, clock) for clock in self.network.clocks.values()]
+        self.counts, self.places = Counter(), Counter()
+
+    def plan(self):
+        path, is_refused = os.path.join(self.work, "plan.toml"), self.chance.random() < 0.25
+        lines = ["version = 1"]
+        for place, identity in enumerate(IDENTITIES):
+            lines += ["[[clock]]", f'identity = "{identity}"']
+            lines += [f"{name} = {self.chance.randint(*VALUES[name])}" for name in VALUES if self.chance.random() < 0.6]
+            if self.chance.random() < 0.5:
+                lines += [f'USER_DESCRIPTION = "rack {self.chance.randrange(1000000)}"']
+            lines += ["[[clock.port]]", "number = 1"]
+            lines += [f"{name} = {self.chance.randint(*PORT_VALUES[name])}" for name in PORT_VALUES if self.chance.random() < 0.5]
+            if is_refused and place == 1:
+                lines += ["LOG_MIN_PDELAY_REQ_INTERVAL = -9"]
+        with open(path, "w") as file:
+            file.write("\n".join(lines) + "\n")
+        return path
+
+    def journals(self):
+        return set(glob.glob(os.path.join(self.work, "state/ptpm/apply/*.journal")))
+
+    def check(self, journal):
+        """The steps that are told are the first ones. The clocks took these, each once and in order, or these and the one that is begun."""
+        if sorted(journal.told) != list(range(len(journal.told))):
+            raise Broken(f"told {sorted(journal.told)} of {len(journal.steps)}")
+        for clock in self.observed:
+            own = [place for place, step in enumerate(journal.steps) if step["clock"] == clock.clock.identity]
+            told = [self.change(journal, place) for place in own if place in journal.told]
+            also = [self.change(journal, place) for place in own if place == journal.begun]
+            new = clock.new()
+            if new != told and new != told + also:
+                raise Broken(f"{clock.clock.name} took {new}; told {told}, begun {also}, journal {journal.place()}")
+        for place, note in journal.told.items():
+            self.check_outcome(journal.steps[place], note)
+
+    def change(self, journal, place):
+        return journal.steps[place]["id"], journal.steps[place]["after"]
+
+    def check_outcome(self, step, note):
+        is_refused = (step["id"], step["after"]) == (REFUSED_ID, REFUSED_FIELD)
+        if note["outcome"] != ("refused WRONG_VALUE" if is_refused else "done") or (not is_refused and note["octets"] != step["after"]):
+            raise Broken(f"{step} is told as {note}")
+
+    def check_end(self, journal):
+        is_whole = len(journal.told) == len(journal.steps)
+        is_refused = any(note["outcome"] != "done" for note in journal.told.values())
+        if journal.begun is not None or journal.end != ("refused" if is_refused else "complete") or (not is_refused and not is_whole):
+            raise Broken(f"it ended as {journal.end}, with {len(journal.told)} of {len(journal.steps)} told")
+        for path in glob.glob(os.path.join(self.work, "state/ptpm/*.apply")):
+            with open(path) as mark:
+                if not Journal(mark.read().strip()).end:        # one that ended may have been killed before it removed its marks
+                    raise Broken(f"{path} names an apply that is open")
+        self.counts[f"{journal.end}"] += 1
+        self.counts["steps told"] += len(journal.told)
+        for clock in self.observed:
+            clock.count()
+
+    def start(self, words, **environment):
+        """A run of the program."""
+        environment = {**os.environ, "XDG_STATE_HOME": os.path.join(self.work, "state"), **environment}
+        with open(os.path.join(self.work, "said"), "a") as said:
+            return subprocess.Popen(
+                [*within(self.network.near), os.path.join(HOME, "manage"), "-i", "e1", "-w", "100", "-t", "40", *words],
+                stdout=said, stderr=said, env=environment)
+
+    def end(self, began):
+        counted = ", ".join(f"{what} {count}" for what, count in sorted(self.counts.items()))
+        killed = ", ".join(f"{place} {count}" for place, count in sorted(self.places.items()))
+        print(f"{counted}; killed at: {killed}; {time.monotonic() - began:.0f} s")
+
+
+class Kills(Changes):
+    """They are applied, killed at random times, resumed and rolled back."""
+
+    def __init__(self, work, seed):
+        super().__init__(work, seed, LOSS, REPEAT)
+
+    def life(self, words, seconds, before):
+        """A run, killed this long after its journal is there; its status, or None if it was killed."""
+        process = self.start(words)
+        end = time.monotonic() + PATIENCE
+        while process.poll() is None and time.monotonic() < end and (words[0] != "resume" and self.journals() == before):
+            time.sleep(0.002)
+        try:
+            return process.wait(seconds)
+        except subprocess.TimeoutExpired:
+            process.send_signal(signal.SIGKILL)
+            process.wait()
+            return None
+
+    def until_end(self, words):
+        """Runs and kills until there is a journal that has an end; the journal, or None if there was nothing to do."""
+        before, journal = self.journals(), None
+        for life in range(MOST_LIVES):
+            seconds = PATIENCE if life > PATIENT_AFTER else self.chance.uniform(0, 0.4) if words[0] != "resume" else self.chance.uniform(0.02, 1.0)
+            status = self.life(words, seconds, before)
+            self.counts["kills"] += status is None
+            time.sleep(SETTLED)
+            made = self.journals() - before
+            journal = Journal(made.pop()) if made else None
+            if status is None:
+                self.places["no journal" if journal is None else journal.place()] += 1
+            if journal is None and status in (0, 2, 5):
+                return None
+            if journal is not None:
+                self.check(journal)
+                if journal.end:
+                    return journal
+                words = ["resume"]
+        raise Broken(f"{words} did not end in {MOST_LIVES} runs")
+
+    def round(self):
+        before = self.journals()
+        journal = self.until_end(["apply", self.plan()])
+        self.counts["plans"] += 1
+        if journal is None:
+            return
+        self.check_end(journal)
+        if self.chance.random() < 1 / 3 and journal.told:
+            name = os.path.basename((self.journals() - before).pop())[:-len(".journal")]
+            back = self.until_end(["rollback", name])
+            self.counts["rollbacks"] += 1
+            if back is not None:
+                self.check_end(back)
+
+    def run(self, kills):
+        began = time.monotonic()
+        try:
+            while self.counts["kills"] < kills:
+                self.round()
+        finally:
+            self.network.end()
+        self.end(began)
+
+
+class Points(Changes):
+    """An apply of three steps, or four with one that is refused, whose journal is made here. Its first `resume` is killed at one of the calls
+    by which it saves and sends: at the first, in the next apply at the second, and so on. The next three are killed at others, and the
+    last is not."""
+
+    def __init__(self, work, seed):
+        super().__init__(work, seed)
+        self.folder = os.path.join(work, "state/ptpm/apply")
+        os.makedirs(self.folder)
+        self.has = {(0, 0, 0x2005): "8000", (1, 0, 0x2006): "8000", (1, 1, 0x200B): "0000", (1, 1, REFUSED_ID): "0000"}
+
+    def step(self, place, port, number, after):
+        before = self.has[place, port, number]
+        if after != REFUSED_FIELD:
+            self.has[place, port, number] = after
+        return {"clock": IDENTITIES[place], "domain": 0, "port": port, "id": number, "before": before, "after": after}
+
+    def make(self, call):
+        """The path of a new journal."""
+        value = f"{call % 100:02x}00"
+        steps = [self.step(0, 0, 0x2005, value), self.step(1, 0, 0x2006, value), self.step(1, 1, 0x200B, f"{254 + call % 2:02x}00")]
+        if call % 4 == 0:
+            steps.append(self.step(1, 1, REFUSED_ID, REFUSED_FIELD))
+        name = f"20260101-000000-{call:08x}-0000"
+        text = json.dumps({"version": 1, "name": name, "manager": MANAGER, "steps": steps}, separators=(",", ":"))
+        path = os.path.join(self.folder, name + ".journal")
+        with open(path, "w") as file:
+            file.write(f"{zlib.crc32(text.encode()):08x} {text}\n")
+        return path
+
+    def is_killed_at(self, call):
+        """Whether a `resume` was killed at this call; 0 is none."""
+        process = self.start(["resume"], LD_PRELOAD=os.path.join(HOME, "dies.so"), DIES_AT=str(call), DIES_FROM="start")
+        is_killed = process.wait(PATIENCE) in (-signal.SIGKILL, 128 + signal.SIGKILL)
+        self.counts["kills"] += is_killed
+        return is_killed
+
+    def point(self, call):
+        """Whether the apply was killed at this call, and so goes on beyond it."""
+        path = self.make(call)
+        is_killed = self.is_killed_at(call)
+        for at in (None, *(self.chance.randrange(1, MOST_CALLS) for _ in range(3)), 0):
+            if at is not None:
+                self.is_killed_at(at)
+            time.sleep(SETTLED)
+            journal = Journal(path)
+            self.places[journal.place()] += 1
+            self.check(journal)
+        self.check_end(journal)
+        return is_killed
+
+    def run(self):
+        began, call = time.monotonic(), 1
+        try:
+            while self.point(call):
+                call += 1
+        finally:
+            self.network.end()
+        self.counts["calls"] = call - 1
+        self.end(began)
