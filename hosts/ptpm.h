@@ -16,10 +16,11 @@
    - malloc, realloc and free come from one allocator. malloc aligns each block to the greatest power of two up to 16 that divides
      its size. No call is made from a signal handler, or in a forked child of a process with threads.
    - A call has the stack that it needs. As the library is built for x86-64 and aarch64, most calls take 500 octets. A start of a
-     clock takes 5,300, its restore 3,700, and that of an asker 4,600. The message of a survey takes 1,700. The calls
-     ptpm_clock_handle_changed and ptpm_field_parse take 2,200 each, ptpm_clock_handle and ptpm_clock_observe 1,200 each. The images,
-     and the restore of a session, take 1,000 each. As C it takes more (docs/embedding.md, "On any other processor"). Beyond that a
-     call takes the stack of the host's malloc, realloc, free, memcpy, memmove and memset. No call calls itself.
+     clock takes 5,300, its restore 3,700, and that of an asker 4,600. The message of a survey takes 1,700.
+     ptpm_clock_handle_said takes 7,000, and ptpm_clock_ask 3,500. The calls ptpm_clock_handle_changed and ptpm_field_parse take
+     2,200 each, ptpm_clock_handle and ptpm_clock_observe 1,200 each. The images, and the restore of a session, take 1,000 each.
+     As C it takes more (docs/embedding.md, "On any other processor"). Beyond that a call takes the stack of the host's malloc,
+     realloc, free, memcpy, memmove and memset. No call calls itself.
 
    A call that only reads takes a const handle, and leaves it as it is. If several errors apply, the first is returned. Only
    ptpm_clock_start may return PTPM_NO_MEMORY in its place. Every other call asks for memory only if no other error applies. */

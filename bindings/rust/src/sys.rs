@@ -325,7 +325,13 @@ extern "C" {
         count: *mut usize,
         changed: *mut ptpm_changed,
     ) -> ptpm_handled;
-    pub fn ptpm_clock_ask(clock: *const ptpm_clock, port: u16, datagram: *const u8, size: usize, asked: *mut ptpm_question) -> ptpm_asking;
+    pub fn ptpm_clock_ask(
+        clock: *const ptpm_clock,
+        port: u16,
+        datagram: *const u8,
+        size: usize,
+        asked: *mut ptpm_question,
+    ) -> ptpm_asking;
     pub fn ptpm_clock_handle_said(
         clock: *mut ptpm_clock,
         port: u16,
