@@ -10,6 +10,7 @@ pub const SEAL_OCTETS: usize = sys::PTPM_SEAL_OCTETS;
 /// An image that was found whole.
 #[derive(Clone, Copy, Debug, PartialEq, Eq)]
 pub struct Sealed<'a> {
+    /// Its octets, without the seal.
     pub image: &'a [u8],
     /// How often it was saved; 0 if it has no seal.
     pub count: u64,
