@@ -23,6 +23,11 @@ u64 portable_ptpm_field_text(u16 a0, address a1, u64 a2, address a3, u64 a4);
 u32 portable_ptpm_id_at(u64 a0);
 u64 portable_ptpm_id_name(u16 a0, address a1, u64 a2);
 u32 portable_ptpm_id_named(address a0, u64 a1);
+u32 portable_ptpm_image_seal_in(address a0, u64 a1, u64 a2, u64 a3, address a4);
+u32 portable_ptpm_image_unseal(address a0, u64 a1, address a2, address a3);
+void portable_ptpm_limit_range(address a0, u32 a1, u32 a2);
+u16 portable_ptpm_limits_say(address a0, u64 a1, address a2);
+u64 portable_ptpm_newest_image_in(address a0, u64 a1, u64 a2, address a3, address a4);
 u8 portable_ptpm_passed_on_is_first(address a0, address a1, u64 a2, u64 a3, u64 a4);
 void portable_ptpm_port_defaults(address a0);
 void portable_ptpm_rate_start(address a0, u64 a1, u64 a2);
@@ -35,6 +40,7 @@ void portable_ptpm_survey_stop(address a0);
 u32 portable_ptpm_version(void);
 u32 portable_ptpm_survey_start(address a0, address a1);
 u32 portable_ptpm_survey_start_at(address a0, address a1, address a2);
+u32 portable_ptpm_clock_ask(address a0, u16 a1, address a2, u64 a3, address a4);
 u32 portable_ptpm_clock_image_of(address a0, address a1, u64 a2, address a3, address a4);
 u32 portable_ptpm_session_image(address a0, address a1, u64 a2, address a3);
 u32 portable_ptpm_session_image_of(address a0, address a1, u64 a2, address a3, address a4);
@@ -55,6 +61,7 @@ u32 portable_ptpm_clock_handle(address a0, u16 a1, address a2, u64 a3, address a
 u32 portable_ptpm_clock_handle_changed(address a0, u16 a1, address a2, u64 a3, address a4, u64 a5, address a6, address a7);
 u32 portable_ptpm_clock_observe(address a0, address a1, address a2, u64 a3, address a4);
 u32 portable_ptpm_clock_saved(address a0, u64 a1, address a2, u64 a3, address a4);
+u32 portable_ptpm_clock_handle_said(address a0, u16 a1, address a2, u64 a3, address a4, address a5, u64 a6, address a7, address a8);
 u32 portable_ptpm_clock_saving(address a0);
 u32 portable_ptpm_session_begin(address a0, u8 a1, u16 a2, u16 a3, address a4, u64 a5);
 u32 portable_ptpm_session_begin_at(address a0, u8 a1, u16 a2, u16 a3, address a4, u64 a5);
@@ -93,6 +100,9 @@ static void fill(void) {
 #define swap_ptpm_manager_settings(at) ((void)0)
 #define swap_ptpm_sent(at) ((void)0)
 #define swap_ptpm_changed(at) ((void)0)
+#define swap_ptpm_question(at) ((void)0)
+#define swap_ptpm_say(at) ((void)0)
+#define swap_ptpm_limit(at) ((void)0)
 #define swap_ptpm_session_settings(at) ((void)0)
 #define swap_ptpm_survey_settings(at) ((void)0)
 #define swap_ptpm_asker_settings(at) ((void)0)
@@ -137,6 +147,21 @@ static void swap_ptpm_sent(struct ptpm_sent *at) {
 }
 static void swap_ptpm_changed(struct ptpm_changed *at) {
     at->clock = (uint32_t)swap32((u32)at->clock);
+}
+static void swap_ptpm_question(struct ptpm_question *at) {
+    at->manager_port = (uint16_t)swap16((u16)at->manager_port);
+    at->number = (uint16_t)swap16((u16)at->number);
+    at->id = (uint16_t)swap16((u16)at->id);
+    at->port = (uint16_t)swap16((u16)at->port);
+    at->size = (uint16_t)swap16((u16)at->size);
+}
+static void swap_ptpm_say(struct ptpm_say *at) {
+    at->error = (uint16_t)swap16((u16)at->error);
+    at->size = (uint16_t)swap16((u16)at->size);
+}
+static void swap_ptpm_limit(struct ptpm_limit *at) {
+    at->id = (uint16_t)swap16((u16)at->id);
+    at->port = (uint16_t)swap16((u16)at->port);
 }
 static void swap_ptpm_session_settings(struct ptpm_session_settings *at) {
     at->port = (uint16_t)swap16((u16)at->port);
@@ -239,6 +264,54 @@ enum ptpm_handled ptpm_clock_handle_changed(struct ptpm_clock *clock, uint16_t p
     swap_ptpm_changed(changed);
     for (size_t i = 0; i < *count; i++) swap_ptpm_sent(&sent[i]);
     return answer;
+}
+
+enum ptpm_asking ptpm_clock_ask(const struct ptpm_clock *clock, uint16_t port, const uint8_t *datagram, size_t size, struct ptpm_question *asked) {
+    fill();
+    swap_ptpm_question(asked);
+    enum ptpm_asking answer = (enum ptpm_asking)portable_ptpm_clock_ask(ADDRESS(clock), port, ADDRESS(datagram), size, ADDRESS(asked));
+    swap_ptpm_question(asked);
+    return answer;
+}
+
+enum ptpm_handled ptpm_clock_handle_said(struct ptpm_clock *clock, uint16_t port, const uint8_t *datagram, size_t size, const struct ptpm_say *say, struct ptpm_sent *sent, size_t room, size_t *count, struct ptpm_changed *changed) {
+    fill();
+#if !IS_LITTLE_ENDIAN
+    struct ptpm_say say_in = *say;
+    swap_ptpm_say(&say_in);
+    say = &say_in;
+#endif
+    u64 count_out = 0;
+    swap_ptpm_changed(changed);
+    enum ptpm_handled answer = (enum ptpm_handled)portable_ptpm_clock_handle_said(ADDRESS(clock), port, ADDRESS(datagram), size, ADDRESS(say), ADDRESS(sent), room, ADDRESS(&count_out), ADDRESS(changed));
+    *count = (size_t)load64(ADDRESS(&count_out));
+    swap_ptpm_changed(changed);
+    for (size_t i = 0; i < *count; i++) swap_ptpm_sent(&sent[i]);
+    return answer;
+}
+
+void ptpm_limit_range(struct ptpm_limit *limit, int32_t least, int32_t most) {
+    fill();
+    swap_ptpm_limit(limit);
+    portable_ptpm_limit_range(ADDRESS(limit), least, most);
+    swap_ptpm_limit(limit);
+}
+
+uint16_t ptpm_limits_say(const struct ptpm_limit *limits, size_t limit_count, const struct ptpm_question *asked) {
+    fill();
+#if !IS_LITTLE_ENDIAN
+    struct ptpm_question asked_in = *asked;
+    swap_ptpm_question(&asked_in);
+    asked = &asked_in;
+#endif
+    uint16_t greatest = 0;
+    for (size_t i = 0; i < limit_count; i++) {
+        struct ptpm_limit one = limits[i];
+        swap_ptpm_limit(&one);
+        uint16_t answer = (uint16_t)portable_ptpm_limits_say(ADDRESS(&one), 1, ADDRESS(asked));
+        if (answer > greatest) greatest = answer;
+    }
+    return greatest;
 }
 
 enum ptpm_observed ptpm_clock_observe(struct ptpm_clock *clock, const struct ptpm_observed_clock *observed, const struct ptpm_observed_port *ports, size_t port_count, uint8_t *left) {
@@ -599,6 +672,34 @@ enum ptpm_reported ptpm_asker_report(const struct ptpm_asker *asker, uint8_t *oc
 void ptpm_asker_stop(struct ptpm_asker *asker) {
     fill();
     portable_ptpm_asker_stop(ADDRESS(asker));
+}
+
+enum ptpm_saved ptpm_image_seal_in(uint8_t *octets, size_t room, size_t size, uint64_t count, size_t *sealed) {
+    fill();
+    u64 sealed_out = 0;
+    enum ptpm_saved answer = (enum ptpm_saved)portable_ptpm_image_seal_in(ADDRESS(octets), room, size, count, ADDRESS(&sealed_out));
+    *sealed = (size_t)load64(ADDRESS(&sealed_out));
+    return answer;
+}
+
+enum ptpm_restored ptpm_image_unseal(const uint8_t *octets, size_t size, uint64_t *count, size_t *image) {
+    fill();
+    u64 count_out = 0;
+    u64 image_out = 0;
+    enum ptpm_restored answer = (enum ptpm_restored)portable_ptpm_image_unseal(ADDRESS(octets), size, ADDRESS(&count_out), ADDRESS(&image_out));
+    *count = load64(ADDRESS(&count_out));
+    *image = (size_t)load64(ADDRESS(&image_out));
+    return answer;
+}
+
+size_t ptpm_newest_image_in(const uint8_t *octets, size_t size, size_t place, uint64_t *count, size_t *image) {
+    fill();
+    u64 count_out = 0;
+    u64 image_out = 0;
+    size_t answer = (size_t)portable_ptpm_newest_image_in(ADDRESS(octets), size, place, ADDRESS(&count_out), ADDRESS(&image_out));
+    *count = load64(ADDRESS(&count_out));
+    *image = (size_t)load64(ADDRESS(&image_out));
+    return answer;
 }
 
 bool ptpm_passed_on_is_first(struct ptpm_passed_on *table, const uint8_t *message, size_t size, uint64_t now, uint64_t time) {

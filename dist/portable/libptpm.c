@@ -67,509 +67,521 @@ static const union { u8 octets[5]; u64 aligned; } octets_of_c25 = { { 65,71,65,7
 #define c26 (octets_of_c26.octets)
 static const union { u8 octets[4]; u64 aligned; } octets_of_c26 = { { 70,85,76,76 } };
 #define c27 (octets_of_c27.octets)
-static const union { u8 octets[8]; u64 aligned; } octets_of_c27 = { { 78,79,95,67,76,79,67,75 } };
+static const union { u8 octets[12]; u64 aligned; } octets_of_c27 = { { 65,83,75,69,68,95,67,72,65,78,71,69 } };
 #define c28 (octets_of_c28.octets)
-static const union { u8 octets[7]; u64 aligned; } octets_of_c28 = { { 78,79,95,80,79,82,84 } };
+static const union { u8 octets[8]; u64 aligned; } octets_of_c28 = { { 78,79,95,67,76,79,67,75 } };
 #define c29 (octets_of_c29.octets)
-static const union { u8 octets[7]; u64 aligned; } octets_of_c29 = { { 78,79,95,82,79,79,77 } };
+static const union { u8 octets[7]; u64 aligned; } octets_of_c29 = { { 78,79,95,80,79,82,84 } };
 #define c30 (octets_of_c30.octets)
-static const union { u8 octets[9]; u64 aligned; } octets_of_c30 = { { 78,79,95,77,69,77,79,82,89 } };
+static const union { u8 octets[7]; u64 aligned; } octets_of_c30 = { { 78,79,95,82,79,79,77 } };
 #define c31 (octets_of_c31.octets)
-static const union { u8 octets[12]; u64 aligned; } octets_of_c31 = { { 78,79,84,95,82,69,65,68,65,66,76,69 } };
+static const union { u8 octets[9]; u64 aligned; } octets_of_c31 = { { 78,79,95,77,69,77,79,82,89 } };
 #define c32 (octets_of_c32.octets)
-static const union { u8 octets[10]; u64 aligned; } octets_of_c32 = { { 78,79,95,83,69,83,83,73,79,78 } };
+static const union { u8 octets[12]; u64 aligned; } octets_of_c32 = { { 78,79,84,95,82,69,65,68,65,66,76,69 } };
 #define c33 (octets_of_c33.octets)
-static const union { u8 octets[4]; u64 aligned; } octets_of_c33 = { { 66,85,83,89 } };
+static const union { u8 octets[10]; u64 aligned; } octets_of_c33 = { { 78,79,95,83,69,83,83,73,79,78 } };
 #define c34 (octets_of_c34.octets)
-static const union { u8 octets[10]; u64 aligned; } octets_of_c34 = { { 78,69,69,68,83,95,80,79,82,84 } };
+static const union { u8 octets[4]; u64 aligned; } octets_of_c34 = { { 66,85,83,89 } };
 #define c35 (octets_of_c35.octets)
-static const union { u8 octets[13]; u64 aligned; } octets_of_c35 = { { 78,79,84,95,80,69,82,77,73,84,84,69,68 } };
+static const union { u8 octets[10]; u64 aligned; } octets_of_c35 = { { 78,69,69,68,83,95,80,79,82,84 } };
 #define c36 (octets_of_c36.octets)
-static const union { u8 octets[9]; u64 aligned; } octets_of_c36 = { { 66,65,68,95,86,65,76,85,69 } };
+static const union { u8 octets[13]; u64 aligned; } octets_of_c36 = { { 78,79,84,95,80,69,82,77,73,84,84,69,68 } };
 #define c37 (octets_of_c37.octets)
-static const union { u8 octets[16]; u64 aligned; } octets_of_c37 = { { 67,79,85,78,84,95,65,84,95,77,65,88,73,77,85,77 } };
+static const union { u8 octets[9]; u64 aligned; } octets_of_c37 = { { 66,65,68,95,86,65,76,85,69 } };
 #define c38 (octets_of_c38.octets)
-static const union { u8 octets[4]; u64 aligned; } octets_of_c38 = { { 73,68,76,69 } };
+static const union { u8 octets[16]; u64 aligned; } octets_of_c38 = { { 67,79,85,78,84,95,65,84,95,77,65,88,73,77,85,77 } };
 #define c39 (octets_of_c39.octets)
-static const union { u8 octets[7]; u64 aligned; } octets_of_c39 = { { 71,65,86,69,95,85,80 } };
+static const union { u8 octets[4]; u64 aligned; } octets_of_c39 = { { 73,68,76,69 } };
 #define c40 (octets_of_c40.octets)
-static const union { u8 octets[9]; u64 aligned; } octets_of_c40 = { { 78,79,95,82,69,80,79,82,84 } };
+static const union { u8 octets[7]; u64 aligned; } octets_of_c40 = { { 71,65,86,69,95,85,80 } };
 #define c41 (octets_of_c41.octets)
-static const union { u8 octets[9]; u64 aligned; } octets_of_c41 = { { 78,79,95,83,85,82,86,69,89 } };
+static const union { u8 octets[9]; u64 aligned; } octets_of_c41 = { { 78,79,95,82,69,80,79,82,84 } };
 #define c42 (octets_of_c42.octets)
-static const union { u8 octets[11]; u64 aligned; } octets_of_c42 = { { 79,84,72,69,82,95,83,73,90,69,83 } };
+static const union { u8 octets[9]; u64 aligned; } octets_of_c42 = { { 78,79,95,83,85,82,86,69,89 } };
 #define c43 (octets_of_c43.octets)
-static const union { u8 octets[8]; u64 aligned; } octets_of_c43 = { { 78,79,95,80,79,82,84,83 } };
+static const union { u8 octets[11]; u64 aligned; } octets_of_c43 = { { 79,84,72,69,82,95,83,73,90,69,83 } };
 #define c44 (octets_of_c44.octets)
-static const union { u8 octets[14]; u64 aligned; } octets_of_c44 = { { 84,79,79,95,77,65,78,89,95,80,79,82,84,83 } };
+static const union { u8 octets[8]; u64 aligned; } octets_of_c44 = { { 78,79,95,80,79,82,84,83 } };
 #define c45 (octets_of_c45.octets)
-static const union { u8 octets[19]; u64 aligned; } octets_of_c45 = { { 71,82,65,78,68,77,65,83,84,69,82,95,68,73,70,70,69,82,83 } };
+static const union { u8 octets[14]; u64 aligned; } octets_of_c45 = { { 84,79,79,95,77,65,78,89,95,80,79,82,84,83 } };
 #define c46 (octets_of_c46.octets)
-static const union { u8 octets[17]; u64 aligned; } octets_of_c46 = { { 84,79,79,95,77,65,78,89,95,77,65,78,65,71,69,82,83 } };
+static const union { u8 octets[19]; u64 aligned; } octets_of_c46 = { { 71,82,65,78,68,77,65,83,84,69,82,95,68,73,70,70,69,82,83 } };
 #define c47 (octets_of_c47.octets)
-static const union { u8 octets[13]; u64 aligned; } octets_of_c47 = { { 77,65,78,65,71,69,82,95,84,87,73,67,69 } };
+static const union { u8 octets[17]; u64 aligned; } octets_of_c47 = { { 84,79,79,95,77,65,78,89,95,77,65,78,65,71,69,82,83 } };
 #define c48 (octets_of_c48.octets)
-static const union { u8 octets[16]; u64 aligned; } octets_of_c48 = { { 77,65,78,65,71,69,82,95,73,83,95,69,86,69,82,89 } };
+static const union { u8 octets[13]; u64 aligned; } octets_of_c48 = { { 77,65,78,65,71,69,82,95,84,87,73,67,69 } };
 #define c49 (octets_of_c49.octets)
-static const union { u8 octets[15]; u64 aligned; } octets_of_c49 = { { 84,65,82,71,69,84,95,73,83,95,69,86,69,82,89 } };
+static const union { u8 octets[16]; u64 aligned; } octets_of_c49 = { { 77,65,78,65,71,69,82,95,73,83,95,69,86,69,82,89 } };
 #define c50 (octets_of_c50.octets)
-static const union { u8 octets[10]; u64 aligned; } octets_of_c50 = { { 83,65,77,69,95,67,76,79,67,75 } };
+static const union { u8 octets[15]; u64 aligned; } octets_of_c50 = { { 84,65,82,71,69,84,95,73,83,95,69,86,69,82,89 } };
 #define c51 (octets_of_c51.octets)
-static const union { u8 octets[16]; u64 aligned; } octets_of_c51 = { { 73,68,69,78,84,73,84,89,95,73,83,95,90,69,82,79 } };
+static const union { u8 octets[10]; u64 aligned; } octets_of_c51 = { { 83,65,77,69,95,67,76,79,67,75 } };
 #define c52 (octets_of_c52.octets)
-static const union { u8 octets[14]; u64 aligned; } octets_of_c52 = { { 84,65,82,71,69,84,95,73,83,95,90,69,82,79 } };
+static const union { u8 octets[16]; u64 aligned; } octets_of_c52 = { { 73,68,69,78,84,73,84,89,95,73,83,95,90,69,82,79 } };
 #define c53 (octets_of_c53.octets)
-static const union { u8 octets[12]; u64 aligned; } octets_of_c53 = { { 78,79,84,95,65,78,95,73,77,65,71,69 } };
+static const union { u8 octets[14]; u64 aligned; } octets_of_c53 = { { 84,65,82,71,69,84,95,73,83,95,90,69,82,79 } };
 #define c54 (octets_of_c54.octets)
-static const union { u8 octets[13]; u64 aligned; } octets_of_c54 = { { 79,84,72,69,82,95,86,69,82,83,73,79,78 } };
+static const union { u8 octets[12]; u64 aligned; } octets_of_c54 = { { 78,79,84,95,65,78,95,73,77,65,71,69 } };
 #define c55 (octets_of_c55.octets)
-static const union { u8 octets[10]; u64 aligned; } octets_of_c55 = { { 79,84,72,69,82,95,75,73,78,68 } };
+static const union { u8 octets[13]; u64 aligned; } octets_of_c55 = { { 79,84,72,69,82,95,86,69,82,83,73,79,78 } };
 #define c56 (octets_of_c56.octets)
-static const union { u8 octets[7]; u64 aligned; } octets_of_c56 = { { 68,65,77,65,71,69,68 } };
+static const union { u8 octets[10]; u64 aligned; } octets_of_c56 = { { 79,84,72,69,82,95,75,73,78,68 } };
 #define c57 (octets_of_c57.octets)
-static const union { u8 octets[11]; u64 aligned; } octets_of_c57 = { { 79,84,72,69,82,95,67,76,79,67,75 } };
+static const union { u8 octets[7]; u64 aligned; } octets_of_c57 = { { 68,65,77,65,71,69,68 } };
 #define c58 (octets_of_c58.octets)
-static const union { u8 octets[11]; u64 aligned; } octets_of_c58 = { { 79,84,72,69,82,95,80,79,82,84,83 } };
+static const union { u8 octets[11]; u64 aligned; } octets_of_c58 = { { 79,84,72,69,82,95,67,76,79,67,75 } };
 #define c59 (octets_of_c59.octets)
-static const union { u8 octets[13]; u64 aligned; } octets_of_c59 = { { 79,84,72,69,82,95,83,69,83,83,73,79,78 } };
+static const union { u8 octets[11]; u64 aligned; } octets_of_c59 = { { 79,84,72,69,82,95,80,79,82,84,83 } };
 #define c60 (octets_of_c60.octets)
-static const union { u8 octets[12]; u64 aligned; } octets_of_c60 = { { 79,85,84,95,79,70,95,82,69,65,67,72 } };
+static const union { u8 octets[13]; u64 aligned; } octets_of_c60 = { { 79,84,72,69,82,95,83,69,83,83,73,79,78 } };
 #define c61 (octets_of_c61.octets)
-static const union { u8 octets[9]; u64 aligned; } octets_of_c61 = { { 78,79,84,95,87,79,82,68,83 } };
+static const union { u8 octets[12]; u64 aligned; } octets_of_c61 = { { 79,85,84,95,79,70,95,82,69,65,67,72 } };
 #define c62 (octets_of_c62.octets)
-static const union { u8 octets[10]; u64 aligned; } octets_of_c62 = { { 85,78,75,78,79,87,78,95,73,68 } };
+static const union { u8 octets[9]; u64 aligned; } octets_of_c62 = { { 78,79,84,95,87,79,82,68,83 } };
 #define c63 (octets_of_c63.octets)
-static const union { u8 octets[10]; u64 aligned; } octets_of_c63 = { { 87,79,82,68,95,67,79,85,78,84 } };
+static const union { u8 octets[10]; u64 aligned; } octets_of_c63 = { { 85,78,75,78,79,87,78,95,73,68 } };
 #define c64 (octets_of_c64.octets)
-static const union { u8 octets[10]; u64 aligned; } octets_of_c64 = { { 79,84,72,69,82,95,78,65,77,69 } };
+static const union { u8 octets[10]; u64 aligned; } octets_of_c64 = { { 87,79,82,68,95,67,79,85,78,84 } };
 #define c65 (octets_of_c65.octets)
-static const union { u8 octets[8]; u64 aligned; } octets_of_c65 = { { 78,79,95,86,65,76,85,69 } };
+static const union { u8 octets[10]; u64 aligned; } octets_of_c65 = { { 79,84,72,69,82,95,78,65,77,69 } };
 #define c66 (octets_of_c66.octets)
-static const union { u8 octets[7]; u64 aligned; } octets_of_c66 = { { 85,78,83,65,86,69,68 } };
+static const union { u8 octets[8]; u64 aligned; } octets_of_c66 = { { 78,79,95,86,65,76,85,69 } };
 #define c67 (octets_of_c67.octets)
-static const union { u8 octets[11]; u64 aligned; } octets_of_c67 = { { 79,84,72,69,82,95,73,77,65,71,69 } };
+static const union { u8 octets[7]; u64 aligned; } octets_of_c67 = { { 85,78,83,65,86,69,68 } };
 #define c68 (octets_of_c68.octets)
-static const union { u8 octets[8]; u64 aligned; } octets_of_c68 = { { 78,79,95,65,83,75,69,82 } };
+static const union { u8 octets[11]; u64 aligned; } octets_of_c68 = { { 79,84,72,69,82,95,73,77,65,71,69 } };
 #define c69 (octets_of_c69.octets)
-static const union { u8 octets[12]; u64 aligned; } octets_of_c69 = { { 66,65,68,95,73,68,69,78,84,73,84,89 } };
+static const union { u8 octets[8]; u64 aligned; } octets_of_c69 = { { 78,79,95,65,83,75,69,82 } };
 #define c70 (octets_of_c70.octets)
-static const union { u8 octets[10]; u64 aligned; } octets_of_c70 = { { 66,65,68,95,68,79,77,65,73,78 } };
+static const union { u8 octets[7]; u64 aligned; } octets_of_c70 = { { 66,65,68,95,83,65,89 } };
 #define c71 (octets_of_c71.octets)
-static const union { u8 octets[20]; u64 aligned; } octets_of_c71 = { { 66,65,68,95,85,83,69,82,95,68,69,83,67,82,73,80,84,73,79,78 } };
+static const union { u8 octets[11]; u64 aligned; } octets_of_c71 = { { 67,65,78,84,95,79,66,74,69,67,84 } };
 #define c72 (octets_of_c72.octets)
-static const union { u8 octets[12]; u64 aligned; } octets_of_c72 = { { 66,65,68,95,84,87,79,95,83,84,69,80 } };
+static const union { u8 octets[12]; u64 aligned; } octets_of_c72 = { { 66,65,68,95,73,68,69,78,84,73,84,89 } };
 #define c73 (octets_of_c73.octets)
-static const union { u8 octets[13]; u64 aligned; } octets_of_c73 = { { 66,65,68,95,80,82,73,79,82,73,84,89,49 } };
+static const union { u8 octets[10]; u64 aligned; } octets_of_c73 = { { 66,65,68,95,68,79,77,65,73,78 } };
 #define c74 (octets_of_c74.octets)
-static const union { u8 octets[15]; u64 aligned; } octets_of_c74 = { { 66,65,68,95,67,76,79,67,75,95,67,76,65,83,83 } };
+static const union { u8 octets[20]; u64 aligned; } octets_of_c74 = { { 66,65,68,95,85,83,69,82,95,68,69,83,67,82,73,80,84,73,79,78 } };
 #define c75 (octets_of_c75.octets)
-static const union { u8 octets[18]; u64 aligned; } octets_of_c75 = { { 66,65,68,95,67,76,79,67,75,95,65,67,67,85,82,65,67,89 } };
+static const union { u8 octets[12]; u64 aligned; } octets_of_c75 = { { 66,65,68,95,84,87,79,95,83,84,69,80 } };
 #define c76 (octets_of_c76.octets)
-static const union { u8 octets[12]; u64 aligned; } octets_of_c76 = { { 66,65,68,95,86,65,82,73,65,78,67,69 } };
+static const union { u8 octets[13]; u64 aligned; } octets_of_c76 = { { 66,65,68,95,80,82,73,79,82,73,84,89,49 } };
 #define c77 (octets_of_c77.octets)
-static const union { u8 octets[13]; u64 aligned; } octets_of_c77 = { { 66,65,68,95,80,82,73,79,82,73,84,89,50 } };
+static const union { u8 octets[15]; u64 aligned; } octets_of_c77 = { { 66,65,68,95,67,76,79,67,75,95,67,76,65,83,83 } };
 #define c78 (octets_of_c78.octets)
-static const union { u8 octets[17]; u64 aligned; } octets_of_c78 = { { 66,65,68,95,83,84,69,80,83,95,82,69,77,79,86,69,68 } };
+static const union { u8 octets[18]; u64 aligned; } octets_of_c78 = { { 66,65,68,95,67,76,79,67,75,95,65,67,67,85,82,65,67,89 } };
 #define c79 (octets_of_c79.octets)
-static const union { u8 octets[22]; u64 aligned; } octets_of_c79 = { { 66,65,68,95,79,70,70,83,69,84,95,70,82,79,77,95,77,65,83,84,69,82 } };
+static const union { u8 octets[12]; u64 aligned; } octets_of_c79 = { { 66,65,68,95,86,65,82,73,65,78,67,69 } };
 #define c80 (octets_of_c80.octets)
-static const union { u8 octets[19]; u64 aligned; } octets_of_c80 = { { 66,65,68,95,77,69,65,78,95,80,65,84,72,95,68,69,76,65,89 } };
+static const union { u8 octets[13]; u64 aligned; } octets_of_c80 = { { 66,65,68,95,80,82,73,79,82,73,84,89,50 } };
 #define c81 (octets_of_c81.octets)
-static const union { u8 octets[15]; u64 aligned; } octets_of_c81 = { { 66,65,68,95,80,65,82,69,78,84,95,80,79,82,84 } };
+static const union { u8 octets[17]; u64 aligned; } octets_of_c81 = { { 66,65,68,95,83,84,69,80,83,95,82,69,77,79,86,69,68 } };
 #define c82 (octets_of_c82.octets)
-static const union { u8 octets[16]; u64 aligned; } octets_of_c82 = { { 66,65,68,95,80,65,82,69,78,84,95,83,84,65,84,83 } };
+static const union { u8 octets[22]; u64 aligned; } octets_of_c82 = { { 66,65,68,95,79,70,70,83,69,84,95,70,82,79,77,95,77,65,83,84,69,82 } };
 #define c83 (octets_of_c83.octets)
-static const union { u8 octets[21]; u64 aligned; } octets_of_c83 = { { 66,65,68,95,79,66,83,69,82,86,69,68,95,86,65,82,73,65,78,67,69 } };
+static const union { u8 octets[19]; u64 aligned; } octets_of_c83 = { { 66,65,68,95,77,69,65,78,95,80,65,84,72,95,68,69,76,65,89 } };
 #define c84 (octets_of_c84.octets)
-static const union { u8 octets[17]; u64 aligned; } octets_of_c84 = { { 66,65,68,95,79,66,83,69,82,86,69,68,95,82,65,84,69 } };
+static const union { u8 octets[15]; u64 aligned; } octets_of_c84 = { { 66,65,68,95,80,65,82,69,78,84,95,80,79,82,84 } };
 #define c85 (octets_of_c85.octets)
-static const union { u8 octets[25]; u64 aligned; } octets_of_c85 = { { 66,65,68,95,71,82,65,78,68,77,65,83,84,69,82,95,80,82,73,79,82,73,84,89,49 } };
+static const union { u8 octets[16]; u64 aligned; } octets_of_c85 = { { 66,65,68,95,80,65,82,69,78,84,95,83,84,65,84,83 } };
 #define c86 (octets_of_c86.octets)
-static const union { u8 octets[21]; u64 aligned; } octets_of_c86 = { { 66,65,68,95,71,82,65,78,68,77,65,83,84,69,82,95,67,76,65,83,83 } };
+static const union { u8 octets[21]; u64 aligned; } octets_of_c86 = { { 66,65,68,95,79,66,83,69,82,86,69,68,95,86,65,82,73,65,78,67,69 } };
 #define c87 (octets_of_c87.octets)
-static const union { u8 octets[24]; u64 aligned; } octets_of_c87 = { { 66,65,68,95,71,82,65,78,68,77,65,83,84,69,82,95,65,67,67,85,82,65,67,89 } };
+static const union { u8 octets[17]; u64 aligned; } octets_of_c87 = { { 66,65,68,95,79,66,83,69,82,86,69,68,95,82,65,84,69 } };
 #define c88 (octets_of_c88.octets)
-static const union { u8 octets[24]; u64 aligned; } octets_of_c88 = { { 66,65,68,95,71,82,65,78,68,77,65,83,84,69,82,95,86,65,82,73,65,78,67,69 } };
+static const union { u8 octets[25]; u64 aligned; } octets_of_c88 = { { 66,65,68,95,71,82,65,78,68,77,65,83,84,69,82,95,80,82,73,79,82,73,84,89,49 } };
 #define c89 (octets_of_c89.octets)
-static const union { u8 octets[25]; u64 aligned; } octets_of_c89 = { { 66,65,68,95,71,82,65,78,68,77,65,83,84,69,82,95,80,82,73,79,82,73,84,89,50 } };
+static const union { u8 octets[21]; u64 aligned; } octets_of_c89 = { { 66,65,68,95,71,82,65,78,68,77,65,83,84,69,82,95,67,76,65,83,83 } };
 #define c90 (octets_of_c90.octets)
-static const union { u8 octets[15]; u64 aligned; } octets_of_c90 = { { 66,65,68,95,71,82,65,78,68,77,65,83,84,69,82 } };
+static const union { u8 octets[24]; u64 aligned; } octets_of_c90 = { { 66,65,68,95,71,82,65,78,68,77,65,83,84,69,82,95,65,67,67,85,82,65,67,89 } };
 #define c91 (octets_of_c91.octets)
-static const union { u8 octets[14]; u64 aligned; } octets_of_c91 = { { 66,65,68,95,85,84,67,95,79,70,70,83,69,84 } };
+static const union { u8 octets[24]; u64 aligned; } octets_of_c91 = { { 66,65,68,95,71,82,65,78,68,77,65,83,84,69,82,95,86,65,82,73,65,78,67,69 } };
 #define c92 (octets_of_c92.octets)
-static const union { u8 octets[10]; u64 aligned; } octets_of_c92 = { { 66,65,68,95,76,69,65,80,54,49 } };
+static const union { u8 octets[25]; u64 aligned; } octets_of_c92 = { { 66,65,68,95,71,82,65,78,68,77,65,83,84,69,82,95,80,82,73,79,82,73,84,89,50 } };
 #define c93 (octets_of_c93.octets)
-static const union { u8 octets[10]; u64 aligned; } octets_of_c93 = { { 66,65,68,95,76,69,65,80,53,57 } };
+static const union { u8 octets[15]; u64 aligned; } octets_of_c93 = { { 66,65,68,95,71,82,65,78,68,77,65,83,84,69,82 } };
 #define c94 (octets_of_c94.octets)
-static const union { u8 octets[13]; u64 aligned; } octets_of_c94 = { { 66,65,68,95,85,84,67,95,86,65,76,73,68 } };
+static const union { u8 octets[14]; u64 aligned; } octets_of_c94 = { { 66,65,68,95,85,84,67,95,79,70,70,83,69,84 } };
 #define c95 (octets_of_c95.octets)
-static const union { u8 octets[17]; u64 aligned; } octets_of_c95 = { { 66,65,68,95,80,84,80,95,84,73,77,69,83,67,65,76,69 } };
+static const union { u8 octets[10]; u64 aligned; } octets_of_c95 = { { 66,65,68,95,76,69,65,80,54,49 } };
 #define c96 (octets_of_c96.octets)
-static const union { u8 octets[18]; u64 aligned; } octets_of_c96 = { { 66,65,68,95,84,73,77,69,95,84,82,65,67,69,65,66,76,69 } };
+static const union { u8 octets[10]; u64 aligned; } octets_of_c96 = { { 66,65,68,95,76,69,65,80,53,57 } };
 #define c97 (octets_of_c97.octets)
-static const union { u8 octets[23]; u64 aligned; } octets_of_c97 = { { 66,65,68,95,70,82,69,81,85,69,78,67,89,95,84,82,65,67,69,65,66,76,69 } };
+static const union { u8 octets[13]; u64 aligned; } octets_of_c97 = { { 66,65,68,95,85,84,67,95,86,65,76,73,68 } };
 #define c98 (octets_of_c98.octets)
-static const union { u8 octets[15]; u64 aligned; } octets_of_c98 = { { 66,65,68,95,84,73,77,69,95,83,79,85,82,67,69 } };
+static const union { u8 octets[17]; u64 aligned; } octets_of_c98 = { { 66,65,68,95,80,84,80,95,84,73,77,69,83,67,65,76,69 } };
 #define c99 (octets_of_c99.octets)
-static const union { u8 octets[9]; u64 aligned; } octets_of_c99 = { { 66,65,68,95,83,84,65,84,69 } };
+static const union { u8 octets[18]; u64 aligned; } octets_of_c99 = { { 66,65,68,95,84,73,77,69,95,84,82,65,67,69,65,66,76,69 } };
 #define c100 (octets_of_c100.octets)
-static const union { u8 octets[21]; u64 aligned; } octets_of_c100 = { { 66,65,68,95,76,79,71,95,77,73,78,95,68,69,76,65,89,95,82,69,81 } };
+static const union { u8 octets[23]; u64 aligned; } octets_of_c100 = { { 66,65,68,95,70,82,69,81,85,69,78,67,89,95,84,82,65,67,69,65,66,76,69 } };
 #define c101 (octets_of_c101.octets)
-static const union { u8 octets[14]; u64 aligned; } octets_of_c101 = { { 66,65,68,95,80,69,69,82,95,68,69,76,65,89 } };
+static const union { u8 octets[15]; u64 aligned; } octets_of_c101 = { { 66,65,68,95,84,73,77,69,95,83,79,85,82,67,69 } };
 #define c102 (octets_of_c102.octets)
-static const union { u8 octets[16]; u64 aligned; } octets_of_c102 = { { 66,65,68,95,76,79,71,95,65,78,78,79,85,78,67,69 } };
+static const union { u8 octets[9]; u64 aligned; } octets_of_c102 = { { 66,65,68,95,83,84,65,84,69 } };
 #define c103 (octets_of_c103.octets)
-static const union { u8 octets[19]; u64 aligned; } octets_of_c103 = { { 66,65,68,95,82,69,67,69,73,80,84,95,84,73,77,69,79,85,84 } };
+static const union { u8 octets[21]; u64 aligned; } octets_of_c103 = { { 66,65,68,95,76,79,71,95,77,73,78,95,68,69,76,65,89,95,82,69,81 } };
 #define c104 (octets_of_c104.octets)
-static const union { u8 octets[12]; u64 aligned; } octets_of_c104 = { { 66,65,68,95,76,79,71,95,83,89,78,67 } };
+static const union { u8 octets[14]; u64 aligned; } octets_of_c104 = { { 66,65,68,95,80,69,69,82,95,68,69,76,65,89 } };
 #define c105 (octets_of_c105.octets)
-static const union { u8 octets[19]; u64 aligned; } octets_of_c105 = { { 66,65,68,95,68,69,76,65,89,95,77,69,67,72,65,78,73,83,77 } };
+static const union { u8 octets[16]; u64 aligned; } octets_of_c105 = { { 66,65,68,95,76,79,71,95,65,78,78,79,85,78,67,69 } };
 #define c106 (octets_of_c106.octets)
-static const union { u8 octets[18]; u64 aligned; } octets_of_c106 = { { 66,65,68,95,76,79,71,95,77,73,78,95,80,68,69,76,65,89 } };
+static const union { u8 octets[19]; u64 aligned; } octets_of_c106 = { { 66,65,68,95,82,69,67,69,73,80,84,95,84,73,77,69,79,85,84 } };
 #define c107 (octets_of_c107.octets)
-static const union { u8 octets[8]; u64 aligned; } octets_of_c107 = { { 112,116,112,109,2,1,0,0 } };
+static const union { u8 octets[12]; u64 aligned; } octets_of_c107 = { { 66,65,68,95,76,79,71,95,83,89,78,67 } };
 #define c108 (octets_of_c108.octets)
-static const union { u8 octets[1]; u64 aligned; } octets_of_c108 = { { 0 } };
-#if IS_LITTLE_ENDIAN
-static const struct form_of_c109 { slot slot0; u8 octets8[8]; } octets_of_c109;
-#define c109 ((const u8 *)&octets_of_c109)
-#else
-static union form_of_c109 { u8 octets[16]; u64 aligned; } octets_of_c109;
+static const union { u8 octets[19]; u64 aligned; } octets_of_c108 = { { 66,65,68,95,68,69,76,65,89,95,77,69,67,72,65,78,73,83,77 } };
 #define c109 (octets_of_c109.octets)
-#endif
+static const union { u8 octets[18]; u64 aligned; } octets_of_c109 = { { 66,65,68,95,76,79,71,95,77,73,78,95,80,68,69,76,65,89 } };
 #define c110 (octets_of_c110.octets)
-static const union { u8 octets[19]; u64 aligned; } octets_of_c110 = { { 78,85,76,76,95,80,84,80,95,77,65,78,65,71,69,77,69,78,84 } };
+static const union { u8 octets[8]; u64 aligned; } octets_of_c110 = { { 112,116,112,109,2,1,0,0 } };
 #define c111 (octets_of_c111.octets)
-static const union { u8 octets[16]; u64 aligned; } octets_of_c111 = { { 85,83,69,82,95,68,69,83,67,82,73,80,84,73,79,78 } };
+static const union { u8 octets[1]; u64 aligned; } octets_of_c111 = { { 0 } };
+#if IS_LITTLE_ENDIAN
+static const struct form_of_c112 { slot slot0; u8 octets8[8]; } octets_of_c112;
+#define c112 ((const u8 *)&octets_of_c112)
+#else
+static union form_of_c112 { u8 octets[16]; u64 aligned; } octets_of_c112;
 #define c112 (octets_of_c112.octets)
-static const union { u8 octets[16]; u64 aligned; } octets_of_c112 = { { 68,69,70,65,85,76,84,95,68,65,84,65,95,83,69,84 } };
+#endif
 #define c113 (octets_of_c113.octets)
-static const union { u8 octets[16]; u64 aligned; } octets_of_c113 = { { 67,85,82,82,69,78,84,95,68,65,84,65,95,83,69,84 } };
+static const union { u8 octets[19]; u64 aligned; } octets_of_c113 = { { 78,85,76,76,95,80,84,80,95,77,65,78,65,71,69,77,69,78,84 } };
 #define c114 (octets_of_c114.octets)
-static const union { u8 octets[15]; u64 aligned; } octets_of_c114 = { { 80,65,82,69,78,84,95,68,65,84,65,95,83,69,84 } };
+static const union { u8 octets[16]; u64 aligned; } octets_of_c114 = { { 85,83,69,82,95,68,69,83,67,82,73,80,84,73,79,78 } };
 #define c115 (octets_of_c115.octets)
-static const union { u8 octets[24]; u64 aligned; } octets_of_c115 = { { 84,73,77,69,95,80,82,79,80,69,82,84,73,69,83,95,68,65,84,65,95,83,69,84 } };
+static const union { u8 octets[16]; u64 aligned; } octets_of_c115 = { { 68,69,70,65,85,76,84,95,68,65,84,65,95,83,69,84 } };
 #define c116 (octets_of_c116.octets)
-static const union { u8 octets[13]; u64 aligned; } octets_of_c116 = { { 80,79,82,84,95,68,65,84,65,95,83,69,84 } };
+static const union { u8 octets[16]; u64 aligned; } octets_of_c116 = { { 67,85,82,82,69,78,84,95,68,65,84,65,95,83,69,84 } };
 #define c117 (octets_of_c117.octets)
-static const union { u8 octets[9]; u64 aligned; } octets_of_c117 = { { 80,82,73,79,82,73,84,89,49 } };
+static const union { u8 octets[15]; u64 aligned; } octets_of_c117 = { { 80,65,82,69,78,84,95,68,65,84,65,95,83,69,84 } };
 #define c118 (octets_of_c118.octets)
-static const union { u8 octets[9]; u64 aligned; } octets_of_c118 = { { 80,82,73,79,82,73,84,89,50 } };
+static const union { u8 octets[24]; u64 aligned; } octets_of_c118 = { { 84,73,77,69,95,80,82,79,80,69,82,84,73,69,83,95,68,65,84,65,95,83,69,84 } };
 #define c119 (octets_of_c119.octets)
-static const union { u8 octets[6]; u64 aligned; } octets_of_c119 = { { 68,79,77,65,73,78 } };
+static const union { u8 octets[13]; u64 aligned; } octets_of_c119 = { { 80,79,82,84,95,68,65,84,65,95,83,69,84 } };
 #define c120 (octets_of_c120.octets)
-static const union { u8 octets[10]; u64 aligned; } octets_of_c120 = { { 83,76,65,86,69,95,79,78,76,89 } };
+static const union { u8 octets[9]; u64 aligned; } octets_of_c120 = { { 80,82,73,79,82,73,84,89,49 } };
 #define c121 (octets_of_c121.octets)
-static const union { u8 octets[14]; u64 aligned; } octets_of_c121 = { { 86,69,82,83,73,79,78,95,78,85,77,66,69,82 } };
+static const union { u8 octets[9]; u64 aligned; } octets_of_c121 = { { 80,82,73,79,82,73,84,89,50 } };
 #define c122 (octets_of_c122.octets)
-static const union { u8 octets[11]; u64 aligned; } octets_of_c122 = { { 69,78,65,66,76,69,95,80,79,82,84 } };
+static const union { u8 octets[6]; u64 aligned; } octets_of_c122 = { { 68,79,77,65,73,78 } };
 #define c123 (octets_of_c123.octets)
-static const union { u8 octets[12]; u64 aligned; } octets_of_c123 = { { 68,73,83,65,66,76,69,95,80,79,82,84 } };
+static const union { u8 octets[10]; u64 aligned; } octets_of_c123 = { { 83,76,65,86,69,95,79,78,76,89 } };
 #define c124 (octets_of_c124.octets)
-static const union { u8 octets[14]; u64 aligned; } octets_of_c124 = { { 67,76,79,67,75,95,65,67,67,85,82,65,67,89 } };
+static const union { u8 octets[14]; u64 aligned; } octets_of_c124 = { { 86,69,82,83,73,79,78,95,78,85,77,66,69,82 } };
 #define c125 (octets_of_c125.octets)
-static const union { u8 octets[14]; u64 aligned; } octets_of_c125 = { { 85,84,67,95,80,82,79,80,69,82,84,73,69,83 } };
+static const union { u8 octets[11]; u64 aligned; } octets_of_c125 = { { 69,78,65,66,76,69,95,80,79,82,84 } };
 #define c126 (octets_of_c126.octets)
-static const union { u8 octets[21]; u64 aligned; } octets_of_c126 = { { 76,79,71,95,65,78,78,79,85,78,67,69,95,73,78,84,69,82,86,65,76 } };
+static const union { u8 octets[12]; u64 aligned; } octets_of_c126 = { { 68,73,83,65,66,76,69,95,80,79,82,84 } };
 #define c127 (octets_of_c127.octets)
-static const union { u8 octets[19]; u64 aligned; } octets_of_c127 = { { 108,111,103,65,110,110,111,117,110,99,101,73,110,116,101,114,118,97,108 } };
+static const union { u8 octets[14]; u64 aligned; } octets_of_c127 = { { 67,76,79,67,75,95,65,67,67,85,82,65,67,89 } };
 #define c128 (octets_of_c128.octets)
-static const union { u8 octets[24]; u64 aligned; } octets_of_c128 = { { 65,78,78,79,85,78,67,69,95,82,69,67,69,73,80,84,95,84,73,77,69,79,85,84 } };
+static const union { u8 octets[14]; u64 aligned; } octets_of_c128 = { { 85,84,67,95,80,82,79,80,69,82,84,73,69,83 } };
 #define c129 (octets_of_c129.octets)
-static const union { u8 octets[22]; u64 aligned; } octets_of_c129 = { { 97,110,110,111,117,110,99,101,82,101,99,101,105,112,116,84,105,109,101,111,117,116 } };
+static const union { u8 octets[21]; u64 aligned; } octets_of_c129 = { { 76,79,71,95,65,78,78,79,85,78,67,69,95,73,78,84,69,82,86,65,76 } };
 #define c130 (octets_of_c130.octets)
-static const union { u8 octets[17]; u64 aligned; } octets_of_c130 = { { 76,79,71,95,83,89,78,67,95,73,78,84,69,82,86,65,76 } };
+static const union { u8 octets[19]; u64 aligned; } octets_of_c130 = { { 108,111,103,65,110,110,111,117,110,99,101,73,110,116,101,114,118,97,108 } };
 #define c131 (octets_of_c131.octets)
-static const union { u8 octets[15]; u64 aligned; } octets_of_c131 = { { 108,111,103,83,121,110,99,73,110,116,101,114,118,97,108 } };
+static const union { u8 octets[24]; u64 aligned; } octets_of_c131 = { { 65,78,78,79,85,78,67,69,95,82,69,67,69,73,80,84,95,84,73,77,69,79,85,84 } };
 #define c132 (octets_of_c132.octets)
-static const union { u8 octets[15]; u64 aligned; } octets_of_c132 = { { 68,69,76,65,89,95,77,69,67,72,65,78,73,83,77 } };
+static const union { u8 octets[22]; u64 aligned; } octets_of_c132 = { { 97,110,110,111,117,110,99,101,82,101,99,101,105,112,116,84,105,109,101,111,117,116 } };
 #define c133 (octets_of_c133.octets)
-static const union { u8 octets[14]; u64 aligned; } octets_of_c133 = { { 100,101,108,97,121,77,101,99,104,97,110,105,115,109 } };
+static const union { u8 octets[17]; u64 aligned; } octets_of_c133 = { { 76,79,71,95,83,89,78,67,95,73,78,84,69,82,86,65,76 } };
 #define c134 (octets_of_c134.octets)
-static const union { u8 octets[27]; u64 aligned; } octets_of_c134 = { { 76,79,71,95,77,73,78,95,80,68,69,76,65,89,95,82,69,81,95,73,78,84,69,82,86,65,76 } };
+static const union { u8 octets[15]; u64 aligned; } octets_of_c134 = { { 108,111,103,83,121,110,99,73,110,116,101,114,118,97,108 } };
 #define c135 (octets_of_c135.octets)
-static const union { u8 octets[23]; u64 aligned; } octets_of_c135 = { { 108,111,103,77,105,110,80,100,101,108,97,121,82,101,113,73,110,116,101,114,118,97,108 } };
-#if IS_LITTLE_ENDIAN
-static const struct form_of_c136 { slot slot0; u8 octets8[1472]; } octets_of_c136;
-#define c136 ((const u8 *)&octets_of_c136)
-#else
-static union form_of_c136 { u8 octets[1480]; u64 aligned; } octets_of_c136;
+static const union { u8 octets[15]; u64 aligned; } octets_of_c135 = { { 68,69,76,65,89,95,77,69,67,72,65,78,73,83,77 } };
 #define c136 (octets_of_c136.octets)
-#endif
+static const union { u8 octets[14]; u64 aligned; } octets_of_c136 = { { 100,101,108,97,121,77,101,99,104,97,110,105,115,109 } };
 #define c137 (octets_of_c137.octets)
-static const union { u8 octets[12]; u64 aligned; } octets_of_c137 = { { 0,2,0,0,0,0,0,0,0,0,0,0 } };
+static const union { u8 octets[27]; u64 aligned; } octets_of_c137 = { { 76,79,71,95,77,73,78,95,80,68,69,76,65,89,95,82,69,81,95,73,78,84,69,82,86,65,76 } };
 #define c138 (octets_of_c138.octets)
-static const union { u8 octets[16]; u64 aligned; } octets_of_c138 = { { 82,69,83,80,79,78,83,69,95,84,79,79,95,66,73,71 } };
-#define c139 (octets_of_c139.octets)
-static const union { u8 octets[10]; u64 aligned; } octets_of_c139 = { { 78,79,95,83,85,67,72,95,73,68 } };
-#define c140 (octets_of_c140.octets)
-static const union { u8 octets[12]; u64 aligned; } octets_of_c140 = { { 87,82,79,78,71,95,76,69,78,71,84,72 } };
-#define c141 (octets_of_c141.octets)
-static const union { u8 octets[11]; u64 aligned; } octets_of_c141 = { { 87,82,79,78,71,95,86,65,76,85,69 } };
-#define c142 (octets_of_c142.octets)
-static const union { u8 octets[11]; u64 aligned; } octets_of_c142 = { { 78,79,84,95,83,69,84,65,66,76,69 } };
-#define c143 (octets_of_c143.octets)
-static const union { u8 octets[13]; u64 aligned; } octets_of_c143 = { { 78,79,84,95,83,85,80,80,79,82,84,69,68 } };
-#define c144 (octets_of_c144.octets)
-static const union { u8 octets[13]; u64 aligned; } octets_of_c144 = { { 71,69,78,69,82,65,76,95,69,82,82,79,82 } };
-#define c145 (octets_of_c145.octets)
-static const union { u8 octets[6]; u64 aligned; } octets_of_c145 = { { 0,2,0,0,11,0 } };
-#define c146 (octets_of_c146.octets)
-static const union { u8 octets[60]; u64 aligned; } octets_of_c146 = { { 0,3,0,0,3,1,2,0,0,0,3,2,1,0,0,2,0,2,0,4,0,4,0,1,0,5,0,5,0,1,0,6,0,6,1,1,0,7,0,7,1,2,0,8,0,9,0,1,0,0,0,10,7,0,0,1,0,18,0,1 } };
-#define c147 (octets_of_c147.octets)
-static const union { u8 octets[18]; u64 aligned; } octets_of_c147 = { { 0,9,0,0,0,2,0,10,0,2,6,0,0,11,0,10,6,0 } };
-#define c148 (octets_of_c148.octets)
-static const union { u8 octets[60]; u64 aligned; } octets_of_c148 = { { 0,12,0,0,8,0,0,13,0,10,3,1,0,14,0,12,1,2,0,15,0,14,2,4,0,16,0,18,0,1,0,17,0,19,0,1,0,18,0,20,1,1,0,19,0,21,1,2,0,20,0,23,0,1,0,21,0,24,7,0 } };
-#define c149 (octets_of_c149.octets)
-static const union { u8 octets[48]; u64 aligned; } octets_of_c149 = { { 0,22,0,0,2,2,0,23,0,2,3,1,0,24,0,2,3,2,0,25,0,2,3,4,0,26,0,2,3,8,0,27,0,2,3,16,0,28,0,2,3,32,0,29,0,3,1,1 } };
-#define c150 (octets_of_c150.octets)
-static const union { u8 octets[60]; u64 aligned; } octets_of_c150 = { { 3,0,0,0,8,0,0,30,0,10,9,0,0,31,0,11,2,1,0,32,0,12,6,0,0,33,0,20,2,1,0,33,1,21,0,1,0,33,2,22,2,1,0,33,3,23,10,0,0,33,4,24,2,1,4,0,0,25,5,0 } };
-#define c151 (octets_of_c151.octets)
-static const union { u8 octets[6]; u64 aligned; } octets_of_c151 = { { 0,4,0,0,0,1 } };
-#define c152 (octets_of_c152.octets)
-static const union { u8 octets[6]; u64 aligned; } octets_of_c152 = { { 0,8,0,0,0,1 } };
-#define c153 (octets_of_c153.octets)
-static const union { u8 octets[6]; u64 aligned; } octets_of_c153 = { { 0,1,0,0,0,1 } };
-#define c154 (octets_of_c154.octets)
-static const union { u8 octets[6]; u64 aligned; } octets_of_c154 = { { 2,0,0,0,4,0 } };
-#define c155 (octets_of_c155.octets)
-static const union { u8 octets[6]; u64 aligned; } octets_of_c155 = { { 0,33,0,0,2,1 } };
-#define c156 (octets_of_c156.octets)
-static const union { u8 octets[6]; u64 aligned; } octets_of_c156 = { { 0,33,1,0,0,1 } };
-#define c157 (octets_of_c157.octets)
-static const union { u8 octets[6]; u64 aligned; } octets_of_c157 = { { 0,33,2,0,2,1 } };
-#define c158 (octets_of_c158.octets)
-static const union { u8 octets[6]; u64 aligned; } octets_of_c158 = { { 0,33,3,0,10,0 } };
-#define c159 (octets_of_c159.octets)
-static const union { u8 octets[6]; u64 aligned; } octets_of_c159 = { { 0,33,4,0,2,1 } };
-#define c160 (octets_of_c160.octets)
-static const union { u8 octets[6]; u64 aligned; } octets_of_c160 = { { 4,0,0,0,5,0 } };
-#define c161 (octets_of_c161.octets)
-static const union { u8 octets[6]; u64 aligned; } octets_of_c161 = { { 5,0,0,0,1,1 } };
-#define c162 (octets_of_c162.octets)
-static const union { u8 octets[24]; u64 aligned; } octets_of_c162 = { { 0,22,0,0,2,2,0,23,0,2,3,1,0,24,0,2,3,2,0,25,0,2,3,4 } };
-#define c163 (octets_of_c163.octets)
-static const union { u8 octets[4]; u64 aligned; } octets_of_c163 = { { 116,114,117,101 } };
-#define c164 (octets_of_c164.octets)
-static const union { u8 octets[5]; u64 aligned; } octets_of_c164 = { { 102,97,108,115,101 } };
-#define c165 (octets_of_c165.octets)
-static const union { u8 octets[3]; u64 aligned; } octets_of_c165 = { { 69,50,69 } };
-#define c166 (octets_of_c166.octets)
-static const union { u8 octets[3]; u64 aligned; } octets_of_c166 = { { 80,50,80 } };
-#define c167 (octets_of_c167.octets)
-static const union { u8 octets[12]; u64 aligned; } octets_of_c167 = { { 78,79,95,77,69,67,72,65,78,73,83,77 } };
-#define c168 (octets_of_c168.octets)
-static const union { u8 octets[11]; u64 aligned; } octets_of_c168 = { { 110,117,109,98,101,114,80,111,114,116,115 } };
-#define c169 (octets_of_c169.octets)
-static const union { u8 octets[9]; u64 aligned; } octets_of_c169 = { { 115,108,97,118,101,79,110,108,121 } };
-#define c170 (octets_of_c170.octets)
-static const union { u8 octets[12]; u64 aligned; } octets_of_c170 = { { 112,111,114,116,73,100,101,110,116,105,116,121 } };
-#define c171 (octets_of_c171.octets)
-static const union { u8 octets[13]; u64 aligned; } octets_of_c171 = { { 118,101,114,115,105,111,110,78,117,109,98,101,114 } };
-#define c172 (octets_of_c172.octets)
-static const union { u8 octets[13]; u64 aligned; } octets_of_c172 = { { 99,108,111,99,107,65,99,99,117,114,97,99,121 } };
-#define c173 (octets_of_c173.octets)
-static const union { u8 octets[13]; u64 aligned; } octets_of_c173 = { { 99,108,111,99,107,73,100,101,110,116,105,116,121 } };
-#define c174 (octets_of_c174.octets)
-static const union { u8 octets[12]; u64 aligned; } octets_of_c174 = { { 100,111,109,97,105,110,78,117,109,98,101,114 } };
-#define c175 (octets_of_c175.octets)
-static const union { u8 octets[15]; u64 aligned; } octets_of_c175 = { { 117,115,101,114,68,101,115,99,114,105,112,116,105,111,110 } };
-#define c176 (octets_of_c176.octets)
-static const union { u8 octets[11]; u64 aligned; } octets_of_c176 = { { 116,119,111,83,116,101,112,70,108,97,103 } };
-#define c177 (octets_of_c177.octets)
-static const union { u8 octets[9]; u64 aligned; } octets_of_c177 = { { 112,114,105,111,114,105,116,121,49 } };
-#define c178 (octets_of_c178.octets)
-static const union { u8 octets[23]; u64 aligned; } octets_of_c178 = { { 99,108,111,99,107,81,117,97,108,105,116,121,46,99,108,111,99,107,67,108,97,115,115 } };
-#define c179 (octets_of_c179.octets)
-static const union { u8 octets[26]; u64 aligned; } octets_of_c179 = { { 99,108,111,99,107,81,117,97,108,105,116,121,46,99,108,111,99,107,65,99,99,117,114,97,99,121 } };
-#define c180 (octets_of_c180.octets)
-static const union { u8 octets[36]; u64 aligned; } octets_of_c180 = { { 99,108,111,99,107,81,117,97,108,105,116,121,46,111,102,102,115,101,116,83,99,97,108,101,100,76,111,103,86,97,114,105,97,110,99,101 } };
-#define c181 (octets_of_c181.octets)
-static const union { u8 octets[9]; u64 aligned; } octets_of_c181 = { { 112,114,105,111,114,105,116,121,50 } };
-#define c182 (octets_of_c182.octets)
-static const union { u8 octets[12]; u64 aligned; } octets_of_c182 = { { 115,116,101,112,115,82,101,109,111,118,101,100 } };
-#define c183 (octets_of_c183.octets)
-static const union { u8 octets[16]; u64 aligned; } octets_of_c183 = { { 111,102,102,115,101,116,70,114,111,109,77,97,115,116,101,114 } };
-#define c184 (octets_of_c184.octets)
-static const union { u8 octets[9]; u64 aligned; } octets_of_c184 = { { 109,101,97,110,68,101,108,97,121 } };
-#define c185 (octets_of_c185.octets)
-static const union { u8 octets[18]; u64 aligned; } octets_of_c185 = { { 112,97,114,101,110,116,80,111,114,116,73,100,101,110,116,105,116,121 } };
-#define c186 (octets_of_c186.octets)
-static const union { u8 octets[11]; u64 aligned; } octets_of_c186 = { { 112,97,114,101,110,116,83,116,97,116,115 } };
-#define c187 (octets_of_c187.octets)
-static const union { u8 octets[37]; u64 aligned; } octets_of_c187 = { { 111,98,115,101,114,118,101,100,80,97,114,101,110,116,79,102,102,115,101,116,83,99,97,108,101,100,76,111,103,86,97,114,105,97,110,99,101 } };
-#define c188 (octets_of_c188.octets)
-static const union { u8 octets[34]; u64 aligned; } octets_of_c188 = { { 111,98,115,101,114,118,101,100,80,97,114,101,110,116,67,108,111,99,107,80,104,97,115,101,67,104,97,110,103,101,82,97,116,101 } };
-#define c189 (octets_of_c189.octets)
-static const union { u8 octets[20]; u64 aligned; } octets_of_c189 = { { 103,114,97,110,100,109,97,115,116,101,114,80,114,105,111,114,105,116,121,49 } };
-#define c190 (octets_of_c190.octets)
-static const union { u8 octets[34]; u64 aligned; } octets_of_c190 = { { 103,114,97,110,100,109,97,115,116,101,114,67,108,111,99,107,81,117,97,108,105,116,121,46,99,108,111,99,107,67,108,97,115,115 } };
-#define c191 (octets_of_c191.octets)
-static const union { u8 octets[37]; u64 aligned; } octets_of_c191 = { { 103,114,97,110,100,109,97,115,116,101,114,67,108,111,99,107,81,117,97,108,105,116,121,46,99,108,111,99,107,65,99,99,117,114,97,99,121 } };
-#define c192 (octets_of_c192.octets)
-static const union { u8 octets[47]; u64 aligned; } octets_of_c192 = { { 103,114,97,110,100,109,97,115,116,101,114,67,108,111,99,107,81,117,97,108,105,116,121,46,111,102,102,115,101,116,83,99,97,108,101,100,76,111,103,86,97,114,105,97,110,99,101 } };
-#define c193 (octets_of_c193.octets)
-static const union { u8 octets[20]; u64 aligned; } octets_of_c193 = { { 103,114,97,110,100,109,97,115,116,101,114,80,114,105,111,114,105,116,121,50 } };
-#define c194 (octets_of_c194.octets)
-static const union { u8 octets[19]; u64 aligned; } octets_of_c194 = { { 103,114,97,110,100,109,97,115,116,101,114,73,100,101,110,116,105,116,121 } };
-#define c195 (octets_of_c195.octets)
-static const union { u8 octets[16]; u64 aligned; } octets_of_c195 = { { 99,117,114,114,101,110,116,85,116,99,79,102,102,115,101,116 } };
-#define c196 (octets_of_c196.octets)
-static const union { u8 octets[6]; u64 aligned; } octets_of_c196 = { { 108,101,97,112,54,49 } };
-#define c197 (octets_of_c197.octets)
-static const union { u8 octets[6]; u64 aligned; } octets_of_c197 = { { 108,101,97,112,53,57 } };
-#define c198 (octets_of_c198.octets)
-static const union { u8 octets[21]; u64 aligned; } octets_of_c198 = { { 99,117,114,114,101,110,116,85,116,99,79,102,102,115,101,116,86,97,108,105,100 } };
-#define c199 (octets_of_c199.octets)
-static const union { u8 octets[12]; u64 aligned; } octets_of_c199 = { { 112,116,112,84,105,109,101,115,99,97,108,101 } };
-#define c200 (octets_of_c200.octets)
-static const union { u8 octets[13]; u64 aligned; } octets_of_c200 = { { 116,105,109,101,84,114,97,99,101,97,98,108,101 } };
-#define c201 (octets_of_c201.octets)
-static const union { u8 octets[18]; u64 aligned; } octets_of_c201 = { { 102,114,101,113,117,101,110,99,121,84,114,97,99,101,97,98,108,101 } };
-#define c202 (octets_of_c202.octets)
-static const union { u8 octets[10]; u64 aligned; } octets_of_c202 = { { 116,105,109,101,83,111,117,114,99,101 } };
-#define c203 (octets_of_c203.octets)
-static const union { u8 octets[9]; u64 aligned; } octets_of_c203 = { { 112,111,114,116,83,116,97,116,101 } };
-#define c204 (octets_of_c204.octets)
-static const union { u8 octets[22]; u64 aligned; } octets_of_c204 = { { 108,111,103,77,105,110,68,101,108,97,121,82,101,113,73,110,116,101,114,118,97,108 } };
-#define c205 (octets_of_c205.octets)
-static const union { u8 octets[13]; u64 aligned; } octets_of_c205 = { { 109,101,97,110,76,105,110,107,68,101,108,97,121 } };
-#define c206 (octets_of_c206.octets)
-static const union { u8 octets[6]; u64 aligned; } octets_of_c206 = { { 118,97,108,117,101,32 } };
-#define c207 (octets_of_c207.octets)
-static const union { u8 octets[2]; u64 aligned; } octets_of_c207 = { { 48,120 } };
-#define c208 (octets_of_c208.octets)
-static const union { u8 octets[200]; u64 aligned; } octets_of_c208 = { { 48,48,48,49,48,50,48,51,48,52,48,53,48,54,48,55,48,56,48,57,49,48,49,49,49,50,49,51,49,52,49,53,49,54,49,55,49,56,49,57,50,48,50,49,50,50,50,51,50,52,50,53,50,54,50,55,50,56,50,57,51,48,51,49,51,50,51,51,51,52,51,53,51,54,51,55,51,56,51,57,52,48,52,49,52,50,52,51,52,52,52,53,52,54,52,55,52,56,52,57,53,48,53,49,53,50,53,51,53,52,53,53,53,54,53,55,53,56,53,57,54,48,54,49,54,50,54,51,54,52,54,53,54,54,54,55,54,56,54,57,55,48,55,49,55,50,55,51,55,52,55,53,55,54,55,55,55,56,55,57,56,48,56,49,56,50,56,51,56,52,56,53,56,54,56,55,56,56,56,57,57,48,57,49,57,50,57,51,57,52,57,53,57,54,57,55,57,56,57,57 } };
-#define c209 (octets_of_c209.octets)
-static const union { u8 octets[12]; u64 aligned; } octets_of_c209 = { { 73,78,73,84,73,65,76,73,90,73,78,71 } };
-#define c210 (octets_of_c210.octets)
-static const union { u8 octets[6]; u64 aligned; } octets_of_c210 = { { 70,65,85,76,84,89 } };
-#define c211 (octets_of_c211.octets)
-static const union { u8 octets[8]; u64 aligned; } octets_of_c211 = { { 68,73,83,65,66,76,69,68 } };
-#define c212 (octets_of_c212.octets)
-static const union { u8 octets[9]; u64 aligned; } octets_of_c212 = { { 76,73,83,84,69,78,73,78,71 } };
-#define c213 (octets_of_c213.octets)
-static const union { u8 octets[10]; u64 aligned; } octets_of_c213 = { { 80,82,69,95,77,65,83,84,69,82 } };
-#define c214 (octets_of_c214.octets)
-static const union { u8 octets[6]; u64 aligned; } octets_of_c214 = { { 77,65,83,84,69,82 } };
-#define c215 (octets_of_c215.octets)
-static const union { u8 octets[7]; u64 aligned; } octets_of_c215 = { { 80,65,83,83,73,86,69 } };
-#define c216 (octets_of_c216.octets)
-static const union { u8 octets[12]; u64 aligned; } octets_of_c216 = { { 85,78,67,65,76,73,66,82,65,84,69,68 } };
-#define c217 (octets_of_c217.octets)
-static const union { u8 octets[5]; u64 aligned; } octets_of_c217 = { { 83,76,65,86,69 } };
-#define c218 (octets_of_c218.octets)
-static const union { u8 octets[2]; u64 aligned; } octets_of_c218 = { { 92,120 } };
-#define c219 (octets_of_c219.octets)
-static const union { u8 octets[42]; u64 aligned; } octets_of_c219 = { { 0,0,2,0,0,32,1,32,2,32,3,32,4,32,5,32,6,32,7,32,8,32,9,32,10,32,11,32,12,32,13,32,14,32,16,32,17,32,0,96,1,96 } };
-#define c220 (octets_of_c220.octets)
-static const union { u8 octets[144]; u64 aligned; } octets_of_c220 = { { 16,0,0,0,0,0,0,0,216,0,0,0,0,0,0,0,16,0,0,0,0,0,0,0,88,0,0,0,0,0,0,0,16,0,0,0,0,0,0,0,12,0,0,0,0,0,0,0,196,5,0,0,0,0,0,0,12,0,0,0,0,0,0,0,16,0,0,0,0,0,0,0,26,0,0,0,0,0,0,0,16,0,0,0,0,0,0,0,16,0,0,0,0,0,0,0,10,0,0,0,0,0,0,0,8,0,3,0,0,0,0,0,24,0,0,0,0,0,0,0,16,0,0,0,0,0,0,0,36,0,0,0,0,0,0,0,24,0,0,0,0,0,0,0 } };
-#define c221 (octets_of_c221.octets)
-static const union { u8 octets[40]; u64 aligned; } octets_of_c221 = { { 19,0,0,0,0,0,0,0,22,0,0,0,0,0,0,0,15,0,0,0,0,0,0,0,14,0,0,0,0,0,0,0,23,0,0,0,0,0,0,0 } };
+static const union { u8 octets[23]; u64 aligned; } octets_of_c138 = { { 108,111,103,77,105,110,80,100,101,108,97,121,82,101,113,73,110,116,101,114,118,97,108 } };
 #if IS_LITTLE_ENDIAN
-static const struct form_of_c222 { slot slot0; slot slot8; slot slot16; slot slot24; slot slot32; } octets_of_c222;
-#define c222 ((const u8 *)&octets_of_c222)
+static const struct form_of_c139 { slot slot0; u8 octets8[1472]; } octets_of_c139;
+#define c139 ((const u8 *)&octets_of_c139)
 #else
-static union form_of_c222 { u8 octets[40]; u64 aligned; } octets_of_c222;
-#define c222 (octets_of_c222.octets)
+static union form_of_c139 { u8 octets[1480]; u64 aligned; } octets_of_c139;
+#define c139 (octets_of_c139.octets)
 #endif
+#define c140 (octets_of_c140.octets)
+static const union { u8 octets[12]; u64 aligned; } octets_of_c140 = { { 0,2,0,0,0,0,0,0,0,0,0,0 } };
+#define c141 (octets_of_c141.octets)
+static const union { u8 octets[16]; u64 aligned; } octets_of_c141 = { { 82,69,83,80,79,78,83,69,95,84,79,79,95,66,73,71 } };
+#define c142 (octets_of_c142.octets)
+static const union { u8 octets[10]; u64 aligned; } octets_of_c142 = { { 78,79,95,83,85,67,72,95,73,68 } };
+#define c143 (octets_of_c143.octets)
+static const union { u8 octets[12]; u64 aligned; } octets_of_c143 = { { 87,82,79,78,71,95,76,69,78,71,84,72 } };
+#define c144 (octets_of_c144.octets)
+static const union { u8 octets[11]; u64 aligned; } octets_of_c144 = { { 87,82,79,78,71,95,86,65,76,85,69 } };
+#define c145 (octets_of_c145.octets)
+static const union { u8 octets[11]; u64 aligned; } octets_of_c145 = { { 78,79,84,95,83,69,84,65,66,76,69 } };
+#define c146 (octets_of_c146.octets)
+static const union { u8 octets[13]; u64 aligned; } octets_of_c146 = { { 78,79,84,95,83,85,80,80,79,82,84,69,68 } };
+#define c147 (octets_of_c147.octets)
+static const union { u8 octets[13]; u64 aligned; } octets_of_c147 = { { 71,69,78,69,82,65,76,95,69,82,82,79,82 } };
+#define c148 (octets_of_c148.octets)
+static const union { u8 octets[6]; u64 aligned; } octets_of_c148 = { { 0,2,0,0,11,0 } };
+#define c149 (octets_of_c149.octets)
+static const union { u8 octets[60]; u64 aligned; } octets_of_c149 = { { 0,3,0,0,3,1,2,0,0,0,3,2,1,0,0,2,0,2,0,4,0,4,0,1,0,5,0,5,0,1,0,6,0,6,1,1,0,7,0,7,1,2,0,8,0,9,0,1,0,0,0,10,7,0,0,1,0,18,0,1 } };
+#define c150 (octets_of_c150.octets)
+static const union { u8 octets[18]; u64 aligned; } octets_of_c150 = { { 0,9,0,0,0,2,0,10,0,2,6,0,0,11,0,10,6,0 } };
+#define c151 (octets_of_c151.octets)
+static const union { u8 octets[60]; u64 aligned; } octets_of_c151 = { { 0,12,0,0,8,0,0,13,0,10,3,1,0,14,0,12,1,2,0,15,0,14,2,4,0,16,0,18,0,1,0,17,0,19,0,1,0,18,0,20,1,1,0,19,0,21,1,2,0,20,0,23,0,1,0,21,0,24,7,0 } };
+#define c152 (octets_of_c152.octets)
+static const union { u8 octets[48]; u64 aligned; } octets_of_c152 = { { 0,22,0,0,2,2,0,23,0,2,3,1,0,24,0,2,3,2,0,25,0,2,3,4,0,26,0,2,3,8,0,27,0,2,3,16,0,28,0,2,3,32,0,29,0,3,1,1 } };
+#define c153 (octets_of_c153.octets)
+static const union { u8 octets[60]; u64 aligned; } octets_of_c153 = { { 3,0,0,0,8,0,0,30,0,10,9,0,0,31,0,11,2,1,0,32,0,12,6,0,0,33,0,20,2,1,0,33,1,21,0,1,0,33,2,22,2,1,0,33,3,23,10,0,0,33,4,24,2,1,4,0,0,25,5,0 } };
+#define c154 (octets_of_c154.octets)
+static const union { u8 octets[6]; u64 aligned; } octets_of_c154 = { { 0,4,0,0,0,1 } };
+#define c155 (octets_of_c155.octets)
+static const union { u8 octets[6]; u64 aligned; } octets_of_c155 = { { 0,8,0,0,0,1 } };
+#define c156 (octets_of_c156.octets)
+static const union { u8 octets[6]; u64 aligned; } octets_of_c156 = { { 0,1,0,0,0,1 } };
+#define c157 (octets_of_c157.octets)
+static const union { u8 octets[6]; u64 aligned; } octets_of_c157 = { { 2,0,0,0,4,0 } };
+#define c158 (octets_of_c158.octets)
+static const union { u8 octets[6]; u64 aligned; } octets_of_c158 = { { 0,33,0,0,2,1 } };
+#define c159 (octets_of_c159.octets)
+static const union { u8 octets[6]; u64 aligned; } octets_of_c159 = { { 0,33,1,0,0,1 } };
+#define c160 (octets_of_c160.octets)
+static const union { u8 octets[6]; u64 aligned; } octets_of_c160 = { { 0,33,2,0,2,1 } };
+#define c161 (octets_of_c161.octets)
+static const union { u8 octets[6]; u64 aligned; } octets_of_c161 = { { 0,33,3,0,10,0 } };
+#define c162 (octets_of_c162.octets)
+static const union { u8 octets[6]; u64 aligned; } octets_of_c162 = { { 0,33,4,0,2,1 } };
+#define c163 (octets_of_c163.octets)
+static const union { u8 octets[6]; u64 aligned; } octets_of_c163 = { { 4,0,0,0,5,0 } };
+#define c164 (octets_of_c164.octets)
+static const union { u8 octets[6]; u64 aligned; } octets_of_c164 = { { 5,0,0,0,1,1 } };
+#define c165 (octets_of_c165.octets)
+static const union { u8 octets[24]; u64 aligned; } octets_of_c165 = { { 0,22,0,0,2,2,0,23,0,2,3,1,0,24,0,2,3,2,0,25,0,2,3,4 } };
+#define c166 (octets_of_c166.octets)
+static const union { u8 octets[4]; u64 aligned; } octets_of_c166 = { { 116,114,117,101 } };
+#define c167 (octets_of_c167.octets)
+static const union { u8 octets[5]; u64 aligned; } octets_of_c167 = { { 102,97,108,115,101 } };
+#define c168 (octets_of_c168.octets)
+static const union { u8 octets[3]; u64 aligned; } octets_of_c168 = { { 69,50,69 } };
+#define c169 (octets_of_c169.octets)
+static const union { u8 octets[3]; u64 aligned; } octets_of_c169 = { { 80,50,80 } };
+#define c170 (octets_of_c170.octets)
+static const union { u8 octets[12]; u64 aligned; } octets_of_c170 = { { 78,79,95,77,69,67,72,65,78,73,83,77 } };
+#define c171 (octets_of_c171.octets)
+static const union { u8 octets[11]; u64 aligned; } octets_of_c171 = { { 110,117,109,98,101,114,80,111,114,116,115 } };
+#define c172 (octets_of_c172.octets)
+static const union { u8 octets[9]; u64 aligned; } octets_of_c172 = { { 115,108,97,118,101,79,110,108,121 } };
+#define c173 (octets_of_c173.octets)
+static const union { u8 octets[12]; u64 aligned; } octets_of_c173 = { { 112,111,114,116,73,100,101,110,116,105,116,121 } };
+#define c174 (octets_of_c174.octets)
+static const union { u8 octets[13]; u64 aligned; } octets_of_c174 = { { 118,101,114,115,105,111,110,78,117,109,98,101,114 } };
+#define c175 (octets_of_c175.octets)
+static const union { u8 octets[13]; u64 aligned; } octets_of_c175 = { { 99,108,111,99,107,65,99,99,117,114,97,99,121 } };
+#define c176 (octets_of_c176.octets)
+static const union { u8 octets[13]; u64 aligned; } octets_of_c176 = { { 99,108,111,99,107,73,100,101,110,116,105,116,121 } };
+#define c177 (octets_of_c177.octets)
+static const union { u8 octets[12]; u64 aligned; } octets_of_c177 = { { 100,111,109,97,105,110,78,117,109,98,101,114 } };
+#define c178 (octets_of_c178.octets)
+static const union { u8 octets[15]; u64 aligned; } octets_of_c178 = { { 117,115,101,114,68,101,115,99,114,105,112,116,105,111,110 } };
+#define c179 (octets_of_c179.octets)
+static const union { u8 octets[11]; u64 aligned; } octets_of_c179 = { { 116,119,111,83,116,101,112,70,108,97,103 } };
+#define c180 (octets_of_c180.octets)
+static const union { u8 octets[9]; u64 aligned; } octets_of_c180 = { { 112,114,105,111,114,105,116,121,49 } };
+#define c181 (octets_of_c181.octets)
+static const union { u8 octets[23]; u64 aligned; } octets_of_c181 = { { 99,108,111,99,107,81,117,97,108,105,116,121,46,99,108,111,99,107,67,108,97,115,115 } };
+#define c182 (octets_of_c182.octets)
+static const union { u8 octets[26]; u64 aligned; } octets_of_c182 = { { 99,108,111,99,107,81,117,97,108,105,116,121,46,99,108,111,99,107,65,99,99,117,114,97,99,121 } };
+#define c183 (octets_of_c183.octets)
+static const union { u8 octets[36]; u64 aligned; } octets_of_c183 = { { 99,108,111,99,107,81,117,97,108,105,116,121,46,111,102,102,115,101,116,83,99,97,108,101,100,76,111,103,86,97,114,105,97,110,99,101 } };
+#define c184 (octets_of_c184.octets)
+static const union { u8 octets[9]; u64 aligned; } octets_of_c184 = { { 112,114,105,111,114,105,116,121,50 } };
+#define c185 (octets_of_c185.octets)
+static const union { u8 octets[12]; u64 aligned; } octets_of_c185 = { { 115,116,101,112,115,82,101,109,111,118,101,100 } };
+#define c186 (octets_of_c186.octets)
+static const union { u8 octets[16]; u64 aligned; } octets_of_c186 = { { 111,102,102,115,101,116,70,114,111,109,77,97,115,116,101,114 } };
+#define c187 (octets_of_c187.octets)
+static const union { u8 octets[9]; u64 aligned; } octets_of_c187 = { { 109,101,97,110,68,101,108,97,121 } };
+#define c188 (octets_of_c188.octets)
+static const union { u8 octets[18]; u64 aligned; } octets_of_c188 = { { 112,97,114,101,110,116,80,111,114,116,73,100,101,110,116,105,116,121 } };
+#define c189 (octets_of_c189.octets)
+static const union { u8 octets[11]; u64 aligned; } octets_of_c189 = { { 112,97,114,101,110,116,83,116,97,116,115 } };
+#define c190 (octets_of_c190.octets)
+static const union { u8 octets[37]; u64 aligned; } octets_of_c190 = { { 111,98,115,101,114,118,101,100,80,97,114,101,110,116,79,102,102,115,101,116,83,99,97,108,101,100,76,111,103,86,97,114,105,97,110,99,101 } };
+#define c191 (octets_of_c191.octets)
+static const union { u8 octets[34]; u64 aligned; } octets_of_c191 = { { 111,98,115,101,114,118,101,100,80,97,114,101,110,116,67,108,111,99,107,80,104,97,115,101,67,104,97,110,103,101,82,97,116,101 } };
+#define c192 (octets_of_c192.octets)
+static const union { u8 octets[20]; u64 aligned; } octets_of_c192 = { { 103,114,97,110,100,109,97,115,116,101,114,80,114,105,111,114,105,116,121,49 } };
+#define c193 (octets_of_c193.octets)
+static const union { u8 octets[34]; u64 aligned; } octets_of_c193 = { { 103,114,97,110,100,109,97,115,116,101,114,67,108,111,99,107,81,117,97,108,105,116,121,46,99,108,111,99,107,67,108,97,115,115 } };
+#define c194 (octets_of_c194.octets)
+static const union { u8 octets[37]; u64 aligned; } octets_of_c194 = { { 103,114,97,110,100,109,97,115,116,101,114,67,108,111,99,107,81,117,97,108,105,116,121,46,99,108,111,99,107,65,99,99,117,114,97,99,121 } };
+#define c195 (octets_of_c195.octets)
+static const union { u8 octets[47]; u64 aligned; } octets_of_c195 = { { 103,114,97,110,100,109,97,115,116,101,114,67,108,111,99,107,81,117,97,108,105,116,121,46,111,102,102,115,101,116,83,99,97,108,101,100,76,111,103,86,97,114,105,97,110,99,101 } };
+#define c196 (octets_of_c196.octets)
+static const union { u8 octets[20]; u64 aligned; } octets_of_c196 = { { 103,114,97,110,100,109,97,115,116,101,114,80,114,105,111,114,105,116,121,50 } };
+#define c197 (octets_of_c197.octets)
+static const union { u8 octets[19]; u64 aligned; } octets_of_c197 = { { 103,114,97,110,100,109,97,115,116,101,114,73,100,101,110,116,105,116,121 } };
+#define c198 (octets_of_c198.octets)
+static const union { u8 octets[16]; u64 aligned; } octets_of_c198 = { { 99,117,114,114,101,110,116,85,116,99,79,102,102,115,101,116 } };
+#define c199 (octets_of_c199.octets)
+static const union { u8 octets[6]; u64 aligned; } octets_of_c199 = { { 108,101,97,112,54,49 } };
+#define c200 (octets_of_c200.octets)
+static const union { u8 octets[6]; u64 aligned; } octets_of_c200 = { { 108,101,97,112,53,57 } };
+#define c201 (octets_of_c201.octets)
+static const union { u8 octets[21]; u64 aligned; } octets_of_c201 = { { 99,117,114,114,101,110,116,85,116,99,79,102,102,115,101,116,86,97,108,105,100 } };
+#define c202 (octets_of_c202.octets)
+static const union { u8 octets[12]; u64 aligned; } octets_of_c202 = { { 112,116,112,84,105,109,101,115,99,97,108,101 } };
+#define c203 (octets_of_c203.octets)
+static const union { u8 octets[13]; u64 aligned; } octets_of_c203 = { { 116,105,109,101,84,114,97,99,101,97,98,108,101 } };
+#define c204 (octets_of_c204.octets)
+static const union { u8 octets[18]; u64 aligned; } octets_of_c204 = { { 102,114,101,113,117,101,110,99,121,84,114,97,99,101,97,98,108,101 } };
+#define c205 (octets_of_c205.octets)
+static const union { u8 octets[10]; u64 aligned; } octets_of_c205 = { { 116,105,109,101,83,111,117,114,99,101 } };
+#define c206 (octets_of_c206.octets)
+static const union { u8 octets[9]; u64 aligned; } octets_of_c206 = { { 112,111,114,116,83,116,97,116,101 } };
+#define c207 (octets_of_c207.octets)
+static const union { u8 octets[22]; u64 aligned; } octets_of_c207 = { { 108,111,103,77,105,110,68,101,108,97,121,82,101,113,73,110,116,101,114,118,97,108 } };
+#define c208 (octets_of_c208.octets)
+static const union { u8 octets[13]; u64 aligned; } octets_of_c208 = { { 109,101,97,110,76,105,110,107,68,101,108,97,121 } };
+#define c209 (octets_of_c209.octets)
+static const union { u8 octets[6]; u64 aligned; } octets_of_c209 = { { 118,97,108,117,101,32 } };
+#define c210 (octets_of_c210.octets)
+static const union { u8 octets[2]; u64 aligned; } octets_of_c210 = { { 48,120 } };
+#define c211 (octets_of_c211.octets)
+static const union { u8 octets[200]; u64 aligned; } octets_of_c211 = { { 48,48,48,49,48,50,48,51,48,52,48,53,48,54,48,55,48,56,48,57,49,48,49,49,49,50,49,51,49,52,49,53,49,54,49,55,49,56,49,57,50,48,50,49,50,50,50,51,50,52,50,53,50,54,50,55,50,56,50,57,51,48,51,49,51,50,51,51,51,52,51,53,51,54,51,55,51,56,51,57,52,48,52,49,52,50,52,51,52,52,52,53,52,54,52,55,52,56,52,57,53,48,53,49,53,50,53,51,53,52,53,53,53,54,53,55,53,56,53,57,54,48,54,49,54,50,54,51,54,52,54,53,54,54,54,55,54,56,54,57,55,48,55,49,55,50,55,51,55,52,55,53,55,54,55,55,55,56,55,57,56,48,56,49,56,50,56,51,56,52,56,53,56,54,56,55,56,56,56,57,57,48,57,49,57,50,57,51,57,52,57,53,57,54,57,55,57,56,57,57 } };
+#define c212 (octets_of_c212.octets)
+static const union { u8 octets[12]; u64 aligned; } octets_of_c212 = { { 73,78,73,84,73,65,76,73,90,73,78,71 } };
+#define c213 (octets_of_c213.octets)
+static const union { u8 octets[6]; u64 aligned; } octets_of_c213 = { { 70,65,85,76,84,89 } };
+#define c214 (octets_of_c214.octets)
+static const union { u8 octets[8]; u64 aligned; } octets_of_c214 = { { 68,73,83,65,66,76,69,68 } };
+#define c215 (octets_of_c215.octets)
+static const union { u8 octets[9]; u64 aligned; } octets_of_c215 = { { 76,73,83,84,69,78,73,78,71 } };
+#define c216 (octets_of_c216.octets)
+static const union { u8 octets[10]; u64 aligned; } octets_of_c216 = { { 80,82,69,95,77,65,83,84,69,82 } };
+#define c217 (octets_of_c217.octets)
+static const union { u8 octets[6]; u64 aligned; } octets_of_c217 = { { 77,65,83,84,69,82 } };
+#define c218 (octets_of_c218.octets)
+static const union { u8 octets[7]; u64 aligned; } octets_of_c218 = { { 80,65,83,83,73,86,69 } };
+#define c219 (octets_of_c219.octets)
+static const union { u8 octets[12]; u64 aligned; } octets_of_c219 = { { 85,78,67,65,76,73,66,82,65,84,69,68 } };
+#define c220 (octets_of_c220.octets)
+static const union { u8 octets[5]; u64 aligned; } octets_of_c220 = { { 83,76,65,86,69 } };
+#define c221 (octets_of_c221.octets)
+static const union { u8 octets[2]; u64 aligned; } octets_of_c221 = { { 92,120 } };
+#define c222 (octets_of_c222.octets)
+static const union { u8 octets[42]; u64 aligned; } octets_of_c222 = { { 0,0,2,0,0,32,1,32,2,32,3,32,4,32,5,32,6,32,7,32,8,32,9,32,10,32,11,32,12,32,13,32,14,32,16,32,17,32,0,96,1,96 } };
 #define c223 (octets_of_c223.octets)
-static const union { u8 octets[14]; u64 aligned; } octets_of_c223 = { { 1,0,2,0,3,0,4,0,5,0,6,0,254,255 } };
+static const union { u8 octets[4]; u64 aligned; } octets_of_c223 = { { 112,116,112,115 } };
 #define c224 (octets_of_c224.octets)
-static const union { u8 octets[20]; u64 aligned; } octets_of_c224 = { { 0,0,0,0,1,0,0,0,2,0,0,0,3,0,0,0,3,0,0,0 } };
+static const union { u8 octets[4]; u64 aligned; } octets_of_c224 = { { 112,116,112,109 } };
 #define c225 (octets_of_c225.octets)
-static const union { u8 octets[12]; u64 aligned; } octets_of_c225 = { { 51,0,0,0,52,0,0,0,35,0,0,0 } };
+static const union { u8 octets[144]; u64 aligned; } octets_of_c225 = { { 16,0,0,0,0,0,0,0,216,0,0,0,0,0,0,0,16,0,0,0,0,0,0,0,88,0,0,0,0,0,0,0,16,0,0,0,0,0,0,0,12,0,0,0,0,0,0,0,196,5,0,0,0,0,0,0,12,0,0,0,0,0,0,0,16,0,0,0,0,0,0,0,26,0,0,0,0,0,0,0,16,0,0,0,0,0,0,0,16,0,0,0,0,0,0,0,10,0,0,0,0,0,0,0,8,0,3,0,0,0,0,0,24,0,0,0,0,0,0,0,16,0,0,0,0,0,0,0,36,0,0,0,0,0,0,0,24,0,0,0,0,0,0,0 } };
 #define c226 (octets_of_c226.octets)
-static const union { u8 octets[72]; u64 aligned; } octets_of_c226 = { { 13,0,0,0,0,0,0,0,0,0,0,0,0,0,0,0,0,0,0,0,0,0,0,0,16,0,0,0,0,0,0,0,10,0,0,0,0,0,0,0,12,0,0,0,0,0,0,0,11,0,0,0,0,0,0,0,11,0,0,0,0,0,0,0,13,0,0,0,0,0,0,0 } };
+static const union { u8 octets[40]; u64 aligned; } octets_of_c226 = { { 19,0,0,0,0,0,0,0,22,0,0,0,0,0,0,0,15,0,0,0,0,0,0,0,14,0,0,0,0,0,0,0,23,0,0,0,0,0,0,0 } };
 #if IS_LITTLE_ENDIAN
-static const struct form_of_c227 { slot slot0; u8 octets8[16]; slot slot24; slot slot32; slot slot40; slot slot48; slot slot56; slot slot64; } octets_of_c227;
+static const struct form_of_c227 { slot slot0; slot slot8; slot slot16; slot slot24; slot slot32; } octets_of_c227;
 #define c227 ((const u8 *)&octets_of_c227)
 #else
-static union form_of_c227 { u8 octets[72]; u64 aligned; } octets_of_c227;
+static union form_of_c227 { u8 octets[40]; u64 aligned; } octets_of_c227;
 #define c227 (octets_of_c227.octets)
 #endif
-#if IS_LITTLE_ENDIAN
-static const struct form_of_c228 { slot slot0; slot slot8; slot slot16; slot slot24; slot slot32; } octets_of_c228;
-#define c228 ((const u8 *)&octets_of_c228)
-#else
-static union form_of_c228 { u8 octets[40]; u64 aligned; } octets_of_c228;
 #define c228 (octets_of_c228.octets)
-#endif
+static const union { u8 octets[14]; u64 aligned; } octets_of_c228 = { { 1,0,2,0,3,0,4,0,5,0,6,0,254,255 } };
 #define c229 (octets_of_c229.octets)
-static const union { u8 octets[72]; u64 aligned; } octets_of_c229 = { { 12,0,0,0,0,0,0,0,6,0,0,0,0,0,0,0,8,0,0,0,0,0,0,0,9,0,0,0,0,0,0,0,10,0,0,0,0,0,0,0,6,0,0,0,0,0,0,0,7,0,0,0,0,0,0,0,12,0,0,0,0,0,0,0,5,0,0,0,0,0,0,0 } };
-#if IS_LITTLE_ENDIAN
-static const struct form_of_c230 { slot slot0; slot slot8; slot slot16; slot slot24; slot slot32; slot slot40; slot slot48; slot slot56; slot slot64; } octets_of_c230;
-#define c230 ((const u8 *)&octets_of_c230)
-#else
-static union form_of_c230 { u8 octets[72]; u64 aligned; } octets_of_c230;
+static const union { u8 octets[20]; u64 aligned; } octets_of_c229 = { { 0,0,0,0,1,0,0,0,2,0,0,0,3,0,0,0,3,0,0,0 } };
 #define c230 (octets_of_c230.octets)
-#endif
+static const union { u8 octets[12]; u64 aligned; } octets_of_c230 = { { 51,0,0,0,52,0,0,0,35,0,0,0 } };
 #define c231 (octets_of_c231.octets)
-static const union { u8 octets[24]; u64 aligned; } octets_of_c231 = { { 104,0,0,0,105,0,0,0,106,0,0,0,107,0,0,0,110,0,0,0,35,0,0,0 } };
+static const union { u8 octets[72]; u64 aligned; } octets_of_c231 = { { 13,0,0,0,0,0,0,0,0,0,0,0,0,0,0,0,0,0,0,0,0,0,0,0,16,0,0,0,0,0,0,0,10,0,0,0,0,0,0,0,12,0,0,0,0,0,0,0,11,0,0,0,0,0,0,0,11,0,0,0,0,0,0,0,13,0,0,0,0,0,0,0 } };
+#if IS_LITTLE_ENDIAN
+static const struct form_of_c232 { slot slot0; u8 octets8[16]; slot slot24; slot slot32; slot slot40; slot slot48; slot slot56; slot slot64; } octets_of_c232;
+#define c232 ((const u8 *)&octets_of_c232)
+#else
+static union form_of_c232 { u8 octets[72]; u64 aligned; } octets_of_c232;
 #define c232 (octets_of_c232.octets)
-static const union { u8 octets[24]; u64 aligned; } octets_of_c232 = { { 38,0,0,0,39,0,0,0,40,0,0,0,41,0,0,0,42,0,0,0,35,0,0,0 } };
-#if IS_LITTLE_ENDIAN
-static const struct form_of_c109 octets_of_c109 = { SLOT(c109 + 8), { 112,116,112,109,0,0,0,0 } };
-#else
-static union form_of_c109 octets_of_c109 = { { 0,0,0,0,0,0,0,0,112,116,112,109,0,0,0,0 } };
 #endif
 #if IS_LITTLE_ENDIAN
-static const struct form_of_c136 octets_of_c136 = { SLOT(c136 + 8), { 0 } };
+static const struct form_of_c233 { slot slot0; slot slot8; slot slot16; slot slot24; slot slot32; } octets_of_c233;
+#define c233 ((const u8 *)&octets_of_c233)
 #else
-static union form_of_c136 octets_of_c136 = { { 0 } };
+static union form_of_c233 { u8 octets[40]; u64 aligned; } octets_of_c233;
+#define c233 (octets_of_c233.octets)
+#endif
+#define c234 (octets_of_c234.octets)
+static const union { u8 octets[72]; u64 aligned; } octets_of_c234 = { { 12,0,0,0,0,0,0,0,6,0,0,0,0,0,0,0,8,0,0,0,0,0,0,0,9,0,0,0,0,0,0,0,10,0,0,0,0,0,0,0,6,0,0,0,0,0,0,0,7,0,0,0,0,0,0,0,12,0,0,0,0,0,0,0,5,0,0,0,0,0,0,0 } };
+#if IS_LITTLE_ENDIAN
+static const struct form_of_c235 { slot slot0; slot slot8; slot slot16; slot slot24; slot slot32; slot slot40; slot slot48; slot slot56; slot slot64; } octets_of_c235;
+#define c235 ((const u8 *)&octets_of_c235)
+#else
+static union form_of_c235 { u8 octets[72]; u64 aligned; } octets_of_c235;
+#define c235 (octets_of_c235.octets)
+#endif
+#define c236 (octets_of_c236.octets)
+static const union { u8 octets[24]; u64 aligned; } octets_of_c236 = { { 104,0,0,0,105,0,0,0,106,0,0,0,107,0,0,0,110,0,0,0,35,0,0,0 } };
+#define c237 (octets_of_c237.octets)
+static const union { u8 octets[9]; u64 aligned; } octets_of_c237 = { { 6,0,0,0,0,0,3,4,5 } };
+#define c238 (octets_of_c238.octets)
+static const union { u8 octets[24]; u64 aligned; } octets_of_c238 = { { 38,0,0,0,39,0,0,0,40,0,0,0,41,0,0,0,42,0,0,0,35,0,0,0 } };
+#if IS_LITTLE_ENDIAN
+static const struct form_of_c112 octets_of_c112 = { SLOT(c112 + 8), { 112,116,112,109,0,0,0,0 } };
+#else
+static union form_of_c112 octets_of_c112 = { { 0,0,0,0,0,0,0,0,112,116,112,109,0,0,0,0 } };
 #endif
 #if IS_LITTLE_ENDIAN
-static const struct form_of_c222 octets_of_c222 = { SLOT(c127 + 0), SLOT(c129 + 0), SLOT(c131 + 0), SLOT(c133 + 0), SLOT(c135 + 0) };
+static const struct form_of_c139 octets_of_c139 = { SLOT(c139 + 8), { 0 } };
 #else
-static union form_of_c222 octets_of_c222 = { { 0 } };
+static union form_of_c139 octets_of_c139 = { { 0 } };
 #endif
 #if IS_LITTLE_ENDIAN
-static const struct form_of_c227 octets_of_c227 = { SLOT(c144 + 0), { 0 }, SLOT(c138 + 0), SLOT(c139 + 0), SLOT(c140 + 0), SLOT(c141 + 0), SLOT(c142 + 0), SLOT(c143 + 0) };
+static const struct form_of_c227 octets_of_c227 = { SLOT(c130 + 0), SLOT(c132 + 0), SLOT(c134 + 0), SLOT(c136 + 0), SLOT(c138 + 0) };
 #else
 static union form_of_c227 octets_of_c227 = { { 0 } };
 #endif
 #if IS_LITTLE_ENDIAN
-static const struct form_of_c228 octets_of_c228 = { SLOT(c155 + 0), SLOT(c156 + 0), SLOT(c157 + 0), SLOT(c158 + 0), SLOT(c159 + 0) };
+static const struct form_of_c232 octets_of_c232 = { SLOT(c147 + 0), { 0 }, SLOT(c141 + 0), SLOT(c142 + 0), SLOT(c143 + 0), SLOT(c144 + 0), SLOT(c145 + 0), SLOT(c146 + 0) };
 #else
-static union form_of_c228 octets_of_c228 = { { 0 } };
+static union form_of_c232 octets_of_c232 = { { 0 } };
 #endif
 #if IS_LITTLE_ENDIAN
-static const struct form_of_c230 octets_of_c230 = { SLOT(c209 + 0), SLOT(c210 + 0), SLOT(c211 + 0), SLOT(c212 + 0), SLOT(c213 + 0), SLOT(c214 + 0), SLOT(c215 + 0), SLOT(c216 + 0), SLOT(c217 + 0) };
+static const struct form_of_c233 octets_of_c233 = { SLOT(c158 + 0), SLOT(c159 + 0), SLOT(c160 + 0), SLOT(c161 + 0), SLOT(c162 + 0) };
 #else
-static union form_of_c230 octets_of_c230 = { { 0 } };
+static union form_of_c233 octets_of_c233 = { { 0 } };
+#endif
+#if IS_LITTLE_ENDIAN
+static const struct form_of_c235 octets_of_c235 = { SLOT(c212 + 0), SLOT(c213 + 0), SLOT(c214 + 0), SLOT(c215 + 0), SLOT(c216 + 0), SLOT(c217 + 0), SLOT(c218 + 0), SLOT(c219 + 0), SLOT(c220 + 0) };
+#else
+static union form_of_c235 octets_of_c235 = { { 0 } };
 #endif
 
 #if !IS_LITTLE_ENDIAN
 void portable_fill(void);
 void portable_fill(void) {
-    store_address(ADDRESS(c109) + 0u, ADDRESS(c109) + 8u);
-    store_address(ADDRESS(c136) + 0u, ADDRESS(c136) + 8u);
-    store_address(ADDRESS(c222) + 0u, ADDRESS(c127) + 0u);
-    store_address(ADDRESS(c222) + 8u, ADDRESS(c129) + 0u);
-    store_address(ADDRESS(c222) + 16u, ADDRESS(c131) + 0u);
-    store_address(ADDRESS(c222) + 24u, ADDRESS(c133) + 0u);
-    store_address(ADDRESS(c222) + 32u, ADDRESS(c135) + 0u);
-    store_address(ADDRESS(c227) + 0u, ADDRESS(c144) + 0u);
-    store_address(ADDRESS(c227) + 24u, ADDRESS(c138) + 0u);
-    store_address(ADDRESS(c227) + 32u, ADDRESS(c139) + 0u);
-    store_address(ADDRESS(c227) + 40u, ADDRESS(c140) + 0u);
-    store_address(ADDRESS(c227) + 48u, ADDRESS(c141) + 0u);
-    store_address(ADDRESS(c227) + 56u, ADDRESS(c142) + 0u);
-    store_address(ADDRESS(c227) + 64u, ADDRESS(c143) + 0u);
-    store_address(ADDRESS(c228) + 0u, ADDRESS(c155) + 0u);
-    store_address(ADDRESS(c228) + 8u, ADDRESS(c156) + 0u);
-    store_address(ADDRESS(c228) + 16u, ADDRESS(c157) + 0u);
-    store_address(ADDRESS(c228) + 24u, ADDRESS(c158) + 0u);
-    store_address(ADDRESS(c228) + 32u, ADDRESS(c159) + 0u);
-    store_address(ADDRESS(c230) + 0u, ADDRESS(c209) + 0u);
-    store_address(ADDRESS(c230) + 8u, ADDRESS(c210) + 0u);
-    store_address(ADDRESS(c230) + 16u, ADDRESS(c211) + 0u);
-    store_address(ADDRESS(c230) + 24u, ADDRESS(c212) + 0u);
-    store_address(ADDRESS(c230) + 32u, ADDRESS(c213) + 0u);
-    store_address(ADDRESS(c230) + 40u, ADDRESS(c214) + 0u);
-    store_address(ADDRESS(c230) + 48u, ADDRESS(c215) + 0u);
-    store_address(ADDRESS(c230) + 56u, ADDRESS(c216) + 0u);
-    store_address(ADDRESS(c230) + 64u, ADDRESS(c217) + 0u);
+    store_address(ADDRESS(c112) + 0u, ADDRESS(c112) + 8u);
+    store_address(ADDRESS(c139) + 0u, ADDRESS(c139) + 8u);
+    store_address(ADDRESS(c227) + 0u, ADDRESS(c130) + 0u);
+    store_address(ADDRESS(c227) + 8u, ADDRESS(c132) + 0u);
+    store_address(ADDRESS(c227) + 16u, ADDRESS(c134) + 0u);
+    store_address(ADDRESS(c227) + 24u, ADDRESS(c136) + 0u);
+    store_address(ADDRESS(c227) + 32u, ADDRESS(c138) + 0u);
+    store_address(ADDRESS(c232) + 0u, ADDRESS(c147) + 0u);
+    store_address(ADDRESS(c232) + 24u, ADDRESS(c141) + 0u);
+    store_address(ADDRESS(c232) + 32u, ADDRESS(c142) + 0u);
+    store_address(ADDRESS(c232) + 40u, ADDRESS(c143) + 0u);
+    store_address(ADDRESS(c232) + 48u, ADDRESS(c144) + 0u);
+    store_address(ADDRESS(c232) + 56u, ADDRESS(c145) + 0u);
+    store_address(ADDRESS(c232) + 64u, ADDRESS(c146) + 0u);
+    store_address(ADDRESS(c233) + 0u, ADDRESS(c158) + 0u);
+    store_address(ADDRESS(c233) + 8u, ADDRESS(c159) + 0u);
+    store_address(ADDRESS(c233) + 16u, ADDRESS(c160) + 0u);
+    store_address(ADDRESS(c233) + 24u, ADDRESS(c161) + 0u);
+    store_address(ADDRESS(c233) + 32u, ADDRESS(c162) + 0u);
+    store_address(ADDRESS(c235) + 0u, ADDRESS(c212) + 0u);
+    store_address(ADDRESS(c235) + 8u, ADDRESS(c213) + 0u);
+    store_address(ADDRESS(c235) + 16u, ADDRESS(c214) + 0u);
+    store_address(ADDRESS(c235) + 24u, ADDRESS(c215) + 0u);
+    store_address(ADDRESS(c235) + 32u, ADDRESS(c216) + 0u);
+    store_address(ADDRESS(c235) + 40u, ADDRESS(c217) + 0u);
+    store_address(ADDRESS(c235) + 48u, ADDRESS(c218) + 0u);
+    store_address(ADDRESS(c235) + 56u, ADDRESS(c219) + 0u);
+    store_address(ADDRESS(c235) + 64u, ADDRESS(c220) + 0u);
 }
 #endif
 
@@ -607,50 +619,65 @@ static struct s3 f30(address a0, address a1);
 static void f31(address a0, address a1);
 static u8 f32(address a0, u64 a1, address a2);
 static u8 f33(address a0, address a1);
-static void f34(address a0, address a1, u64 a2);
-static void f35(address a0, u64 a1, u16 a2, u16 a3, address a4, u64 a5);
-static u8 f36(address a0);
-static void f37(address a0, address a1, address a2, u64 a3, address a4);
-static struct s4 f38(u16 a0, address a1, u64 a2);
-static struct s2 f39(address a0, u64 a1);
+static void f34(address a0, address a1, u16 a2, address a3, address a4);
+static void f35(address a0, address a1, u64 a2);
+static void f36(address a0, u64 a1, u16 a2, u16 a3, address a4, u64 a5);
+static u8 f37(address a0);
+static void f38(address a0, address a1, address a2, u64 a3, address a4);
+static struct s4 f39(u16 a0, address a1, u64 a2);
 static struct s2 f40(address a0, u64 a1);
-static struct s5 f41(address a0);
-static u64 f42(u16 a0, address a1);
-static void f43(u64 a0, address a1);
-static u32 f44(address a0, address a1);
-static void f45(address a0, address a1);
-static void f46(address a0, u64 a1);
-static struct s2 f47(address a0, address a1);
-static struct s2 f48(address a0, u8 a1, u16 a2, u8 a3, u16 a4, address a5, u64 a6);
+static struct s2 f41(address a0, u64 a1);
+static struct s5 f42(address a0);
+static u64 f43(u16 a0, address a1);
+static void f44(u64 a0, address a1);
+static u32 f45(address a0, u64 a1, address a2, u64 a3);
+static void f46(address a0, address a1, u64 a2);
+static u8 f47(address a0, u64 a1, address a2);
+static u32 f48(address a0, address a1);
 static void f49(address a0, address a1, address a2, u64 a3);
-static struct s2 f50(address a0, address a1, address a2);
-static void f51(address a0, address a1, address a2, u64 a3);
-static void f52(address a0, address a1, address a2, u64 a3, u16 a4, u8 a5);
-static u32 f53(address a0, u16 a1, address a2, u64 a3, address a4, u64 a5, address a6);
-static u32 f54(address a0, u16 a1, address a2, u64 a3, address a4, u64 a5, address a6);
-static u32 f55(address a0, u16 a1, address a2, u64 a3, address a4, u64 a5, address a6);
-static void f56(address a0, address a1, u16 a2, address a3, u64 a4, address a5, u64 a6);
-static struct s2 f57(address a0, address a1, u16 a2, address a3);
-static void f58(address a0, u16 a1, address a2, u8 a3, address a4);
-static void f59(address a0, address a1, u8 a2, address a3);
-static void f60(address a0, u16 a1, u16 a2, u16 a3, address a4);
-static u8 f61(address a0, address a1, u64 a2);
-static void f62(address a0, u8 a1, address a2);
-static void f63(address a0, address a1, address a2, u8 a3, u8 a4, address a5);
-static void f64(address a0, address a1, u64 a2);
-static void f65(address a0, address a1, u64 a2);
-static void f66(address a0, address a1, address a2);
-static void f67(address a0, u64 a1, address a2, address a3, u16 a4, address a5);
-static void f68(address a0, u16 a1, address a2, address a3);
-static void f69(address a0, address a1, address a2);
-static u32 f70(address a0, u16 a1, address a2, u64 a3, address a4, u64 a5, address a6, address a7);
-static void f71(address a0, address a1, address a2);
-static u32 f72(address a0, address a1, address a2, u64 a3, address a4);
-static void f73(address a0, address a1, address a2, address a3, u64 a4);
-static void f74(address a0, address a1, address a2, address a3);
-static u8 f75(address a0);
-static u8 f76(address a0);
-static u8 f77(address a0, u64 a1);
+static struct s2 f50(address a0, address a1, u16 a2, address a3);
+static void f51(address a0, address a1, u8 a2, address a3);
+static u8 f52(address a0, address a1, u64 a2);
+static void f53(address a0, u8 a1, u8 a2, address a3);
+static void f54(address a0, u8 a1, address a2);
+static void f55(address a0, address a1, address a2, u8 a3, u8 a4, address a5);
+static void f56(address a0, address a1);
+static void f57(address a0, u64 a1);
+static struct s2 f58(address a0, address a1);
+static struct s2 f59(address a0, u8 a1, u16 a2, u8 a3, u16 a4, address a5, u64 a6);
+static void f60(address a0, address a1, address a2, u64 a3);
+static struct s2 f61(address a0, address a1, address a2);
+static void f62(address a0, address a1, address a2, u64 a3);
+static void f63(address a0, address a1, address a2, u64 a3, u16 a4, u8 a5);
+static u32 f64(address a0, u16 a1, address a2, u64 a3, address a4, u64 a5, address a6);
+static u32 f65(address a0, u16 a1, address a2, u64 a3, address a4, u64 a5, address a6);
+static u32 f66(address a0, u16 a1, address a2, u64 a3, address a4, u64 a5, address a6);
+static void f67(address a0, address a1, u16 a2, address a3, u64 a4, address a5, u64 a6);
+static u8 f68(address a0, address a1);
+static u8 f69(address a0, address a1);
+static void f70(address a0, u16 a1, address a2, u8 a3, address a4);
+static void f71(address a0, address a1, u8 a2, address a3);
+static void f72(address a0, u16 a1, u16 a2, u16 a3, address a4);
+static void f73(address a0, u8 a1, address a2);
+static void f74(address a0, address a1, address a2, u8 a3, u8 a4, address a5);
+static void f75(address a0, address a1, u64 a2);
+static void f76(address a0, address a1, u64 a2);
+static void f77(address a0, address a1, address a2);
+static void f78(address a0, u64 a1, address a2, address a3, u16 a4, address a5);
+static void f79(address a0, u8 a1, u16 a2, address a3, address a4, address a5);
+static void f80(address a0, u16 a1, address a2, address a3);
+static void f81(address a0, address a1, address a2);
+static u32 f82(address a0, u16 a1, address a2, u64 a3, address a4, u64 a5, address a6, address a7);
+static void f83(address a0, address a1, address a2);
+static u32 f84(address a0, address a1, address a2, u64 a3, address a4);
+static void f85(address a0, address a1, address a2, address a3, u64 a4);
+static void f86(address a0, address a1, address a2, address a3);
+static void f87(address a0, address a1, address a2);
+static void f88(address a0, u8 a1, address a2);
+static void f89(address a0, address a1, address a2, u8 a3, address a4);
+static u8 f90(address a0);
+static u8 f91(address a0);
+static u8 f92(address a0, u64 a1);
 u64 portable_ptpm_answer_name(u32 a0, address a1, u64 a2);
 u32 portable_ptpm_asker_earlier(address a0, u8 a1, address a2);
 u32 portable_ptpm_asker_image(address a0, address a1, u64 a2, address a3);
@@ -671,6 +698,11 @@ u64 portable_ptpm_field_text(u16 a0, address a1, u64 a2, address a3, u64 a4);
 u32 portable_ptpm_id_at(u64 a0);
 u64 portable_ptpm_id_name(u16 a0, address a1, u64 a2);
 u32 portable_ptpm_id_named(address a0, u64 a1);
+u32 portable_ptpm_image_seal_in(address a0, u64 a1, u64 a2, u64 a3, address a4);
+u32 portable_ptpm_image_unseal(address a0, u64 a1, address a2, address a3);
+void portable_ptpm_limit_range(address a0, u32 a1, u32 a2);
+u16 portable_ptpm_limits_say(address a0, u64 a1, address a2);
+u64 portable_ptpm_newest_image_in(address a0, u64 a1, u64 a2, address a3, address a4);
 u8 portable_ptpm_passed_on_is_first(address a0, address a1, u64 a2, u64 a3, u64 a4);
 void portable_ptpm_port_defaults(address a0);
 void portable_ptpm_rate_start(address a0, u64 a1, u64 a2);
@@ -683,6 +715,7 @@ void portable_ptpm_survey_stop(address a0);
 u32 portable_ptpm_version(void);
 u32 portable_ptpm_survey_start(address a0, address a1);
 u32 portable_ptpm_survey_start_at(address a0, address a1, address a2);
+u32 portable_ptpm_clock_ask(address a0, u16 a1, address a2, u64 a3, address a4);
 u32 portable_ptpm_clock_image_of(address a0, address a1, u64 a2, address a3, address a4);
 u32 portable_ptpm_session_image(address a0, address a1, u64 a2, address a3);
 u32 portable_ptpm_session_image_of(address a0, address a1, u64 a2, address a3, address a4);
@@ -703,6 +736,7 @@ u32 portable_ptpm_clock_handle(address a0, u16 a1, address a2, u64 a3, address a
 u32 portable_ptpm_clock_handle_changed(address a0, u16 a1, address a2, u64 a3, address a4, u64 a5, address a6, address a7);
 u32 portable_ptpm_clock_observe(address a0, address a1, address a2, u64 a3, address a4);
 u32 portable_ptpm_clock_saved(address a0, u64 a1, address a2, u64 a3, address a4);
+u32 portable_ptpm_clock_handle_said(address a0, u16 a1, address a2, u64 a3, address a4, address a5, u64 a6, address a7, address a8);
 u32 portable_ptpm_clock_saving(address a0);
 u32 portable_ptpm_session_begin(address a0, u8 a1, u16 a2, u16 a3, address a4, u64 a5);
 u32 portable_ptpm_session_begin_at(address a0, u8 a1, u16 a2, u16 a3, address a4, u64 a5);
@@ -802,7 +836,7 @@ L3:;
 L4:;
     memory_cpy(a1, v14, v58);
     v61 = a1 + v58 * 1u;
-    v8 = v61; v9 = 0u; v10 = ADDRESS(c108); goto L6;
+    v8 = v61; v9 = 0u; v10 = ADDRESS(c111); goto L6;
 L5:;
     v62 = load_address(v47);
     v63 = load64(v48);
@@ -1043,7 +1077,7 @@ L10:;
 L11:;
     v130 = v9 + v127 * 1u;
     v131 = (u64)v130;
-    v132 = (u64)((u64)v131 - (u64)ADDRESS(c107));
+    v132 = (u64)((u64)v131 - (u64)ADDRESS(c110));
     v133 = v132 < 8u;
     if (v133) { goto L12; }
     else { goto L13; }
@@ -1171,7 +1205,7 @@ L1:;
     if (v67) { v16 = 0u; goto L38; }
     else { goto L2; }
 L2:;
-    v68 = f4(a1, 4u, (ADDRESS(c109) + 8u * 1u), 4u);
+    v68 = f4(a1, 4u, (ADDRESS(c112) + 8u * 1u), 4u);
     if (v68) { goto L3; }
     else { v16 = 0u; goto L38; }
 L3:;
@@ -1440,7 +1474,7 @@ L18:;
     v256 = v255 == 0u;
     v257 = load_address(v228);
     v258 = load64(v229);
-    v259 = v256 ? ADDRESS(c108) : v257;
+    v259 = v256 ? ADDRESS(c111) : v257;
     v260 = v256 ? 0u : v258;
     v261 = a2 < v254;
     if (v261) { goto L33; }
@@ -4379,7 +4413,7 @@ L4:;
     if (v35) { v7 = 1u; v8 = 2u; v9 = 0u; v10 = 0u; goto L12; }
     else { goto L5; }
 L5:;
-    v36 = f4(a5, 4u, (ADDRESS(c109) + 8u * 1u), 4u);
+    v36 = f4(a5, 4u, (ADDRESS(c112) + 8u * 1u), 4u);
     if (v36) { goto L6; }
     else { v7 = 1u; v8 = 2u; v9 = 0u; v10 = 0u; goto L12; }
 L6:;
@@ -6091,16 +6125,16 @@ L2:;
 L3:;
     v12 = a0 + v2 * 1u;
     v13 = (u64)v12;
-    v14 = (u64)((u64)v13 - (u64)(ADDRESS(c136) + 8u * 1u));
+    v14 = (u64)((u64)v13 - (u64)(ADDRESS(c139) + 8u * 1u));
     v15 = v14 < v9;
     if (v15) { v3 = 0u; goto L5; }
     else { goto L4; }
 L4:;
-    memory_cpy(v12, (ADDRESS(c136) + 8u * 1u), v9);
+    memory_cpy(v12, (ADDRESS(c139) + 8u * 1u), v9);
     goto L6;
 L5:;
     v16 = v12 + v3 * 1u;
-    v17 = (ADDRESS(c136) + 8u * 1u) + v3 * 1u;
+    v17 = (ADDRESS(c139) + 8u * 1u) + v3 * 1u;
     v18 = load8(v17);
     store8(v16, v18);
     v19 = (u64)((u64)v3 + (u64)1u);
@@ -8863,496 +8897,528 @@ L6:;
 }
 
 static u8 f33(address a0, address a1) {
-    address v2, v6, v8, v13, v16, v26, v27, v28, v29, v30, v31, v32, v33, v34, v35, v36;
-    address v37, v38, v39, v40, v41, v42, v43, v44, v45, v48, v50, v51, v52, v53, v54, v55;
-    address v56, v57, v58, v59, v60, v61, v62, v63, v64, v65, v66, v67, v78, v80, v84, v85;
-    address v87, v90, v94, v96, v99, v105, v106, v107, v108, v109, v110, v112, v121, v122, v132, v133;
-    address v135, v137, v139, v140, v141, v144, v180, v182, v185, v187, v188, v190, v196, v200, v201, v206;
-    address v208, v210, v213, v214, v215, v219, v220, v221, v222, v223, v224, v225, v228, v229, v230, v231;
-    address v235, v236, v237, v238, v239, v240, v241, v242, v243, v244, v248, v250, v256, v257, v263;
-    u64 v3, v7, v9, v10, v11, v12, v14, v15, v20, v21, v22, v23, v49, v68, v69, v72;
-    u64 v79, v81, v82, v86, v91, v95, v100, v102, v104, v113, v117, v118, v119, v124, v126, v134;
-    u64 v136, v142, v148, v150, v152, v154, v156, v158, v160, v163, v165, v167, v169, v171, v173, v175;
-    u64 v179, v189, v192, v193, v194, v197, v198, v203, v205, v207, v209, v216, v217, v232, v233, v252;
-    u64 v253, v254, v259, v262, v264, v265;
-    u8 v4, v5, v19, v24, v25, v46, v47, v70, v71, v75, v83, v89, v92, v93, v98, v101;
-    u8 v103, v111, v114, v115, v116, v120, v123, v125, v127, v128, v129, v130, v131, v143, v145, v147;
-    u8 v149, v151, v153, v155, v157, v159, v161, v162, v164, v166, v168, v170, v172, v174, v176, v181;
-    u8 v184, v186, v191, v195, v199, v202, v204, v218, v234, v251, v255, v258, v260, v261, v266, v267;
-    u8 v268, v269;
-    u16 v17, v18, v73, v74, v76, v77, v88, v97, v138, v177, v178, v183, v211, v212, v226, v227;
-    u16 v245, v246, v247, v249;
-    u32 v146;
-    u64 block0[7];
-    u64 block1[162];
+    address v2, v6, v10, v11, v12, v13, v14, v15, v16, v17, v18, v19, v20, v21, v22, v23;
+    address v24, v25, v26, v27, v28, v29, v32, v34, v35, v36, v37, v38, v39, v40, v41, v42;
+    address v43, v46, v50, v53, v55, v58;
+    u64 v3, v7, v33, v47, v48, v52, v54, v59;
+    u8 v4, v5, v8, v9, v30, v31, v44, v45, v49, v57, v60, v61, v63, v64, v65;
+    u16 v51, v56, v62;
+    u64 block0[162];
+    u64 block1[5];
     u64 block2[8];
-    v26 = ADDRESS(block0);
-    v27 = ADDRESS(block1);
-    v28 = ADDRESS(block2);
-    memory_set(v28, 0u, 64u);
-    store8(v27, 2u);
-    v29 = v27 + 1u * 1u;
-    memory_set(v29, 0u, 15u);
-    v30 = v27 + 16u * 1u;
-    store8(v30, 1u);
-    v31 = v27 + 17u * 1u;
-    memory_set(v31, 0u, 159u);
-    v32 = v27 + 176u * 1u;
-    store8(v32, 1u);
-    v33 = v27 + 177u * 1u;
-    memory_set(v33, 0u, 159u);
-    v34 = v27 + 336u * 1u;
-    store8(v34, 1u);
-    v35 = v27 + 337u * 1u;
-    memory_set(v35, 0u, 159u);
-    v36 = v27 + 496u * 1u;
-    store8(v36, 1u);
-    v37 = v27 + 497u * 1u;
-    memory_set(v37, 0u, 159u);
-    v38 = v27 + 656u * 1u;
-    store8(v38, 1u);
-    v39 = v27 + 657u * 1u;
-    memory_set(v39, 0u, 159u);
-    v40 = v27 + 816u * 1u;
-    store8(v40, 1u);
-    v41 = v27 + 817u * 1u;
-    memory_set(v41, 0u, 159u);
-    v42 = v27 + 976u * 1u;
-    store8(v42, 1u);
-    v43 = v27 + 977u * 1u;
-    memory_set(v43, 0u, 159u);
-    v44 = v27 + 1136u * 1u;
-    store8(v44, 1u);
-    v45 = v27 + 1137u * 1u;
-    memory_set(v45, 0u, 159u);
-    v46 = load8(a0);
-    v47 = v46 == 0u;
-    if (v47) { v25 = 0u; goto L54; }
+    v10 = ADDRESS(block0);
+    v11 = ADDRESS(block1);
+    v12 = ADDRESS(block2);
+    memory_set(v11, 0u, 40u);
+    memory_set(v12, 0u, 64u);
+    store8(v10, 2u);
+    v13 = v10 + 1u * 1u;
+    memory_set(v13, 0u, 15u);
+    v14 = v10 + 16u * 1u;
+    store8(v14, 1u);
+    v15 = v10 + 17u * 1u;
+    memory_set(v15, 0u, 159u);
+    v16 = v10 + 176u * 1u;
+    store8(v16, 1u);
+    v17 = v10 + 177u * 1u;
+    memory_set(v17, 0u, 159u);
+    v18 = v10 + 336u * 1u;
+    store8(v18, 1u);
+    v19 = v10 + 337u * 1u;
+    memory_set(v19, 0u, 159u);
+    v20 = v10 + 496u * 1u;
+    store8(v20, 1u);
+    v21 = v10 + 497u * 1u;
+    memory_set(v21, 0u, 159u);
+    v22 = v10 + 656u * 1u;
+    store8(v22, 1u);
+    v23 = v10 + 657u * 1u;
+    memory_set(v23, 0u, 159u);
+    v24 = v10 + 816u * 1u;
+    store8(v24, 1u);
+    v25 = v10 + 817u * 1u;
+    memory_set(v25, 0u, 159u);
+    v26 = v10 + 976u * 1u;
+    store8(v26, 1u);
+    v27 = v10 + 977u * 1u;
+    memory_set(v27, 0u, 159u);
+    v28 = v10 + 1136u * 1u;
+    store8(v28, 1u);
+    v29 = v10 + 1137u * 1u;
+    memory_set(v29, 0u, 159u);
+    v30 = load8(a0);
+    v31 = v30 == 0u;
+    if (v31) { v9 = 0u; goto L11; }
     else { goto L1; }
 L1:;
-    v48 = a0 + 16u * 1u;
-    v49 = load64(v48);
-    v50 = a0 + 8u * 1u;
-    v51 = load_address(v50);
-    v52 = v28 + 8u * 1u;
-    v53 = v28 + 16u * 1u;
-    v54 = v28 + 18u * 1u;
-    v55 = v28 + 24u * 1u;
-    v56 = v28 + 26u * 1u;
-    v57 = v28 + 28u * 1u;
-    v58 = v28 + 32u * 1u;
-    v59 = v28 + 40u * 1u;
-    v60 = v28 + 48u * 1u;
-    v61 = v28 + 56u * 1u;
-    v62 = a1 + 456u * 1u;
-    v63 = a1 + 448u * 1u;
-    v64 = v27 + 8u * 1u;
-    v65 = v27 + 1288u * 1u;
-    v66 = v26 + 4u * 1u;
-    v67 = v26 + 16u * 1u;
-    v68 = (u64)v66;
-    v69 = (u64)v67;
-    v2 = v51; v3 = v49; v4 = 0u; v5 = 0u; goto L2;
+    v32 = a0 + 16u * 1u;
+    v33 = load64(v32);
+    v34 = a0 + 8u * 1u;
+    v35 = load_address(v34);
+    v36 = v12 + 8u * 1u;
+    v37 = v12 + 48u * 1u;
+    v38 = v12 + 56u * 1u;
+    v39 = a1 + 456u * 1u;
+    v40 = a1 + 448u * 1u;
+    v41 = v11 + 8u * 1u;
+    v42 = v11 + 10u * 1u;
+    v43 = v11 + 16u * 1u;
+    v2 = v35; v3 = v33; v4 = 0u; v5 = 0u; goto L2;
 L2:;
-    f23(v28, v2, v3, v27);
-    v70 = load8(v28);
-    v71 = v70 == 1u;
-    if (v71) { goto L3; }
-    else { goto L53; }
+    f23(v12, v2, v3, v10);
+    v44 = load8(v12);
+    v45 = v44 == 1u;
+    if (v45) { goto L3; }
+    else { goto L10; }
 L3:;
-    v72 = load64(v52);
-    v73 = load16(v53);
-    v74 = load16(v54);
-    v75 = load8(v55);
-    v76 = load16(v56);
-    v77 = load16(v57);
-    v78 = load_address(v58);
-    v79 = load64(v59);
-    v80 = load_address(v60);
-    v81 = load64(v61);
-    v82 = load64(v62);
-    v83 = v82 == 0u;
-    if (v83) { v24 = 1u; goto L52; }
+    memory_cpy(v11, v36, 40u);
+    v46 = load_address(v37);
+    v47 = load64(v38);
+    v48 = load64(v39);
+    v49 = v48 == 0u;
+    if (v49) { v8 = 1u; goto L9; }
     else { goto L4; }
 L4:;
-    v84 = load_address(v63);
-    v6 = v84; v7 = v82; goto L5;
+    v50 = load_address(v40);
+    v51 = load16(v41);
+    v52 = load64(v11);
+    v6 = v50; v7 = v48; goto L5;
 L5:;
-    v85 = v6 + 2136u * 1u;
-    v86 = (u64)((u64)v7 + (u64)UINT64_C(18446744073709551615));
-    v87 = v6 + 2112u * 1u;
-    v88 = load16(v87);
-    v89 = v73 == v88;
-    if (v89) { goto L6; }
+    v53 = v6 + 2136u * 1u;
+    v54 = (u64)((u64)v7 + (u64)UINT64_C(18446744073709551615));
+    v55 = v6 + 2112u * 1u;
+    v56 = load16(v55);
+    v57 = v51 == v56;
+    if (v57) { goto L6; }
     else { goto L7; }
 L6:;
-    v90 = v6 + 2104u * 1u;
-    v91 = load64(v90);
-    v92 = v72 == v91;
-    if (v92) { v8 = v84; v9 = v82; v10 = 0u; goto L8; }
+    v58 = v6 + 2104u * 1u;
+    v59 = load64(v58);
+    v60 = v52 == v59;
+    if (v60) { goto L8; }
     else { goto L7; }
 L7:;
-    v93 = v86 == 0u;
-    if (v93) { v24 = 1u; goto L52; }
-    else { v6 = v85; v7 = v86; goto L5; }
+    v61 = v54 == 0u;
+    if (v61) { v8 = 1u; goto L9; }
+    else { v6 = v53; v7 = v54; goto L5; }
 L8:;
-    v94 = v8 + 2136u * 1u;
-    v95 = (u64)((u64)v9 + (u64)UINT64_C(18446744073709551615));
-    v96 = v8 + 2112u * 1u;
-    v97 = load16(v96);
-    v98 = v73 == v97;
-    if (v98) { goto L9; }
-    else { goto L10; }
+    v62 = load16(v42);
+    f34(a1, v36, v62, v43, v10);
+    v8 = 0u; goto L9;
 L9:;
-    v99 = v8 + 2104u * 1u;
-    v100 = load64(v99);
-    v101 = v72 == v100;
-    if (v101) { goto L11; }
-    else { goto L10; }
+    v63 = (u8)((u32)v8 + (u32)v4);
+    v64 = (u8)((u32)v5 + (u32)1u);
+    v65 = v64 < v30;
+    if (v65) { v2 = v46; v3 = v47; v4 = v63; v5 = v64; goto L2; }
+    else { v9 = v63; goto L11; }
 L10:;
-    v102 = (u64)((u64)v10 + (u64)1u);
-    v103 = v95 == 0u;
-    if (v103) { v24 = 0u; goto L52; }
-    else { v8 = v94; v9 = v95; v10 = v102; goto L8; }
-L11:;
-    v104 = (u64)((u64)v10 * (u64)2136u);
-    v105 = v84 + v104 * 1u;
-    v106 = v105 + 2129u * 1u;
-    store8(v106, 1u);
-    v107 = v105 + 2114u * 1u;
-    store16(v107, v74);
-    v108 = v105 + 2120u * 1u;
-    store8(v108, v75);
-    v109 = v105 + 2116u * 1u;
-    store16(v109, v76);
-    v110 = v105 + 2118u * 1u;
-    store16(v110, v77);
-    v111 = v79 == 0u;
-    v112 = v105 + 1424u * 1u;
-    v113 = load64(v112);
-    v114 = v113 == 0u;
-    v115 = v111 ? v114 : 0u;
-    if (v115) { goto L17; }
-    else { goto L12; }
-L12:;
-    v116 = v113 == v79;
-    if (v116) { goto L13; }
-    else { goto L16; }
-L13:;
-    v117 = (u64)v105;
-    v118 = (u64)v78;
-    v119 = (u64)((u64)v117 - (u64)v118);
-    v120 = v119 < v79;
-    if (v120) { v11 = 0u; goto L15; }
-    else { goto L14; }
-L14:;
-    memory_move(v105, v78, v79);
-    goto L17;
-L15:;
-    v121 = v105 + v11 * 1u;
-    v122 = v78 + v11 * 1u;
-    v123 = load8(v122);
-    store8(v121, v123);
-    v124 = (u64)((u64)v11 + (u64)1u);
-    v125 = v124 == v79;
-    if (v125) { goto L17; }
-    else { v11 = v124; goto L15; }
-L16:;
-    f34(v105, v78, v79);
-    goto L17;
-L17:;
-    v126 = load64(v65);
-    v127 = v126 != 0u;
-    v128 = load8(v64);
-    v129 = v128 == 1u;
-    v130 = v127 ? v129 : 0u;
-    v131 = (u8)v130;
-    v132 = v105 + 2121u * 1u;
-    store8(v132, v131);
-    v133 = v105 + 2096u * 1u;
-    v134 = load64(v133);
-    v135 = v105 + 2104u * 1u;
-    v136 = load64(v135);
-    v137 = v105 + 2112u * 1u;
-    v138 = load16(v137);
-    v139 = v105 + 1432u * 1u;
-    v140 = v105 + 1448u * 1u;
-    memory_set(v139, 0u, 16u);
-    v141 = v105 + 2088u * 1u;
-    v142 = load64(v141);
-    v143 = v142 == 0u;
-    if (v143) { goto L19; }
-    else { goto L18; }
-L18:;
-    memory_set(v140, 0u, v142);
-    store64(v141, 0u);
-    goto L19;
-L19:;
-    if (v127) { goto L20; }
-    else { goto L51; }
-L20:;
-    v144 = v105 + 1440u * 1u;
-    v145 = v75 > 2u;
-    v146 = v145 ? UINT32_C(262144) : UINT32_C(131072);
-    v147 = (u8)(v134);
-    v148 = (u64)((u64)v134 >> (8u & 63u));
-    v149 = (u8)(v148);
-    v150 = (u64)((u64)v134 >> (16u & 63u));
-    v151 = (u8)(v150);
-    v152 = (u64)((u64)v134 >> (24u & 63u));
-    v153 = (u8)(v152);
-    v154 = (u64)((u64)v134 >> (32u & 63u));
-    v155 = (u8)(v154);
-    v156 = (u64)((u64)v134 >> (40u & 63u));
-    v157 = (u8)(v156);
-    v158 = (u64)((u64)v134 >> (48u & 63u));
-    v159 = (u8)(v158);
-    v160 = (u64)((u64)v134 >> (56u & 63u));
-    v161 = (u8)(v160);
-    v162 = (u8)(v136);
-    v163 = (u64)((u64)v136 >> (8u & 63u));
-    v164 = (u8)(v163);
-    v165 = (u64)((u64)v136 >> (16u & 63u));
-    v166 = (u8)(v165);
-    v167 = (u64)((u64)v136 >> (24u & 63u));
-    v168 = (u8)(v167);
-    v169 = (u64)((u64)v136 >> (32u & 63u));
-    v170 = (u8)(v169);
-    v171 = (u64)((u64)v136 >> (40u & 63u));
-    v172 = (u8)(v171);
-    v173 = (u64)((u64)v136 >> (48u & 63u));
-    v174 = (u8)(v173);
-    v175 = (u64)((u64)v136 >> (56u & 63u));
-    v176 = (u8)(v175);
-    v177 = swap16(v74);
-    v178 = swap16(v138);
-    v12 = 0u; goto L21;
-L21:;
-    v179 = (u64)((u64)v12 * (u64)160u);
-    v180 = v64 + v179 * 1u;
-    v181 = load8(v180);
-    v182 = v180 + 2u * 1u;
-    v183 = load16(v182);
-    v184 = v181 == 1u;
-    v185 = v180 + 8u * 1u;
-    v186 = load8(v185);
-    switch (v186) {
-    case 0u: goto L22;
-    case 1u: v13 = ADDRESS(c108); v14 = 0u; goto L32;
-    case 2u: goto L23;
-    default: goto L31;
-    }
-L22:;
-    v187 = v180 + 16u * 1u;
-    v188 = v180 + 152u * 1u;
-    v189 = load64(v188);
-    v13 = v187; v14 = v189; goto L32;
-L23:;
-    v190 = v180 + 9u * 1u;
-    v191 = load8(v190);
-    switch (v191) {
-    case 0u: v15 = 0u; v16 = ADDRESS(c108); v17 = v76; v18 = 1u; v19 = 1u; v20 = 60u; goto L33;
-    case 1u: goto L24;
-    case 2u: goto L25;
-    case 3u: goto L26;
-    case 4u: goto L27;
-    case 5u: goto L28;
-    case 6u: goto L29;
-    default: goto L30;
-    }
-L24:;
-    v15 = 0u; v16 = ADDRESS(c108); v17 = v76; v18 = 2u; v19 = 1u; v20 = 60u; goto L33;
-L25:;
-    v15 = 0u; v16 = ADDRESS(c108); v17 = v76; v18 = 3u; v19 = 1u; v20 = 60u; goto L33;
-L26:;
-    v15 = 0u; v16 = ADDRESS(c108); v17 = v76; v18 = 4u; v19 = 1u; v20 = 60u; goto L33;
-L27:;
-    v15 = 0u; v16 = ADDRESS(c108); v17 = v76; v18 = 5u; v19 = 1u; v20 = 60u; goto L33;
-L28:;
-    v15 = 0u; v16 = ADDRESS(c108); v17 = v76; v18 = 6u; v19 = 1u; v20 = 60u; goto L33;
-L29:;
-    v15 = 0u; v16 = ADDRESS(c108); v17 = v76; v18 = 65534u; v19 = 1u; v20 = 60u; goto L33;
-L30:;
-    UNREACHABLE;
-L31:;
-    UNREACHABLE;
-L32:;
-    v192 = (u64)((u64)v14 + (u64)54u);
-    v15 = v14; v16 = v13; v17 = 0u; v18 = v76; v19 = 0u; v20 = v192; goto L33;
-L33:;
-    v193 = load64(v141);
-    v194 = (u64)((u64)640u - (u64)v193);
-    v195 = v194 < v20;
-    if (v195) { v22 = v193; goto L38; }
-    else { goto L34; }
-L34:;
-    v196 = v140 + v193 * 1u;
-    v197 = (u64)v196;
-    v198 = (u64)((u64)v197 - (u64)(ADDRESS(c136) + 8u * 1u));
-    v199 = v198 < v20;
-    if (v199) { v21 = 0u; goto L36; }
-    else { goto L35; }
-L35:;
-    memory_cpy(v196, (ADDRESS(c136) + 8u * 1u), v20);
-    goto L37;
-L36:;
-    v200 = v196 + v21 * 1u;
-    v201 = (ADDRESS(c136) + 8u * 1u) + v21 * 1u;
-    v202 = load8(v201);
-    store8(v200, v202);
-    v203 = (u64)((u64)v21 + (u64)1u);
-    v204 = v203 == v20;
-    if (v204) { goto L37; }
-    else { v21 = v203; goto L36; }
-L37:;
-    v205 = (u64)((u64)v193 + (u64)v20);
-    store64(v141, v205);
-    v22 = v205; goto L38;
-L38:;
-    v206 = v140 + v193 * 1u;
-    v207 = (u64)((u64)v22 - (u64)v193);
-    v208 = v206 + 48u * 1u;
-    v209 = (u64)((u64)v207 + (u64)UINT64_C(18446744073709551568));
-    v210 = v206 + 6u * 1u;
-    memory_set(v210, 0u, 42u);
-    store16(v206, 4621u);
-    v211 = (u16)(v207);
-    v212 = swap16(v211);
-    v213 = v206 + 2u * 1u;
-    store16(v213, v212);
-    v214 = v206 + 4u * 1u;
-    store16(v214, 0u);
-    v215 = v206 + 20u * 1u;
-    v216 = (u64)v215;
-    v217 = (u64)((u64)v216 - (u64)v68);
-    v218 = v217 < 8u;
-    if (v218) { goto L39; }
-    else { goto L40; }
-L39:;
-    store8(v215, v147);
-    v219 = v206 + 21u * 1u;
-    store8(v219, v149);
-    v220 = v206 + 22u * 1u;
-    store8(v220, v151);
-    v221 = v206 + 23u * 1u;
-    store8(v221, v153);
-    v222 = v206 + 24u * 1u;
-    store8(v222, v155);
-    v223 = v206 + 25u * 1u;
-    store8(v223, v157);
-    v224 = v206 + 26u * 1u;
-    store8(v224, v159);
-    v225 = v206 + 27u * 1u;
-    store8(v225, v161);
-    goto L41;
-L40:;
-    store64(v215, v134);
-    goto L41;
-L41:;
-    v226 = swap16(v183);
-    v227 = v184 ? v226 : 0u;
-    v228 = v206 + 28u * 1u;
-    store16(v228, v227);
-    v229 = v206 + 30u * 1u;
-    store16(v229, v177);
-    v230 = v206 + 32u * 1u;
-    store16(v230, 32516u);
-    v231 = v206 + 34u * 1u;
-    v232 = (u64)v231;
-    v233 = (u64)((u64)v232 - (u64)v69);
-    v234 = v233 < 8u;
-    if (v234) { goto L42; }
-    else { goto L43; }
-L42:;
-    store8(v231, v162);
-    v235 = v206 + 35u * 1u;
-    store8(v235, v164);
-    v236 = v206 + 36u * 1u;
-    store8(v236, v166);
-    v237 = v206 + 37u * 1u;
-    store8(v237, v168);
-    v238 = v206 + 38u * 1u;
-    store8(v238, v170);
-    v239 = v206 + 39u * 1u;
-    store8(v239, v172);
-    v240 = v206 + 40u * 1u;
-    store8(v240, v174);
-    v241 = v206 + 41u * 1u;
-    store8(v241, v176);
-    goto L44;
-L43:;
-    store64(v231, v136);
-    goto L44;
-L44:;
-    v242 = v206 + 42u * 1u;
-    store16(v242, v178);
-    v243 = v206 + 44u * 1u;
-    store32(v243, v146);
-    if (v19) { goto L45; }
-    else { goto L46; }
-L45:;
-    f35(v208, v209, v18, v17, v16, v15);
-    goto L50;
-L46:;
-    v244 = v206 + 54u * 1u;
-    v245 = (u16)(v15);
-    store16(v208, 256u);
-    v246 = (u16)((u32)v245 + (u32)2u);
-    v247 = swap16(v246);
-    v248 = v206 + 50u * 1u;
-    store16(v248, v247);
-    v249 = swap16(v18);
-    v250 = v206 + 52u * 1u;
-    store16(v250, v249);
-    v251 = v15 == 0u;
-    if (v251) { goto L50; }
-    else { goto L47; }
-L47:;
-    v252 = (u64)v244;
-    v253 = (u64)v16;
-    v254 = (u64)((u64)v252 - (u64)v253);
-    v255 = v254 < v15;
-    if (v255) { v23 = 0u; goto L49; }
-    else { goto L48; }
-L48:;
-    memory_move(v244, v16, v15);
-    goto L50;
-L49:;
-    v256 = v244 + v23 * 1u;
-    v257 = v16 + v23 * 1u;
-    v258 = load8(v257);
-    store8(v256, v258);
-    v259 = (u64)((u64)v23 + (u64)1u);
-    v260 = v259 == v15;
-    if (v260) { goto L50; }
-    else { v23 = v259; goto L49; }
-L50:;
-    v261 = (u8)(v20);
-    v262 = load64(v144);
-    v263 = v139 + v262 * 1u;
-    store8(v263, v261);
-    v264 = (u64)((u64)v262 + (u64)1u);
-    store64(v144, v264);
-    v265 = (u64)((u64)v12 + (u64)1u);
-    v266 = v265 == v126;
-    if (v266) { goto L51; }
-    else { v12 = v265; goto L21; }
-L51:;
-    v24 = 0u; goto L52;
-L52:;
-    v267 = (u8)((u32)v24 + (u32)v4);
-    v268 = (u8)((u32)v5 + (u32)1u);
-    v269 = v268 < v46;
-    if (v269) { v2 = v80; v3 = v81; v4 = v267; v5 = v268; goto L2; }
-    else { v25 = v267; goto L54; }
-L53:;
     TRAP;
     UNREACHABLE;
-L54:;
-    return v25;
+L11:;
+    return v9;
 }
 
-static void f34(address a0, address a1, u64 a2) {
+static void f34(address a0, address a1, u16 a2, address a3, address a4) {
+    address v5, v11, v14, v22, v23, v24, v25, v28, v30, v32, v35, v42, v43, v44, v46, v47;
+    address v49, v50, v52, v53, v54, v55, v58, v67, v68, v72, v73, v79, v80, v82, v84, v88;
+    address v89, v90, v93, v94, v97, v133, v135, v138, v140, v141, v143, v149, v153, v154, v159, v161;
+    address v163, v166, v167, v168, v172, v173, v174, v175, v176, v177, v178, v181, v182, v183, v184, v188;
+    address v189, v190, v191, v192, v193, v194, v195, v196, v197, v201, v203, v209, v210, v216;
+    u64 v6, v7, v8, v10, v12, v13, v18, v19, v20, v21, v26, v31, v36, v37, v39, v41;
+    u64 v56, v59, v63, v64, v65, v70, v74, v81, v83, v91, v95, v96, v101, v103, v105, v107;
+    u64 v109, v111, v113, v116, v118, v120, v122, v124, v126, v128, v132, v142, v145, v146, v147, v150;
+    u64 v151, v156, v158, v160, v162, v169, v170, v185, v186, v205, v206, v207, v212, v215, v217, v218;
+    u8 v9, v17, v27, v34, v38, v40, v45, v57, v60, v61, v62, v66, v69, v71, v75, v76;
+    u8 v77, v78, v86, v92, v98, v100, v102, v104, v106, v108, v110, v112, v114, v115, v117, v119;
+    u8 v121, v123, v125, v127, v129, v134, v137, v139, v144, v148, v152, v155, v157, v171, v187, v204;
+    u8 v208, v211, v213, v214, v219;
+    u16 v15, v16, v29, v33, v48, v51, v85, v87, v130, v131, v136, v164, v165, v179, v180, v198;
+    u16 v199, v200, v202;
+    u32 v99;
+    u64 block0[7];
+    v22 = ADDRESS(block0);
+    v23 = a0 + 448u * 1u;
+    v24 = load_address(v23);
+    v25 = a0 + 456u * 1u;
+    v26 = load64(v25);
+    v27 = v26 == 0u;
+    if (v27) { goto L48; }
+    else { goto L1; }
+L1:;
+    v28 = a1 + 8u * 1u;
+    v29 = load16(v28);
+    v5 = v24; v6 = v26; v7 = 0u; goto L2;
+L2:;
+    v30 = v5 + 2136u * 1u;
+    v31 = (u64)((u64)v6 + (u64)UINT64_C(18446744073709551615));
+    v32 = v5 + 2112u * 1u;
+    v33 = load16(v32);
+    v34 = v29 == v33;
+    if (v34) { goto L3; }
+    else { goto L4; }
+L3:;
+    v35 = v5 + 2104u * 1u;
+    v36 = load64(a1);
+    v37 = load64(v35);
+    v38 = v36 == v37;
+    if (v38) { goto L5; }
+    else { goto L4; }
+L4:;
+    v39 = (u64)((u64)v7 + (u64)1u);
+    v40 = v31 == 0u;
+    if (v40) { goto L48; }
+    else { v5 = v30; v6 = v31; v7 = v39; goto L2; }
+L5:;
+    v41 = (u64)((u64)v7 * (u64)2136u);
+    v42 = v24 + v41 * 1u;
+    v43 = v42 + 2129u * 1u;
+    store8(v43, 1u);
+    v44 = v42 + 2114u * 1u;
+    store16(v44, a2);
+    v45 = load8(a3);
+    v46 = v42 + 2120u * 1u;
+    store8(v46, v45);
+    v47 = a3 + 2u * 1u;
+    v48 = load16(v47);
+    v49 = v42 + 2116u * 1u;
+    store16(v49, v48);
+    v50 = a3 + 4u * 1u;
+    v51 = load16(v50);
+    v52 = v42 + 2118u * 1u;
+    store16(v52, v51);
+    v53 = a3 + 8u * 1u;
+    v54 = load_address(v53);
+    v55 = a3 + 16u * 1u;
+    v56 = load64(v55);
+    v57 = v56 == 0u;
+    v58 = v42 + 1424u * 1u;
+    v59 = load64(v58);
+    v60 = v59 == 0u;
+    v61 = v57 ? v60 : 0u;
+    if (v61) { goto L11; }
+    else { goto L6; }
+L6:;
+    v62 = v59 == v56;
+    if (v62) { goto L7; }
+    else { goto L10; }
+L7:;
+    v63 = (u64)v42;
+    v64 = (u64)v54;
+    v65 = (u64)((u64)v63 - (u64)v64);
+    v66 = v65 < v56;
+    if (v66) { v8 = 0u; goto L9; }
+    else { goto L8; }
+L8:;
+    memory_move(v42, v54, v56);
+    goto L11;
+L9:;
+    v67 = v42 + v8 * 1u;
+    v68 = v54 + v8 * 1u;
+    v69 = load8(v68);
+    store8(v67, v69);
+    v70 = (u64)((u64)v8 + (u64)1u);
+    v71 = v70 == v56;
+    if (v71) { goto L11; }
+    else { v8 = v70; goto L9; }
+L10:;
+    f35(v42, v54, v56);
+    goto L11;
+L11:;
+    v72 = a4 + 8u * 1u;
+    v73 = a4 + 1288u * 1u;
+    v74 = load64(v73);
+    v75 = v74 == 0u;
+    if (v75) { v9 = 0u; goto L13; }
+    else { goto L12; }
+L12:;
+    v76 = load8(v72);
+    v77 = v76 == 1u;
+    v9 = v77; goto L13;
+L13:;
+    v78 = (u8)v9;
+    v79 = v42 + 2121u * 1u;
+    store8(v79, v78);
+    v80 = v42 + 2096u * 1u;
+    v81 = load64(v80);
+    v82 = v42 + 2104u * 1u;
+    v83 = load64(v82);
+    v84 = v42 + 2112u * 1u;
+    v85 = load16(v84);
+    v86 = load8(a3);
+    v87 = load16(v47);
+    v88 = v42 + 1432u * 1u;
+    v89 = v42 + 1448u * 1u;
+    memory_set(v88, 0u, 16u);
+    v90 = v42 + 2088u * 1u;
+    v91 = load64(v90);
+    v92 = v91 == 0u;
+    if (v92) { goto L15; }
+    else { goto L14; }
+L14:;
+    memory_set(v89, 0u, v91);
+    store64(v90, 0u);
+    goto L15;
+L15:;
+    if (v75) { goto L47; }
+    else { goto L16; }
+L16:;
+    v93 = v22 + 4u * 1u;
+    v94 = v22 + 16u * 1u;
+    v95 = (u64)v93;
+    v96 = (u64)v94;
+    v97 = v42 + 1440u * 1u;
+    v98 = v86 > 2u;
+    v99 = v98 ? UINT32_C(262144) : UINT32_C(131072);
+    v100 = (u8)(v81);
+    v101 = (u64)((u64)v81 >> (8u & 63u));
+    v102 = (u8)(v101);
+    v103 = (u64)((u64)v81 >> (16u & 63u));
+    v104 = (u8)(v103);
+    v105 = (u64)((u64)v81 >> (24u & 63u));
+    v106 = (u8)(v105);
+    v107 = (u64)((u64)v81 >> (32u & 63u));
+    v108 = (u8)(v107);
+    v109 = (u64)((u64)v81 >> (40u & 63u));
+    v110 = (u8)(v109);
+    v111 = (u64)((u64)v81 >> (48u & 63u));
+    v112 = (u8)(v111);
+    v113 = (u64)((u64)v81 >> (56u & 63u));
+    v114 = (u8)(v113);
+    v115 = (u8)(v83);
+    v116 = (u64)((u64)v83 >> (8u & 63u));
+    v117 = (u8)(v116);
+    v118 = (u64)((u64)v83 >> (16u & 63u));
+    v119 = (u8)(v118);
+    v120 = (u64)((u64)v83 >> (24u & 63u));
+    v121 = (u8)(v120);
+    v122 = (u64)((u64)v83 >> (32u & 63u));
+    v123 = (u8)(v122);
+    v124 = (u64)((u64)v83 >> (40u & 63u));
+    v125 = (u8)(v124);
+    v126 = (u64)((u64)v83 >> (48u & 63u));
+    v127 = (u8)(v126);
+    v128 = (u64)((u64)v83 >> (56u & 63u));
+    v129 = (u8)(v128);
+    v130 = swap16(a2);
+    v131 = swap16(v85);
+    v10 = 0u; goto L17;
+L17:;
+    v132 = (u64)((u64)v10 * (u64)160u);
+    v133 = v72 + v132 * 1u;
+    v134 = load8(v133);
+    v135 = v133 + 2u * 1u;
+    v136 = load16(v135);
+    v137 = v134 == 1u;
+    v138 = v133 + 8u * 1u;
+    v139 = load8(v138);
+    switch (v139) {
+    case 0u: goto L18;
+    case 1u: v11 = ADDRESS(c111); v12 = 0u; goto L28;
+    case 2u: goto L19;
+    default: goto L27;
+    }
+L18:;
+    v140 = v133 + 16u * 1u;
+    v141 = v133 + 152u * 1u;
+    v142 = load64(v141);
+    v11 = v140; v12 = v142; goto L28;
+L19:;
+    v143 = v133 + 9u * 1u;
+    v144 = load8(v143);
+    switch (v144) {
+    case 0u: v13 = 0u; v14 = ADDRESS(c111); v15 = v87; v16 = 1u; v17 = 1u; v18 = 60u; goto L29;
+    case 1u: goto L20;
+    case 2u: goto L21;
+    case 3u: goto L22;
+    case 4u: goto L23;
+    case 5u: goto L24;
+    case 6u: goto L25;
+    default: goto L26;
+    }
+L20:;
+    v13 = 0u; v14 = ADDRESS(c111); v15 = v87; v16 = 2u; v17 = 1u; v18 = 60u; goto L29;
+L21:;
+    v13 = 0u; v14 = ADDRESS(c111); v15 = v87; v16 = 3u; v17 = 1u; v18 = 60u; goto L29;
+L22:;
+    v13 = 0u; v14 = ADDRESS(c111); v15 = v87; v16 = 4u; v17 = 1u; v18 = 60u; goto L29;
+L23:;
+    v13 = 0u; v14 = ADDRESS(c111); v15 = v87; v16 = 5u; v17 = 1u; v18 = 60u; goto L29;
+L24:;
+    v13 = 0u; v14 = ADDRESS(c111); v15 = v87; v16 = 6u; v17 = 1u; v18 = 60u; goto L29;
+L25:;
+    v13 = 0u; v14 = ADDRESS(c111); v15 = v87; v16 = 65534u; v17 = 1u; v18 = 60u; goto L29;
+L26:;
+    UNREACHABLE;
+L27:;
+    UNREACHABLE;
+L28:;
+    v145 = (u64)((u64)v12 + (u64)54u);
+    v13 = v12; v14 = v11; v15 = 0u; v16 = v87; v17 = 0u; v18 = v145; goto L29;
+L29:;
+    v146 = load64(v90);
+    v147 = (u64)((u64)640u - (u64)v146);
+    v148 = v147 < v18;
+    if (v148) { v20 = v146; goto L34; }
+    else { goto L30; }
+L30:;
+    v149 = v89 + v146 * 1u;
+    v150 = (u64)v149;
+    v151 = (u64)((u64)v150 - (u64)(ADDRESS(c139) + 8u * 1u));
+    v152 = v151 < v18;
+    if (v152) { v19 = 0u; goto L32; }
+    else { goto L31; }
+L31:;
+    memory_cpy(v149, (ADDRESS(c139) + 8u * 1u), v18);
+    goto L33;
+L32:;
+    v153 = v149 + v19 * 1u;
+    v154 = (ADDRESS(c139) + 8u * 1u) + v19 * 1u;
+    v155 = load8(v154);
+    store8(v153, v155);
+    v156 = (u64)((u64)v19 + (u64)1u);
+    v157 = v156 == v18;
+    if (v157) { goto L33; }
+    else { v19 = v156; goto L32; }
+L33:;
+    v158 = (u64)((u64)v146 + (u64)v18);
+    store64(v90, v158);
+    v20 = v158; goto L34;
+L34:;
+    v159 = v89 + v146 * 1u;
+    v160 = (u64)((u64)v20 - (u64)v146);
+    v161 = v159 + 48u * 1u;
+    v162 = (u64)((u64)v160 + (u64)UINT64_C(18446744073709551568));
+    v163 = v159 + 6u * 1u;
+    memory_set(v163, 0u, 42u);
+    store16(v159, 4621u);
+    v164 = (u16)(v160);
+    v165 = swap16(v164);
+    v166 = v159 + 2u * 1u;
+    store16(v166, v165);
+    v167 = v159 + 4u * 1u;
+    store16(v167, 0u);
+    v168 = v159 + 20u * 1u;
+    v169 = (u64)v168;
+    v170 = (u64)((u64)v169 - (u64)v95);
+    v171 = v170 < 8u;
+    if (v171) { goto L35; }
+    else { goto L36; }
+L35:;
+    store8(v168, v100);
+    v172 = v159 + 21u * 1u;
+    store8(v172, v102);
+    v173 = v159 + 22u * 1u;
+    store8(v173, v104);
+    v174 = v159 + 23u * 1u;
+    store8(v174, v106);
+    v175 = v159 + 24u * 1u;
+    store8(v175, v108);
+    v176 = v159 + 25u * 1u;
+    store8(v176, v110);
+    v177 = v159 + 26u * 1u;
+    store8(v177, v112);
+    v178 = v159 + 27u * 1u;
+    store8(v178, v114);
+    goto L37;
+L36:;
+    store64(v168, v81);
+    goto L37;
+L37:;
+    v179 = swap16(v136);
+    v180 = v137 ? v179 : 0u;
+    v181 = v159 + 28u * 1u;
+    store16(v181, v180);
+    v182 = v159 + 30u * 1u;
+    store16(v182, v130);
+    v183 = v159 + 32u * 1u;
+    store16(v183, 32516u);
+    v184 = v159 + 34u * 1u;
+    v185 = (u64)v184;
+    v186 = (u64)((u64)v185 - (u64)v96);
+    v187 = v186 < 8u;
+    if (v187) { goto L38; }
+    else { goto L39; }
+L38:;
+    store8(v184, v115);
+    v188 = v159 + 35u * 1u;
+    store8(v188, v117);
+    v189 = v159 + 36u * 1u;
+    store8(v189, v119);
+    v190 = v159 + 37u * 1u;
+    store8(v190, v121);
+    v191 = v159 + 38u * 1u;
+    store8(v191, v123);
+    v192 = v159 + 39u * 1u;
+    store8(v192, v125);
+    v193 = v159 + 40u * 1u;
+    store8(v193, v127);
+    v194 = v159 + 41u * 1u;
+    store8(v194, v129);
+    goto L40;
+L39:;
+    store64(v184, v83);
+    goto L40;
+L40:;
+    v195 = v159 + 42u * 1u;
+    store16(v195, v131);
+    v196 = v159 + 44u * 1u;
+    store32(v196, v99);
+    if (v17) { goto L41; }
+    else { goto L42; }
+L41:;
+    f36(v161, v162, v16, v15, v14, v13);
+    goto L46;
+L42:;
+    v197 = v159 + 54u * 1u;
+    v198 = (u16)(v13);
+    store16(v161, 256u);
+    v199 = (u16)((u32)v198 + (u32)2u);
+    v200 = swap16(v199);
+    v201 = v159 + 50u * 1u;
+    store16(v201, v200);
+    v202 = swap16(v16);
+    v203 = v159 + 52u * 1u;
+    store16(v203, v202);
+    v204 = v13 == 0u;
+    if (v204) { goto L46; }
+    else { goto L43; }
+L43:;
+    v205 = (u64)v197;
+    v206 = (u64)v14;
+    v207 = (u64)((u64)v205 - (u64)v206);
+    v208 = v207 < v13;
+    if (v208) { v21 = 0u; goto L45; }
+    else { goto L44; }
+L44:;
+    memory_move(v197, v14, v13);
+    goto L46;
+L45:;
+    v209 = v197 + v21 * 1u;
+    v210 = v14 + v21 * 1u;
+    v211 = load8(v210);
+    store8(v209, v211);
+    v212 = (u64)((u64)v21 + (u64)1u);
+    v213 = v212 == v13;
+    if (v213) { goto L46; }
+    else { v21 = v212; goto L45; }
+L46:;
+    v214 = (u8)(v18);
+    v215 = load64(v97);
+    v216 = v88 + v215 * 1u;
+    store8(v216, v214);
+    v217 = (u64)((u64)v215 + (u64)1u);
+    store64(v97, v217);
+    v218 = (u64)((u64)v10 + (u64)1u);
+    v219 = v218 == v74;
+    if (v219) { goto L47; }
+    else { v10 = v218; goto L17; }
+L47:;
+    goto L48;
+L48:;
+    return;
+}
+
+static void f35(address a0, address a1, u64 a2) {
     u64 v3, v4, v5, v7, v10, v12, v14, v15, v16, v21, v24, v25, v28, v29, v30, v35;
     u64 v37;
     address v6, v9, v11, v18, v19, v27, v32, v33;
@@ -9431,7 +9497,7 @@ L12:;
     return;
 }
 
-static void f35(address a0, u64 a1, u16 a2, u16 a3, address a4, u64 a5) {
+static void f36(address a0, u64 a1, u16 a2, u16 a3, address a4, u64 a5) {
     u64 v6, v8, v10, v11, v12, v14, v15, v29, v30, v32, v33, v34, v39, v42;
     address v7, v17, v18, v22, v24, v26, v27, v28, v36, v37, v44;
     u8 v9, v16, v31, v35, v38, v40, v41, v43;
@@ -9444,7 +9510,7 @@ static void f35(address a0, u64 a1, u16 a2, u16 a3, address a4, u64 a5) {
     v12 = (u64)((u64)v11 + (u64)v10);
     v13 = (u16)(v12);
     v14 = (u64)a0;
-    v15 = (u64)((u64)v14 - (u64)ADDRESS(c137));
+    v15 = (u64)((u64)v14 - (u64)ADDRESS(c140));
     v16 = v15 < 12u;
     if (v16) { goto L1; }
     else { goto L2; }
@@ -9456,7 +9522,7 @@ L1:;
     store32(v18, 0u);
     goto L3;
 L2:;
-    memory_cpy(a0, ADDRESS(c137), 12u);
+    memory_cpy(a0, ADDRESS(c140), 12u);
     goto L3;
 L3:;
     v19 = (u16)((u32)v13 + (u32)8u);
@@ -9517,7 +9583,7 @@ L11:;
     return;
 }
 
-static u8 f36(address a0) {
+static u8 f37(address a0) {
     u8 v1, v5, v10, v14, v15, v21, v26;
     struct pair v2, v19, v23, v24;
     address v3, v6, v16, v28;
@@ -9570,7 +9636,7 @@ L6:;
     v1 = 1u; goto L1;
 }
 
-static void f37(address a0, address a1, address a2, u64 a3, address a4) {
+static void f38(address a0, address a1, address a2, u64 a3, address a4) {
     u64 v5, v7, v10, v11, v13, v14, v15, v20, v21, v22, v79, v82, v88, v89, v90, v91;
     u64 v93, v95, v98, v99, v102, v170, v198, v199, v206, v207;
     address v6, v28, v29, v30, v31, v33, v35, v37, v39, v41, v44, v49, v52, v53, v80, v81;
@@ -9768,7 +9834,7 @@ L24:;
     default: v23 = v34; v24 = 3u; v25 = 1u; v26 = v32; v27 = v36; goto L53;
     }
 L25:;
-    v107 = f38(127u, a2, a3);
+    v107 = f39(127u, a2, a3);
     v108 = v107.m0;
     v109 = (u8)((v108) & UINT64_C(1));
     if (v109) { goto L26; }
@@ -9778,7 +9844,7 @@ L26:;
     v111 = (u8)(v110);
     v18 = 0u; v19 = v111; v20 = 1u; goto L48;
 L27:;
-    v112 = f38(32767u, a2, a3);
+    v112 = f39(32767u, a2, a3);
     v113 = v112.m0;
     v114 = (u8)((v113) & UINT64_C(1));
     if (v114) { goto L28; }
@@ -9791,7 +9857,7 @@ L28:;
     v119 = (u8)(v118);
     v18 = v119; v19 = v117; v20 = 2u; goto L48;
 L29:;
-    v120 = f39(a2, a3);
+    v120 = f40(a2, a3);
     v121 = v120.m0;
     v122 = (u8)((v121) & UINT64_C(1));
     if (v122) { goto L30; }
@@ -9802,7 +9868,7 @@ L30:;
     v125 = v124 ? v42 : 0u;
     v18 = 0u; v19 = v125; v20 = 1u; goto L48;
 L31:;
-    v126 = f39(a2, a3);
+    v126 = f40(a2, a3);
     v127 = v126.m0;
     v128 = (u8)((v127) & UINT64_C(1));
     if (v128) { goto L32; }
@@ -9812,7 +9878,7 @@ L32:;
     v130 = (u8)((u32)v129 & (u32)1u);
     v18 = 0u; v19 = v130; v20 = 1u; goto L48;
 L33:;
-    v131 = f40(a2, a3);
+    v131 = f41(a2, a3);
     v132 = v131.m0;
     v133 = v132 == 1u;
     v134 = v131.m1;
@@ -9885,7 +9951,7 @@ L40:;
 L41:;
     v172 = a2 + v15 * 1u;
     v173 = load8(v172);
-    v174 = ADDRESS(c167) + v15 * 1u;
+    v174 = ADDRESS(c170) + v15 * 1u;
     v175 = load8(v174);
     v176 = (u8)((u32)v173 + (u32)191u);
     v177 = v176 < 26u;
@@ -9903,7 +9969,7 @@ L42:;
     v185.m1 = v16;
     v17 = v185; goto L44;
 L43:;
-    v186 = f40(a2, a3);
+    v186 = f41(a2, a3);
     v17 = v186; goto L44;
 L44:;
     v187 = v17.m0;
@@ -9914,7 +9980,7 @@ L45:;
     v189 = v17.m1;
     v18 = 0u; v19 = v189; v20 = 1u; goto L48;
 L46:;
-    v190 = f40(a2, a3);
+    v190 = f41(a2, a3);
     v191 = v190.m0;
     v192 = v191 == 1u;
     if (v192) { goto L47; }
@@ -9967,7 +10033,7 @@ L53:;
     return;
 }
 
-static struct s4 f38(u16 a0, address a1, u64 a2) {
+static struct s4 f39(u16 a0, address a1, u64 a2) {
     u64 v3, v5, v6, v7, v8, v48, v50, v60, v62, v63, v65, v66, v71, v79, v81, v82;
     u64 v84, v85;
     u32 v4, v15, v20, v22, v23, v24, v28, v30, v31, v32, v33, v34, v38, v39, v40, v41;
@@ -10121,7 +10187,7 @@ L21:;
     return v93;
 }
 
-static struct s2 f39(address a0, u64 a1) {
+static struct s2 f40(address a0, u64 a1) {
     u64 v2, v3, v4, v34, v58, v60, v61, v63, v64;
     u8 v5, v6, v8, v9, v10, v11, v12, v13, v15, v16, v17, v18, v19, v20, v22, v23;
     u8 v24, v25, v26, v27, v28, v29, v30, v31, v32, v33, v35, v37, v39, v40, v41, v42;
@@ -10182,7 +10248,7 @@ L5:;
 L6:;
     v36 = a0 + v2 * 1u;
     v37 = load8(v36);
-    v38 = ADDRESS(c164) + v2 * 1u;
+    v38 = ADDRESS(c167) + v2 * 1u;
     v39 = load8(v38);
     v40 = (u8)((u32)v37 + (u32)191u);
     v41 = v40 < 26u;
@@ -10243,7 +10309,7 @@ L14:;
     return v70;
 }
 
-static struct s2 f40(address a0, u64 a1) {
+static struct s2 f41(address a0, u64 a1) {
     u8 v2, v3, v4, v7, v8, v9, v10, v11, v12, v13, v15, v16, v18, v20, v21, v22;
     u8 v23, v24, v25, v26, v27, v28, v29, v30, v31, v32, v33, v34, v35, v36, v37, v38;
     u8 v39, v40, v41, v42, v43, v44, v45, v47, v48, v49, v50, v51, v53, v56, v60, v61;
@@ -10371,7 +10437,7 @@ L20:;
     return v67;
 }
 
-static struct s5 f41(address a0) {
+static struct s5 f42(address a0) {
     u64 v1, v8, v10, v11;
     address v2, v4, v6, v9, v12, v13;
     u8 v3, v5, v7;
@@ -10379,7 +10445,7 @@ static struct s5 f41(address a0) {
     v3 = load8(a0);
     switch (v3) {
     case 0u: goto L1;
-    case 1u: v1 = 11u; v2 = ADDRESS(c168); goto L40;
+    case 1u: v1 = 11u; v2 = ADDRESS(c171); goto L40;
     case 2u: goto L36;
     case 3u: goto L37;
     case 4u: goto L38;
@@ -10390,7 +10456,7 @@ L1:;
     v4 = a0 + 1u * 1u;
     v5 = load8(v4);
     switch (v5) {
-    case 0u: v1 = 13u; v2 = ADDRESS(c173); goto L40;
+    case 0u: v1 = 13u; v2 = ADDRESS(c176); goto L40;
     case 1u: goto L2;
     case 2u: goto L3;
     case 3u: goto L4;
@@ -10427,89 +10493,89 @@ L1:;
     default: goto L35;
     }
 L2:;
-    v1 = 12u; v2 = ADDRESS(c174); goto L40;
+    v1 = 12u; v2 = ADDRESS(c177); goto L40;
 L3:;
-    v1 = 15u; v2 = ADDRESS(c175); goto L40;
+    v1 = 15u; v2 = ADDRESS(c178); goto L40;
 L4:;
-    v1 = 11u; v2 = ADDRESS(c176); goto L40;
+    v1 = 11u; v2 = ADDRESS(c179); goto L40;
 L5:;
-    v1 = 9u; v2 = ADDRESS(c177); goto L40;
+    v1 = 9u; v2 = ADDRESS(c180); goto L40;
 L6:;
-    v1 = 23u; v2 = ADDRESS(c178); goto L40;
+    v1 = 23u; v2 = ADDRESS(c181); goto L40;
 L7:;
-    v1 = 26u; v2 = ADDRESS(c179); goto L40;
+    v1 = 26u; v2 = ADDRESS(c182); goto L40;
 L8:;
-    v1 = 36u; v2 = ADDRESS(c180); goto L40;
+    v1 = 36u; v2 = ADDRESS(c183); goto L40;
 L9:;
-    v1 = 9u; v2 = ADDRESS(c181); goto L40;
-L10:;
-    v1 = 12u; v2 = ADDRESS(c182); goto L40;
-L11:;
-    v1 = 16u; v2 = ADDRESS(c183); goto L40;
-L12:;
     v1 = 9u; v2 = ADDRESS(c184); goto L40;
+L10:;
+    v1 = 12u; v2 = ADDRESS(c185); goto L40;
+L11:;
+    v1 = 16u; v2 = ADDRESS(c186); goto L40;
+L12:;
+    v1 = 9u; v2 = ADDRESS(c187); goto L40;
 L13:;
-    v1 = 18u; v2 = ADDRESS(c185); goto L40;
+    v1 = 18u; v2 = ADDRESS(c188); goto L40;
 L14:;
-    v1 = 11u; v2 = ADDRESS(c186); goto L40;
+    v1 = 11u; v2 = ADDRESS(c189); goto L40;
 L15:;
-    v1 = 37u; v2 = ADDRESS(c187); goto L40;
+    v1 = 37u; v2 = ADDRESS(c190); goto L40;
 L16:;
-    v1 = 34u; v2 = ADDRESS(c188); goto L40;
+    v1 = 34u; v2 = ADDRESS(c191); goto L40;
 L17:;
-    v1 = 20u; v2 = ADDRESS(c189); goto L40;
+    v1 = 20u; v2 = ADDRESS(c192); goto L40;
 L18:;
-    v1 = 34u; v2 = ADDRESS(c190); goto L40;
+    v1 = 34u; v2 = ADDRESS(c193); goto L40;
 L19:;
-    v1 = 37u; v2 = ADDRESS(c191); goto L40;
+    v1 = 37u; v2 = ADDRESS(c194); goto L40;
 L20:;
-    v1 = 47u; v2 = ADDRESS(c192); goto L40;
+    v1 = 47u; v2 = ADDRESS(c195); goto L40;
 L21:;
-    v1 = 20u; v2 = ADDRESS(c193); goto L40;
+    v1 = 20u; v2 = ADDRESS(c196); goto L40;
 L22:;
-    v1 = 19u; v2 = ADDRESS(c194); goto L40;
+    v1 = 19u; v2 = ADDRESS(c197); goto L40;
 L23:;
-    v1 = 16u; v2 = ADDRESS(c195); goto L40;
+    v1 = 16u; v2 = ADDRESS(c198); goto L40;
 L24:;
-    v1 = 6u; v2 = ADDRESS(c196); goto L40;
+    v1 = 6u; v2 = ADDRESS(c199); goto L40;
 L25:;
-    v1 = 6u; v2 = ADDRESS(c197); goto L40;
+    v1 = 6u; v2 = ADDRESS(c200); goto L40;
 L26:;
-    v1 = 21u; v2 = ADDRESS(c198); goto L40;
+    v1 = 21u; v2 = ADDRESS(c201); goto L40;
 L27:;
-    v1 = 12u; v2 = ADDRESS(c199); goto L40;
+    v1 = 12u; v2 = ADDRESS(c202); goto L40;
 L28:;
-    v1 = 13u; v2 = ADDRESS(c200); goto L40;
+    v1 = 13u; v2 = ADDRESS(c203); goto L40;
 L29:;
-    v1 = 18u; v2 = ADDRESS(c201); goto L40;
+    v1 = 18u; v2 = ADDRESS(c204); goto L40;
 L30:;
-    v1 = 10u; v2 = ADDRESS(c202); goto L40;
+    v1 = 10u; v2 = ADDRESS(c205); goto L40;
 L31:;
-    v1 = 9u; v2 = ADDRESS(c203); goto L40;
+    v1 = 9u; v2 = ADDRESS(c206); goto L40;
 L32:;
-    v1 = 22u; v2 = ADDRESS(c204); goto L40;
+    v1 = 22u; v2 = ADDRESS(c207); goto L40;
 L33:;
-    v1 = 13u; v2 = ADDRESS(c205); goto L40;
+    v1 = 13u; v2 = ADDRESS(c208); goto L40;
 L34:;
     v6 = a0 + 2u * 1u;
     v7 = load8(v6);
     v8 = (u64)v7;
-    v9 = ADDRESS(c221) + v8 * 8u;
+    v9 = ADDRESS(c226) + v8 * 8u;
     v10 = load64(v9);
     v11 = (u64)v7;
-    v12 = ADDRESS(c222) + v11 * 8u;
+    v12 = ADDRESS(c227) + v11 * 8u;
     v13 = load_address(v12);
     v1 = v10; v2 = v13; goto L40;
 L35:;
     UNREACHABLE;
 L36:;
-    v1 = 9u; v2 = ADDRESS(c169); goto L40;
+    v1 = 9u; v2 = ADDRESS(c172); goto L40;
 L37:;
-    v1 = 12u; v2 = ADDRESS(c170); goto L40;
+    v1 = 12u; v2 = ADDRESS(c173); goto L40;
 L38:;
-    v1 = 13u; v2 = ADDRESS(c171); goto L40;
+    v1 = 13u; v2 = ADDRESS(c174); goto L40;
 L39:;
-    v1 = 13u; v2 = ADDRESS(c172); goto L40;
+    v1 = 13u; v2 = ADDRESS(c175); goto L40;
 L40:;
     v14 = (struct s5){ 0 };
     v14.m0 = v2;
@@ -10520,7 +10586,7 @@ L41:;
     UNREACHABLE;
 }
 
-static u64 f42(u16 a0, address a1) {
+static u64 f43(u16 a0, address a1) {
     u64 v2, v4, v12, v22;
     address v3, v6, v8, v13, v16, v19;
     u8 v5, v7, v9, v10, v11, v14, v15, v17, v18, v20, v21, v23;
@@ -10532,7 +10598,7 @@ static u64 f42(u16 a0, address a1) {
     switch (a0) {
     case 0u: goto L27;
     case 2u: goto L1;
-    case 8192u: v2 = 10u; v3 = ADDRESS(c146); goto L18;
+    case 8192u: v2 = 10u; v3 = ADDRESS(c149); goto L18;
     case 8193u: goto L3;
     case 8194u: goto L4;
     case 8195u: goto L5;
@@ -10554,39 +10620,39 @@ static u64 f42(u16 a0, address a1) {
     default: goto L19;
     }
 L1:;
-    v2 = 1u; v3 = ADDRESS(c145); goto L18;
+    v2 = 1u; v3 = ADDRESS(c148); goto L18;
 L2:;
-    v2 = 1u; v3 = ADDRESS(c155); goto L18;
-L3:;
-    v2 = 3u; v3 = ADDRESS(c147); goto L18;
-L4:;
-    v2 = 10u; v3 = ADDRESS(c148); goto L18;
-L5:;
-    v2 = 8u; v3 = ADDRESS(c149); goto L18;
-L6:;
-    v2 = 10u; v3 = ADDRESS(c150); goto L18;
-L7:;
-    v2 = 1u; v3 = ADDRESS(c151); goto L18;
-L8:;
-    v2 = 1u; v3 = ADDRESS(c152); goto L18;
-L9:;
-    v2 = 1u; v3 = ADDRESS(c153); goto L18;
-L10:;
-    v2 = 1u; v3 = ADDRESS(c154); goto L18;
-L11:;
-    v2 = 1u; v3 = ADDRESS(c156); goto L18;
-L12:;
-    v2 = 1u; v3 = ADDRESS(c157); goto L18;
-L13:;
     v2 = 1u; v3 = ADDRESS(c158); goto L18;
-L14:;
+L3:;
+    v2 = 3u; v3 = ADDRESS(c150); goto L18;
+L4:;
+    v2 = 10u; v3 = ADDRESS(c151); goto L18;
+L5:;
+    v2 = 8u; v3 = ADDRESS(c152); goto L18;
+L6:;
+    v2 = 10u; v3 = ADDRESS(c153); goto L18;
+L7:;
+    v2 = 1u; v3 = ADDRESS(c154); goto L18;
+L8:;
+    v2 = 1u; v3 = ADDRESS(c155); goto L18;
+L9:;
+    v2 = 1u; v3 = ADDRESS(c156); goto L18;
+L10:;
+    v2 = 1u; v3 = ADDRESS(c157); goto L18;
+L11:;
     v2 = 1u; v3 = ADDRESS(c159); goto L18;
-L15:;
+L12:;
     v2 = 1u; v3 = ADDRESS(c160); goto L18;
-L16:;
+L13:;
     v2 = 1u; v3 = ADDRESS(c161); goto L18;
+L14:;
+    v2 = 1u; v3 = ADDRESS(c162); goto L18;
+L15:;
+    v2 = 1u; v3 = ADDRESS(c163); goto L18;
+L16:;
+    v2 = 1u; v3 = ADDRESS(c164); goto L18;
 L17:;
-    v2 = 4u; v3 = ADDRESS(c162); goto L18;
+    v2 = 4u; v3 = ADDRESS(c165); goto L18;
 L18:;
     v10 = v5 == 0u;
     v11 = v7 == 33u;
@@ -10631,7 +10697,7 @@ L27:;
     UNREACHABLE;
 }
 
-static void f43(u64 a0, address a1) {
+static void f44(u64 a0, address a1) {
     u64 v2, v3, v4, v5, v6, v7, v8, v11, v12, v13, v14, v20, v28, v30, v42, v44;
     u64 v45, v57, v68, v70, v72, v80, v85, v87, v89, v93;
     address v9, v21, v23, v25, v26, v27, v31, v33, v35, v36, v43, v46, v48, v50, v51, v58;
@@ -10656,7 +10722,7 @@ L1:;
     v18 = (u16)((u32)v15 - (u32)v17);
     v19 = (u16)((u32)v18 << (1u & 15u));
     v20 = (u64)v19;
-    v21 = ADDRESS(c208) + v20 * 1u;
+    v21 = ADDRESS(c211) + v20 * 1u;
     v22 = load8(v21);
     v23 = v21 + 1u * 1u;
     v24 = load8(v23);
@@ -10668,7 +10734,7 @@ L1:;
     v28 = (u64)((u64)v3 + (u64)UINT64_C(18446744073709551612));
     v29 = (u16)((u32)v16 << (1u & 15u));
     v30 = (u64)v29;
-    v31 = ADDRESS(c208) + v30 * 1u;
+    v31 = ADDRESS(c211) + v30 * 1u;
     v32 = load8(v31);
     v33 = v31 + 1u * 1u;
     v34 = load8(v33);
@@ -10697,7 +10763,7 @@ L4:;
 L5:;
     v44 = (u64)((u64)v4 + (u64)UINT64_C(18446744073709551614));
     v45 = (u64)((u64)v5 << (1u & 63u));
-    v46 = ADDRESS(c208) + v45 * 1u;
+    v46 = ADDRESS(c211) + v45 * 1u;
     v47 = load8(v46);
     v48 = v46 + 1u * 1u;
     v49 = load8(v48);
@@ -10713,7 +10779,7 @@ L6:;
     v55 = (u16)((u32)v52 - (u32)v54);
     v56 = (u16)((u32)v55 << (1u & 15u));
     v57 = (u64)v56;
-    v58 = ADDRESS(c208) + v57 * 1u;
+    v58 = ADDRESS(c211) + v57 * 1u;
     v59 = load8(v58);
     v60 = v58 + 1u * 1u;
     v61 = load8(v60);
@@ -10736,7 +10802,7 @@ L8:;
     v70 = (u64)((u64)v4 + (u64)UINT64_C(18446744073709551612));
     v71 = (u16)((u32)v53 << (1u & 15u));
     v72 = (u64)v71;
-    v73 = ADDRESS(c208) + v72 * 1u;
+    v73 = ADDRESS(c211) + v72 * 1u;
     v74 = load8(v73);
     v75 = v73 + 1u * 1u;
     v76 = load8(v75);
@@ -10778,7 +10844,607 @@ L13:;
     return;
 }
 
-static u32 f44(address a0, address a1) {
+static u32 f45(address a0, u64 a1, address a2, u64 a3) {
+    u32 v4, v6, v7, v9, v13, v14, v15, v17, v18, v19, v20, v22, v23, v24, v25, v27;
+    u32 v28, v29, v30, v32, v33, v34, v35, v37, v38, v39, v40, v42, v43, v44, v45, v47;
+    u32 v48, v49, v50, v52, v53, v54, v60, v61, v62, v64, v65, v66, v67, v69, v70, v71;
+    u32 v72, v74, v75, v76, v77, v79, v80, v81, v82, v84, v85, v86, v87, v89, v90, v91;
+    u32 v92, v94, v95, v96, v97, v99, v100, v101, v104;
+    u64 v5, v8, v55, v102;
+    u8 v10, v12, v16, v21, v26, v31, v36, v41, v46, v51, v56, v57, v59, v63, v68, v73;
+    u8 v78, v83, v88, v93, v98, v103;
+    address v11, v58;
+    v10 = a1 == 0u;
+    if (v10) { v6 = UINT32_C(4294967295); goto L2; }
+    else { v4 = UINT32_C(4294967295); v5 = 0u; goto L1; }
+L1:;
+    v11 = a0 + v5 * 1u;
+    v12 = load8(v11);
+    v13 = (u32)v12;
+    v14 = (u32)((u32)v4 ^ (u32)v13);
+    v15 = (u32)((u32)v14 & (u32)1u);
+    v16 = v15 == 0u;
+    v17 = (u32)((u32)v14 >> (1u & 31u));
+    v18 = (u32)((u32)v17 ^ (u32)UINT32_C(3988292384));
+    v19 = v16 ? v17 : v18;
+    v20 = (u32)((u32)v19 & (u32)1u);
+    v21 = v20 == 0u;
+    v22 = (u32)((u32)v19 >> (1u & 31u));
+    v23 = (u32)((u32)v22 ^ (u32)UINT32_C(3988292384));
+    v24 = v21 ? v22 : v23;
+    v25 = (u32)((u32)v24 & (u32)1u);
+    v26 = v25 == 0u;
+    v27 = (u32)((u32)v24 >> (1u & 31u));
+    v28 = (u32)((u32)v27 ^ (u32)UINT32_C(3988292384));
+    v29 = v26 ? v27 : v28;
+    v30 = (u32)((u32)v29 & (u32)1u);
+    v31 = v30 == 0u;
+    v32 = (u32)((u32)v29 >> (1u & 31u));
+    v33 = (u32)((u32)v32 ^ (u32)UINT32_C(3988292384));
+    v34 = v31 ? v32 : v33;
+    v35 = (u32)((u32)v34 & (u32)1u);
+    v36 = v35 == 0u;
+    v37 = (u32)((u32)v34 >> (1u & 31u));
+    v38 = (u32)((u32)v37 ^ (u32)UINT32_C(3988292384));
+    v39 = v36 ? v37 : v38;
+    v40 = (u32)((u32)v39 & (u32)1u);
+    v41 = v40 == 0u;
+    v42 = (u32)((u32)v39 >> (1u & 31u));
+    v43 = (u32)((u32)v42 ^ (u32)UINT32_C(3988292384));
+    v44 = v41 ? v42 : v43;
+    v45 = (u32)((u32)v44 & (u32)1u);
+    v46 = v45 == 0u;
+    v47 = (u32)((u32)v44 >> (1u & 31u));
+    v48 = (u32)((u32)v47 ^ (u32)UINT32_C(3988292384));
+    v49 = v46 ? v47 : v48;
+    v50 = (u32)((u32)v49 & (u32)1u);
+    v51 = v50 == 0u;
+    v52 = (u32)((u32)v49 >> (1u & 31u));
+    v53 = (u32)((u32)v52 ^ (u32)UINT32_C(3988292384));
+    v54 = v51 ? v52 : v53;
+    v55 = (u64)((u64)v5 + (u64)1u);
+    v56 = v55 == a1;
+    if (v56) { v6 = v54; goto L2; }
+    else { v4 = v54; v5 = v55; goto L1; }
+L2:;
+    v57 = a3 == 0u;
+    if (v57) { v9 = v6; goto L4; }
+    else { v7 = v6; v8 = 0u; goto L3; }
+L3:;
+    v58 = a2 + v8 * 1u;
+    v59 = load8(v58);
+    v60 = (u32)v59;
+    v61 = (u32)((u32)v7 ^ (u32)v60);
+    v62 = (u32)((u32)v61 & (u32)1u);
+    v63 = v62 == 0u;
+    v64 = (u32)((u32)v61 >> (1u & 31u));
+    v65 = (u32)((u32)v64 ^ (u32)UINT32_C(3988292384));
+    v66 = v63 ? v64 : v65;
+    v67 = (u32)((u32)v66 & (u32)1u);
+    v68 = v67 == 0u;
+    v69 = (u32)((u32)v66 >> (1u & 31u));
+    v70 = (u32)((u32)v69 ^ (u32)UINT32_C(3988292384));
+    v71 = v68 ? v69 : v70;
+    v72 = (u32)((u32)v71 & (u32)1u);
+    v73 = v72 == 0u;
+    v74 = (u32)((u32)v71 >> (1u & 31u));
+    v75 = (u32)((u32)v74 ^ (u32)UINT32_C(3988292384));
+    v76 = v73 ? v74 : v75;
+    v77 = (u32)((u32)v76 & (u32)1u);
+    v78 = v77 == 0u;
+    v79 = (u32)((u32)v76 >> (1u & 31u));
+    v80 = (u32)((u32)v79 ^ (u32)UINT32_C(3988292384));
+    v81 = v78 ? v79 : v80;
+    v82 = (u32)((u32)v81 & (u32)1u);
+    v83 = v82 == 0u;
+    v84 = (u32)((u32)v81 >> (1u & 31u));
+    v85 = (u32)((u32)v84 ^ (u32)UINT32_C(3988292384));
+    v86 = v83 ? v84 : v85;
+    v87 = (u32)((u32)v86 & (u32)1u);
+    v88 = v87 == 0u;
+    v89 = (u32)((u32)v86 >> (1u & 31u));
+    v90 = (u32)((u32)v89 ^ (u32)UINT32_C(3988292384));
+    v91 = v88 ? v89 : v90;
+    v92 = (u32)((u32)v91 & (u32)1u);
+    v93 = v92 == 0u;
+    v94 = (u32)((u32)v91 >> (1u & 31u));
+    v95 = (u32)((u32)v94 ^ (u32)UINT32_C(3988292384));
+    v96 = v93 ? v94 : v95;
+    v97 = (u32)((u32)v96 & (u32)1u);
+    v98 = v97 == 0u;
+    v99 = (u32)((u32)v96 >> (1u & 31u));
+    v100 = (u32)((u32)v99 ^ (u32)UINT32_C(3988292384));
+    v101 = v98 ? v99 : v100;
+    v102 = (u64)((u64)v8 + (u64)1u);
+    v103 = v102 == a3;
+    if (v103) { v9 = v101; goto L4; }
+    else { v7 = v101; v8 = v102; goto L3; }
+L4:;
+    v104 = (u32)((u32)v9 ^ (u32)UINT32_C(4294967295));
+    return v104;
+}
+
+static void f46(address a0, address a1, u64 a2) {
+    u32 v3, v31, v32, v33, v34, v35, v36, v37, v38, v39, v40, v41, v77, v78, v79, v81;
+    u32 v82, v83, v84, v86, v87, v88, v89, v91, v92, v93, v94, v96, v97, v98, v99, v101;
+    u32 v102, v103, v104, v106, v107, v108, v109, v111, v112, v113, v114, v116, v117, v118, v121, v122;
+    u32 v123, v124, v125, v126, v127, v128, v129, v130, v131, v132;
+    u64 v4, v42, v43, v48, v66, v119, v152, v153, v154, v155, v156, v157, v158, v159, v160, v161;
+    u64 v162, v163, v164, v165, v166, v167, v168, v169, v170, v171, v172, v173, v174;
+    u8 v5, v6, v7, v9, v10, v11, v13, v14, v15, v17, v18, v19, v20, v24, v26, v28;
+    u8 v30, v44, v49, v51, v52, v54, v55, v56, v58, v59, v60, v62, v63, v64, v65, v68;
+    u8 v70, v72, v74, v76, v80, v85, v90, v95, v100, v105, v110, v115, v120, v133, v137, v139;
+    u8 v141, v143, v145, v147, v149, v151;
+    address v8, v12, v16, v21, v22, v23, v25, v27, v29, v45, v46, v47, v50, v53, v57, v61;
+    address v67, v69, v71, v73, v75, v134, v135, v136, v138, v140, v142, v144, v146, v148, v150, v175;
+    address v176, v177;
+    v5 = a2 > 11u;
+    if (v5) { goto L1; }
+    else { goto L4; }
+L1:;
+    v6 = load8(a1);
+    v7 = v6 != 112u;
+    v8 = a1 + 1u * 1u;
+    v9 = load8(v8);
+    v10 = v9 != 116u;
+    v11 = (u8)(((u32)v7 | (u32)v10) & UINT64_C(1));
+    v12 = a1 + 2u * 1u;
+    v13 = load8(v12);
+    v14 = v13 != 112u;
+    v15 = (u8)(((u32)v11 | (u32)v14) & UINT64_C(1));
+    v16 = a1 + 3u * 1u;
+    v17 = load8(v16);
+    v18 = v17 != 109u;
+    v19 = (u8)(((u32)v15 | (u32)v18) & UINT64_C(1));
+    if (v19) { goto L4; }
+    else { goto L2; }
+L2:;
+    v20 = f4(a1, 4u, ADDRESS(c224), 4u);
+    if (v20) { goto L5; }
+    else { goto L4; }
+L3:;
+    return;
+L4:;
+    store8(a0, 1u);
+    v21 = a0 + 1u * 1u;
+    store8(v21, 0u);
+    v22 = a0 + 8u * 1u;
+    memory_set(v22, 0u, 16u);
+    goto L3;
+L5:;
+    v23 = a1 + 8u * 1u;
+    v24 = load8(v23);
+    v25 = a1 + 9u * 1u;
+    v26 = load8(v25);
+    v27 = a1 + 10u * 1u;
+    v28 = load8(v27);
+    v29 = a1 + 11u * 1u;
+    v30 = load8(v29);
+    v31 = (u32)v30;
+    v32 = (u32)((u32)v31 << (24u & 31u));
+    v33 = (u32)v28;
+    v34 = (u32)((u32)v33 << (16u & 31u));
+    v35 = (u32)v26;
+    v36 = (u32)((u32)v35 << (8u & 31u));
+    v37 = (u32)v24;
+    v38 = (u32)((u32)v36 | (u32)v37);
+    v39 = (u32)((u32)v38 | (u32)v34);
+    v40 = (u32)((u32)v39 | (u32)v32);
+    v41 = swap32(v40);
+    v42 = (u64)v41;
+    v43 = (u64)((u64)v42 + (u64)12u);
+    v44 = a2 == v43;
+    if (v44) { goto L6; }
+    else { goto L7; }
+L6:;
+    store8(a0, 0u);
+    v45 = a0 + 1u * 1u;
+    store8(v45, 0u);
+    v46 = a0 + 8u * 1u;
+    store64(v46, a2);
+    v47 = a0 + 16u * 1u;
+    store64(v47, 0u);
+    goto L3;
+L7:;
+    v48 = (u64)((u64)v42 + (u64)28u);
+    v49 = v48 > a2;
+    if (v49) { goto L13; }
+    else { goto L8; }
+L8:;
+    v50 = a1 + v43 * 1u;
+    v51 = load8(v50);
+    v52 = v51 != 112u;
+    v53 = v50 + 1u * 1u;
+    v54 = load8(v53);
+    v55 = v54 != 116u;
+    v56 = (u8)(((u32)v52 | (u32)v55) & UINT64_C(1));
+    v57 = v50 + 2u * 1u;
+    v58 = load8(v57);
+    v59 = v58 != 112u;
+    v60 = (u8)(((u32)v56 | (u32)v59) & UINT64_C(1));
+    v61 = v50 + 3u * 1u;
+    v62 = load8(v61);
+    v63 = v62 != 115u;
+    v64 = (u8)(((u32)v60 | (u32)v63) & UINT64_C(1));
+    if (v64) { goto L13; }
+    else { goto L9; }
+L9:;
+    v65 = f4(v50, 4u, ADDRESS(c223), 4u);
+    if (v65) { goto L10; }
+    else { goto L13; }
+L10:;
+    v66 = (u64)((u64)v42 + (u64)24u);
+    v67 = a1 + v66 * 1u;
+    v68 = load8(v67);
+    v69 = v67 + 1u * 1u;
+    v70 = load8(v69);
+    v71 = v67 + 2u * 1u;
+    v72 = load8(v71);
+    v73 = v67 + 3u * 1u;
+    v74 = load8(v73);
+    v3 = UINT32_C(4294967295); v4 = 0u; goto L11;
+L11:;
+    v75 = a1 + v4 * 1u;
+    v76 = load8(v75);
+    v77 = (u32)v76;
+    v78 = (u32)((u32)v3 ^ (u32)v77);
+    v79 = (u32)((u32)v78 & (u32)1u);
+    v80 = v79 == 0u;
+    v81 = (u32)((u32)v78 >> (1u & 31u));
+    v82 = (u32)((u32)v81 ^ (u32)UINT32_C(3988292384));
+    v83 = v80 ? v81 : v82;
+    v84 = (u32)((u32)v83 & (u32)1u);
+    v85 = v84 == 0u;
+    v86 = (u32)((u32)v83 >> (1u & 31u));
+    v87 = (u32)((u32)v86 ^ (u32)UINT32_C(3988292384));
+    v88 = v85 ? v86 : v87;
+    v89 = (u32)((u32)v88 & (u32)1u);
+    v90 = v89 == 0u;
+    v91 = (u32)((u32)v88 >> (1u & 31u));
+    v92 = (u32)((u32)v91 ^ (u32)UINT32_C(3988292384));
+    v93 = v90 ? v91 : v92;
+    v94 = (u32)((u32)v93 & (u32)1u);
+    v95 = v94 == 0u;
+    v96 = (u32)((u32)v93 >> (1u & 31u));
+    v97 = (u32)((u32)v96 ^ (u32)UINT32_C(3988292384));
+    v98 = v95 ? v96 : v97;
+    v99 = (u32)((u32)v98 & (u32)1u);
+    v100 = v99 == 0u;
+    v101 = (u32)((u32)v98 >> (1u & 31u));
+    v102 = (u32)((u32)v101 ^ (u32)UINT32_C(3988292384));
+    v103 = v100 ? v101 : v102;
+    v104 = (u32)((u32)v103 & (u32)1u);
+    v105 = v104 == 0u;
+    v106 = (u32)((u32)v103 >> (1u & 31u));
+    v107 = (u32)((u32)v106 ^ (u32)UINT32_C(3988292384));
+    v108 = v105 ? v106 : v107;
+    v109 = (u32)((u32)v108 & (u32)1u);
+    v110 = v109 == 0u;
+    v111 = (u32)((u32)v108 >> (1u & 31u));
+    v112 = (u32)((u32)v111 ^ (u32)UINT32_C(3988292384));
+    v113 = v110 ? v111 : v112;
+    v114 = (u32)((u32)v113 & (u32)1u);
+    v115 = v114 == 0u;
+    v116 = (u32)((u32)v113 >> (1u & 31u));
+    v117 = (u32)((u32)v116 ^ (u32)UINT32_C(3988292384));
+    v118 = v115 ? v116 : v117;
+    v119 = (u64)((u64)v4 + (u64)1u);
+    v120 = v119 == v66;
+    if (v120) { goto L12; }
+    else { v3 = v118; v4 = v119; goto L11; }
+L12:;
+    v121 = (u32)v74;
+    v122 = (u32)((u32)v121 << (24u & 31u));
+    v123 = (u32)v72;
+    v124 = (u32)((u32)v123 << (16u & 31u));
+    v125 = (u32)v70;
+    v126 = (u32)((u32)v125 << (8u & 31u));
+    v127 = (u32)v68;
+    v128 = (u32)((u32)v126 | (u32)v127);
+    v129 = (u32)((u32)v128 | (u32)v124);
+    v130 = (u32)((u32)v129 | (u32)v122);
+    v131 = swap32(v130);
+    v132 = (u32)((u32)v118 ^ (u32)v131);
+    v133 = v132 == UINT32_C(4294967295);
+    if (v133) { goto L14; }
+    else { goto L13; }
+L13:;
+    store8(a0, 1u);
+    v134 = a0 + 1u * 1u;
+    store8(v134, 1u);
+    v135 = a0 + 8u * 1u;
+    memory_set(v135, 0u, 16u);
+    goto L3;
+L14:;
+    v136 = v50 + 4u * 1u;
+    v137 = load8(v136);
+    v138 = v50 + 5u * 1u;
+    v139 = load8(v138);
+    v140 = v50 + 6u * 1u;
+    v141 = load8(v140);
+    v142 = v50 + 7u * 1u;
+    v143 = load8(v142);
+    v144 = v50 + 8u * 1u;
+    v145 = load8(v144);
+    v146 = v50 + 9u * 1u;
+    v147 = load8(v146);
+    v148 = v50 + 10u * 1u;
+    v149 = load8(v148);
+    v150 = v50 + 11u * 1u;
+    v151 = load8(v150);
+    v152 = (u64)v151;
+    v153 = (u64)((u64)v152 << (56u & 63u));
+    v154 = (u64)v149;
+    v155 = (u64)((u64)v154 << (48u & 63u));
+    v156 = (u64)v147;
+    v157 = (u64)((u64)v156 << (40u & 63u));
+    v158 = (u64)v145;
+    v159 = (u64)((u64)v158 << (32u & 63u));
+    v160 = (u64)v143;
+    v161 = (u64)((u64)v160 << (24u & 63u));
+    v162 = (u64)v141;
+    v163 = (u64)((u64)v162 << (16u & 63u));
+    v164 = (u64)v139;
+    v165 = (u64)((u64)v164 << (8u & 63u));
+    v166 = (u64)v137;
+    v167 = (u64)((u64)v165 | (u64)v166);
+    v168 = (u64)((u64)v167 | (u64)v163);
+    v169 = (u64)((u64)v168 | (u64)v161);
+    v170 = (u64)((u64)v169 | (u64)v159);
+    v171 = (u64)((u64)v170 | (u64)v157);
+    v172 = (u64)((u64)v171 | (u64)v155);
+    v173 = (u64)((u64)v172 | (u64)v153);
+    v174 = swap64(v173);
+    store8(a0, 0u);
+    v175 = a0 + 1u * 1u;
+    store8(v175, 0u);
+    v176 = a0 + 8u * 1u;
+    store64(v176, v43);
+    v177 = a0 + 16u * 1u;
+    store64(v177, v174);
+    goto L3;
+}
+
+static u8 f47(address a0, u64 a1, address a2) {
+    address v3, v7, v8, v10, v14, v21, v24, v27, v30, v33, v36, v39, v42, v45, v48, v51;
+    address v54, v57, v60, v63, v66, v69, v72, v75, v78, v81, v84, v87, v90, v93, v96, v99;
+    address v102, v105, v108, v111, v114;
+    u64 v4, v11;
+    u8 v5, v6, v13, v16, v18, v19, v20, v22, v23, v25, v26, v28, v29, v31, v32, v34;
+    u8 v35, v37, v38, v40, v41, v43, v44, v46, v47, v49, v50, v52, v53, v55, v56, v58;
+    u8 v59, v61, v62, v64, v65, v67, v68, v70, v71, v73, v74, v76, v77, v79, v80, v82;
+    u8 v83, v85, v86, v88, v89, v91, v92, v94, v95, v97, v98, v100, v101, v103, v104, v106;
+    u8 v107, v109, v110, v112, v113, v115, v116, v117;
+    u16 v9, v12, v15, v17;
+    v6 = a1 == 0u;
+    if (v6) { v5 = 0u; goto L38; }
+    else { goto L1; }
+L1:;
+    v7 = a2 + 12u * 1u;
+    v8 = a2 + 14u * 1u;
+    v9 = load16(v7);
+    v3 = a0; v4 = a1; goto L2;
+L2:;
+    v10 = v3 + 36u * 1u;
+    v11 = (u64)((u64)v4 + (u64)UINT64_C(18446744073709551615));
+    v12 = load16(v3);
+    v13 = v12 == v9;
+    if (v13) { goto L3; }
+    else { goto L37; }
+L3:;
+    v14 = v3 + 2u * 1u;
+    v15 = load16(v14);
+    v16 = v15 == 65535u;
+    if (v16) { goto L5; }
+    else { goto L4; }
+L4:;
+    v17 = load16(v8);
+    v18 = v17 == 65535u;
+    v19 = v15 == v17;
+    v20 = (u8)(((u32)v18 | (u32)v19) & UINT64_C(1));
+    if (v20) { goto L5; }
+    else { goto L37; }
+L5:;
+    v21 = v3 + 4u * 1u;
+    v22 = load8(v21);
+    v23 = v22 == 0u;
+    if (v23) { goto L6; }
+    else { goto L37; }
+L6:;
+    v24 = v3 + 5u * 1u;
+    v25 = load8(v24);
+    v26 = v25 == 0u;
+    if (v26) { goto L7; }
+    else { goto L37; }
+L7:;
+    v27 = v3 + 6u * 1u;
+    v28 = load8(v27);
+    v29 = v28 == 0u;
+    if (v29) { goto L8; }
+    else { goto L37; }
+L8:;
+    v30 = v3 + 7u * 1u;
+    v31 = load8(v30);
+    v32 = v31 == 0u;
+    if (v32) { goto L9; }
+    else { goto L37; }
+L9:;
+    v33 = v3 + 8u * 1u;
+    v34 = load8(v33);
+    v35 = v34 == 0u;
+    if (v35) { goto L10; }
+    else { goto L37; }
+L10:;
+    v36 = v3 + 9u * 1u;
+    v37 = load8(v36);
+    v38 = v37 == 0u;
+    if (v38) { goto L11; }
+    else { goto L37; }
+L11:;
+    v39 = v3 + 10u * 1u;
+    v40 = load8(v39);
+    v41 = v40 == 0u;
+    if (v41) { goto L12; }
+    else { goto L37; }
+L12:;
+    v42 = v3 + 11u * 1u;
+    v43 = load8(v42);
+    v44 = v43 == 0u;
+    if (v44) { goto L13; }
+    else { goto L37; }
+L13:;
+    v45 = v3 + 12u * 1u;
+    v46 = load8(v45);
+    v47 = v46 == 0u;
+    if (v47) { goto L14; }
+    else { goto L37; }
+L14:;
+    v48 = v3 + 13u * 1u;
+    v49 = load8(v48);
+    v50 = v49 == 0u;
+    if (v50) { goto L15; }
+    else { goto L37; }
+L15:;
+    v51 = v3 + 14u * 1u;
+    v52 = load8(v51);
+    v53 = v52 == 0u;
+    if (v53) { goto L16; }
+    else { goto L37; }
+L16:;
+    v54 = v3 + 15u * 1u;
+    v55 = load8(v54);
+    v56 = v55 == 0u;
+    if (v56) { goto L17; }
+    else { goto L37; }
+L17:;
+    v57 = v3 + 16u * 1u;
+    v58 = load8(v57);
+    v59 = v58 == 0u;
+    if (v59) { goto L18; }
+    else { goto L37; }
+L18:;
+    v60 = v3 + 17u * 1u;
+    v61 = load8(v60);
+    v62 = v61 == 0u;
+    if (v62) { goto L19; }
+    else { goto L37; }
+L19:;
+    v63 = v3 + 18u * 1u;
+    v64 = load8(v63);
+    v65 = v64 == 0u;
+    if (v65) { goto L20; }
+    else { goto L37; }
+L20:;
+    v66 = v3 + 19u * 1u;
+    v67 = load8(v66);
+    v68 = v67 == 0u;
+    if (v68) { goto L21; }
+    else { goto L37; }
+L21:;
+    v69 = v3 + 20u * 1u;
+    v70 = load8(v69);
+    v71 = v70 == 0u;
+    if (v71) { goto L22; }
+    else { goto L37; }
+L22:;
+    v72 = v3 + 21u * 1u;
+    v73 = load8(v72);
+    v74 = v73 == 0u;
+    if (v74) { goto L23; }
+    else { goto L37; }
+L23:;
+    v75 = v3 + 22u * 1u;
+    v76 = load8(v75);
+    v77 = v76 == 0u;
+    if (v77) { goto L24; }
+    else { goto L37; }
+L24:;
+    v78 = v3 + 23u * 1u;
+    v79 = load8(v78);
+    v80 = v79 == 0u;
+    if (v80) { goto L25; }
+    else { goto L37; }
+L25:;
+    v81 = v3 + 24u * 1u;
+    v82 = load8(v81);
+    v83 = v82 == 0u;
+    if (v83) { goto L26; }
+    else { goto L37; }
+L26:;
+    v84 = v3 + 25u * 1u;
+    v85 = load8(v84);
+    v86 = v85 == 0u;
+    if (v86) { goto L27; }
+    else { goto L37; }
+L27:;
+    v87 = v3 + 26u * 1u;
+    v88 = load8(v87);
+    v89 = v88 == 0u;
+    if (v89) { goto L28; }
+    else { goto L37; }
+L28:;
+    v90 = v3 + 27u * 1u;
+    v91 = load8(v90);
+    v92 = v91 == 0u;
+    if (v92) { goto L29; }
+    else { goto L37; }
+L29:;
+    v93 = v3 + 28u * 1u;
+    v94 = load8(v93);
+    v95 = v94 == 0u;
+    if (v95) { goto L30; }
+    else { goto L37; }
+L30:;
+    v96 = v3 + 29u * 1u;
+    v97 = load8(v96);
+    v98 = v97 == 0u;
+    if (v98) { goto L31; }
+    else { goto L37; }
+L31:;
+    v99 = v3 + 30u * 1u;
+    v100 = load8(v99);
+    v101 = v100 == 0u;
+    if (v101) { goto L32; }
+    else { goto L37; }
+L32:;
+    v102 = v3 + 31u * 1u;
+    v103 = load8(v102);
+    v104 = v103 == 0u;
+    if (v104) { goto L33; }
+    else { goto L37; }
+L33:;
+    v105 = v3 + 32u * 1u;
+    v106 = load8(v105);
+    v107 = v106 == 0u;
+    if (v107) { goto L34; }
+    else { goto L37; }
+L34:;
+    v108 = v3 + 33u * 1u;
+    v109 = load8(v108);
+    v110 = v109 == 0u;
+    if (v110) { goto L35; }
+    else { goto L37; }
+L35:;
+    v111 = v3 + 34u * 1u;
+    v112 = load8(v111);
+    v113 = v112 == 0u;
+    if (v113) { goto L36; }
+    else { goto L37; }
+L36:;
+    v114 = v3 + 35u * 1u;
+    v115 = load8(v114);
+    v116 = v115 == 0u;
+    if (v116) { v5 = 1u; goto L38; }
+    else { goto L37; }
+L37:;
+    v117 = v11 == 0u;
+    if (v117) { v5 = 0u; goto L38; }
+    else { v3 = v10; v4 = v11; goto L2; }
+L38:;
+    return v5;
+}
+
+static u32 f48(address a0, address a1) {
     u32 v2;
     u64 v3, v4, v11, v13, v17, v19, v23, v25, v29, v31, v33, v35, v37, v39, v42, v46;
     u64 v50, v56, v62, v83, v87, v93;
@@ -10992,7 +11658,1587 @@ L28:;
     v2 = 35u; goto L2;
 }
 
-static void f45(address a0, address a1) {
+static void f49(address a0, address a1, address a2, u64 a3) {
+    address v4, v5, v6, v7, v8, v9, v12, v13, v14, v16, v18, v23, v25, v27, v29, v31;
+    address v33, v43, v44, v45, v46, v47, v48, v51, v53, v57, v61, v63, v66, v71, v75, v77;
+    address v83, v84, v86, v98, v99, v100, v101, v102, v103, v104, v105, v106, v107, v108, v109, v110;
+    address v111, v112, v113, v114, v115, v116, v117, v119, v149, v150, v151, v152, v153, v154, v155, v156;
+    address v157, v158, v159;
+    u8 v10, v11, v17, v19, v20, v24, v26, v28, v30, v49, v50, v55, v56, v58, v59, v60;
+    u8 v62, v64, v65, v68, v69, v70, v74, v76, v78, v85, v87, v93, v94, v95, v96, v97;
+    u8 v118, v121, v122, v123, v125, v126, v131, v132, v137, v138, v139, v140;
+    u64 v15, v21, v22, v32, v34, v52, v54, v67, v72, v120, v124;
+    u16 v35, v36, v37, v38, v39, v40, v41, v42, v73, v79, v80, v81, v82, v88, v89, v90;
+    u16 v91, v127, v128, v129, v130, v133, v134, v135, v136, v141, v142, v143, v144, v145, v146, v147;
+    u16 v148;
+    struct s2 v92;
+    u64 block0[162];
+    u64 block1[55];
+    u64 block2[55];
+    u64 block3[3];
+    u64 block4[2];
+    u64 block5[4];
+    v4 = ADDRESS(block0);
+    v5 = ADDRESS(block1);
+    v6 = ADDRESS(block2);
+    v7 = ADDRESS(block3);
+    v8 = ADDRESS(block4);
+    v9 = ADDRESS(block5);
+    memory_set(v9, 0u, 32u);
+    f8(v9, a2, a3);
+    v10 = load8(v9);
+    v11 = v10 == 0u;
+    if (v11) { goto L1; }
+    else { goto L11; }
+L1:;
+    v12 = v9 + 8u * 1u;
+    v13 = load_address(v12);
+    v14 = v9 + 16u * 1u;
+    v15 = load64(v14);
+    v16 = v9 + 24u * 1u;
+    v17 = load8(v16);
+    v18 = v9 + 25u * 1u;
+    v19 = load8(v18);
+    v20 = v19 == 0u;
+    v21 = v20 ? 52u : 54u;
+    v22 = v20 ? 53u : 55u;
+    v23 = v13 + v21 * 1u;
+    v24 = load8(v23);
+    v25 = v13 + v22 * 1u;
+    v26 = load8(v25);
+    v27 = v13 + 42u * 1u;
+    v28 = load8(v27);
+    v29 = v13 + 43u * 1u;
+    v30 = load8(v29);
+    v31 = v13 + 54u * 1u;
+    v32 = (u64)((u64)v15 + (u64)UINT64_C(18446744073709551562));
+    v33 = v20 ? v31 : ADDRESS(c111);
+    v34 = v20 ? v32 : 0u;
+    v35 = (u16)v28;
+    v36 = (u16)((u32)v35 << (8u & 15u));
+    v37 = (u16)v30;
+    v38 = (u16)((u32)v36 | (u32)v37);
+    v39 = (u16)v24;
+    v40 = (u16)((u32)v39 << (8u & 15u));
+    v41 = (u16)v26;
+    v42 = (u16)((u32)v40 | (u32)v41);
+    store8(v7, v17);
+    v43 = v7 + 1u * 1u;
+    store8(v43, 0u);
+    v44 = v7 + 2u * 1u;
+    store16(v44, v42);
+    v45 = v7 + 4u * 1u;
+    store16(v45, v38);
+    v46 = v7 + 6u * 1u;
+    store16(v46, 0u);
+    v47 = v7 + 8u * 1u;
+    store_address(v47, v33);
+    v48 = v7 + 16u * 1u;
+    store64(v48, v34);
+    v49 = (u8)((u32)v17 & (u32)253u);
+    v50 = v49 == 1u;
+    if (v50) { goto L2; }
+    else { goto L8; }
+L2:;
+    v51 = v13 + 34u * 1u;
+    v52 = load64(v51);
+    v53 = a1 + 440u * 1u;
+    v54 = load64(v53);
+    v55 = load8(v13);
+    v56 = (u8)((u32)v55 >> (4u & 7u));
+    v57 = v13 + 5u * 1u;
+    v58 = load8(v57);
+    v59 = (u8)((u32)v56 | (u32)v58);
+    v60 = v59 == 0u;
+    if (v60) { goto L3; }
+    else { goto L8; }
+L3:;
+    v61 = v13 + 4u * 1u;
+    v62 = load8(v61);
+    v63 = a1 + 8u * 1u;
+    v64 = load8(v63);
+    v65 = v62 == v64;
+    if (v65) { goto L4; }
+    else { goto L8; }
+L4:;
+    v66 = v13 + 20u * 1u;
+    v67 = load64(v66);
+    v68 = v67 != v54;
+    v69 = v52 == v54;
+    v70 = v68 ? v69 : 0u;
+    if (v70) { goto L5; }
+    else { goto L8; }
+L5:;
+    switch (v38) {
+    case 65535u: goto L7;
+    case 0u: goto L8;
+    default: goto L6;
+    }
+L6:;
+    v71 = a1 + 432u * 1u;
+    v72 = load64(v71);
+    v73 = (u16)(v72);
+    v74 = v38 > v73;
+    if (v74) { goto L8; }
+    else { goto L7; }
+L7:;
+    v75 = v13 + 28u * 1u;
+    v76 = load8(v75);
+    v77 = v13 + 29u * 1u;
+    v78 = load8(v77);
+    v79 = (u16)v76;
+    v80 = (u16)((u32)v79 << (8u & 15u));
+    v81 = (u16)v78;
+    v82 = (u16)((u32)v80 | (u32)v81);
+    store64(v8, v67);
+    v83 = v8 + 8u * 1u;
+    store16(v83, v82);
+    v84 = v13 + 30u * 1u;
+    v85 = load8(v84);
+    v86 = v13 + 31u * 1u;
+    v87 = load8(v86);
+    v88 = (u16)v85;
+    v89 = (u16)((u32)v88 << (8u & 15u));
+    v90 = (u16)v87;
+    v91 = (u16)((u32)v89 | (u32)v90);
+    v92 = f50(v53, v8, v91, v7);
+    v93 = v92.m0;
+    v94 = v93 == 1u;
+    if (v94) { goto L9; }
+    else { goto L8; }
+L8:;
+    goto L12;
+L9:;
+    v95 = v92.m1;
+    memory_set(v6, 0u, 440u);
+    f31(v6, a1);
+    memory_cpy(v5, v6, 440u);
+    v96 = v17 > 2u;
+    v97 = v96 ? 4u : 2u;
+    store8(v4, v97);
+    v98 = v4 + 1u * 1u;
+    store8(v98, 0u);
+    v99 = v4 + 2u * 1u;
+    store16(v99, v42);
+    v100 = v4 + 4u * 1u;
+    store32(v100, 0u);
+    v101 = v4 + 8u * 1u;
+    store64(v101, 0u);
+    v102 = v4 + 16u * 1u;
+    store8(v102, 1u);
+    v103 = v4 + 17u * 1u;
+    memory_set(v103, 0u, 159u);
+    v104 = v4 + 176u * 1u;
+    store8(v104, 1u);
+    v105 = v4 + 177u * 1u;
+    memory_set(v105, 0u, 159u);
+    v106 = v4 + 336u * 1u;
+    store8(v106, 1u);
+    v107 = v4 + 337u * 1u;
+    memory_set(v107, 0u, 159u);
+    v108 = v4 + 496u * 1u;
+    store8(v108, 1u);
+    v109 = v4 + 497u * 1u;
+    memory_set(v109, 0u, 159u);
+    v110 = v4 + 656u * 1u;
+    store8(v110, 1u);
+    v111 = v4 + 657u * 1u;
+    memory_set(v111, 0u, 159u);
+    v112 = v4 + 816u * 1u;
+    store8(v112, 1u);
+    v113 = v4 + 817u * 1u;
+    memory_set(v113, 0u, 159u);
+    v114 = v4 + 976u * 1u;
+    store8(v114, 1u);
+    v115 = v4 + 977u * 1u;
+    memory_set(v115, 0u, 159u);
+    v116 = v4 + 1136u * 1u;
+    store8(v116, 1u);
+    v117 = v4 + 1137u * 1u;
+    memory_set(v117, 0u, 159u);
+    f51(v5, v7, v95, v4);
+    v118 = load8(v102);
+    v119 = v4 + 1288u * 1u;
+    v120 = load64(v119);
+    v121 = v120 != 0u;
+    v122 = v118 != 2u;
+    v123 = v121 ? v122 : 0u;
+    if (v123) { goto L13; }
+    else { goto L12; }
+L10:;
+    return;
+L11:;
+    memory_set(a0, 0u, 48u);
+    goto L10;
+L12:;
+    memory_set(a0, 0u, 48u);
+    goto L10;
+L13:;
+    v124 = load64(v66);
+    v125 = load8(v75);
+    v126 = load8(v77);
+    v127 = (u16)v125;
+    v128 = (u16)((u32)v127 << (8u & 15u));
+    v129 = (u16)v126;
+    v130 = (u16)((u32)v128 | (u32)v129);
+    v131 = load8(v84);
+    v132 = load8(v86);
+    v133 = (u16)v131;
+    v134 = (u16)((u32)v133 << (8u & 15u));
+    v135 = (u16)v132;
+    v136 = (u16)((u32)v134 | (u32)v135);
+    v137 = load8(v23);
+    v138 = load8(v25);
+    v139 = load8(v27);
+    v140 = load8(v29);
+    v141 = (u16)v139;
+    v142 = (u16)((u32)v141 << (8u & 15u));
+    v143 = (u16)v140;
+    v144 = (u16)((u32)v142 | (u32)v143);
+    v145 = (u16)v137;
+    v146 = (u16)((u32)v145 << (8u & 15u));
+    v147 = (u16)v138;
+    v148 = (u16)((u32)v146 | (u32)v147);
+    store64(a0, 1u);
+    v149 = a0 + 8u * 1u;
+    store64(v149, v124);
+    v150 = a0 + 16u * 1u;
+    store16(v150, v130);
+    v151 = a0 + 18u * 1u;
+    store16(v151, v136);
+    v152 = a0 + 20u * 1u;
+    store32(v152, 0u);
+    v153 = a0 + 24u * 1u;
+    store8(v153, v17);
+    v154 = a0 + 25u * 1u;
+    store8(v154, 0u);
+    v155 = a0 + 26u * 1u;
+    store16(v155, v148);
+    v156 = a0 + 28u * 1u;
+    store16(v156, v144);
+    v157 = a0 + 30u * 1u;
+    store16(v157, 0u);
+    v158 = a0 + 32u * 1u;
+    store_address(v158, v33);
+    v159 = a0 + 40u * 1u;
+    store64(v159, v34);
+    goto L10;
+}
+
+static struct s2 f50(address a0, address a1, u16 a2, address a3) {
+    address v4, v10, v13, v14, v15, v17, v19, v22, v27, v30, v32, v34, v36, v43, v47, v50;
+    address v53, v54, v55, v62, v63, v68, v69, v74, v75, v81, v82, v90;
+    u64 v5, v6, v11, v18, v23, v24, v37, v56, v86;
+    u8 v7, v8, v9, v12, v21, v25, v26, v28, v29, v38, v40, v41, v42, v44, v45, v46;
+    u8 v49, v52, v57, v58, v59, v60, v61, v64, v65, v66, v67, v70, v71, v72, v73, v76;
+    u8 v77, v78, v79, v80, v83, v84, v85, v87, v88, v89, v91;
+    u16 v16, v20, v31, v33, v35, v39, v48, v51;
+    struct s2 v92, v93;
+    v10 = a0 + 16u * 1u;
+    v11 = load64(v10);
+    v12 = v11 == 0u;
+    if (v12) { v8 = 0u; v9 = 0u; goto L22; }
+    else { goto L1; }
+L1:;
+    v13 = a0 + 8u * 1u;
+    v14 = load_address(v13);
+    v15 = a1 + 8u * 1u;
+    v16 = load16(v15);
+    v4 = v14; v5 = v11; goto L2;
+L2:;
+    v17 = v4 + 2136u * 1u;
+    v18 = (u64)((u64)v5 + (u64)UINT64_C(18446744073709551615));
+    v19 = v4 + 2112u * 1u;
+    v20 = load16(v19);
+    v21 = v16 == v20;
+    if (v21) { goto L3; }
+    else { goto L4; }
+L3:;
+    v22 = v4 + 2104u * 1u;
+    v23 = load64(a1);
+    v24 = load64(v22);
+    v25 = v23 == v24;
+    if (v25) { goto L5; }
+    else { goto L4; }
+L4:;
+    v26 = v18 == 0u;
+    if (v26) { v8 = 0u; v9 = 0u; goto L22; }
+    else { v4 = v17; v5 = v18; goto L2; }
+L5:;
+    v27 = v4 + 2129u * 1u;
+    v28 = load8(v27);
+    v29 = (u8)((v28) & UINT64_C(1));
+    if (v29) { goto L6; }
+    else { v7 = 1u; goto L21; }
+L6:;
+    v30 = v4 + 2114u * 1u;
+    v31 = load16(v30);
+    v32 = v4 + 2116u * 1u;
+    v33 = load16(v32);
+    v34 = v4 + 2118u * 1u;
+    v35 = load16(v34);
+    v36 = v4 + 1424u * 1u;
+    v37 = load64(v36);
+    v38 = a2 == v31;
+    v39 = (u16)((u32)a2 - (u32)v31);
+    v40 = (i16)v39 > (i16)65535u;
+    v41 = v40 ? 1u : 2u;
+    v42 = v38 ? 0u : v41;
+    switch (v42) {
+    case 0u: goto L7;
+    case 1u: v7 = v42; goto L21;
+    case 2u: goto L19;
+    default: goto L20;
+    }
+L7:;
+    v43 = v4 + 2120u * 1u;
+    v44 = load8(v43);
+    v45 = load8(a3);
+    v46 = v44 == v45;
+    if (v46) { goto L8; }
+    else { v7 = 3u; goto L21; }
+L8:;
+    v47 = a3 + 2u * 1u;
+    v48 = load16(v47);
+    v49 = v33 == v48;
+    if (v49) { goto L9; }
+    else { v7 = 3u; goto L21; }
+L9:;
+    v50 = a3 + 4u * 1u;
+    v51 = load16(v50);
+    v52 = v35 == v51;
+    if (v52) { goto L10; }
+    else { v7 = 3u; goto L21; }
+L10:;
+    v53 = a3 + 8u * 1u;
+    v54 = load_address(v53);
+    v55 = a3 + 16u * 1u;
+    v56 = load64(v55);
+    v57 = v37 == v56;
+    if (v57) { goto L11; }
+    else { v7 = 3u; goto L21; }
+L11:;
+    v58 = v37 < 4u;
+    if (v58) { goto L13; }
+    else { goto L12; }
+L12:;
+    v59 = load8(v4);
+    v60 = load8(v54);
+    v61 = v59 != v60;
+    v62 = v4 + 1u * 1u;
+    v63 = v54 + 1u * 1u;
+    v64 = load8(v62);
+    v65 = load8(v63);
+    v66 = v64 != v65;
+    v67 = (u8)(((u32)v61 | (u32)v66) & UINT64_C(1));
+    v68 = v4 + 2u * 1u;
+    v69 = v54 + 2u * 1u;
+    v70 = load8(v68);
+    v71 = load8(v69);
+    v72 = v70 != v71;
+    v73 = (u8)(((u32)v67 | (u32)v72) & UINT64_C(1));
+    v74 = v4 + 3u * 1u;
+    v75 = v54 + 3u * 1u;
+    v76 = load8(v74);
+    v77 = load8(v75);
+    v78 = v76 != v77;
+    v79 = (u8)(((u32)v73 | (u32)v78) & UINT64_C(1));
+    if (v79) { v7 = 3u; goto L21; }
+    else { goto L16; }
+L13:;
+    v80 = v37 == 0u;
+    if (v80) { goto L18; }
+    else { v6 = 0u; goto L14; }
+L14:;
+    v81 = v4 + v6 * 1u;
+    v82 = v54 + v6 * 1u;
+    v83 = load8(v81);
+    v84 = load8(v82);
+    v85 = v83 == v84;
+    if (v85) { goto L15; }
+    else { goto L17; }
+L15:;
+    v86 = (u64)((u64)v6 + (u64)1u);
+    v87 = v86 == v37;
+    if (v87) { goto L18; }
+    else { v6 = v86; goto L14; }
+L16:;
+    v88 = f4(v4, v37, v54, v37);
+    if (v88) { goto L18; }
+    else { v7 = 3u; goto L21; }
+L17:;
+    v89 = v6 < v37;
+    if (v89) { v7 = 3u; goto L21; }
+    else { goto L18; }
+L18:;
+    v7 = 2u; goto L21;
+L19:;
+    v7 = 4u; goto L21;
+L20:;
+    UNREACHABLE;
+L21:;
+    v90 = v4 + 2128u * 1u;
+    v91 = load8(v90);
+    v8 = v7; v9 = v91; goto L22;
+L22:;
+    v92 = (struct s2){ 0 };
+    v92.m0 = v8;
+    v93 = v92;
+    v93.m1 = v9;
+    return v93;
+}
+
+static void f51(address a0, address a1, u8 a2, address a3) {
+    address v4, v25, v26, v27, v28, v29, v31, v32, v33, v34, v35, v36, v37, v38, v48, v49;
+    address v50, v76, v77, v78, v80, v81, v84, v85, v86, v87, v91, v92, v95, v96, v97, v99;
+    address v101, v102, v105, v106, v107, v108, v110, v111, v114, v115, v116, v117;
+    u64 v5, v21, v51, v55, v56, v57, v58, v65, v66, v69, v70, v73, v74, v82, v83, v88;
+    u64 v93, v94, v98, v103, v104, v109, v112, v113, v118;
+    u8 v6, v7, v8, v9, v10, v11, v12, v13, v14, v15, v16, v17, v18, v19, v20, v22;
+    u8 v23, v24, v39, v40, v41, v42, v43, v44, v45, v46, v47, v52, v53, v54, v59, v60;
+    u8 v61, v62, v63, v64, v67, v68, v71, v72, v75, v79, v89, v90, v100;
+    u16 v30;
+    u64 block0[1];
+    u64 block1[1];
+    u64 block2[4];
+    u64 block3[1];
+    v25 = ADDRESS(block0);
+    v26 = ADDRESS(block1);
+    v27 = ADDRESS(block2);
+    v28 = ADDRESS(block3);
+    v29 = a1 + 2u * 1u;
+    v30 = load16(v29);
+    switch (v30) {
+    case 0u: v4 = ADDRESS(c113); v5 = 19u; v6 = 0u; v7 = 2u; v8 = 0u; v9 = 1u; v10 = 0u; v11 = 7u; v12 = 0u; v13 = 0u; goto L21;
+    case 2u: goto L1;
+    case 8192u: goto L2;
+    case 8193u: goto L3;
+    case 8194u: goto L4;
+    case 8195u: goto L5;
+    case 8196u: goto L6;
+    case 8197u: goto L7;
+    case 8198u: goto L8;
+    case 8199u: goto L9;
+    case 8200u: goto L10;
+    case 8201u: goto L11;
+    case 8202u: goto L12;
+    case 8203u: goto L13;
+    case 8204u: goto L14;
+    case 8205u: goto L15;
+    case 8206u: goto L16;
+    case 8208u: goto L17;
+    case 8209u: goto L18;
+    case 24576u: goto L19;
+    case 24577u: goto L20;
+    default: goto L64;
+    }
+L1:;
+    v4 = ADDRESS(c114); v5 = 16u; v6 = 0u; v7 = 1u; v8 = 1u; v9 = 0u; v10 = 1u; v11 = 3u; v12 = 1u; v13 = 0u; goto L21;
+L2:;
+    v4 = ADDRESS(c115); v5 = 16u; v6 = 0u; v7 = 1u; v8 = 1u; v9 = 0u; v10 = 1u; v11 = 1u; v12 = 2u; v13 = 0u; goto L21;
+L3:;
+    v4 = ADDRESS(c116); v5 = 16u; v6 = 0u; v7 = 1u; v8 = 1u; v9 = 0u; v10 = 1u; v11 = 1u; v12 = 3u; v13 = 0u; goto L21;
+L4:;
+    v4 = ADDRESS(c117); v5 = 15u; v6 = 0u; v7 = 1u; v8 = 1u; v9 = 0u; v10 = 1u; v11 = 1u; v12 = 4u; v13 = 0u; goto L21;
+L5:;
+    v4 = ADDRESS(c118); v5 = 24u; v6 = 0u; v7 = 1u; v8 = 1u; v9 = 0u; v10 = 1u; v11 = 1u; v12 = 5u; v13 = 0u; goto L21;
+L6:;
+    v4 = ADDRESS(c119); v5 = 13u; v6 = 4u; v7 = 2u; v8 = 0u; v9 = 1u; v10 = 1u; v11 = 1u; v12 = 6u; v13 = 0u; goto L21;
+L7:;
+    v4 = ADDRESS(c120); v5 = 9u; v6 = 0u; v7 = 1u; v8 = 1u; v9 = 0u; v10 = 1u; v11 = 3u; v12 = 7u; v13 = 0u; goto L21;
+L8:;
+    v4 = ADDRESS(c121); v5 = 9u; v6 = 0u; v7 = 1u; v8 = 1u; v9 = 0u; v10 = 1u; v11 = 3u; v12 = 8u; v13 = 0u; goto L21;
+L9:;
+    v4 = ADDRESS(c122); v5 = 6u; v6 = 0u; v7 = 1u; v8 = 1u; v9 = 0u; v10 = 1u; v11 = 3u; v12 = 9u; v13 = 0u; goto L21;
+L10:;
+    v4 = ADDRESS(c123); v5 = 10u; v6 = 0u; v7 = 1u; v8 = 1u; v9 = 0u; v10 = 1u; v11 = 1u; v12 = 10u; v13 = 0u; goto L21;
+L11:;
+    v4 = ADDRESS(c129); v5 = 21u; v6 = 4u; v7 = 2u; v8 = 0u; v9 = 1u; v10 = 1u; v11 = 3u; v12 = 11u; v13 = 0u; goto L21;
+L12:;
+    v4 = ADDRESS(c131); v5 = 24u; v6 = 4u; v7 = 2u; v8 = 0u; v9 = 1u; v10 = 1u; v11 = 3u; v12 = 11u; v13 = 1u; goto L21;
+L13:;
+    v4 = ADDRESS(c133); v5 = 17u; v6 = 4u; v7 = 2u; v8 = 0u; v9 = 1u; v10 = 1u; v11 = 3u; v12 = 11u; v13 = 2u; goto L21;
+L14:;
+    v4 = ADDRESS(c124); v5 = 14u; v6 = 4u; v7 = 2u; v8 = 0u; v9 = 1u; v10 = 1u; v11 = 1u; v12 = 12u; v13 = 0u; goto L21;
+L15:;
+    v4 = ADDRESS(c125); v5 = 11u; v6 = 4u; v7 = 2u; v8 = 0u; v9 = 1u; v10 = 0u; v11 = 4u; v12 = 13u; v13 = 0u; goto L21;
+L16:;
+    v4 = ADDRESS(c126); v5 = 12u; v6 = 4u; v7 = 2u; v8 = 0u; v9 = 1u; v10 = 0u; v11 = 4u; v12 = 14u; v13 = 0u; goto L21;
+L17:;
+    v4 = ADDRESS(c127); v5 = 14u; v6 = 0u; v7 = 1u; v8 = 1u; v9 = 0u; v10 = 1u; v11 = 3u; v12 = 15u; v13 = 0u; goto L21;
+L18:;
+    v4 = ADDRESS(c128); v5 = 14u; v6 = 0u; v7 = 1u; v8 = 1u; v9 = 0u; v10 = 1u; v11 = 3u; v12 = 16u; v13 = 0u; goto L21;
+L19:;
+    v4 = ADDRESS(c135); v5 = 15u; v6 = 4u; v7 = 2u; v8 = 0u; v9 = 1u; v10 = 1u; v11 = 3u; v12 = 11u; v13 = 3u; goto L21;
+L20:;
+    v4 = ADDRESS(c137); v5 = 27u; v6 = 4u; v7 = 2u; v8 = 0u; v9 = 1u; v10 = 1u; v11 = 3u; v12 = 11u; v13 = 4u; goto L21;
+L21:;
+    memory_set(v26, 0u, 6u);
+    memory_cpy(v28, v26, 6u);
+    store16(v27, v30);
+    v31 = v27 + 2u * 1u;
+    memory_cpy(v31, v28, 6u);
+    v32 = v27 + 8u * 1u;
+    store_address(v32, v4);
+    v33 = v27 + 16u * 1u;
+    store64(v33, v5);
+    v34 = v27 + 24u * 1u;
+    store8(v34, v9);
+    v35 = v27 + 25u * 1u;
+    store8(v35, v11);
+    v36 = v27 + 26u * 1u;
+    store8(v36, v12);
+    v37 = v27 + 27u * 1u;
+    store8(v37, v13);
+    v38 = v27 + 28u * 1u;
+    store32(v38, 0u);
+    v39 = load8(a1);
+    switch (v39) {
+    case 0u: goto L22;
+    case 1u: goto L25;
+    case 3u: goto L23;
+    case 2u: goto L26;
+    case 4u: goto L26;
+    default: goto L24;
+    }
+L22:;
+    v40 = (u8)((u32)v11 & (u32)1u);
+    v41 = v40 == 0u;
+    if (v41) { goto L26; }
+    else { v14 = 0u; goto L27; }
+L23:;
+    if (v10) { goto L26; }
+    else { v14 = v6; goto L27; }
+L24:;
+    UNREACHABLE;
+L25:;
+    v42 = (u8)((u32)v11 & (u32)2u);
+    v43 = v42 == 0u;
+    if (v43) { goto L26; }
+    else { v14 = v7; goto L27; }
+L26:;
+    v44 = v39 == 1u;
+    v45 = v44 ? 4u : 5u;
+    if (v8) { v20 = v45; goto L52; }
+    else { v23 = v45; v24 = 1u; goto L62; }
+L27:;
+    v46 = (u8)((u32)v14 & (u32)a2);
+    v47 = v46 == v14;
+    if (v47) { goto L28; }
+    else { v19 = 5u; goto L49; }
+L28:;
+    v48 = a1 + 8u * 1u;
+    v49 = load_address(v48);
+    v50 = a1 + 16u * 1u;
+    v51 = load64(v50);
+    switch (v39) {
+    case 1u: goto L29;
+    case 3u: goto L37;
+    case 0u: goto L40;
+    case 2u: goto L40;
+    default: goto L36;
+    }
+L29:;
+    switch (v12) {
+    case 0u: goto L31;
+    case 1u: goto L32;
+    case 7u: goto L35;
+    case 8u: goto L35;
+    case 9u: goto L35;
+    case 11u: goto L35;
+    case 15u: goto L35;
+    case 16u: goto L34;
+    case 2u: v19 = 2u; goto L49;
+    case 3u: v19 = 2u; goto L49;
+    case 4u: v19 = 2u; goto L49;
+    case 5u: v19 = 2u; goto L49;
+    case 6u: v19 = 2u; goto L49;
+    case 10u: v19 = 2u; goto L49;
+    case 12u: v19 = 2u; goto L49;
+    case 13u: v19 = 2u; goto L49;
+    case 14u: v19 = 2u; goto L49;
+    default: goto L30;
+    }
+L30:;
+    UNREACHABLE;
+L31:;
+    v52 = v51 == 0u;
+    if (v52) { goto L39; }
+    else { v19 = 2u; goto L49; }
+L32:;
+    v53 = v51 == 0u;
+    if (v53) { v19 = 2u; goto L49; }
+    else { goto L33; }
+L33:;
+    v54 = load8(v49);
+    v55 = (u64)v54;
+    v56 = (u64)((u64)v55 + (u64)1u);
+    v57 = (u64)((u64)v56 & (u64)1u);
+    v58 = (u64)((u64)v57 + (u64)v56);
+    v59 = v51 == v58;
+    if (v59) { goto L39; }
+    else { v19 = 2u; goto L49; }
+L34:;
+    v60 = v51 == 4u;
+    if (v60) { goto L39; }
+    else { v19 = 2u; goto L49; }
+L35:;
+    v61 = v51 == 2u;
+    if (v61) { goto L39; }
+    else { v19 = 2u; goto L49; }
+L36:;
+    UNREACHABLE;
+L37:;
+    v62 = v51 == 0u;
+    if (v62) { goto L38; }
+    else { v19 = 2u; goto L49; }
+L38:;
+    goto L50;
+L39:;
+    goto L41;
+L40:;
+    v63 = v39 == 1u;
+    if (v63) { goto L41; }
+    else { goto L50; }
+L41:;
+    switch (v12) {
+    case 0u: v15 = 1u; v16 = v12; v17 = v12; v18 = v12; goto L48;
+    case 1u: goto L42;
+    case 7u: goto L43;
+    case 8u: goto L43;
+    case 9u: goto L43;
+    case 11u: goto L47;
+    case 15u: goto L44;
+    case 16u: goto L45;
+    case 2u: goto L46;
+    case 3u: goto L46;
+    case 4u: goto L46;
+    case 5u: goto L46;
+    case 6u: goto L46;
+    case 10u: goto L46;
+    case 12u: goto L46;
+    case 13u: goto L46;
+    case 14u: goto L46;
+    default: goto L30;
+    }
+L42:;
+    v15 = 2u; v16 = 128u; v17 = 0u; v18 = 0u; goto L48;
+L43:;
+    v15 = 3u; v16 = 0u; v17 = 0u; v18 = 0u; goto L48;
+L44:;
+    v15 = 5u; v16 = 23u; v17 = 49u; v18 = 254u; goto L48;
+L45:;
+    v15 = 8u; v16 = 0u; v17 = 0u; v18 = 0u; goto L48;
+L46:;
+    v15 = 0u; v16 = 0u; v17 = 0u; v18 = 0u; goto L48;
+L47:;
+    v64 = (u8)((u32)v13 << (3u & 7u));
+    v65 = (u64)v64;
+    v66 = (u64)(((u64)UINT64_C(30165894151) >> (v65 & 63u)) & UINT64_C(1099511627775));
+    v67 = (u8)(v66);
+    v68 = (u8)((u32)v13 << (3u & 7u));
+    v69 = (u64)v68;
+    v70 = (u64)(((u64)UINT64_C(34360263172) >> (v69 & 63u)) & UINT64_C(1099511627775));
+    v71 = (u8)(v70);
+    v72 = (u8)((u32)v13 << (3u & 7u));
+    v73 = (u64)v72;
+    v74 = (u64)(((u64)UINT64_C(21474904580) >> (v73 & 63u)) & UINT64_C(1099511627775));
+    v75 = (u8)(v74);
+    v15 = v67; v16 = v71; v17 = v75; v18 = 0u; goto L48;
+L48:;
+    store8(v25, v15);
+    v76 = v25 + 1u * 1u;
+    store8(v76, v16);
+    v77 = v25 + 2u * 1u;
+    store8(v77, v17);
+    v78 = v25 + 3u * 1u;
+    store8(v78, v18);
+    v79 = f52(v25, v49, v51);
+    if (v79) { goto L51; }
+    else { v19 = 3u; goto L49; }
+L49:;
+    if (v8) { v20 = v19; goto L52; }
+    else { v23 = v19; v24 = 1u; goto L62; }
+L50:;
+    goto L51;
+L51:;
+    f53(a0, v12, v13, a1);
+    if (v8) { goto L53; }
+    else { v23 = 0u; v24 = 0u; goto L62; }
+L52:;
+    v80 = a3 + 8u * 1u;
+    v81 = a3 + 1288u * 1u;
+    v82 = load64(v81);
+    v83 = (u64)((u64)v82 * (u64)160u);
+    v84 = v80 + v83 * 1u;
+    v85 = v84 + 8u * 1u;
+    store64(v84, 0u);
+    store8(v85, 2u);
+    v86 = v84 + 9u * 1u;
+    store8(v86, v20);
+    v87 = v84 + 10u * 1u;
+    memory_set(v87, 0u, 150u);
+    v88 = (u64)((u64)v82 + (u64)1u);
+    store64(v81, v88);
+    goto L63;
+L53:;
+    v89 = load8(a1);
+    v90 = v89 == 3u;
+    if (v90) { goto L54; }
+    else { goto L55; }
+L54:;
+    v91 = a3 + 8u * 1u;
+    v92 = a3 + 1288u * 1u;
+    v93 = load64(v92);
+    v94 = (u64)((u64)v93 * (u64)160u);
+    v95 = v91 + v94 * 1u;
+    v96 = v95 + 8u * 1u;
+    store64(v95, 0u);
+    store8(v96, 1u);
+    v97 = v95 + 9u * 1u;
+    v98 = (u64)((u64)v93 + (u64)1u);
+    memory_set(v97, 0u, 151u);
+    store64(v92, v98);
+    goto L63;
+L55:;
+    switch (v12) {
+    case 7u: v21 = 10u; goto L59;
+    case 8u: goto L56;
+    case 9u: goto L57;
+    case 10u: v22 = 0u; goto L60;
+    case 15u: goto L58;
+    case 0u: goto L61;
+    case 1u: goto L61;
+    case 2u: goto L61;
+    case 3u: goto L61;
+    case 4u: goto L61;
+    case 5u: goto L61;
+    case 6u: goto L61;
+    case 11u: goto L61;
+    case 12u: goto L61;
+    case 13u: goto L61;
+    case 14u: goto L61;
+    case 16u: goto L61;
+    default: goto L30;
+    }
+L56:;
+    v21 = 16u; goto L59;
+L57:;
+    v21 = 8u; goto L59;
+L58:;
+    v21 = 12u; goto L59;
+L59:;
+    v99 = a0 + v21 * 1u;
+    v100 = load8(v99);
+    v22 = v100; goto L60;
+L60:;
+    v101 = a3 + 8u * 1u;
+    v102 = a3 + 1288u * 1u;
+    v103 = load64(v102);
+    v104 = (u64)((u64)v103 * (u64)160u);
+    v105 = v101 + v104 * 1u;
+    v106 = v105 + 16u * 1u;
+    memory_set(v105, 0u, 16u);
+    store8(v106, v22);
+    v107 = v105 + 17u * 1u;
+    v108 = v105 + 152u * 1u;
+    memory_set(v107, 0u, 135u);
+    store64(v108, 2u);
+    v109 = (u64)((u64)v103 + (u64)1u);
+    store64(v102, v109);
+    goto L63;
+L61:;
+    f54(a0, v12, a3);
+    goto L63;
+L62:;
+    f55(a0, v27, a1, v24, v23, a3);
+    goto L63;
+L63:;
+    return;
+L64:;
+    v110 = a3 + 8u * 1u;
+    v111 = a3 + 1288u * 1u;
+    v112 = load64(v111);
+    v113 = (u64)((u64)v112 * (u64)160u);
+    v114 = v110 + v113 * 1u;
+    v115 = v114 + 8u * 1u;
+    store64(v114, 0u);
+    store8(v115, 2u);
+    v116 = v114 + 9u * 1u;
+    store8(v116, 1u);
+    v117 = v114 + 10u * 1u;
+    memory_set(v117, 0u, 150u);
+    v118 = (u64)((u64)v112 + (u64)1u);
+    store64(v111, v118);
+    goto L63;
+}
+
+static u8 f52(address a0, address a1, u64 a2) {
+    address v3, v6, v8, v10, v12, v15, v29;
+    u64 v4, v17;
+    u8 v5, v7, v9, v11, v13, v14, v16, v18, v19, v20, v21, v25, v27, v28, v30, v31;
+    u8 v32, v33, v34, v35, v36, v37, v38, v39, v40, v41, v42, v43, v44, v45, v46;
+    u16 v22, v23, v24, v26;
+    u64 block0[3];
+    v6 = ADDRESS(block0);
+    v7 = load8(a0);
+    v8 = a0 + 1u * 1u;
+    v9 = load8(v8);
+    v10 = a0 + 2u * 1u;
+    v11 = load8(v10);
+    v12 = a0 + 3u * 1u;
+    v13 = load8(v12);
+    switch (v7) {
+    case 0u: v5 = 0u; goto L13;
+    case 1u: goto L1;
+    case 2u: goto L2;
+    case 7u: goto L5;
+    case 8u: goto L6;
+    case 3u: goto L7;
+    case 4u: goto L7;
+    case 5u: goto L7;
+    case 6u: goto L7;
+    default: goto L14;
+    }
+L1:;
+    v5 = 1u; goto L13;
+L2:;
+    v14 = a2 == 0u;
+    if (v14) { v3 = a1; v4 = 0u; goto L4; }
+    else { goto L3; }
+L3:;
+    v15 = a1 + 1u * 1u;
+    v16 = load8(a1);
+    v17 = (u64)v16;
+    v18 = v16 > v9;
+    if (v18) { v5 = 0u; goto L13; }
+    else { v3 = v15; v4 = v17; goto L4; }
+L4:;
+    memory_set(v6, 0u, 24u);
+    f16(v6, v3, v4);
+    v19 = load8(v6);
+    v20 = v19 == 0u;
+    v5 = v20; goto L13;
+L5:;
+    v21 = load8(a1);
+    v22 = (u16)v9;
+    v23 = (u16)((u32)0u - (u32)v22);
+    v24 = (u16)((i16)(i8)v21);
+    v25 = (i16)v23 <= (i16)v24;
+    v26 = (u16)v11;
+    v27 = (i16)v24 <= (i16)v26;
+    v28 = v25 ? v27 : 0u;
+    v5 = v28; goto L13;
+L6:;
+    v29 = a1 + 2u * 1u;
+    v30 = load8(v29);
+    v31 = (u8)((u32)v30 & (u32)3u);
+    v32 = v31 != 3u;
+    v5 = v32; goto L13;
+L7:;
+    v33 = load8(a1);
+    switch (v7) {
+    case 3u: v5 = 1u; goto L13;
+    case 4u: goto L8;
+    case 5u: goto L9;
+    case 6u: goto L10;
+    default: goto L11;
+    }
+L8:;
+    v34 = v9 <= v33;
+    v35 = v33 <= v11;
+    v36 = v34 ? v35 : 0u;
+    v5 = v36; goto L13;
+L9:;
+    v37 = v9 <= v33;
+    v38 = v33 <= v11;
+    v39 = v37 ? v38 : 0u;
+    v40 = v33 == v13;
+    v41 = v39 ? 1u : v40;
+    v5 = v41; goto L13;
+L10:;
+    v42 = (u8)((u32)v33 + (u32)2u);
+    v43 = v42 < 5u;
+    if (v43) { goto L12; }
+    else { v5 = 0u; goto L13; }
+L11:;
+    UNREACHABLE;
+L12:;
+    v44 = (u8)((v42) & UINT64_C(31));
+    v45 = (u8)(((u32)25u >> (v44 & 7u)) & UINT64_C(31));
+    v46 = (u8)((v45) & UINT64_C(1));
+    v5 = v46; goto L13;
+L13:;
+    return v5;
+L14:;
+    UNREACHABLE;
+}
+
+static void f53(address a0, u8 a1, u8 a2, address a3) {
+    u64 v4, v6, v7, v8, v9, v10, v17, v21, v23, v24, v25, v27, v29, v32, v33, v35;
+    u64 v36, v37, v42, v45, v50, v51, v57, v58, v64, v65, v92, v95, v96, v100, v102, v103;
+    u64 v106, v112, v115, v119, v121, v122, v129, v132, v134, v136, v137;
+    address v5, v12, v14, v15, v16, v19, v22, v26, v30, v31, v39, v40, v47, v49, v53, v54;
+    address v56, v60, v61, v63, v67, v68, v70, v71, v72, v75, v82, v85, v88, v90, v91, v97;
+    address v98, v99, v104, v105, v107, v108, v110, v111, v116, v123, v124, v127, v128, v133, v138, v139;
+    u8 v11, v18, v20, v28, v34, v38, v41, v43, v44, v46, v48, v52, v55, v59, v62, v66;
+    u8 v69, v73, v74, v76, v81, v83, v84, v86, v87, v89, v93, v94, v101, v113, v114, v117;
+    u8 v118, v120, v125, v126, v130, v131, v135;
+    u16 v13, v77, v78, v79, v80, v109;
+    v11 = load8(a3);
+    switch (v11) {
+    case 1u: goto L1;
+    case 3u: goto L30;
+    case 0u: goto L43;
+    case 2u: goto L43;
+    case 4u: goto L43;
+    default: goto L44;
+    }
+L1:;
+    v12 = a3 + 4u * 1u;
+    v13 = load16(v12);
+    v14 = a3 + 8u * 1u;
+    v15 = load_address(v14);
+    switch (a1) {
+    case 1u: goto L2;
+    case 7u: goto L13;
+    case 8u: goto L16;
+    case 15u: goto L19;
+    case 9u: goto L22;
+    case 16u: goto L23;
+    case 11u: goto L24;
+    case 0u: goto L43;
+    case 2u: goto L43;
+    case 3u: goto L43;
+    case 4u: goto L43;
+    case 5u: goto L43;
+    case 6u: goto L43;
+    case 10u: goto L43;
+    case 12u: goto L43;
+    case 13u: goto L43;
+    case 14u: goto L43;
+    default: goto L29;
+    }
+L2:;
+    v16 = a3 + 16u * 1u;
+    v17 = load64(v16);
+    v18 = v17 == 0u;
+    if (v18) { v4 = 0u; v5 = v15; goto L4; }
+    else { goto L3; }
+L3:;
+    v19 = v15 + 1u * 1u;
+    v20 = load8(v15);
+    v21 = (u64)v20;
+    v4 = v21; v5 = v19; goto L4;
+L4:;
+    v22 = a0 + 24u * 1u;
+    v23 = (u64)((u64)v4 + (u64)1u);
+    v24 = (u64)((u64)v23 & (u64)1u);
+    v25 = (u64)((u64)v24 + (u64)v23);
+    v26 = a0 + 160u * 1u;
+    v27 = load64(v26);
+    v28 = v27 == v25;
+    if (v28) { v6 = v25; goto L6; }
+    else { goto L5; }
+L5:;
+    f18(v22, v25);
+    v29 = load64(v26);
+    v6 = v29; goto L6;
+L6:;
+    v30 = a0 + 25u * 1u;
+    v31 = v30 + v4 * 1u;
+    v32 = (u64)((u64)v4 ^ (u64)UINT64_C(18446744073709551615));
+    v33 = (u64)((u64)v6 + (u64)v32);
+    v34 = (u8)(v4);
+    store8(v22, v34);
+    v35 = (u64)v30;
+    v36 = (u64)v5;
+    v37 = (u64)((u64)v35 - (u64)v36);
+    v38 = v37 < v4;
+    if (v38) { v7 = 0u; goto L8; }
+    else { goto L7; }
+L7:;
+    memory_move(v30, v5, v4);
+    goto L9;
+L8:;
+    v39 = v30 + v7 * 1u;
+    v40 = v5 + v7 * 1u;
+    v41 = load8(v40);
+    store8(v39, v41);
+    v42 = (u64)((u64)v7 + (u64)1u);
+    v43 = v42 == v4;
+    if (v43) { goto L9; }
+    else { v7 = v42; goto L8; }
+L9:;
+    v44 = v33 == 0u;
+    if (v44) { goto L43; }
+    else { goto L10; }
+L10:;
+    v45 = (u64)((u64)v33 + (u64)UINT64_C(18446744073709551615));
+    v46 = v45 == 0u;
+    if (v46) { goto L12; }
+    else { goto L11; }
+L11:;
+    memory_set(v31, 0u, v45);
+    goto L12;
+L12:;
+    v47 = v31 + v45 * 1u;
+    store8(v47, 0u);
+    goto L43;
+L13:;
+    v48 = load8(v15);
+    v49 = a0 + 212u * 1u;
+    v50 = load64(v49);
+    v51 = load64(a0);
+    v52 = v50 == v51;
+    if (v52) { goto L14; }
+    else { goto L15; }
+L14:;
+    v53 = a0 + 220u * 1u;
+    store8(v53, v48);
+    goto L15;
+L15:;
+    v54 = a0 + 10u * 1u;
+    store8(v54, v48);
+    goto L43;
+L16:;
+    v55 = load8(v15);
+    v56 = a0 + 212u * 1u;
+    v57 = load64(v56);
+    v58 = load64(a0);
+    v59 = v57 == v58;
+    if (v59) { goto L17; }
+    else { goto L18; }
+L17:;
+    v60 = a0 + 226u * 1u;
+    store8(v60, v55);
+    goto L18;
+L18:;
+    v61 = a0 + 16u * 1u;
+    store8(v61, v55);
+    goto L43;
+L19:;
+    v62 = load8(v15);
+    v63 = a0 + 212u * 1u;
+    v64 = load64(v63);
+    v65 = load64(a0);
+    v66 = v64 == v65;
+    if (v66) { goto L20; }
+    else { goto L21; }
+L20:;
+    v67 = a0 + 222u * 1u;
+    store8(v67, v62);
+    goto L21;
+L21:;
+    v68 = a0 + 12u * 1u;
+    store8(v68, v62);
+    goto L43;
+L22:;
+    v69 = load8(v15);
+    v70 = a0 + 8u * 1u;
+    store8(v70, v69);
+    goto L43;
+L23:;
+    v71 = a0 + 228u * 1u;
+    v72 = v15 + 2u * 1u;
+    v73 = load8(v72);
+    v74 = load8(v15);
+    v75 = v15 + 1u * 1u;
+    v76 = load8(v75);
+    v77 = (u16)v74;
+    v78 = (u16)((u32)v77 << (8u & 15u));
+    v79 = (u16)v76;
+    v80 = (u16)((u32)v78 | (u32)v79);
+    store16(v71, v80);
+    v81 = (u8)((u32)v73 & (u32)1u);
+    v82 = a0 + 230u * 1u;
+    store8(v82, v81);
+    v83 = (u8)((u32)v73 >> (1u & 7u));
+    v84 = (u8)((u32)v83 & (u32)1u);
+    v85 = a0 + 231u * 1u;
+    store8(v85, v84);
+    v86 = (u8)((u32)v73 >> (2u & 7u));
+    v87 = (u8)((u32)v86 & (u32)1u);
+    v88 = a0 + 232u * 1u;
+    store8(v88, v87);
+    goto L43;
+L24:;
+    v89 = load8(v15);
+    v90 = a0 + 240u * 1u;
+    v91 = a0 + 432u * 1u;
+    v92 = load64(v91);
+    v93 = v13 == 65535u;
+    if (v93) { goto L25; }
+    else { goto L28; }
+L25:;
+    v94 = v92 == 0u;
+    if (v94) { goto L43; }
+    else { goto L26; }
+L26:;
+    v95 = (u64)a2;
+    v8 = 0u; goto L27;
+L27:;
+    v96 = (u64)((u64)v8 * (u64)24u);
+    v97 = v90 + v96 * 1u;
+    v98 = v97 + 16u * 1u;
+    v99 = v98 + v95 * 1u;
+    store8(v99, v89);
+    v100 = (u64)((u64)v8 + (u64)1u);
+    v101 = v100 == v92;
+    if (v101) { goto L43; }
+    else { v8 = v100; goto L27; }
+L28:;
+    v102 = (u64)v13;
+    v103 = (u64)((u64)v102 * (u64)24u);
+    v104 = v90 + v103 * 1u;
+    v105 = v104 + UINT64_C(18446744073709551608) * 1u;
+    v106 = (u64)a2;
+    v107 = v105 + v106 * 1u;
+    store8(v107, v89);
+    goto L43;
+L29:;
+    UNREACHABLE;
+L30:;
+    v108 = a3 + 4u * 1u;
+    v109 = load16(v108);
+    switch (a1) {
+    case 13u: goto L31;
+    case 14u: goto L38;
+    case 0u: goto L43;
+    case 1u: goto L43;
+    case 2u: goto L43;
+    case 3u: goto L43;
+    case 4u: goto L43;
+    case 5u: goto L43;
+    case 6u: goto L43;
+    case 7u: goto L43;
+    case 8u: goto L43;
+    case 9u: goto L43;
+    case 10u: goto L43;
+    case 11u: goto L43;
+    case 12u: goto L43;
+    case 15u: goto L43;
+    case 16u: goto L43;
+    default: goto L42;
+    }
+L31:;
+    v110 = a0 + 240u * 1u;
+    v111 = a0 + 432u * 1u;
+    v112 = load64(v111);
+    v113 = v109 == 65535u;
+    if (v113) { goto L32; }
+    else { goto L36; }
+L32:;
+    v114 = v112 == 0u;
+    if (v114) { goto L43; }
+    else { v9 = 0u; goto L33; }
+L33:;
+    v115 = (u64)((u64)v9 * (u64)24u);
+    v116 = v110 + v115 * 1u;
+    v117 = load8(v116);
+    v118 = v117 == 2u;
+    if (v118) { goto L34; }
+    else { goto L35; }
+L34:;
+    store8(v116, 3u);
+    goto L35;
+L35:;
+    v119 = (u64)((u64)v9 + (u64)1u);
+    v120 = v119 == v112;
+    if (v120) { goto L43; }
+    else { v9 = v119; goto L33; }
+L36:;
+    v121 = (u64)v109;
+    v122 = (u64)((u64)v121 * (u64)24u);
+    v123 = v110 + v122 * 1u;
+    v124 = v123 + UINT64_C(18446744073709551592) * 1u;
+    v125 = load8(v124);
+    v126 = v125 == 2u;
+    if (v126) { goto L37; }
+    else { goto L43; }
+L37:;
+    store8(v124, 3u);
+    goto L43;
+L38:;
+    v127 = a0 + 240u * 1u;
+    v128 = a0 + 432u * 1u;
+    v129 = load64(v128);
+    v130 = v109 == 65535u;
+    if (v130) { goto L39; }
+    else { goto L41; }
+L39:;
+    v131 = v129 == 0u;
+    if (v131) { goto L43; }
+    else { v10 = 0u; goto L40; }
+L40:;
+    v132 = (u64)((u64)v10 * (u64)24u);
+    v133 = v127 + v132 * 1u;
+    store8(v133, 2u);
+    v134 = (u64)((u64)v10 + (u64)1u);
+    v135 = v134 == v129;
+    if (v135) { goto L43; }
+    else { v10 = v134; goto L40; }
+L41:;
+    v136 = (u64)v109;
+    v137 = (u64)((u64)v136 * (u64)24u);
+    v138 = v127 + v137 * 1u;
+    v139 = v138 + UINT64_C(18446744073709551592) * 1u;
+    store8(v139, 2u);
+    goto L43;
+L42:;
+    UNREACHABLE;
+L43:;
+    return;
+L44:;
+    UNREACHABLE;
+}
+
+static void f54(address a0, u8 a1, address a2) {
+    address v3, v4, v5, v6, v7, v9, v12, v13, v14, v15, v16, v19, v20, v22, v25, v26;
+    address v27, v28, v31, v32;
+    u8 v8, v11, v24;
+    u64 v10, v17, v18, v21, v23, v29, v30, v33;
+    u64 block0[19];
+    u64 block1[18];
+    u64 block2[19];
+    u64 block3[18];
+    u64 block4[18];
+    v3 = ADDRESS(block0);
+    v4 = ADDRESS(block1);
+    v5 = ADDRESS(block2);
+    v6 = ADDRESS(block3);
+    v7 = ADDRESS(block4);
+    v8 = a1 == 1u;
+    if (v8) { goto L1; }
+    else { goto L4; }
+L1:;
+    v9 = a0 + 160u * 1u;
+    v10 = load64(v9);
+    memory_set(v6, 0u, 144u);
+    v11 = v10 > 130u;
+    if (v11) { goto L3; }
+    else { goto L2; }
+L2:;
+    v12 = a0 + 24u * 1u;
+    memory_cpy(v6, v12, v10);
+    v13 = v6 + 136u * 1u;
+    store64(v13, v10);
+    goto L3;
+L3:;
+    memory_set(v5, 0u, 6u);
+    v14 = a2 + 8u * 1u;
+    v15 = v5 + 6u * 1u;
+    memory_cpy(v15, v6, 144u);
+    v16 = a2 + 1288u * 1u;
+    v17 = load64(v16);
+    v18 = (u64)((u64)v17 * (u64)160u);
+    v19 = v14 + v18 * 1u;
+    v20 = v19 + 10u * 1u;
+    memory_set(v19, 0u, 10u);
+    memory_cpy(v20, v5, 150u);
+    v21 = (u64)((u64)v17 + (u64)1u);
+    store64(v16, v21);
+    goto L7;
+L4:;
+    memory_set(v7, 0u, 144u);
+    f11(a0, a1, v7);
+    v22 = v7 + 136u * 1u;
+    v23 = load64(v22);
+    memory_set(v4, 0u, 144u);
+    v24 = v23 > 130u;
+    if (v24) { goto L6; }
+    else { goto L5; }
+L5:;
+    memory_cpy(v4, v7, v23);
+    v25 = v4 + 136u * 1u;
+    store64(v25, v23);
+    goto L6;
+L6:;
+    memory_set(v3, 0u, 6u);
+    v26 = a2 + 8u * 1u;
+    v27 = v3 + 6u * 1u;
+    memory_cpy(v27, v4, 144u);
+    v28 = a2 + 1288u * 1u;
+    v29 = load64(v28);
+    v30 = (u64)((u64)v29 * (u64)160u);
+    v31 = v26 + v30 * 1u;
+    v32 = v31 + 10u * 1u;
+    memory_set(v31, 0u, 10u);
+    memory_cpy(v32, v3, 150u);
+    v33 = (u64)((u64)v29 + (u64)1u);
+    store64(v28, v33);
+    goto L7;
+L7:;
+    return;
+}
+
+static void f55(address a0, address a1, address a2, u8 a3, u8 a4, address a5) {
+    u16 v6, v7, v17, v21, v22, v39, v51, v64, v65, v70, v71, v72, v73, v82, v100, v117;
+    u16 v127;
+    u64 v8, v20, v31, v32, v35, v36, v44, v47, v48, v55, v58, v59, v61, v63, v75, v76;
+    u64 v78, v79, v95, v96, v97, v102, v104, v105, v107, v110, v113, v114, v122, v123, v124, v129;
+    u64 v130;
+    u8 v9, v18, v23, v26, v33, v34, v45, v46, v56, v57, v60, v66, v67, v69, v103, v106;
+    u8 v112, v131;
+    address v10, v11, v12, v13, v14, v15, v16, v19, v24, v25, v27, v28, v29, v30, v37, v38;
+    address v40, v41, v42, v43, v49, v50, v52, v53, v54, v62, v68, v74, v77, v80, v81, v83;
+    address v84, v85, v86, v87, v88, v89, v90, v91, v92, v93, v94, v98, v99, v101, v108, v109;
+    address v111, v115, v116, v118, v119, v120, v121, v125, v126, v128;
+    u64 block0[1];
+    u64 block1[1];
+    u64 block2[14];
+    u64 block3[1];
+    u64 block4[14];
+    u64 block5[1];
+    v10 = ADDRESS(block0);
+    v11 = ADDRESS(block1);
+    v12 = ADDRESS(block2);
+    v13 = ADDRESS(block3);
+    v14 = ADDRESS(block4);
+    v15 = ADDRESS(block5);
+    v16 = a2 + 4u * 1u;
+    v17 = load16(v16);
+    v18 = v17 == 65535u;
+    if (v18) { goto L1; }
+    else { v6 = v17; v7 = v17; goto L2; }
+L1:;
+    v19 = a0 + 432u * 1u;
+    v20 = load64(v19);
+    v21 = (u16)(v20);
+    v6 = v21; v7 = 1u; goto L2;
+L2:;
+    v22 = (u16)((u32)v6 + (u32)1u);
+    v23 = v7 < v22;
+    if (v23) { goto L3; }
+    else { goto L22; }
+L3:;
+    v24 = a1 + 26u * 1u;
+    v25 = a1 + 27u * 1u;
+    v26 = a3 == 1u;
+    v27 = a0 + 432u * 1u;
+    v28 = a5 + 8u * 1u;
+    v29 = a5 + 1288u * 1u;
+    v30 = a0 + 240u * 1u;
+    v31 = (u64)v7;
+    v32 = (u64)v22;
+    v8 = v31; goto L4;
+L4:;
+    v33 = load8(v24);
+    v34 = load8(v25);
+    if (v26) { goto L5; }
+    else { goto L6; }
+L5:;
+    v35 = load64(v29);
+    v36 = (u64)((u64)v35 * (u64)160u);
+    v37 = v28 + v36 * 1u;
+    store16(v37, 1u);
+    v38 = v37 + 2u * 1u;
+    v39 = (u16)(v8);
+    store16(v38, v39);
+    v40 = v37 + 4u * 1u;
+    store32(v40, 0u);
+    v41 = v37 + 8u * 1u;
+    store8(v41, 2u);
+    v42 = v37 + 9u * 1u;
+    store8(v42, a4);
+    v43 = v37 + 10u * 1u;
+    memory_set(v43, 0u, 150u);
+    v44 = (u64)((u64)v35 + (u64)1u);
+    store64(v29, v44);
+    goto L21;
+L6:;
+    v45 = load8(a2);
+    v46 = v45 == 3u;
+    if (v46) { goto L7; }
+    else { goto L8; }
+L7:;
+    v47 = load64(v29);
+    v48 = (u64)((u64)v47 * (u64)160u);
+    v49 = v28 + v48 * 1u;
+    store16(v49, 1u);
+    v50 = v49 + 2u * 1u;
+    v51 = (u16)(v8);
+    store16(v50, v51);
+    v52 = v49 + 4u * 1u;
+    store32(v52, 0u);
+    v53 = v49 + 8u * 1u;
+    store8(v53, 1u);
+    v54 = v49 + 9u * 1u;
+    v55 = (u64)((u64)v47 + (u64)1u);
+    memory_set(v54, 0u, 151u);
+    store64(v29, v55);
+    goto L21;
+L8:;
+    v56 = v33 == 6u;
+    if (v56) { goto L9; }
+    else { goto L14; }
+L9:;
+    v57 = v8 == 0u;
+    if (v57) { goto L12; }
+    else { goto L10; }
+L10:;
+    v58 = load64(v27);
+    v59 = (u64)((u64)v8 + (u64)UINT64_C(18446744073709551615));
+    v60 = v59 < v58;
+    if (v60) { goto L11; }
+    else { goto L12; }
+L11:;
+    v61 = (u64)((u64)v59 * (u64)24u);
+    v62 = v30 + v61 * 1u;
+    memory_set(v15, 0u, 5u);
+    v63 = load64(a0);
+    v64 = (u16)(v8);
+    v65 = swap16(v64);
+    v66 = load8(v62);
+    v67 = (u8)((u32)v66 + (u32)1u);
+    v68 = v62 + 1u * 1u;
+    v69 = load8(v68);
+    v70 = (u16)v69;
+    v71 = (u16)((u32)v70 << (8u & 15u));
+    v72 = (u16)v67;
+    v73 = (u16)((u32)v71 | (u32)v72);
+    v74 = v62 + 8u * 1u;
+    v75 = load64(v74);
+    v76 = swap64(v75);
+    v77 = v62 + 16u * 1u;
+    memory_cpy(v15, v77, 5u);
+    memory_set(v13, 0u, 5u);
+    memory_set(v14, 0u, 110u);
+    memory_cpy(v13, v15, 5u);
+    memory_set(v10, 0u, 6u);
+    memory_cpy(v11, v13, 5u);
+    memory_cpy(v12, v14, 110u);
+    v78 = load64(v29);
+    v79 = (u64)((u64)v78 * (u64)160u);
+    v80 = v28 + v79 * 1u;
+    store16(v80, 1u);
+    v81 = v80 + 2u * 1u;
+    v82 = (u16)(v8);
+    store16(v81, v82);
+    v83 = v80 + 4u * 1u;
+    store32(v83, 0u);
+    v84 = v80 + 8u * 1u;
+    store8(v84, 0u);
+    v85 = v80 + 9u * 1u;
+    store8(v85, 0u);
+    v86 = v80 + 10u * 1u;
+    memory_cpy(v86, v10, 6u);
+    v87 = v80 + 16u * 1u;
+    store64(v87, v63);
+    v88 = v80 + 24u * 1u;
+    store16(v88, v65);
+    v89 = v80 + 26u * 1u;
+    store16(v89, v73);
+    v90 = v80 + 28u * 1u;
+    store64(v90, v76);
+    v91 = v80 + 36u * 1u;
+    memory_cpy(v91, v11, 5u);
+    v92 = v80 + 41u * 1u;
+    store8(v92, 2u);
+    v93 = v80 + 42u * 1u;
+    memory_cpy(v93, v12, 110u);
+    v94 = v80 + 152u * 1u;
+    store64(v94, 26u);
+    v95 = (u64)((u64)v78 + (u64)1u);
+    store64(v29, v95);
+    goto L13;
+L12:;
+    v96 = load64(v29);
+    v97 = (u64)((u64)v96 * (u64)160u);
+    v98 = v28 + v97 * 1u;
+    store16(v98, 1u);
+    v99 = v98 + 2u * 1u;
+    v100 = (u16)(v8);
+    store16(v99, v100);
+    v101 = v98 + 4u * 1u;
+    v102 = (u64)((u64)v96 + (u64)1u);
+    memory_set(v101, 0u, 156u);
+    store64(v29, v102);
+    goto L13;
+L13:;
+    goto L21;
+L14:;
+    v103 = v8 == 0u;
+    if (v103) { goto L20; }
+    else { goto L15; }
+L15:;
+    v104 = load64(v27);
+    v105 = (u64)((u64)v8 + (u64)UINT64_C(18446744073709551615));
+    v106 = v105 < v104;
+    v107 = (u64)((u64)v105 * (u64)24u);
+    v108 = a0 + v107 * 1u;
+    if (v106) { goto L16; }
+    else { goto L20; }
+L16:;
+    switch (v33) {
+    case 11u: goto L17;
+    case 12u: v9 = 2u; goto L19;
+    case 0u: goto L20;
+    case 1u: goto L20;
+    case 2u: goto L20;
+    case 3u: goto L20;
+    case 4u: goto L20;
+    case 5u: goto L20;
+    case 16u: goto L20;
+    case 7u: goto L20;
+    case 8u: goto L20;
+    case 9u: goto L20;
+    case 10u: goto L20;
+    case 13u: goto L20;
+    case 14u: goto L20;
+    case 15u: goto L20;
+    default: goto L18;
+    }
+L17:;
+    v109 = v108 + 256u * 1u;
+    v110 = (u64)v34;
+    v111 = v109 + v110 * 1u;
+    v112 = load8(v111);
+    v9 = v112; goto L19;
+L18:;
+    UNREACHABLE;
+L19:;
+    v113 = load64(v29);
+    v114 = (u64)((u64)v113 * (u64)160u);
+    v115 = v28 + v114 * 1u;
+    store16(v115, 1u);
+    v116 = v115 + 2u * 1u;
+    v117 = (u16)(v8);
+    store16(v116, v117);
+    v118 = v115 + 4u * 1u;
+    v119 = v115 + 16u * 1u;
+    memory_set(v118, 0u, 12u);
+    store8(v119, v9);
+    v120 = v115 + 17u * 1u;
+    v121 = v115 + 152u * 1u;
+    memory_set(v120, 0u, 135u);
+    store64(v121, 2u);
+    v122 = (u64)((u64)v113 + (u64)1u);
+    store64(v29, v122);
+    goto L21;
+L20:;
+    v123 = load64(v29);
+    v124 = (u64)((u64)v123 * (u64)160u);
+    v125 = v28 + v124 * 1u;
+    store16(v125, 1u);
+    v126 = v125 + 2u * 1u;
+    v127 = (u16)(v8);
+    store16(v126, v127);
+    v128 = v125 + 4u * 1u;
+    v129 = (u64)((u64)v123 + (u64)1u);
+    memory_set(v128, 0u, 156u);
+    store64(v29, v129);
+    goto L21;
+L21:;
+    v130 = (u64)((u64)v8 + (u64)1u);
+    v131 = v130 == v32;
+    if (v131) { goto L22; }
+    else { v8 = v130; goto L4; }
+L22:;
+    return;
+}
+
+static void f56(address a0, address a1) {
     u64 v2, v3, v4, v9, v11, v12, v13, v14, v15, v16, v17, v19, v21, v23, v40, v41;
     u64 v42, v66, v78, v79, v80, v104, v130, v134, v144, v145, v146, v151;
     address v5, v8, v18, v22, v30, v31, v34, v38, v39, v45, v46, v48, v49, v51, v52, v54;
@@ -11030,7 +13276,7 @@ L3:;
     if (v20) { v3 = v17; goto L5; }
     else { goto L4; }
 L4:;
-    f46(a1, v17);
+    f57(a1, v17);
     v21 = load64(v18);
     v3 = v21; goto L5;
 L5:;
@@ -11188,7 +13434,7 @@ L12:;
     v129 = load16(v126);
     v130 = load64(v8);
     v131 = load_address(v127);
-    f35(v22, v23, v128, v129, v131, v130);
+    f36(v22, v23, v128, v129, v131, v130);
     goto L17;
 L13:;
     v132 = a0 + 40u * 1u;
@@ -11231,7 +13477,7 @@ L17:;
     return;
 }
 
-static void f46(address a0, u64 a1) {
+static void f57(address a0, u64 a1) {
     u64 v2, v3, v5, v8, v9, v10, v13, v14, v19;
     address v4, v7, v12, v16, v17;
     u8 v6, v11, v15, v18, v20;
@@ -11255,16 +13501,16 @@ L2:;
 L3:;
     v12 = a0 + v2 * 1u;
     v13 = (u64)v12;
-    v14 = (u64)((u64)v13 - (u64)(ADDRESS(c136) + 8u * 1u));
+    v14 = (u64)((u64)v13 - (u64)(ADDRESS(c139) + 8u * 1u));
     v15 = v14 < v9;
     if (v15) { v3 = 0u; goto L5; }
     else { goto L4; }
 L4:;
-    memory_cpy(v12, (ADDRESS(c136) + 8u * 1u), v9);
+    memory_cpy(v12, (ADDRESS(c139) + 8u * 1u), v9);
     goto L6;
 L5:;
     v16 = v12 + v3 * 1u;
-    v17 = (ADDRESS(c136) + 8u * 1u) + v3 * 1u;
+    v17 = (ADDRESS(c139) + 8u * 1u) + v3 * 1u;
     v18 = load8(v17);
     store8(v16, v18);
     v19 = (u64)((u64)v3 + (u64)1u);
@@ -11278,7 +13524,7 @@ L7:;
     return;
 }
 
-static struct s2 f47(address a0, address a1) {
+static struct s2 f58(address a0, address a1) {
     address v2, v6, v7, v11, v13, v15, v16, v17, v26, v31, v32, v38, v40, v41, v42, v43;
     address v44, v46, v47, v48, v49, v53, v55;
     u64 v3, v8, v18, v23, v25, v27, v28, v29, v34, v36, v37, v45;
@@ -11387,7 +13633,7 @@ L11:;
     return v57;
 }
 
-static struct s2 f48(address a0, u8 a1, u16 a2, u8 a3, u16 a4, address a5, u64 a6) {
+static struct s2 f59(address a0, u8 a1, u16 a2, u8 a3, u16 a4, address a5, u64 a6) {
     u16 v7, v15, v17;
     u8 v8, v9, v12, v13, v16, v18, v19, v21, v22, v23, v24, v32, v33;
     address v10, v11, v14, v25, v26, v27, v28, v29, v30;
@@ -11475,7 +13721,7 @@ L9:;
     store_address(v29, a5);
     v30 = v10 + 16u * 1u;
     store64(v30, a6);
-    v31 = f47(a0, v10);
+    v31 = f58(a0, v10);
     v32 = v31.m0;
     v33 = v31.m1;
     v8 = v33; v9 = v32; goto L10;
@@ -11487,7 +13733,7 @@ L10:;
     return v35;
 }
 
-static void f49(address a0, address a1, address a2, u64 a3) {
+static void f60(address a0, address a1, address a2, u64 a3) {
     u64 v4, v5, v11, v25, v32, v43, v83, v84, v90, v91;
     u8 v6, v7, v8, v9, v10, v16, v17, v19, v20, v23, v36, v37, v60, v61, v63, v64;
     u8 v66, v67, v69, v70, v75, v76, v78, v79, v80, v87, v88, v95, v96, v101, v105, v106;
@@ -11572,7 +13818,7 @@ L2:;
     store_address(v58, v41);
     v59 = v12 + 48u * 1u;
     store64(v59, v43);
-    f45(v12, a2);
+    f56(v12, a2);
     v60 = load8(v18);
     v61 = (u8)((u32)v60 + (u32)255u);
     store8(v18, v61);
@@ -11700,7 +13946,7 @@ L17:;
     return;
 }
 
-static struct s2 f50(address a0, address a1, address a2) {
+static struct s2 f61(address a0, address a1, address a2) {
     u8 v3, v4, v5, v6, v7, v8, v10, v17, v20, v22, v23, v27, v35, v36, v39, v40;
     u8 v41, v43, v44, v48, v56, v57, v59, v60, v68, v69;
     struct s2 v9, v34, v37, v55, v58, v67, v70, v71;
@@ -11763,7 +14009,7 @@ L4:;
     store_address(v32, a2);
     v33 = v13 + 16u * 1u;
     store64(v33, 26u);
-    v34 = f47(a0, v13);
+    v34 = f58(a0, v13);
     v35 = v34.m0;
     v36 = v34.m1;
     v3 = v36; v4 = v35; goto L5;
@@ -11807,7 +14053,7 @@ L10:;
     store_address(v53, a2);
     v54 = v12 + 16u * 1u;
     store64(v54, 20u);
-    v55 = f47(a0, v12);
+    v55 = f58(a0, v12);
     v56 = v55.m0;
     v57 = v55.m1;
     v5 = v57; v6 = v56; goto L11;
@@ -11834,7 +14080,7 @@ L13:;
     store_address(v65, a2);
     v66 = v11 + 16u * 1u;
     store64(v66, 20u);
-    v67 = f47(a0, v11);
+    v67 = f58(a0, v11);
     v68 = v67.m0;
     v69 = v67.m1;
     v7 = v69; v8 = v68; goto L14;
@@ -11848,7 +14094,7 @@ L15:;
     return v71;
 }
 
-static void f51(address a0, address a1, address a2, u64 a3) {
+static void f62(address a0, address a1, address a2, u64 a3) {
     u8 v4, v12, v15, v16, v22, v24, v25, v26, v28, v29, v30, v32, v34, v35, v37, v39;
     u8 v46, v50, v54, v56, v63, v65, v66, v69, v70, v71, v74, v76, v78, v90, v92, v96;
     u8 v98, v103, v104, v105, v108, v110, v126, v130, v133, v134, v137, v138, v142, v147, v150, v152;
@@ -12098,7 +14344,7 @@ L23:;
 L24:;
     v134 = v22 == 4u;
     if (v134) { v9 = 0u; v10 = 0u; v11 = 0u; v12 = 1u; goto L31; }
-    else { v5 = v13; v6 = ADDRESS(c108); v7 = 0u; goto L29; }
+    else { v5 = v13; v6 = ADDRESS(c111); v7 = 0u; goto L29; }
 L25:;
     v135 = v18 + 54u * 1u;
     v136 = (u64)((u64)v20 + (u64)UINT64_C(18446744073709551562));
@@ -12195,7 +14441,7 @@ L34:;
     goto L18;
 }
 
-static void f52(address a0, address a1, address a2, u64 a3, u16 a4, u8 a5) {
+static void f63(address a0, address a1, address a2, u64 a3, u16 a4, u8 a5) {
     address v6, v7, v8, v9, v12, v13, v15, v17, v19, v21, v23, v24, v25, v26, v27, v28;
     address v29, v30, v35, v36, v37, v38, v40, v41, v42, v47, v49, v54, v55, v56, v57, v58;
     address v60, v61, v62, v63, v64, v65, v66, v68, v70, v72, v74, v76, v79, v81, v82, v83;
@@ -12246,7 +14492,7 @@ L1:;
     v29 = v7 + 25u * 1u;
     memory_set(v29, 0u, 71u);
     v30 = a1 + 48u * 1u;
-    v31 = f50(v7, v12, v30);
+    v31 = f61(v7, v12, v30);
     v32 = v31.m0;
     v33 = v31.m1;
     v34 = v32 == 0u;
@@ -12318,7 +14564,7 @@ L9:;
     store8(v65, 0u);
     v66 = a1 + 353u * 1u;
     store8(v66, 0u);
-    f49(v8, a1, a2, a3);
+    f60(v8, a1, a2, a3);
     v67 = load8(v8);
     v68 = v8 + 1u * 1u;
     v69 = load8(v68);
@@ -12360,111 +14606,353 @@ L9:;
     goto L2;
 }
 
-static u32 f53(address a0, u16 a1, address a2, u64 a3, address a4, u64 a5, address a6) {
-    u32 v7, v8, v23, v30, v31, v35;
-    address v9, v10, v11, v15, v18, v20, v24, v26, v28, v32, v36;
-    u8 v12, v13, v14, v17, v21, v22, v25, v27, v33, v34;
-    u64 v16, v19, v29;
-    u64 block0[3];
-    v9 = ADDRESS(block0);
-    memory_set(v9, 0u, 24u);
+static u32 f64(address a0, u16 a1, address a2, u64 a3, address a4, u64 a5, address a6) {
+    u16 v7, v33, v60, v61, v62, v63, v70, v71, v72, v84, v87, v88, v89, v95, v96, v97;
+    u16 v98, v114, v115, v116, v117, v118, v139, v160, v161;
+    u64 v8, v10, v25, v28, v32, v55, v65, v74, v80, v102, v103, v109, v111, v113, v132, v137;
+    u64 v142, v146, v151, v152, v153, v155, v168, v170, v171, v172, v173;
+    address v9, v13, v14, v15, v16, v17, v18, v19, v20, v24, v27, v29, v31, v36, v37, v40;
+    address v41, v44, v48, v50, v54, v56, v58, v64, v66, v68, v73, v77, v79, v82, v85, v90;
+    address v91, v93, v99, v104, v106, v108, v110, v112, v119, v120, v121, v122, v123, v124, v127, v129;
+    address v131, v134, v135, v136, v138, v141, v147, v156, v163, v164, v165, v166, v167, v169, v174;
+    u32 v11, v12, v145, v149, v150;
+    u8 v21, v22, v23, v26, v30, v34, v35, v38, v39, v42, v43, v45, v46, v47, v49, v51;
+    u8 v52, v53, v57, v59, v67, v69, v75, v76, v78, v81, v83, v86, v92, v94, v100, v101;
+    u8 v105, v107, v126, v128, v130, v133, v140, v143, v144, v148, v154, v157, v158, v159, v162;
+    struct s2 v125;
+    u64 block0[1];
+    u64 block1[2];
+    u64 block2[3];
+    u64 block3[3];
+    u64 block4[4];
+    u64 block5[3];
+    v13 = ADDRESS(block0);
+    v14 = ADDRESS(block1);
+    v15 = ADDRESS(block2);
+    v16 = ADDRESS(block3);
+    v17 = ADDRESS(block4);
+    v18 = ADDRESS(block5);
     store64(a6, 0u);
-    v10 = load_address(a0);
-    v11 = a0 + 8u * 1u;
-    v12 = load8(v11);
+    v19 = load_address(a0);
+    v20 = a0 + 8u * 1u;
+    v21 = load8(v20);
     memory_set(a0, 0u, 16u);
-    v13 = (u8)((v12) & UINT64_C(1));
-    if (v13) { goto L1; }
-    else { goto L5; }
+    v22 = (u8)((v21) & UINT64_C(1));
+    if (v22) { goto L1; }
+    else { goto L26; }
 L1:;
-    v14 = load8(v10);
-    v15 = v10 + 8u * 1u;
-    v16 = load64(v15);
-    memory_set(v10, 0u, 16u);
-    v17 = v14 == 1u;
-    v18 = (address)v16;
-    if (v17) { goto L3; }
+    v23 = load8(v19);
+    v24 = v19 + 8u * 1u;
+    v25 = load64(v24);
+    memory_set(v19, 0u, 16u);
+    v26 = v23 == 1u;
+    v27 = (address)v25;
+    if (v26) { goto L3; }
     else { goto L2; }
 L2:;
-    v19 = (u64)v14;
-    store64(v10, v19);
-    store_address(v15, v18);
-    store_address(a0, v10);
-    store8(v11, 1u);
-    v20 = a0 + 9u * 1u;
-    memory_set(v20, 0u, 7u);
-    goto L5;
+    v28 = (u64)v23;
+    store64(v19, v28);
+    store_address(v24, v27);
+    store_address(a0, v19);
+    store8(v20, 1u);
+    v29 = a0 + 9u * 1u;
+    memory_set(v29, 0u, 7u);
+    goto L26;
 L3:;
-    f56(v9, v18, a1, a2, a3, a4, a5);
-    v21 = load8(v9);
-    v22 = v21 == 0u;
-    if (v22) { goto L6; }
-    else { goto L17; }
+    v30 = a1 == 0u;
+    if (v30) { goto L38; }
+    else { goto L4; }
 L4:;
-    return v7;
+    v31 = v27 + 432u * 1u;
+    v32 = load64(v31);
+    v33 = (u16)(v32);
+    v34 = a1 > v33;
+    if (v34) { goto L38; }
+    else { goto L5; }
 L5:;
-    v23 = f54(a0, a1, a2, a3, a4, a5, a6);
-    v7 = v23; goto L4;
+    v35 = a5 < 15u;
+    if (v35) { goto L37; }
+    else { goto L6; }
 L6:;
-    v24 = v9 + 8u * 1u;
-    v25 = load8(v24);
-    v26 = v9 + 9u * 1u;
-    v27 = load8(v26);
-    v28 = v9 + 16u * 1u;
-    v29 = load64(v28);
-    store64(a6, v29);
-    switch (v25) {
-    case 0u: goto L7;
-    case 9u: goto L15;
-    case 1u: v8 = 1u; goto L18;
-    case 2u: goto L8;
-    case 3u: goto L9;
-    case 4u: goto L10;
-    case 5u: goto L11;
-    case 6u: goto L12;
-    case 7u: goto L13;
-    case 8u: goto L14;
-    default: goto L16;
-    }
+    store_address(v18, a4);
+    v36 = v18 + 8u * 1u;
+    store64(v36, a5);
+    v37 = v18 + 16u * 1u;
+    store64(v37, 0u);
+    memory_set(v17, 0u, 32u);
+    f8(v17, a2, a3);
+    v38 = load8(v17);
+    v39 = v38 == 0u;
+    if (v39) { goto L7; }
+    else { goto L28; }
 L7:;
-    v30 = (u32)v27;
-    v31 = (u32)((u32)v30 + (u32)16u);
-    v8 = v31; goto L18;
+    v40 = v17 + 8u * 1u;
+    memory_cpy(v16, v40, 24u);
+    v41 = load_address(v16);
+    v42 = load8(v41);
+    v43 = (u8)((u32)v42 >> (4u & 7u));
+    v44 = v41 + 5u * 1u;
+    v45 = load8(v44);
+    v46 = (u8)((u32)v43 | (u32)v45);
+    v47 = v46 == 0u;
+    if (v47) { goto L8; }
+    else { goto L27; }
 L8:;
-    v8 = 2u; goto L18;
+    v48 = v41 + 4u * 1u;
+    v49 = load8(v48);
+    v50 = v27 + 8u * 1u;
+    v51 = load8(v50);
+    v52 = v49 == v51;
+    if (v52) { goto L11; }
+    else { goto L9; }
 L9:;
-    v8 = 3u; goto L18;
+    v53 = f68(v27, v16);
+    if (v53) { goto L10; }
+    else { goto L27; }
 L10:;
-    v8 = 4u; goto L18;
+    v54 = v41 + 20u * 1u;
+    v55 = load64(v54);
+    v56 = v41 + 28u * 1u;
+    v57 = load8(v56);
+    v58 = v41 + 29u * 1u;
+    v59 = load8(v58);
+    v60 = (u16)v57;
+    v61 = (u16)((u32)v60 << (8u & 15u));
+    v62 = (u16)v59;
+    v63 = (u16)((u32)v61 | (u32)v62);
+    v7 = v63; v8 = v55; goto L19;
 L11:;
-    v8 = 5u; goto L18;
+    v64 = v41 + 20u * 1u;
+    v65 = load64(v64);
+    v66 = v41 + 28u * 1u;
+    v67 = load8(v66);
+    v68 = v41 + 29u * 1u;
+    v69 = load8(v68);
+    v70 = (u16)v67;
+    v71 = (u16)((u32)v70 << (8u & 15u));
+    v72 = (u16)v69;
+    v73 = v27 + 440u * 1u;
+    v74 = load64(v73);
+    v75 = v65 == v74;
+    if (v75) { goto L29; }
+    else { goto L12; }
 L12:;
-    v8 = 6u; goto L18;
+    v76 = f69(v27, v16);
+    if (v76) { goto L13; }
+    else { goto L30; }
 L13:;
-    v8 = 7u; goto L18;
+    v77 = v16 + 16u * 1u;
+    v78 = load8(v77);
+    switch (v78) {
+    case 2u: goto L31;
+    case 4u: goto L31;
+    case 0u: goto L15;
+    case 1u: goto L15;
+    case 3u: goto L15;
+    default: goto L14;
+    }
 L14:;
-    v8 = 8u; goto L18;
-L15:;
-    v8 = 9u; goto L18;
-L16:;
     UNREACHABLE;
+L15:;
+    v79 = v41 + 34u * 1u;
+    v80 = load64(v79);
+    v81 = v80 == v74;
+    if (v81) { goto L17; }
+    else { goto L16; }
+L16:;
+    goto L36;
 L17:;
-    v32 = v9 + 1u * 1u;
-    v33 = load8(v32);
-    v34 = v33 == 0u;
-    v35 = v34 ? 33u : 34u;
-    v8 = v35; goto L18;
+    v82 = v41 + 43u * 1u;
+    v83 = load8(v82);
+    v84 = (u16)v83;
+    v85 = v41 + 42u * 1u;
+    v86 = load8(v85);
+    v87 = (u16)v86;
+    v88 = (u16)((u32)v87 << (8u & 15u));
+    v89 = (u16)((u32)v71 | (u32)v72);
+    store64(v14, v65);
+    v90 = v14 + 8u * 1u;
+    store16(v90, v89);
+    v91 = v41 + 30u * 1u;
+    v92 = load8(v91);
+    v93 = v41 + 31u * 1u;
+    v94 = load8(v93);
+    v95 = (u16)v92;
+    v96 = (u16)((u32)v95 << (8u & 15u));
+    v97 = (u16)v94;
+    v98 = (u16)((u32)v96 | (u32)v97);
+    v99 = v16 + 17u * 1u;
+    v100 = load8(v99);
+    v101 = v100 == 0u;
+    v102 = v101 ? 52u : 54u;
+    v103 = v101 ? 53u : 55u;
+    v104 = v41 + v102 * 1u;
+    v105 = load8(v104);
+    v106 = v41 + v103 * 1u;
+    v107 = load8(v106);
+    v108 = v16 + 8u * 1u;
+    v109 = load64(v108);
+    v110 = v41 + 54u * 1u;
+    v111 = (u64)((u64)v109 + (u64)UINT64_C(18446744073709551562));
+    v112 = v101 ? v110 : ADDRESS(c111);
+    v113 = v101 ? v111 : 0u;
+    v114 = (u16)((u32)v88 | (u32)v84);
+    v115 = (u16)v105;
+    v116 = (u16)((u32)v115 << (8u & 15u));
+    v117 = (u16)v107;
+    v118 = (u16)((u32)v116 | (u32)v117);
+    store8(v15, v78);
+    v119 = v15 + 1u * 1u;
+    store8(v119, 0u);
+    v120 = v15 + 2u * 1u;
+    store16(v120, v118);
+    v121 = v15 + 4u * 1u;
+    store16(v121, v114);
+    v122 = v15 + 6u * 1u;
+    store16(v122, 0u);
+    v123 = v15 + 8u * 1u;
+    store_address(v123, v112);
+    v124 = v15 + 16u * 1u;
+    store64(v124, v113);
+    v125 = f50(v73, v14, v98, v15);
+    v126 = v125.m0;
+    switch (v126) {
+    case 0u: goto L36;
+    case 1u: goto L32;
+    case 2u: v7 = v89; v8 = v65; goto L19;
+    case 3u: goto L35;
+    case 4u: goto L34;
+    default: goto L18;
+    }
 L18:;
-    store64(v10, 1u);
-    store_address(v15, v18);
-    store_address(a0, v10);
-    store8(v11, 1u);
-    v36 = a0 + 9u * 1u;
-    memory_set(v36, 0u, 7u);
-    v7 = v8; goto L4;
+    UNREACHABLE;
+L19:;
+    v127 = v41 + 44u * 1u;
+    v128 = load8(v127);
+    v129 = v41 + 45u * 1u;
+    v130 = load8(v129);
+    v131 = v27 + 456u * 1u;
+    v132 = load64(v131);
+    v133 = v132 == 0u;
+    if (v133) { goto L24; }
+    else { goto L20; }
+L20:;
+    v134 = v27 + 448u * 1u;
+    v135 = load_address(v134);
+    v9 = v135; v10 = v132; goto L21;
+L21:;
+    v136 = v9 + 2136u * 1u;
+    v137 = (u64)((u64)v10 + (u64)UINT64_C(18446744073709551615));
+    v138 = v9 + 2112u * 1u;
+    v139 = load16(v138);
+    v140 = v7 == v139;
+    if (v140) { goto L22; }
+    else { goto L23; }
+L22:;
+    v141 = v9 + 2104u * 1u;
+    v142 = load64(v141);
+    v143 = v8 == v142;
+    if (v143) { goto L33; }
+    else { goto L23; }
+L23:;
+    v144 = v137 == 0u;
+    if (v144) { goto L24; }
+    else { v9 = v136; v10 = v137; goto L21; }
+L24:;
+    TRAP;
+    UNREACHABLE;
+L25:;
+    return v11;
+L26:;
+    v145 = f65(a0, a1, a2, a3, a4, a5, a6);
+    v11 = v145; goto L25;
+L27:;
+    f79(v27, 1u, a1, a2, v40, v18);
+    v146 = load64(v37);
+    store64(a6, v146);
+    v12 = 1u; goto L39;
+L28:;
+    v147 = v17 + 1u * 1u;
+    v148 = load8(v147);
+    store64(a6, 0u);
+    v149 = (u32)v148;
+    v150 = (u32)((u32)v149 + (u32)16u);
+    v12 = v150; goto L39;
+L29:;
+    f79(v27, 2u, a1, a2, v40, v18);
+    v151 = load64(v37);
+    store64(a6, v151);
+    v12 = 2u; goto L39;
+L30:;
+    f79(v27, 3u, a1, a2, v40, v18);
+    v152 = load64(v37);
+    store64(a6, v152);
+    v12 = 3u; goto L39;
+L31:;
+    f79(v27, 4u, a1, a2, v40, v18);
+    v153 = load64(v37);
+    store64(a6, v153);
+    v12 = 4u; goto L39;
+L32:;
+    v154 = v125.m1;
+    f70(v27, a1, v40, v154, v18);
+    v155 = load64(v37);
+    store64(a6, v155);
+    v12 = 5u; goto L39;
+L33:;
+    store64(v13, 0u);
+    v156 = v9 + 2121u * 1u;
+    v157 = load8(v156);
+    v158 = (u8)((v157) & UINT64_C(1));
+    v159 = (u8)(((u32)v158 ^ (u32)1u) & UINT64_C(1));
+    v160 = v158 ? 0u : a1;
+    v161 = (u16)v159;
+    v162 = v128 > v130 ? (u8)((u32)v128 - (u32)v130) : 0u;
+    store8(v13, v49);
+    v163 = v13 + 2u * 1u;
+    store16(v163, v161);
+    v164 = v13 + 4u * 1u;
+    store16(v164, v160);
+    v165 = v13 + 6u * 1u;
+    store8(v165, v162);
+    v166 = v9 + 1432u * 1u;
+    v167 = v9 + 1440u * 1u;
+    v168 = load64(v167);
+    v169 = v9 + 1448u * 1u;
+    f78(v166, v168, v169, v13, a1, v18);
+    v170 = load64(v37);
+    store64(a6, v170);
+    v12 = 6u; goto L39;
+L34:;
+    f79(v27, 7u, a1, a2, v40, v18);
+    v171 = load64(v37);
+    store64(a6, v171);
+    v12 = 7u; goto L39;
+L35:;
+    f79(v27, 8u, a1, a2, v40, v18);
+    v172 = load64(v37);
+    store64(a6, v172);
+    v12 = 8u; goto L39;
+L36:;
+    f79(v27, 9u, a1, a2, v40, v18);
+    v173 = load64(v37);
+    store64(a6, v173);
+    v12 = 9u; goto L39;
+L37:;
+    v12 = 34u; goto L39;
+L38:;
+    v12 = 33u; goto L39;
+L39:;
+    store64(v19, 1u);
+    store_address(v24, v27);
+    store_address(a0, v19);
+    store8(v20, 1u);
+    v174 = a0 + 9u * 1u;
+    memory_set(v174, 0u, 7u);
+    v11 = v12; goto L25;
 }
 
-static u32 f54(address a0, u16 a1, address a2, u64 a3, address a4, u64 a5, address a6) {
+static u32 f65(address a0, u16 a1, address a2, u64 a3, address a4, u64 a5, address a6) {
     u32 v7, v19;
     address v8, v9, v13, v16, v17;
     u8 v10, v11, v12, v15;
@@ -12496,7 +14984,7 @@ L2:;
     memory_set(v17, 0u, 7u);
     v7 = 32u; goto L4;
 L3:;
-    v19 = f55(v16, a1, a2, a3, a4, a5, a6);
+    v19 = f66(v16, a1, a2, a3, a4, a5, a6);
     store64(v8, 4u);
     store_address(v13, v16);
     store_address(a0, v8);
@@ -12507,7 +14995,7 @@ L4:;
     return v7;
 }
 
-static u32 f55(address a0, u16 a1, address a2, u64 a3, address a4, u64 a5, address a6) {
+static u32 f66(address a0, u16 a1, address a2, u64 a3, address a4, u64 a5, address a6) {
     u32 v7, v33, v75, v76, v78;
     address v8, v9, v10, v14, v15, v19, v22, v24, v26, v29, v36, v37, v38, v40, v42, v44;
     address v50, v52, v58, v60, v62, v63, v64, v65, v66, v67, v68, v69, v70;
@@ -12543,7 +15031,7 @@ L3:;
     v7 = 33u; goto L23;
 L4:;
     v19 = load_address(a0);
-    f56(v8, v19, a1, a2, a3, a4, a5);
+    f67(v8, v19, a1, a2, a3, a4, a5);
     v20 = load8(v8);
     v21 = v20 == 0u;
     if (v21) { goto L5; }
@@ -12674,706 +15162,460 @@ L23:;
     return v7;
 }
 
-static void f56(address a0, address a1, u16 a2, address a3, u64 a4, address a5, u64 a6) {
-    u8 v7, v8, v9, v10, v15, v16, v17, v18, v19, v29, v33, v38, v41, v42, v48, v50;
-    u8 v51, v52, v54, v55, v56, v58, v60, v61, v65, v67, v73, v77, v79, v84, v85, v86;
-    u8 v89, v93, v95, v100, v104, v106, v122, v123, v127, v129, v134, v135, v136, v139, v143, v145;
-    u8 v150, v154, v156, v172, v174, v175, v177, v179, v182, v189, v192, v193, v195, v196, v197, v200;
-    u8 v210, v211, v212, v214, v215, v219, v223, v224, v228, v230, v232, v234, v253, v255, v256, v262;
-    u8 v264, v270, v272, v277, v279;
-    u64 v11, v14, v31, v46, v63, v72, v75, v87, v101, v102, v108, v110, v125, v137, v151, v152;
-    u64 v158, v160, v181, v186, v191, v206, v209, v217, v218, v221, v225, v226, v236, v238, v254, v276;
-    u64 v301;
-    u16 v12, v32, v68, v69, v70, v80, v81, v82, v83, v88, v90, v96, v97, v98, v99, v111;
-    u16 v112, v113, v114, v130, v131, v132, v133, v138, v140, v146, v147, v148, v149, v161, v162, v163;
-    u16 v164, v188, v198, v199, v216, v239, v240, v241, v242, v243, v244, v245, v246, v257, v258, v259;
-    u16 v260, v265, v266, v267, v268, v283, v285, v287, v291, v299;
-    address v13, v20, v21, v22, v23, v24, v25, v26, v27, v28, v30, v34, v35, v36, v37, v39;
-    address v40, v43, v44, v45, v47, v49, v53, v57, v59, v62, v64, v66, v71, v74, v76, v78;
-    address v91, v92, v94, v103, v105, v107, v109, v115, v116, v117, v118, v119, v120, v124, v126, v128;
-    address v141, v142, v144, v153, v155, v157, v159, v165, v166, v167, v168, v169, v170, v173, v176, v178;
-    address v180, v183, v184, v185, v187, v190, v194, v201, v202, v203, v204, v205, v207, v208, v213, v220;
-    address v222, v227, v229, v231, v233, v235, v237, v247, v248, v249, v250, v251, v252, v261, v263, v269;
-    address v271, v273, v274, v275, v280, v281, v282, v284, v286, v288, v289, v290, v292, v293, v298, v300;
-    struct s2 v121, v171;
-    u32 v278, v294, v295, v296, v297;
-    u64 block0[3];
-    u64 block1[9];
-    u64 block2[2];
+static void f67(address a0, address a1, u16 a2, address a3, u64 a4, address a5, u64 a6) {
+    u16 v7, v28, v55, v56, v57, v58, v65, v66, v67, v79, v82, v83, v84, v90, v91, v92;
+    u16 v93, v109, v110, v111, v112, v113, v137, v147, v148;
+    u64 v8, v10, v18, v27, v50, v60, v69, v75, v97, v98, v104, v106, v108, v130, v135, v140;
+    u64 v155, v157;
+    address v9, v19, v20, v21, v22, v23, v24, v26, v31, v32, v35, v36, v39, v43, v45, v49;
+    address v51, v53, v59, v61, v63, v68, v72, v74, v77, v80, v85, v86, v88, v94, v99, v101;
+    address v103, v105, v107, v114, v115, v116, v117, v118, v119, v122, v125, v127, v129, v132, v133, v134;
+    address v136, v139, v143, v150, v151, v152, v153, v154, v156, v158, v159, v160, v161;
+    u8 v11, v12, v13, v14, v15, v16, v17, v25, v29, v30, v33, v34, v37, v38, v40, v41;
+    u8 v42, v44, v46, v47, v48, v52, v54, v62, v64, v70, v71, v73, v76, v78, v81, v87;
+    u8 v89, v95, v96, v100, v102, v121, v123, v124, v126, v128, v131, v138, v141, v142, v144, v145;
+    u8 v146, v149;
+    struct s2 v120;
+    u64 block0[1];
+    u64 block1[2];
+    u64 block2[3];
     u64 block3[3];
-    u64 block4[2];
+    u64 block4[4];
     u64 block5[3];
-    u64 block6[1];
-    u64 block7[4];
-    u64 block8[3];
-    v20 = ADDRESS(block0);
-    v21 = ADDRESS(block1);
-    v22 = ADDRESS(block2);
-    v23 = ADDRESS(block3);
-    v24 = ADDRESS(block4);
-    v25 = ADDRESS(block5);
-    v26 = ADDRESS(block6);
-    v27 = ADDRESS(block7);
-    v28 = ADDRESS(block8);
-    v29 = a2 == 0u;
-    if (v29) { v7 = 1u; v8 = 0u; v9 = 0u; v10 = 0u; v11 = 0u; goto L2; }
+    v19 = ADDRESS(block0);
+    v20 = ADDRESS(block1);
+    v21 = ADDRESS(block2);
+    v22 = ADDRESS(block3);
+    v23 = ADDRESS(block4);
+    v24 = ADDRESS(block5);
+    v25 = a2 == 0u;
+    if (v25) { v14 = 1u; v15 = 0u; v16 = 0u; v17 = 0u; v18 = 0u; goto L29; }
     else { goto L1; }
 L1:;
-    v30 = a1 + 432u * 1u;
-    v31 = load64(v30);
-    v32 = (u16)(v31);
-    v33 = a2 > v32;
-    if (v33) { v7 = 1u; v8 = 0u; v9 = 0u; v10 = 0u; v11 = 0u; goto L2; }
-    else { goto L3; }
+    v26 = a1 + 432u * 1u;
+    v27 = load64(v26);
+    v28 = (u16)(v27);
+    v29 = a2 > v28;
+    if (v29) { v14 = 1u; v15 = 0u; v16 = 0u; v17 = 0u; v18 = 0u; goto L29; }
+    else { goto L2; }
 L2:;
-    store8(a0, v7);
-    v34 = a0 + 1u * 1u;
-    store8(v34, v8);
-    v35 = a0 + 8u * 1u;
-    store8(v35, v9);
-    v36 = a0 + 9u * 1u;
-    store8(v36, v10);
-    v37 = a0 + 16u * 1u;
-    store64(v37, v11);
-    return;
+    v30 = a6 < 15u;
+    if (v30) { v14 = 1u; v15 = 1u; v16 = 0u; v17 = 0u; v18 = 0u; goto L29; }
+    else { goto L3; }
 L3:;
-    v38 = a6 < 15u;
-    if (v38) { v7 = 1u; v8 = 1u; v9 = 0u; v10 = 0u; v11 = 0u; goto L2; }
-    else { goto L4; }
+    store_address(v24, a5);
+    v31 = v24 + 8u * 1u;
+    store64(v31, a6);
+    v32 = v24 + 16u * 1u;
+    store64(v32, 0u);
+    memory_set(v23, 0u, 32u);
+    f8(v23, a3, a4);
+    v33 = load8(v23);
+    v34 = v33 == 0u;
+    if (v34) { goto L4; }
+    else { goto L18; }
 L4:;
-    store_address(v28, a5);
-    v39 = v28 + 8u * 1u;
-    store64(v39, a6);
-    v40 = v28 + 16u * 1u;
-    store64(v40, 0u);
-    memory_set(v27, 0u, 32u);
-    f8(v27, a3, a4);
-    v41 = load8(v27);
+    v35 = v23 + 8u * 1u;
+    memory_cpy(v22, v35, 24u);
+    v36 = load_address(v22);
+    v37 = load8(v36);
+    v38 = (u8)((u32)v37 >> (4u & 7u));
+    v39 = v36 + 5u * 1u;
+    v40 = load8(v39);
+    v41 = (u8)((u32)v38 | (u32)v40);
     v42 = v41 == 0u;
     if (v42) { goto L5; }
-    else { goto L28; }
+    else { v11 = 1u; goto L27; }
 L5:;
-    v43 = v27 + 8u * 1u;
-    v44 = load_address(v43);
-    v45 = v27 + 16u * 1u;
-    v46 = load64(v45);
-    v47 = v27 + 24u * 1u;
-    v48 = load8(v47);
-    v49 = v27 + 25u * 1u;
-    v50 = load8(v49);
-    v51 = load8(v44);
-    v52 = (u8)((u32)v51 >> (4u & 7u));
-    v53 = v44 + 5u * 1u;
-    v54 = load8(v53);
-    v55 = (u8)((u32)v52 | (u32)v54);
-    v56 = v55 == 0u;
-    if (v56) { goto L6; }
-    else { goto L43; }
+    v43 = v36 + 4u * 1u;
+    v44 = load8(v43);
+    v45 = a1 + 8u * 1u;
+    v46 = load8(v45);
+    v47 = v44 == v46;
+    if (v47) { goto L8; }
+    else { goto L6; }
 L6:;
-    v57 = v44 + 4u * 1u;
-    v58 = load8(v57);
-    v59 = a1 + 8u * 1u;
-    v60 = load8(v59);
-    v61 = v58 != v60;
-    v62 = v44 + 20u * 1u;
-    v63 = load64(v62);
-    v64 = v44 + 28u * 1u;
-    v65 = load8(v64);
-    v66 = v44 + 29u * 1u;
-    v67 = load8(v66);
-    v68 = (u16)v65;
-    v69 = (u16)((u32)v68 << (8u & 15u));
-    v70 = (u16)v67;
-    v71 = a1 + 440u * 1u;
-    v72 = load64(v71);
-    v73 = v63 == v72;
-    if (v61) { goto L7; }
-    else { goto L16; }
+    v48 = f68(a1, v22);
+    if (v48) { goto L7; }
+    else { v11 = 1u; goto L27; }
 L7:;
-    if (v73) { v15 = 0u; v16 = 1u; goto L37; }
-    else { goto L8; }
+    v49 = v36 + 20u * 1u;
+    v50 = load64(v49);
+    v51 = v36 + 28u * 1u;
+    v52 = load8(v51);
+    v53 = v36 + 29u * 1u;
+    v54 = load8(v53);
+    v55 = (u16)v52;
+    v56 = (u16)((u32)v55 << (8u & 15u));
+    v57 = (u16)v54;
+    v58 = (u16)((u32)v56 | (u32)v57);
+    v7 = v58; v8 = v50; goto L20;
 L8:;
-    v74 = v44 + 34u * 1u;
-    v75 = load64(v74);
-    v76 = v44 + 42u * 1u;
-    v77 = load8(v76);
-    v78 = v44 + 43u * 1u;
-    v79 = load8(v78);
-    v80 = (u16)v77;
-    v81 = (u16)((u32)v80 << (8u & 15u));
-    v82 = (u16)v79;
-    v83 = (u16)((u32)v81 | (u32)v82);
-    v84 = v75 == v72;
-    v85 = v75 == UINT64_C(18446744073709551615);
-    v86 = (u8)(((u32)v85 | (u32)v84) & UINT64_C(1));
-    if (v86) { goto L9; }
-    else { v15 = 0u; v16 = 1u; goto L37; }
+    v59 = v36 + 20u * 1u;
+    v60 = load64(v59);
+    v61 = v36 + 28u * 1u;
+    v62 = load8(v61);
+    v63 = v36 + 29u * 1u;
+    v64 = load8(v63);
+    v65 = (u16)v62;
+    v66 = (u16)((u32)v65 << (8u & 15u));
+    v67 = (u16)v64;
+    v68 = a1 + 440u * 1u;
+    v69 = load64(v68);
+    v70 = v60 == v69;
+    if (v70) { v11 = 2u; goto L27; }
+    else { goto L9; }
 L9:;
-    switch (v83) {
-    case 65535u: goto L11;
-    case 0u: v15 = 0u; v16 = 1u; goto L37;
-    default: goto L10;
-    }
+    v71 = f69(a1, v22);
+    if (v71) { goto L10; }
+    else { v11 = 3u; goto L27; }
 L10:;
-    v87 = load64(v30);
-    v88 = (u16)(v87);
-    v89 = v83 > v88;
-    if (v89) { v15 = 0u; v16 = 1u; goto L37; }
-    else { goto L11; }
+    v72 = v22 + 16u * 1u;
+    v73 = load8(v72);
+    switch (v73) {
+    case 2u: v11 = 4u; goto L27;
+    case 4u: v11 = 4u; goto L27;
+    case 0u: goto L12;
+    case 1u: goto L12;
+    case 3u: goto L12;
+    default: goto L11;
+    }
 L11:;
-    switch (v48) {
-    case 2u: v15 = 0u; v16 = 1u; goto L37;
-    case 4u: v15 = 0u; v16 = 1u; goto L37;
-    case 0u: goto L13;
-    case 1u: goto L13;
-    case 3u: goto L13;
-    default: goto L12;
-    }
+    UNREACHABLE;
 L12:;
-    UNREACHABLE;
+    v74 = v36 + 34u * 1u;
+    v75 = load64(v74);
+    v76 = v75 == v69;
+    if (v76) { goto L14; }
+    else { goto L13; }
 L13:;
-    if (v84) { goto L15; }
-    else { goto L14; }
+    v11 = 9u; goto L27;
 L14:;
-    v15 = 0u; v16 = 1u; goto L37;
-L15:;
-    v90 = (u16)((u32)v69 | (u32)v70);
-    store64(v22, v63);
-    v91 = v22 + 8u * 1u;
-    store16(v91, v90);
-    v92 = v44 + 30u * 1u;
-    v93 = load8(v92);
-    v94 = v44 + 31u * 1u;
+    v77 = v36 + 43u * 1u;
+    v78 = load8(v77);
+    v79 = (u16)v78;
+    v80 = v36 + 42u * 1u;
+    v81 = load8(v80);
+    v82 = (u16)v81;
+    v83 = (u16)((u32)v82 << (8u & 15u));
+    v84 = (u16)((u32)v66 | (u32)v67);
+    store64(v20, v60);
+    v85 = v20 + 8u * 1u;
+    store16(v85, v84);
+    v86 = v36 + 30u * 1u;
+    v87 = load8(v86);
+    v88 = v36 + 31u * 1u;
+    v89 = load8(v88);
+    v90 = (u16)v87;
+    v91 = (u16)((u32)v90 << (8u & 15u));
+    v92 = (u16)v89;
+    v93 = (u16)((u32)v91 | (u32)v92);
+    v94 = v22 + 17u * 1u;
     v95 = load8(v94);
-    v96 = (u16)v93;
-    v97 = (u16)((u32)v96 << (8u & 15u));
-    v98 = (u16)v95;
-    v99 = (u16)((u32)v97 | (u32)v98);
-    v100 = v50 == 0u;
-    v101 = v100 ? 52u : 54u;
-    v102 = v100 ? 53u : 55u;
-    v103 = v44 + v101 * 1u;
-    v104 = load8(v103);
-    v105 = v44 + v102 * 1u;
-    v106 = load8(v105);
-    v107 = v44 + 54u * 1u;
-    v108 = (u64)((u64)v46 + (u64)UINT64_C(18446744073709551562));
-    v109 = v100 ? v107 : ADDRESS(c108);
-    v110 = v100 ? v108 : 0u;
-    v111 = (u16)v104;
-    v112 = (u16)((u32)v111 << (8u & 15u));
-    v113 = (u16)v106;
-    v114 = (u16)((u32)v112 | (u32)v113);
-    store8(v23, v48);
-    v115 = v23 + 1u * 1u;
-    store8(v115, 0u);
-    v116 = v23 + 2u * 1u;
-    store16(v116, v114);
-    v117 = v23 + 4u * 1u;
-    store16(v117, v83);
-    v118 = v23 + 6u * 1u;
-    store16(v118, 0u);
-    v119 = v23 + 8u * 1u;
-    store_address(v119, v109);
-    v120 = v23 + 16u * 1u;
-    store64(v120, v110);
-    v121 = f57(v71, v22, v99, v23);
-    v122 = v121.m0;
-    v123 = v122 == 2u;
-    if (v123) { v12 = v90; goto L30; }
-    else { v15 = 0u; v16 = 1u; goto L37; }
+    v96 = v95 == 0u;
+    v97 = v96 ? 52u : 54u;
+    v98 = v96 ? 53u : 55u;
+    v99 = v36 + v97 * 1u;
+    v100 = load8(v99);
+    v101 = v36 + v98 * 1u;
+    v102 = load8(v101);
+    v103 = v22 + 8u * 1u;
+    v104 = load64(v103);
+    v105 = v36 + 54u * 1u;
+    v106 = (u64)((u64)v104 + (u64)UINT64_C(18446744073709551562));
+    v107 = v96 ? v105 : ADDRESS(c111);
+    v108 = v96 ? v106 : 0u;
+    v109 = (u16)((u32)v83 | (u32)v79);
+    v110 = (u16)v100;
+    v111 = (u16)((u32)v110 << (8u & 15u));
+    v112 = (u16)v102;
+    v113 = (u16)((u32)v111 | (u32)v112);
+    store8(v21, v73);
+    v114 = v21 + 1u * 1u;
+    store8(v114, 0u);
+    v115 = v21 + 2u * 1u;
+    store16(v115, v113);
+    v116 = v21 + 4u * 1u;
+    store16(v116, v109);
+    v117 = v21 + 6u * 1u;
+    store16(v117, 0u);
+    v118 = v21 + 8u * 1u;
+    store_address(v118, v107);
+    v119 = v21 + 16u * 1u;
+    store64(v119, v108);
+    v120 = f50(v68, v20, v93, v21);
+    v121 = v120.m0;
+    switch (v121) {
+    case 0u: v11 = 9u; goto L27;
+    case 1u: goto L19;
+    case 2u: v7 = v84; v8 = v60; goto L20;
+    case 3u: goto L15;
+    case 4u: goto L16;
+    default: goto L17;
+    }
+L15:;
+    v11 = 8u; goto L27;
 L16:;
-    if (v73) { v15 = 0u; v16 = 2u; goto L37; }
-    else { goto L17; }
+    v11 = 7u; goto L27;
 L17:;
-    v124 = v44 + 34u * 1u;
-    v125 = load64(v124);
-    v126 = v44 + 42u * 1u;
-    v127 = load8(v126);
-    v128 = v44 + 43u * 1u;
-    v129 = load8(v128);
-    v130 = (u16)v127;
-    v131 = (u16)((u32)v130 << (8u & 15u));
-    v132 = (u16)v129;
-    v133 = (u16)((u32)v131 | (u32)v132);
-    v134 = v125 == v72;
-    v135 = v125 == UINT64_C(18446744073709551615);
-    v136 = (u8)(((u32)v135 | (u32)v134) & UINT64_C(1));
-    if (v136) { goto L18; }
-    else { v15 = 0u; v16 = 3u; goto L37; }
+    UNREACHABLE;
 L18:;
-    switch (v133) {
-    case 65535u: goto L20;
-    case 0u: v15 = 0u; v16 = 3u; goto L37;
-    default: goto L19;
-    }
+    v122 = v23 + 1u * 1u;
+    v123 = load8(v122);
+    v12 = v123; v13 = 0u; goto L28;
 L19:;
-    v137 = load64(v30);
-    v138 = (u16)(v137);
-    v139 = v133 > v138;
-    if (v139) { v15 = 0u; v16 = 3u; goto L37; }
-    else { goto L20; }
+    v124 = v120.m1;
+    f70(a1, a2, v35, v124, v24);
+    v12 = 0u; v13 = 5u; goto L28;
 L20:;
-    switch (v48) {
-    case 2u: v15 = 0u; v16 = 4u; goto L37;
-    case 4u: v15 = 0u; v16 = 4u; goto L37;
-    case 0u: goto L22;
-    case 1u: goto L22;
-    case 3u: goto L22;
-    default: goto L21;
-    }
+    v125 = v36 + 44u * 1u;
+    v126 = load8(v125);
+    v127 = v36 + 45u * 1u;
+    v128 = load8(v127);
+    v129 = a1 + 456u * 1u;
+    v130 = load64(v129);
+    v131 = v130 == 0u;
+    if (v131) { goto L25; }
+    else { goto L21; }
 L21:;
-    UNREACHABLE;
+    v132 = a1 + 448u * 1u;
+    v133 = load_address(v132);
+    v9 = v133; v10 = v130; goto L22;
 L22:;
-    if (v134) { goto L24; }
-    else { goto L23; }
+    v134 = v9 + 2136u * 1u;
+    v135 = (u64)((u64)v10 + (u64)UINT64_C(18446744073709551615));
+    v136 = v9 + 2112u * 1u;
+    v137 = load16(v136);
+    v138 = v7 == v137;
+    if (v138) { goto L23; }
+    else { goto L24; }
 L23:;
-    v15 = 1u; v16 = 9u; goto L37;
+    v139 = v9 + 2104u * 1u;
+    v140 = load64(v139);
+    v141 = v8 == v140;
+    if (v141) { goto L26; }
+    else { goto L24; }
 L24:;
-    v140 = (u16)((u32)v69 | (u32)v70);
-    store64(v24, v63);
-    v141 = v24 + 8u * 1u;
-    store16(v141, v140);
-    v142 = v44 + 30u * 1u;
-    v143 = load8(v142);
-    v144 = v44 + 31u * 1u;
-    v145 = load8(v144);
-    v146 = (u16)v143;
-    v147 = (u16)((u32)v146 << (8u & 15u));
-    v148 = (u16)v145;
-    v149 = (u16)((u32)v147 | (u32)v148);
-    v150 = v50 == 0u;
-    v151 = v150 ? 52u : 54u;
-    v152 = v150 ? 53u : 55u;
-    v153 = v44 + v151 * 1u;
-    v154 = load8(v153);
-    v155 = v44 + v152 * 1u;
-    v156 = load8(v155);
-    v157 = v44 + 54u * 1u;
-    v158 = (u64)((u64)v46 + (u64)UINT64_C(18446744073709551562));
-    v159 = v150 ? v157 : ADDRESS(c108);
-    v160 = v150 ? v158 : 0u;
-    v161 = (u16)v154;
-    v162 = (u16)((u32)v161 << (8u & 15u));
-    v163 = (u16)v156;
-    v164 = (u16)((u32)v162 | (u32)v163);
-    store8(v25, v48);
-    v165 = v25 + 1u * 1u;
-    store8(v165, 0u);
-    v166 = v25 + 2u * 1u;
-    store16(v166, v164);
-    v167 = v25 + 4u * 1u;
-    store16(v167, v133);
-    v168 = v25 + 6u * 1u;
-    store16(v168, 0u);
-    v169 = v25 + 8u * 1u;
-    store_address(v169, v159);
-    v170 = v25 + 16u * 1u;
-    store64(v170, v160);
-    v171 = f57(v71, v24, v149, v25);
-    v172 = v171.m0;
-    switch (v172) {
-    case 0u: v15 = 1u; v16 = 9u; goto L37;
-    case 1u: goto L29;
-    case 2u: v12 = v140; goto L30;
-    case 3u: goto L25;
-    case 4u: goto L26;
-    default: goto L27;
-    }
+    v142 = v135 == 0u;
+    if (v142) { goto L25; }
+    else { v9 = v134; v10 = v135; goto L22; }
 L25:;
-    v15 = 0u; v16 = 8u; goto L37;
-L26:;
-    v15 = 0u; v16 = 7u; goto L37;
-L27:;
-    UNREACHABLE;
-L28:;
-    v173 = v27 + 1u * 1u;
-    v174 = load8(v173);
-    v18 = v174; v19 = 0u; goto L47;
-L29:;
-    v175 = v171.m1;
-    f58(a1, a2, v43, v175, v28);
-    v18 = 0u; v19 = 5u; goto L47;
-L30:;
-    v176 = v44 + 44u * 1u;
-    v177 = load8(v176);
-    v178 = v44 + 45u * 1u;
-    v179 = load8(v178);
-    v180 = a1 + 456u * 1u;
-    v181 = load64(v180);
-    v182 = v181 == 0u;
-    if (v182) { goto L35; }
-    else { goto L31; }
-L31:;
-    v183 = a1 + 448u * 1u;
-    v184 = load_address(v183);
-    v13 = v184; v14 = v181; goto L32;
-L32:;
-    v185 = v13 + 2136u * 1u;
-    v186 = (u64)((u64)v14 + (u64)UINT64_C(18446744073709551615));
-    v187 = v13 + 2112u * 1u;
-    v188 = load16(v187);
-    v189 = v12 == v188;
-    if (v189) { goto L33; }
-    else { goto L34; }
-L33:;
-    v190 = v13 + 2104u * 1u;
-    v191 = load64(v190);
-    v192 = v63 == v191;
-    if (v192) { goto L36; }
-    else { goto L34; }
-L34:;
-    v193 = v186 == 0u;
-    if (v193) { goto L35; }
-    else { v13 = v185; v14 = v186; goto L32; }
-L35:;
     TRAP;
     UNREACHABLE;
-L36:;
-    store64(v26, 0u);
-    v194 = v13 + 2121u * 1u;
-    v195 = load8(v194);
-    v196 = (u8)((v195) & UINT64_C(1));
-    v197 = (u8)(((u32)v196 ^ (u32)1u) & UINT64_C(1));
-    v198 = v196 ? 0u : a2;
-    v199 = (u16)v197;
-    v200 = v177 > v179 ? (u8)((u32)v177 - (u32)v179) : 0u;
-    store8(v26, v58);
-    v201 = v26 + 2u * 1u;
-    store16(v201, v199);
-    v202 = v26 + 4u * 1u;
-    store16(v202, v198);
-    v203 = v26 + 6u * 1u;
-    store8(v203, v200);
-    v204 = v13 + 1432u * 1u;
-    v205 = v13 + 1440u * 1u;
-    v206 = load64(v205);
-    v207 = v13 + 1448u * 1u;
-    f67(v204, v206, v207, v26, a2, v28);
-    v18 = 0u; v19 = 6u; goto L47;
-L37:;
-    v208 = v44 + 34u * 1u;
-    v209 = load64(v208);
-    v210 = v209 == v72;
-    v211 = (u8)(((u32)v210 | (u32)v61) & UINT64_C(1));
-    v212 = v211 ? 1u : v73;
-    if (v212) { goto L44; }
-    else { goto L38; }
-L38:;
-    v213 = v44 + 45u * 1u;
-    v214 = load8(v213);
-    v215 = v214 == 0u;
-    if (v215) { goto L44; }
-    else { goto L39; }
-L39:;
-    v216 = (u16)((u32)a2 + (u32)65535u);
-    v217 = load64(v30);
-    v218 = (u64)v216;
-    v219 = v217 > v218;
-    if (v219) { goto L40; }
-    else { goto L44; }
-L40:;
-    v220 = a1 + 240u * 1u;
-    v221 = (u64)((u64)v218 * (u64)24u);
-    v222 = v220 + v221 * 1u;
-    v223 = load8(v222);
-    switch (v223) {
-    case 4u: goto L42;
-    case 5u: goto L42;
-    case 7u: goto L42;
-    case 8u: goto L42;
-    case 0u: goto L44;
-    case 1u: goto L44;
-    case 2u: goto L44;
-    case 3u: goto L44;
-    case 6u: goto L44;
-    default: goto L41;
-    }
-L41:;
-    UNREACHABLE;
-L42:;
-    f68(a1, a2, a3, v28);
-    goto L44;
-L43:;
-    v17 = 1u; goto L46;
-L44:;
-    if (v15) { goto L45; }
-    else { v17 = v16; goto L46; }
-L45:;
-    v224 = v50 == 0u;
-    v225 = v224 ? 52u : 54u;
-    v226 = v224 ? 53u : 55u;
-    v227 = v44 + v225 * 1u;
-    v228 = load8(v227);
-    v229 = v44 + v226 * 1u;
-    v230 = load8(v229);
-    v231 = v44 + 42u * 1u;
-    v232 = load8(v231);
-    v233 = v44 + 43u * 1u;
-    v234 = load8(v233);
-    v235 = v44 + 54u * 1u;
-    v236 = (u64)((u64)v46 + (u64)UINT64_C(18446744073709551562));
-    v237 = v224 ? v235 : ADDRESS(c108);
-    v238 = v224 ? v236 : 0u;
-    v239 = (u16)v232;
-    v240 = (u16)((u32)v239 << (8u & 15u));
-    v241 = (u16)v234;
-    v242 = (u16)((u32)v240 | (u32)v241);
-    v243 = (u16)v228;
-    v244 = (u16)((u32)v243 << (8u & 15u));
-    v245 = (u16)v230;
-    v246 = (u16)((u32)v244 | (u32)v245);
-    store8(v20, v48);
-    v247 = v20 + 1u * 1u;
-    store8(v247, 0u);
-    v248 = v20 + 2u * 1u;
-    store16(v248, v246);
-    v249 = v20 + 4u * 1u;
-    store16(v249, v242);
-    v250 = v20 + 6u * 1u;
-    store16(v250, 0u);
-    v251 = v20 + 8u * 1u;
-    store_address(v251, v237);
-    v252 = v20 + 16u * 1u;
-    store64(v252, v238);
-    v253 = load8(v57);
-    v254 = load64(v62);
-    v255 = load8(v64);
-    v256 = load8(v66);
-    v257 = (u16)v255;
-    v258 = (u16)((u32)v257 << (8u & 15u));
-    v259 = (u16)v256;
-    v260 = (u16)((u32)v258 | (u32)v259);
-    v261 = v44 + 30u * 1u;
-    v262 = load8(v261);
-    v263 = v44 + 31u * 1u;
-    v264 = load8(v263);
-    v265 = (u16)v262;
-    v266 = (u16)((u32)v265 << (8u & 15u));
-    v267 = (u16)v264;
-    v268 = (u16)((u32)v266 | (u32)v267);
-    v269 = v44 + 44u * 1u;
-    v270 = load8(v269);
-    v271 = v44 + 45u * 1u;
-    v272 = load8(v271);
-    v273 = v21 + 54u * 1u;
-    v274 = v21 + 56u * 1u;
-    v275 = v21 + 64u * 1u;
-    memory_set(v21, 0u, 64u);
-    store_address(v275, v28);
-    v276 = load64(v71);
-    v277 = v48 > 2u;
-    v278 = v277 ? UINT32_C(262144) : UINT32_C(131072);
-    v279 = v270 > v272 ? (u8)((u32)v270 - (u32)v272) : 0u;
-    store16(v273, v246);
-    store16(v274, a2);
-    v280 = v21 + 48u * 1u;
-    store16(v21, 4621u);
-    v281 = v21 + 2u * 1u;
-    store16(v281, 13824u);
-    v282 = v21 + 4u * 1u;
-    v283 = (u16)v253;
-    store16(v282, v283);
-    v284 = v21 + 20u * 1u;
-    store64(v284, v276);
-    v285 = swap16(a2);
-    v286 = v21 + 28u * 1u;
-    store16(v286, v285);
-    v287 = swap16(v268);
-    v288 = v21 + 30u * 1u;
-    store16(v288, v287);
-    v289 = v21 + 32u * 1u;
-    store16(v289, 32516u);
-    v290 = v21 + 34u * 1u;
-    store64(v290, v254);
-    v291 = swap16(v260);
-    v292 = v21 + 42u * 1u;
-    store16(v292, v291);
-    v293 = v21 + 44u * 1u;
-    v294 = (u32)v279;
-    v295 = (u32)((u32)v294 << (8u & 31u));
-    v296 = (u32)((u32)v295 | (u32)v278);
-    v297 = (u32)((u32)v296 | (u32)v294);
-    store32(v293, v297);
-    store16(v280, 256u);
-    v298 = v21 + 50u * 1u;
-    store16(v298, 512u);
-    v299 = swap16(v246);
-    v300 = v21 + 52u * 1u;
-    store16(v300, v299);
-    f69(a1, v20, v21);
-    v17 = v16; goto L46;
-L46:;
-    v18 = 0u; v19 = v17; goto L47;
-L47:;
-    v301 = load64(v40);
-    v7 = 0u; v8 = 0u; v9 = v19; v10 = v18; v11 = v301; goto L2;
+L26:;
+    store64(v19, 0u);
+    v143 = v9 + 2121u * 1u;
+    v144 = load8(v143);
+    v145 = (u8)((v144) & UINT64_C(1));
+    v146 = (u8)(((u32)v145 ^ (u32)1u) & UINT64_C(1));
+    v147 = v145 ? 0u : a2;
+    v148 = (u16)v146;
+    v149 = v126 > v128 ? (u8)((u32)v126 - (u32)v128) : 0u;
+    store8(v19, v44);
+    v150 = v19 + 2u * 1u;
+    store16(v150, v148);
+    v151 = v19 + 4u * 1u;
+    store16(v151, v147);
+    v152 = v19 + 6u * 1u;
+    store8(v152, v149);
+    v153 = v9 + 1432u * 1u;
+    v154 = v9 + 1440u * 1u;
+    v155 = load64(v154);
+    v156 = v9 + 1448u * 1u;
+    f78(v153, v155, v156, v19, a2, v24);
+    v12 = 0u; v13 = 6u; goto L28;
+L27:;
+    f79(a1, v11, a2, a3, v35, v24);
+    v12 = 0u; v13 = v11; goto L28;
+L28:;
+    v157 = load64(v32);
+    v14 = 0u; v15 = 0u; v16 = v13; v17 = v12; v18 = v157; goto L29;
+L29:;
+    store8(a0, v14);
+    v158 = a0 + 1u * 1u;
+    store8(v158, v15);
+    v159 = a0 + 8u * 1u;
+    store8(v159, v16);
+    v160 = a0 + 9u * 1u;
+    store8(v160, v17);
+    v161 = a0 + 16u * 1u;
+    store64(v161, v18);
+    return;
 }
 
-static struct s2 f57(address a0, address a1, u16 a2, address a3) {
-    address v4, v10, v13, v14, v15, v17, v19, v22, v27, v30, v32, v34, v36, v43, v47, v50;
-    address v53, v54, v55, v62, v63, v68, v69, v74, v75, v81, v82, v90;
-    u64 v5, v6, v11, v18, v23, v24, v37, v56, v86;
-    u8 v7, v8, v9, v12, v21, v25, v26, v28, v29, v38, v40, v41, v42, v44, v45, v46;
-    u8 v49, v52, v57, v58, v59, v60, v61, v64, v65, v66, v67, v70, v71, v72, v73, v76;
-    u8 v77, v78, v79, v80, v83, v84, v85, v87, v88, v89, v91;
-    u16 v16, v20, v31, v33, v35, v39, v48, v51;
-    struct s2 v92, v93;
-    v10 = a0 + 16u * 1u;
-    v11 = load64(v10);
-    v12 = v11 == 0u;
-    if (v12) { v8 = 0u; v9 = 0u; goto L22; }
+static u8 f68(address a0, address a1) {
+    address v2, v6, v7, v8, v9, v11, v13, v18, v21, v23, v25, v34, v38, v41, v42, v44;
+    address v50, v55, v57, v59, v61, v67, v68, v69, v70, v71, v72;
+    u64 v3, v10, v19, v22, v35, v53, v54, v60, v62;
+    u8 v4, v5, v12, v14, v20, v24, v26, v31, v32, v33, v37, v39, v43, v45, v51, v52;
+    u8 v56, v58, v74, v75;
+    u16 v15, v16, v17, v27, v28, v29, v30, v36, v40, v46, v47, v48, v49, v63, v64, v65;
+    u16 v66;
+    struct s2 v73;
+    u64 block0[2];
+    u64 block1[3];
+    v6 = ADDRESS(block0);
+    v7 = ADDRESS(block1);
+    v8 = load_address(a1);
+    v9 = v8 + 20u * 1u;
+    v10 = load64(v9);
+    v11 = v8 + 28u * 1u;
+    v12 = load8(v11);
+    v13 = v8 + 29u * 1u;
+    v14 = load8(v13);
+    v15 = (u16)v12;
+    v16 = (u16)((u32)v15 << (8u & 15u));
+    v17 = (u16)v14;
+    v18 = a0 + 440u * 1u;
+    v19 = load64(v18);
+    v20 = v10 == v19;
+    if (v20) { v5 = 0u; goto L11; }
     else { goto L1; }
 L1:;
-    v13 = a0 + 8u * 1u;
-    v14 = load_address(v13);
-    v15 = a1 + 8u * 1u;
-    v16 = load16(v15);
-    v4 = v14; v5 = v11; goto L2;
+    v21 = v8 + 34u * 1u;
+    v22 = load64(v21);
+    v23 = v8 + 42u * 1u;
+    v24 = load8(v23);
+    v25 = v8 + 43u * 1u;
+    v26 = load8(v25);
+    v27 = (u16)v24;
+    v28 = (u16)((u32)v27 << (8u & 15u));
+    v29 = (u16)v26;
+    v30 = (u16)((u32)v28 | (u32)v29);
+    v31 = v22 == v19;
+    v32 = v22 == UINT64_C(18446744073709551615);
+    v33 = (u8)(((u32)v32 | (u32)v31) & UINT64_C(1));
+    if (v33) { goto L2; }
+    else { v5 = 0u; goto L11; }
 L2:;
-    v17 = v4 + 2136u * 1u;
-    v18 = (u64)((u64)v5 + (u64)UINT64_C(18446744073709551615));
-    v19 = v4 + 2112u * 1u;
-    v20 = load16(v19);
-    v21 = v16 == v20;
-    if (v21) { goto L3; }
-    else { goto L4; }
+    switch (v30) {
+    case 65535u: goto L4;
+    case 0u: v5 = 0u; goto L11;
+    default: goto L3;
+    }
 L3:;
-    v22 = v4 + 2104u * 1u;
-    v23 = load64(a1);
-    v24 = load64(v22);
-    v25 = v23 == v24;
-    if (v25) { goto L5; }
+    v34 = a0 + 432u * 1u;
+    v35 = load64(v34);
+    v36 = (u16)(v35);
+    v37 = v30 > v36;
+    if (v37) { v5 = 0u; goto L11; }
     else { goto L4; }
 L4:;
-    v26 = v18 == 0u;
-    if (v26) { v8 = 0u; v9 = 0u; goto L22; }
-    else { v4 = v17; v5 = v18; goto L2; }
-L5:;
-    v27 = v4 + 2129u * 1u;
-    v28 = load8(v27);
-    v29 = (u8)((v28) & UINT64_C(1));
-    if (v29) { goto L6; }
-    else { v7 = 1u; goto L21; }
-L6:;
-    v30 = v4 + 2114u * 1u;
-    v31 = load16(v30);
-    v32 = v4 + 2116u * 1u;
-    v33 = load16(v32);
-    v34 = v4 + 2118u * 1u;
-    v35 = load16(v34);
-    v36 = v4 + 1424u * 1u;
-    v37 = load64(v36);
-    v38 = a2 == v31;
-    v39 = (u16)((u32)a2 - (u32)v31);
-    v40 = (i16)v39 > (i16)65535u;
-    v41 = v40 ? 1u : 2u;
-    v42 = v38 ? 0u : v41;
-    switch (v42) {
-    case 0u: goto L7;
-    case 1u: v7 = v42; goto L21;
-    case 2u: goto L19;
-    default: goto L20;
+    v38 = a1 + 16u * 1u;
+    v39 = load8(v38);
+    switch (v39) {
+    case 2u: v5 = 0u; goto L11;
+    case 4u: v5 = 0u; goto L11;
+    case 0u: goto L6;
+    case 1u: goto L6;
+    case 3u: goto L6;
+    default: goto L5;
     }
-L7:;
-    v43 = v4 + 2120u * 1u;
-    v44 = load8(v43);
-    v45 = load8(a3);
-    v46 = v44 == v45;
-    if (v46) { goto L8; }
-    else { v7 = 3u; goto L21; }
-L8:;
-    v47 = a3 + 2u * 1u;
-    v48 = load16(v47);
-    v49 = v33 == v48;
-    if (v49) { goto L9; }
-    else { v7 = 3u; goto L21; }
-L9:;
-    v50 = a3 + 4u * 1u;
-    v51 = load16(v50);
-    v52 = v35 == v51;
-    if (v52) { goto L10; }
-    else { v7 = 3u; goto L21; }
-L10:;
-    v53 = a3 + 8u * 1u;
-    v54 = load_address(v53);
-    v55 = a3 + 16u * 1u;
-    v56 = load64(v55);
-    v57 = v37 == v56;
-    if (v57) { goto L11; }
-    else { v7 = 3u; goto L21; }
-L11:;
-    v58 = v37 < 4u;
-    if (v58) { goto L13; }
-    else { goto L12; }
-L12:;
-    v59 = load8(v4);
-    v60 = load8(v54);
-    v61 = v59 != v60;
-    v62 = v4 + 1u * 1u;
-    v63 = v54 + 1u * 1u;
-    v64 = load8(v62);
-    v65 = load8(v63);
-    v66 = v64 != v65;
-    v67 = (u8)(((u32)v61 | (u32)v66) & UINT64_C(1));
-    v68 = v4 + 2u * 1u;
-    v69 = v54 + 2u * 1u;
-    v70 = load8(v68);
-    v71 = load8(v69);
-    v72 = v70 != v71;
-    v73 = (u8)(((u32)v67 | (u32)v72) & UINT64_C(1));
-    v74 = v4 + 3u * 1u;
-    v75 = v54 + 3u * 1u;
-    v76 = load8(v74);
-    v77 = load8(v75);
-    v78 = v76 != v77;
-    v79 = (u8)(((u32)v73 | (u32)v78) & UINT64_C(1));
-    if (v79) { v7 = 3u; goto L21; }
-    else { goto L16; }
-L13:;
-    v80 = v37 == 0u;
-    if (v80) { goto L18; }
-    else { v6 = 0u; goto L14; }
-L14:;
-    v81 = v4 + v6 * 1u;
-    v82 = v54 + v6 * 1u;
-    v83 = load8(v81);
-    v84 = load8(v82);
-    v85 = v83 == v84;
-    if (v85) { goto L15; }
-    else { goto L17; }
-L15:;
-    v86 = (u64)((u64)v6 + (u64)1u);
-    v87 = v86 == v37;
-    if (v87) { goto L18; }
-    else { v6 = v86; goto L14; }
-L16:;
-    v88 = f4(v4, v37, v54, v37);
-    if (v88) { goto L18; }
-    else { v7 = 3u; goto L21; }
-L17:;
-    v89 = v6 < v37;
-    if (v89) { v7 = 3u; goto L21; }
-    else { goto L18; }
-L18:;
-    v7 = 2u; goto L21;
-L19:;
-    v7 = 4u; goto L21;
-L20:;
+L5:;
     UNREACHABLE;
-L21:;
-    v90 = v4 + 2128u * 1u;
-    v91 = load8(v90);
-    v8 = v7; v9 = v91; goto L22;
-L22:;
-    v92 = (struct s2){ 0 };
-    v92.m0 = v8;
-    v93 = v92;
-    v93.m1 = v9;
-    return v93;
+L6:;
+    if (v31) { goto L7; }
+    else { v4 = 0u; goto L10; }
+L7:;
+    v40 = (u16)((u32)v16 | (u32)v17);
+    store64(v6, v10);
+    v41 = v6 + 8u * 1u;
+    store16(v41, v40);
+    v42 = v8 + 30u * 1u;
+    v43 = load8(v42);
+    v44 = v8 + 31u * 1u;
+    v45 = load8(v44);
+    v46 = (u16)v43;
+    v47 = (u16)((u32)v46 << (8u & 15u));
+    v48 = (u16)v45;
+    v49 = (u16)((u32)v47 | (u32)v48);
+    v50 = a1 + 17u * 1u;
+    v51 = load8(v50);
+    v52 = v51 == 0u;
+    v53 = v52 ? 52u : 54u;
+    v54 = v52 ? 53u : 55u;
+    v55 = v8 + v53 * 1u;
+    v56 = load8(v55);
+    v57 = v8 + v54 * 1u;
+    v58 = load8(v57);
+    if (v52) { goto L8; }
+    else { v2 = ADDRESS(c111); v3 = 0u; goto L9; }
+L8:;
+    v59 = a1 + 8u * 1u;
+    v60 = load64(v59);
+    v61 = v8 + 54u * 1u;
+    v62 = (u64)((u64)v60 + (u64)UINT64_C(18446744073709551562));
+    v2 = v61; v3 = v62; goto L9;
+L9:;
+    v63 = (u16)v56;
+    v64 = (u16)((u32)v63 << (8u & 15u));
+    v65 = (u16)v58;
+    v66 = (u16)((u32)v64 | (u32)v65);
+    store8(v7, v39);
+    v67 = v7 + 1u * 1u;
+    store8(v67, 0u);
+    v68 = v7 + 2u * 1u;
+    store16(v68, v66);
+    v69 = v7 + 4u * 1u;
+    store16(v69, v30);
+    v70 = v7 + 6u * 1u;
+    store16(v70, 0u);
+    v71 = v7 + 8u * 1u;
+    store_address(v71, v2);
+    v72 = v7 + 16u * 1u;
+    store64(v72, v3);
+    v73 = f50(v18, v6, v49, v7);
+    v74 = v73.m0;
+    v75 = v74 == 2u;
+    v4 = v75; goto L10;
+L10:;
+    v5 = v4; goto L11;
+L11:;
+    return v5;
 }
 
-static void f58(address a0, u16 a1, address a2, u8 a3, address a4) {
+static u8 f69(address a0, address a1) {
+    u8 v2, v7, v9, v16, v17, v18, v22;
+    address v3, v4, v6, v8, v14, v19;
+    u64 v5, v15, v20;
+    u16 v10, v11, v12, v13, v21;
+    v3 = load_address(a1);
+    v4 = v3 + 34u * 1u;
+    v5 = load64(v4);
+    v6 = v3 + 42u * 1u;
+    v7 = load8(v6);
+    v8 = v3 + 43u * 1u;
+    v9 = load8(v8);
+    v10 = (u16)v7;
+    v11 = (u16)((u32)v10 << (8u & 15u));
+    v12 = (u16)v9;
+    v13 = (u16)((u32)v11 | (u32)v12);
+    v14 = a0 + 440u * 1u;
+    v15 = load64(v14);
+    v16 = v5 == v15;
+    v17 = v5 == UINT64_C(18446744073709551615);
+    v18 = (u8)(((u32)v17 | (u32)v16) & UINT64_C(1));
+    if (v18) { goto L1; }
+    else { v2 = 0u; goto L4; }
+L1:;
+    switch (v13) {
+    case 65535u: v2 = 1u; goto L4;
+    case 0u: goto L3;
+    default: goto L2;
+    }
+L2:;
+    v19 = a0 + 432u * 1u;
+    v20 = load64(v19);
+    v21 = (u16)(v20);
+    v22 = v13 <= v21;
+    v2 = v22; goto L4;
+L3:;
+    v2 = 0u; goto L4;
+L4:;
+    return v2;
+}
+
+static void f70(address a0, u16 a1, address a2, u8 a3, address a4) {
     address v5, v7, v11, v12, v13, v14, v15, v17, v19, v21, v27, v29, v35, v37, v39, v41;
     address v46, v48, v50, v52, v54, v56, v66, v67, v68, v69, v70, v71, v72, v73, v74, v75;
     address v76, v81, v82, v83, v84, v86, v88, v90, v91, v92, v100, v101, v107, v109, v111, v112;
@@ -13434,7 +15676,7 @@ static void f58(address a0, u16 a1, address a2, u8 a3, address a4) {
     v52 = v14 + 43u * 1u;
     v53 = load8(v52);
     if (v43) { goto L1; }
-    else { v5 = ADDRESS(c108); v6 = 0u; goto L2; }
+    else { v5 = ADDRESS(c111); v6 = 0u; goto L2; }
 L1:;
     v54 = a2 + 8u * 1u;
     v55 = load64(v54);
@@ -13519,7 +15761,7 @@ L2:;
     v108 = swap16(v65);
     v109 = v13 + 52u * 1u;
     store16(v109, v108);
-    f59(a0, v12, a3, v13);
+    f71(a0, v12, a3, v13);
     v110 = load8(v74);
     v111 = a0 + 448u * 1u;
     v112 = load_address(v111);
@@ -13591,7 +15833,7 @@ L10:;
     if (v147) { goto L12; }
     else { v10 = v146; goto L10; }
 L11:;
-    f34(v127, v5, v6);
+    f35(v127, v5, v6);
     goto L12;
 L12:;
     v148 = v127 + 2121u * 1u;
@@ -13639,10 +15881,10 @@ L17:;
     memory_move(v150, v158, 80u);
     goto L23;
 L18:;
-    f64(v150, v158, v157);
+    f75(v150, v158, v157);
     goto L23;
 L19:;
-    f65(v150, v158, v157);
+    f76(v150, v158, v157);
     goto L23;
 L20:;
     v167 = v127 + 2088u * 1u;
@@ -13655,48 +15897,38 @@ L21:;
     store64(v167, 0u);
     goto L22;
 L22:;
-    f66(a4, v149, v150);
+    f77(a4, v149, v150);
     goto L23;
 L23:;
     return;
 }
 
-static void f59(address a0, address a1, u8 a2, address a3) {
-    address v4, v22, v33, v34, v35, v36, v37, v39, v40, v41, v42, v43, v44, v45, v46, v56;
-    address v57, v58, v84, v85, v86, v90, v92, v95, v98, v102, v106, v107, v115, v116, v123, v125;
-    address v129, v130, v132, v136, v137, v139, v143, v144, v146, v147, v148, v151, v158, v161, v164, v166;
-    address v167, v173, v174, v175, v180, v181, v183, v184, v186, v187, v192, v199, v200, v203, v204, v209;
-    address v214, v215, v219, v220, v222, v223, v226, v228, v229, v232, v233, v234, v239, v240, v242, v243;
-    address v244, v245, v248, v249, v250, v255, v256, v260, v262, v263, v266, v268, v269, v271, v272, v273;
-    address v274, v277, v278, v279, v280, v285, v286, v291, v293, v294, v297, v298, v300, v301, v302, v304;
-    address v305, v308, v309, v310;
-    u64 v5, v21, v23, v24, v25, v26, v27, v29, v30, v32, v59, v63, v64, v65, v66, v73;
-    u64 v74, v77, v78, v81, v82, v93, v97, v99, v100, v101, v103, v105, v108, v109, v111, v112;
-    u64 v113, v118, v121, v126, v127, v133, v134, v140, v141, v168, v171, v172, v176, v178, v179, v182;
-    u64 v188, v191, v195, v197, v198, v205, v208, v210, v212, v213, v230, v231, v235, v236, v246, v247;
-    u64 v251, v252, v253, v258, v264, v265, v275, v276, v281, v282, v283, v288, v295, v296, v306, v307;
-    u64 v311, v312;
-    u8 v6, v7, v8, v9, v10, v11, v12, v13, v14, v15, v16, v17, v18, v19, v20, v31;
-    u8 v47, v48, v49, v50, v51, v52, v53, v54, v55, v60, v61, v62, v67, v68, v69, v70;
-    u8 v71, v72, v75, v76, v79, v80, v83, v87, v88, v94, v96, v104, v110, v114, v117, v119;
-    u8 v120, v122, v124, v128, v131, v135, v138, v142, v145, v149, v150, v152, v157, v159, v160, v162;
-    u8 v163, v165, v169, v170, v177, v189, v190, v193, v194, v196, v201, v202, v206, v207, v211, v216;
-    u8 v217, v218, v237, v238, v254, v257, v259, v267, v284, v287, v289;
-    struct s2 v28, v89;
-    u16 v38, v91, v153, v154, v155, v156, v185, v221, v224, v225, v227, v241, v261, v270, v290, v292;
-    u16 v299, v303;
+static void f71(address a0, address a1, u8 a2, address a3) {
+    address v4, v27, v28, v29, v30, v31, v33, v34, v35, v36, v37, v38, v39, v40, v50, v51;
+    address v52, v78, v79, v80, v82, v83, v85, v86, v90, v92, v93, v96, v97, v98, v103, v104;
+    address v106, v107, v108, v109, v112, v113, v114, v119, v120, v124, v126, v127, v130, v132, v133, v135;
+    address v136, v137, v138, v141, v142, v143, v144, v149, v150, v155, v157, v158, v161, v162, v164, v165;
+    address v166, v168, v169, v172, v173, v174;
+    u64 v5, v21, v22, v24, v53, v57, v58, v59, v60, v67, v68, v71, v72, v75, v76, v94;
+    u64 v95, v99, v100, v110, v111, v115, v116, v117, v122, v128, v129, v139, v140, v145, v146, v147;
+    u64 v152, v159, v160, v170, v171, v175, v176;
+    u8 v6, v7, v8, v9, v10, v11, v12, v13, v14, v15, v16, v17, v18, v19, v20, v23;
+    u8 v25, v26, v41, v42, v43, v44, v45, v46, v47, v48, v49, v54, v55, v56, v61, v62;
+    u8 v63, v64, v65, v66, v69, v70, v73, v74, v77, v81, v87, v101, v102, v118, v121, v123;
+    u8 v131, v148, v151, v153;
+    u16 v32, v84, v88, v89, v91, v105, v125, v134, v154, v156, v163, v167;
     u64 block0[1];
     u64 block1[1];
     u64 block2[4];
     u64 block3[1];
-    v33 = ADDRESS(block0);
-    v34 = ADDRESS(block1);
-    v35 = ADDRESS(block2);
-    v36 = ADDRESS(block3);
-    v37 = a1 + 2u * 1u;
-    v38 = load16(v37);
-    switch (v38) {
-    case 0u: v4 = ADDRESS(c110); v5 = 19u; v6 = 0u; v7 = 2u; v8 = 0u; v9 = 1u; v10 = 0u; v11 = 7u; v12 = 0u; v13 = 0u; goto L21;
+    v27 = ADDRESS(block0);
+    v28 = ADDRESS(block1);
+    v29 = ADDRESS(block2);
+    v30 = ADDRESS(block3);
+    v31 = a1 + 2u * 1u;
+    v32 = load16(v31);
+    switch (v32) {
+    case 0u: v4 = ADDRESS(c113); v5 = 19u; v6 = 0u; v7 = 2u; v8 = 0u; v9 = 1u; v10 = 0u; v11 = 7u; v12 = 0u; v13 = 0u; goto L21;
     case 2u: goto L1;
     case 8192u: goto L2;
     case 8193u: goto L3;
@@ -13717,70 +15949,70 @@ static void f59(address a0, address a1, u8 a2, address a3) {
     case 8209u: goto L18;
     case 24576u: goto L19;
     case 24577u: goto L20;
-    default: goto L113;
+    default: goto L70;
     }
 L1:;
-    v4 = ADDRESS(c111); v5 = 16u; v6 = 0u; v7 = 1u; v8 = 1u; v9 = 0u; v10 = 1u; v11 = 3u; v12 = 1u; v13 = 0u; goto L21;
+    v4 = ADDRESS(c114); v5 = 16u; v6 = 0u; v7 = 1u; v8 = 1u; v9 = 0u; v10 = 1u; v11 = 3u; v12 = 1u; v13 = 0u; goto L21;
 L2:;
-    v4 = ADDRESS(c112); v5 = 16u; v6 = 0u; v7 = 1u; v8 = 1u; v9 = 0u; v10 = 1u; v11 = 1u; v12 = 2u; v13 = 0u; goto L21;
+    v4 = ADDRESS(c115); v5 = 16u; v6 = 0u; v7 = 1u; v8 = 1u; v9 = 0u; v10 = 1u; v11 = 1u; v12 = 2u; v13 = 0u; goto L21;
 L3:;
-    v4 = ADDRESS(c113); v5 = 16u; v6 = 0u; v7 = 1u; v8 = 1u; v9 = 0u; v10 = 1u; v11 = 1u; v12 = 3u; v13 = 0u; goto L21;
+    v4 = ADDRESS(c116); v5 = 16u; v6 = 0u; v7 = 1u; v8 = 1u; v9 = 0u; v10 = 1u; v11 = 1u; v12 = 3u; v13 = 0u; goto L21;
 L4:;
-    v4 = ADDRESS(c114); v5 = 15u; v6 = 0u; v7 = 1u; v8 = 1u; v9 = 0u; v10 = 1u; v11 = 1u; v12 = 4u; v13 = 0u; goto L21;
+    v4 = ADDRESS(c117); v5 = 15u; v6 = 0u; v7 = 1u; v8 = 1u; v9 = 0u; v10 = 1u; v11 = 1u; v12 = 4u; v13 = 0u; goto L21;
 L5:;
-    v4 = ADDRESS(c115); v5 = 24u; v6 = 0u; v7 = 1u; v8 = 1u; v9 = 0u; v10 = 1u; v11 = 1u; v12 = 5u; v13 = 0u; goto L21;
+    v4 = ADDRESS(c118); v5 = 24u; v6 = 0u; v7 = 1u; v8 = 1u; v9 = 0u; v10 = 1u; v11 = 1u; v12 = 5u; v13 = 0u; goto L21;
 L6:;
-    v4 = ADDRESS(c116); v5 = 13u; v6 = 4u; v7 = 2u; v8 = 0u; v9 = 1u; v10 = 1u; v11 = 1u; v12 = 6u; v13 = 0u; goto L21;
+    v4 = ADDRESS(c119); v5 = 13u; v6 = 4u; v7 = 2u; v8 = 0u; v9 = 1u; v10 = 1u; v11 = 1u; v12 = 6u; v13 = 0u; goto L21;
 L7:;
-    v4 = ADDRESS(c117); v5 = 9u; v6 = 0u; v7 = 1u; v8 = 1u; v9 = 0u; v10 = 1u; v11 = 3u; v12 = 7u; v13 = 0u; goto L21;
+    v4 = ADDRESS(c120); v5 = 9u; v6 = 0u; v7 = 1u; v8 = 1u; v9 = 0u; v10 = 1u; v11 = 3u; v12 = 7u; v13 = 0u; goto L21;
 L8:;
-    v4 = ADDRESS(c118); v5 = 9u; v6 = 0u; v7 = 1u; v8 = 1u; v9 = 0u; v10 = 1u; v11 = 3u; v12 = 8u; v13 = 0u; goto L21;
+    v4 = ADDRESS(c121); v5 = 9u; v6 = 0u; v7 = 1u; v8 = 1u; v9 = 0u; v10 = 1u; v11 = 3u; v12 = 8u; v13 = 0u; goto L21;
 L9:;
-    v4 = ADDRESS(c119); v5 = 6u; v6 = 0u; v7 = 1u; v8 = 1u; v9 = 0u; v10 = 1u; v11 = 3u; v12 = 9u; v13 = 0u; goto L21;
+    v4 = ADDRESS(c122); v5 = 6u; v6 = 0u; v7 = 1u; v8 = 1u; v9 = 0u; v10 = 1u; v11 = 3u; v12 = 9u; v13 = 0u; goto L21;
 L10:;
-    v4 = ADDRESS(c120); v5 = 10u; v6 = 0u; v7 = 1u; v8 = 1u; v9 = 0u; v10 = 1u; v11 = 1u; v12 = 10u; v13 = 0u; goto L21;
+    v4 = ADDRESS(c123); v5 = 10u; v6 = 0u; v7 = 1u; v8 = 1u; v9 = 0u; v10 = 1u; v11 = 1u; v12 = 10u; v13 = 0u; goto L21;
 L11:;
-    v4 = ADDRESS(c126); v5 = 21u; v6 = 4u; v7 = 2u; v8 = 0u; v9 = 1u; v10 = 1u; v11 = 3u; v12 = 11u; v13 = 0u; goto L21;
+    v4 = ADDRESS(c129); v5 = 21u; v6 = 4u; v7 = 2u; v8 = 0u; v9 = 1u; v10 = 1u; v11 = 3u; v12 = 11u; v13 = 0u; goto L21;
 L12:;
-    v4 = ADDRESS(c128); v5 = 24u; v6 = 4u; v7 = 2u; v8 = 0u; v9 = 1u; v10 = 1u; v11 = 3u; v12 = 11u; v13 = 1u; goto L21;
+    v4 = ADDRESS(c131); v5 = 24u; v6 = 4u; v7 = 2u; v8 = 0u; v9 = 1u; v10 = 1u; v11 = 3u; v12 = 11u; v13 = 1u; goto L21;
 L13:;
-    v4 = ADDRESS(c130); v5 = 17u; v6 = 4u; v7 = 2u; v8 = 0u; v9 = 1u; v10 = 1u; v11 = 3u; v12 = 11u; v13 = 2u; goto L21;
+    v4 = ADDRESS(c133); v5 = 17u; v6 = 4u; v7 = 2u; v8 = 0u; v9 = 1u; v10 = 1u; v11 = 3u; v12 = 11u; v13 = 2u; goto L21;
 L14:;
-    v4 = ADDRESS(c121); v5 = 14u; v6 = 4u; v7 = 2u; v8 = 0u; v9 = 1u; v10 = 1u; v11 = 1u; v12 = 12u; v13 = 0u; goto L21;
+    v4 = ADDRESS(c124); v5 = 14u; v6 = 4u; v7 = 2u; v8 = 0u; v9 = 1u; v10 = 1u; v11 = 1u; v12 = 12u; v13 = 0u; goto L21;
 L15:;
-    v4 = ADDRESS(c122); v5 = 11u; v6 = 4u; v7 = 2u; v8 = 0u; v9 = 1u; v10 = 0u; v11 = 4u; v12 = 13u; v13 = 0u; goto L21;
+    v4 = ADDRESS(c125); v5 = 11u; v6 = 4u; v7 = 2u; v8 = 0u; v9 = 1u; v10 = 0u; v11 = 4u; v12 = 13u; v13 = 0u; goto L21;
 L16:;
-    v4 = ADDRESS(c123); v5 = 12u; v6 = 4u; v7 = 2u; v8 = 0u; v9 = 1u; v10 = 0u; v11 = 4u; v12 = 14u; v13 = 0u; goto L21;
+    v4 = ADDRESS(c126); v5 = 12u; v6 = 4u; v7 = 2u; v8 = 0u; v9 = 1u; v10 = 0u; v11 = 4u; v12 = 14u; v13 = 0u; goto L21;
 L17:;
-    v4 = ADDRESS(c124); v5 = 14u; v6 = 0u; v7 = 1u; v8 = 1u; v9 = 0u; v10 = 1u; v11 = 3u; v12 = 15u; v13 = 0u; goto L21;
+    v4 = ADDRESS(c127); v5 = 14u; v6 = 0u; v7 = 1u; v8 = 1u; v9 = 0u; v10 = 1u; v11 = 3u; v12 = 15u; v13 = 0u; goto L21;
 L18:;
-    v4 = ADDRESS(c125); v5 = 14u; v6 = 0u; v7 = 1u; v8 = 1u; v9 = 0u; v10 = 1u; v11 = 3u; v12 = 16u; v13 = 0u; goto L21;
+    v4 = ADDRESS(c128); v5 = 14u; v6 = 0u; v7 = 1u; v8 = 1u; v9 = 0u; v10 = 1u; v11 = 3u; v12 = 16u; v13 = 0u; goto L21;
 L19:;
-    v4 = ADDRESS(c132); v5 = 15u; v6 = 4u; v7 = 2u; v8 = 0u; v9 = 1u; v10 = 1u; v11 = 3u; v12 = 11u; v13 = 3u; goto L21;
+    v4 = ADDRESS(c135); v5 = 15u; v6 = 4u; v7 = 2u; v8 = 0u; v9 = 1u; v10 = 1u; v11 = 3u; v12 = 11u; v13 = 3u; goto L21;
 L20:;
-    v4 = ADDRESS(c134); v5 = 27u; v6 = 4u; v7 = 2u; v8 = 0u; v9 = 1u; v10 = 1u; v11 = 3u; v12 = 11u; v13 = 4u; goto L21;
+    v4 = ADDRESS(c137); v5 = 27u; v6 = 4u; v7 = 2u; v8 = 0u; v9 = 1u; v10 = 1u; v11 = 3u; v12 = 11u; v13 = 4u; goto L21;
 L21:;
-    memory_set(v34, 0u, 6u);
-    memory_cpy(v36, v34, 6u);
-    store16(v35, v38);
-    v39 = v35 + 2u * 1u;
-    memory_cpy(v39, v36, 6u);
-    v40 = v35 + 8u * 1u;
-    store_address(v40, v4);
-    v41 = v35 + 16u * 1u;
-    store64(v41, v5);
-    v42 = v35 + 24u * 1u;
-    store8(v42, v9);
-    v43 = v35 + 25u * 1u;
-    store8(v43, v11);
-    v44 = v35 + 26u * 1u;
-    store8(v44, v12);
-    v45 = v35 + 27u * 1u;
-    store8(v45, v13);
-    v46 = v35 + 28u * 1u;
-    store32(v46, 0u);
-    v47 = load8(a1);
-    switch (v47) {
+    memory_set(v28, 0u, 6u);
+    memory_cpy(v30, v28, 6u);
+    store16(v29, v32);
+    v33 = v29 + 2u * 1u;
+    memory_cpy(v33, v30, 6u);
+    v34 = v29 + 8u * 1u;
+    store_address(v34, v4);
+    v35 = v29 + 16u * 1u;
+    store64(v35, v5);
+    v36 = v29 + 24u * 1u;
+    store8(v36, v9);
+    v37 = v29 + 25u * 1u;
+    store8(v37, v11);
+    v38 = v29 + 26u * 1u;
+    store8(v38, v12);
+    v39 = v29 + 27u * 1u;
+    store8(v39, v13);
+    v40 = v29 + 28u * 1u;
+    store32(v40, 0u);
+    v41 = load8(a1);
+    switch (v41) {
     case 0u: goto L22;
     case 1u: goto L25;
     case 3u: goto L23;
@@ -13789,9 +16021,9 @@ L21:;
     default: goto L24;
     }
 L22:;
-    v48 = (u8)((u32)v11 & (u32)1u);
-    v49 = v48 == 0u;
-    if (v49) { goto L26; }
+    v42 = (u8)((u32)v11 & (u32)1u);
+    v43 = v42 == 0u;
+    if (v43) { goto L26; }
     else { v14 = 0u; goto L27; }
 L23:;
     if (v10) { goto L26; }
@@ -13799,29 +16031,30 @@ L23:;
 L24:;
     UNREACHABLE;
 L25:;
-    v50 = (u8)((u32)v11 & (u32)2u);
-    v51 = v50 == 0u;
-    if (v51) { goto L26; }
+    v44 = (u8)((u32)v11 & (u32)2u);
+    v45 = v44 == 0u;
+    if (v45) { goto L26; }
     else { v14 = v7; goto L27; }
 L26:;
-    v52 = v47 == 1u;
-    v53 = v52 ? 4u : 5u;
-    v19 = v53; goto L50;
+    v46 = v41 == 1u;
+    v47 = v46 ? 4u : 5u;
+    if (v8) { v20 = v47; goto L52; }
+    else { v25 = v47; v26 = 1u; goto L68; }
 L27:;
-    v54 = (u8)((u32)v14 & (u32)a2);
-    v55 = v54 == v14;
-    if (v55) { goto L28; }
-    else { v19 = 5u; goto L50; }
+    v48 = (u8)((u32)v14 & (u32)a2);
+    v49 = v48 == v14;
+    if (v49) { goto L28; }
+    else { v19 = 5u; goto L49; }
 L28:;
-    v56 = a1 + 8u * 1u;
-    v57 = load_address(v56);
-    v58 = a1 + 16u * 1u;
-    v59 = load64(v58);
-    switch (v47) {
+    v50 = a1 + 8u * 1u;
+    v51 = load_address(v50);
+    v52 = a1 + 16u * 1u;
+    v53 = load64(v52);
+    switch (v41) {
     case 1u: goto L29;
     case 3u: goto L37;
-    case 0u: goto L39;
-    case 2u: goto L39;
+    case 0u: goto L40;
+    case 2u: goto L40;
     default: goto L36;
     }
 L29:;
@@ -13834,58 +16067,58 @@ L29:;
     case 11u: goto L35;
     case 15u: goto L35;
     case 16u: goto L34;
-    case 2u: v19 = 2u; goto L50;
-    case 3u: v19 = 2u; goto L50;
-    case 4u: v19 = 2u; goto L50;
-    case 5u: v19 = 2u; goto L50;
-    case 6u: v19 = 2u; goto L50;
-    case 10u: v19 = 2u; goto L50;
-    case 12u: v19 = 2u; goto L50;
-    case 13u: v19 = 2u; goto L50;
-    case 14u: v19 = 2u; goto L50;
+    case 2u: v19 = 2u; goto L49;
+    case 3u: v19 = 2u; goto L49;
+    case 4u: v19 = 2u; goto L49;
+    case 5u: v19 = 2u; goto L49;
+    case 6u: v19 = 2u; goto L49;
+    case 10u: v19 = 2u; goto L49;
+    case 12u: v19 = 2u; goto L49;
+    case 13u: v19 = 2u; goto L49;
+    case 14u: v19 = 2u; goto L49;
     default: goto L30;
     }
 L30:;
     UNREACHABLE;
 L31:;
-    v60 = v59 == 0u;
-    if (v60) { goto L38; }
-    else { v19 = 2u; goto L50; }
+    v54 = v53 == 0u;
+    if (v54) { goto L39; }
+    else { v19 = 2u; goto L49; }
 L32:;
-    v61 = v59 == 0u;
-    if (v61) { v19 = 2u; goto L50; }
+    v55 = v53 == 0u;
+    if (v55) { v19 = 2u; goto L49; }
     else { goto L33; }
 L33:;
-    v62 = load8(v57);
-    v63 = (u64)v62;
-    v64 = (u64)((u64)v63 + (u64)1u);
-    v65 = (u64)((u64)v64 & (u64)1u);
-    v66 = (u64)((u64)v65 + (u64)v64);
-    v67 = v59 == v66;
-    if (v67) { goto L38; }
-    else { v19 = 2u; goto L50; }
+    v56 = load8(v51);
+    v57 = (u64)v56;
+    v58 = (u64)((u64)v57 + (u64)1u);
+    v59 = (u64)((u64)v58 & (u64)1u);
+    v60 = (u64)((u64)v59 + (u64)v58);
+    v61 = v53 == v60;
+    if (v61) { goto L39; }
+    else { v19 = 2u; goto L49; }
 L34:;
-    v68 = v59 == 4u;
-    if (v68) { goto L38; }
-    else { v19 = 2u; goto L50; }
+    v62 = v53 == 4u;
+    if (v62) { goto L39; }
+    else { v19 = 2u; goto L49; }
 L35:;
-    v69 = v59 == 2u;
-    if (v69) { goto L38; }
-    else { v19 = 2u; goto L50; }
+    v63 = v53 == 2u;
+    if (v63) { goto L39; }
+    else { v19 = 2u; goto L49; }
 L36:;
     UNREACHABLE;
 L37:;
-    v70 = v59 == 0u;
-    if (v70) { goto L80; }
-    else { v19 = 2u; goto L50; }
+    v64 = v53 == 0u;
+    if (v64) { goto L38; }
+    else { v19 = 2u; goto L49; }
 L38:;
-    goto L41;
+    goto L50;
 L39:;
-    v71 = v47 == 1u;
-    if (v71) { goto L41; }
-    else { goto L40; }
+    goto L41;
 L40:;
-    v20 = v47; goto L51;
+    v65 = v41 == 1u;
+    if (v65) { goto L41; }
+    else { goto L50; }
 L41:;
     switch (v12) {
     case 0u: v15 = 1u; v16 = v12; v17 = v12; v18 = v12; goto L48;
@@ -13918,534 +16151,230 @@ L45:;
 L46:;
     v15 = 0u; v16 = 0u; v17 = 0u; v18 = 0u; goto L48;
 L47:;
-    v72 = (u8)((u32)v13 << (3u & 7u));
-    v73 = (u64)v72;
-    v74 = (u64)(((u64)UINT64_C(30165894151) >> (v73 & 63u)) & UINT64_C(1099511627775));
-    v75 = (u8)(v74);
-    v76 = (u8)((u32)v13 << (3u & 7u));
-    v77 = (u64)v76;
-    v78 = (u64)(((u64)UINT64_C(34360263172) >> (v77 & 63u)) & UINT64_C(1099511627775));
-    v79 = (u8)(v78);
-    v80 = (u8)((u32)v13 << (3u & 7u));
-    v81 = (u64)v80;
-    v82 = (u64)(((u64)UINT64_C(21474904580) >> (v81 & 63u)) & UINT64_C(1099511627775));
-    v83 = (u8)(v82);
-    v15 = v75; v16 = v79; v17 = v83; v18 = 0u; goto L48;
+    v66 = (u8)((u32)v13 << (3u & 7u));
+    v67 = (u64)v66;
+    v68 = (u64)(((u64)UINT64_C(30165894151) >> (v67 & 63u)) & UINT64_C(1099511627775));
+    v69 = (u8)(v68);
+    v70 = (u8)((u32)v13 << (3u & 7u));
+    v71 = (u64)v70;
+    v72 = (u64)(((u64)UINT64_C(34360263172) >> (v71 & 63u)) & UINT64_C(1099511627775));
+    v73 = (u8)(v72);
+    v74 = (u8)((u32)v13 << (3u & 7u));
+    v75 = (u64)v74;
+    v76 = (u64)(((u64)UINT64_C(21474904580) >> (v75 & 63u)) & UINT64_C(1099511627775));
+    v77 = (u8)(v76);
+    v15 = v69; v16 = v73; v17 = v77; v18 = 0u; goto L48;
 L48:;
-    store8(v33, v15);
-    v84 = v33 + 1u * 1u;
-    store8(v84, v16);
-    v85 = v33 + 2u * 1u;
-    store8(v85, v17);
-    v86 = v33 + 3u * 1u;
-    store8(v86, v18);
-    v87 = f61(v33, v57, v59);
-    if (v87) { goto L49; }
-    else { v19 = 3u; goto L50; }
+    store8(v27, v15);
+    v78 = v27 + 1u * 1u;
+    store8(v78, v16);
+    v79 = v27 + 2u * 1u;
+    store8(v79, v17);
+    v80 = v27 + 3u * 1u;
+    store8(v80, v18);
+    v81 = f52(v27, v51, v53);
+    if (v81) { goto L51; }
+    else { v19 = 3u; goto L49; }
 L49:;
-    v88 = load8(a1);
-    v20 = v88; goto L51;
+    if (v8) { v20 = v19; goto L52; }
+    else { v25 = v19; v26 = 1u; goto L68; }
 L50:;
-    v89 = (struct s2){ 1u, 0u };
-    v89.m1 = v19;
-    v28 = v89; goto L93;
+    goto L51;
 L51:;
-    switch (v20) {
-    case 1u: goto L52;
-    case 3u: goto L80;
-    case 0u: v28 = (struct s2){ 0 }; goto L93;
-    case 2u: v28 = (struct s2){ 0 }; goto L93;
-    case 4u: v28 = (struct s2){ 0 }; goto L93;
-    default: goto L92;
-    }
+    f53(a0, v12, v13, a1);
+    if (v8) { goto L53; }
+    else { v25 = 0u; v26 = 0u; goto L68; }
 L52:;
-    v90 = a1 + 4u * 1u;
+    v82 = a3 + 58u * 1u;
+    store8(v82, 0u);
+    v83 = a3 + 56u * 1u;
+    v84 = load16(v83);
+    v85 = a3 + 64u * 1u;
+    v86 = load_address(v85);
+    v87 = (u8)((u32)v20 + (u32)254u);
+    v88 = (u16)v87;
+    v89 = (u16)((u32)v88 + (u32)3u);
+    v90 = a3 + 54u * 1u;
     v91 = load16(v90);
-    v92 = load_address(v56);
+    v92 = load_address(v86);
+    v93 = v86 + 16u * 1u;
+    v94 = load64(v93);
+    v95 = (u64)((u64)v94 * (u64)1476u);
+    v96 = v92 + v95 * 1u;
+    store16(v96, v84);
+    v97 = v96 + 2u * 1u;
+    store16(v97, 60u);
+    v98 = v96 + 4u * 1u;
+    f72(a3, v84, v89, v91, v98);
+    v99 = load64(v93);
+    v100 = (u64)((u64)v99 + (u64)1u);
+    store64(v93, v100);
+    goto L69;
+L53:;
+    v101 = load8(a1);
+    v102 = v101 == 3u;
+    if (v102) { goto L54; }
+    else { goto L58; }
+L54:;
+    v103 = a3 + 58u * 1u;
+    store8(v103, 0u);
+    v104 = a3 + 56u * 1u;
+    v105 = load16(v104);
+    v106 = a3 + 64u * 1u;
+    v107 = load_address(v106);
+    v108 = load_address(v107);
+    v109 = v107 + 16u * 1u;
+    v110 = load64(v109);
+    v111 = (u64)((u64)v110 * (u64)1476u);
+    v112 = v108 + v111 * 1u;
+    store16(v112, v105);
+    v113 = v112 + 2u * 1u;
+    store16(v113, 54u);
+    v114 = v112 + 4u * 1u;
+    v115 = (u64)v114;
+    v116 = (u64)a3;
+    v117 = (u64)((u64)v115 - (u64)v116);
+    v118 = v117 < 54u;
+    if (v118) { v21 = 0u; goto L56; }
+    else { goto L55; }
+L55:;
+    memory_move(v114, a3, 54u);
+    goto L57;
+L56:;
+    v119 = v114 + v21 * 1u;
+    v120 = a3 + v21 * 1u;
+    v121 = load8(v120);
+    store8(v119, v121);
+    v122 = (u64)((u64)v21 + (u64)1u);
+    v123 = v122 == 54u;
+    if (v123) { goto L57; }
+    else { v21 = v122; goto L56; }
+L57:;
+    v124 = v112 + 6u * 1u;
+    store16(v124, 13824u);
+    v125 = swap16(v105);
+    v126 = v112 + 32u * 1u;
+    store16(v126, v125);
+    v127 = v112 + 54u * 1u;
+    store16(v127, 512u);
+    v128 = load64(v109);
+    v129 = (u64)((u64)v128 + (u64)1u);
+    store64(v109, v129);
+    goto L69;
+L58:;
     switch (v12) {
-    case 1u: goto L53;
-    case 7u: goto L64;
-    case 8u: goto L67;
-    case 15u: goto L70;
-    case 9u: goto L73;
-    case 16u: goto L74;
-    case 11u: goto L75;
-    case 0u: v28 = (struct s2){ 0 }; goto L93;
-    case 2u: v28 = (struct s2){ 0 }; goto L93;
-    case 3u: v28 = (struct s2){ 0 }; goto L93;
-    case 4u: v28 = (struct s2){ 0 }; goto L93;
-    case 5u: v28 = (struct s2){ 0 }; goto L93;
-    case 6u: v28 = (struct s2){ 0 }; goto L93;
-    case 10u: v28 = (struct s2){ 0 }; goto L93;
-    case 12u: v28 = (struct s2){ 0 }; goto L93;
-    case 13u: v28 = (struct s2){ 0 }; goto L93;
-    case 14u: v28 = (struct s2){ 0 }; goto L93;
+    case 7u: v22 = 10u; goto L62;
+    case 8u: goto L59;
+    case 9u: goto L60;
+    case 10u: v23 = 0u; goto L63;
+    case 15u: goto L61;
+    case 0u: goto L67;
+    case 1u: goto L67;
+    case 2u: goto L67;
+    case 3u: goto L67;
+    case 4u: goto L67;
+    case 5u: goto L67;
+    case 6u: goto L67;
+    case 11u: goto L67;
+    case 12u: goto L67;
+    case 13u: goto L67;
+    case 14u: goto L67;
+    case 16u: goto L67;
     default: goto L30;
     }
-L53:;
-    v93 = load64(v58);
-    v94 = v93 == 0u;
-    if (v94) { v21 = 0u; v22 = v92; goto L55; }
-    else { goto L54; }
-L54:;
-    v95 = v92 + 1u * 1u;
-    v96 = load8(v92);
-    v97 = (u64)v96;
-    v21 = v97; v22 = v95; goto L55;
-L55:;
-    v98 = a0 + 24u * 1u;
-    v99 = (u64)((u64)v21 + (u64)1u);
-    v100 = (u64)((u64)v99 & (u64)1u);
-    v101 = (u64)((u64)v100 + (u64)v99);
-    v102 = a0 + 160u * 1u;
-    v103 = load64(v102);
-    v104 = v103 == v101;
-    if (v104) { v23 = v101; goto L57; }
-    else { goto L56; }
-L56:;
-    f18(v98, v101);
-    v105 = load64(v102);
-    v23 = v105; goto L57;
-L57:;
-    v106 = a0 + 25u * 1u;
-    v107 = v106 + v21 * 1u;
-    v108 = (u64)((u64)v21 ^ (u64)UINT64_C(18446744073709551615));
-    v109 = (u64)((u64)v23 + (u64)v108);
-    v110 = (u8)(v21);
-    store8(v98, v110);
-    v111 = (u64)v106;
-    v112 = (u64)v22;
-    v113 = (u64)((u64)v111 - (u64)v112);
-    v114 = v113 < v21;
-    if (v114) { v24 = 0u; goto L59; }
-    else { goto L58; }
-L58:;
-    memory_move(v106, v22, v21);
-    goto L60;
 L59:;
-    v115 = v106 + v24 * 1u;
-    v116 = v22 + v24 * 1u;
-    v117 = load8(v116);
-    store8(v115, v117);
-    v118 = (u64)((u64)v24 + (u64)1u);
-    v119 = v118 == v21;
-    if (v119) { goto L60; }
-    else { v24 = v118; goto L59; }
+    v22 = 16u; goto L62;
 L60:;
-    v120 = v109 == 0u;
-    if (v120) { v28 = (struct s2){ 0 }; goto L93; }
-    else { goto L61; }
+    v22 = 8u; goto L62;
 L61:;
-    v121 = (u64)((u64)v109 + (u64)UINT64_C(18446744073709551615));
-    v122 = v121 == 0u;
-    if (v122) { goto L63; }
-    else { goto L62; }
+    v22 = 12u; goto L62;
 L62:;
-    memory_set(v107, 0u, v121);
-    goto L63;
+    v130 = a0 + v22 * 1u;
+    v131 = load8(v130);
+    v23 = v131; goto L63;
 L63:;
-    v123 = v107 + v121 * 1u;
-    store8(v123, 0u);
-    v28 = (struct s2){ 0 }; goto L93;
+    v132 = a3 + 58u * 1u;
+    store8(v132, 0u);
+    v133 = a3 + 56u * 1u;
+    v134 = load16(v133);
+    v135 = a3 + 64u * 1u;
+    v136 = load_address(v135);
+    v137 = load_address(v136);
+    v138 = v136 + 16u * 1u;
+    v139 = load64(v138);
+    v140 = (u64)((u64)v139 * (u64)1476u);
+    v141 = v137 + v140 * 1u;
+    store16(v141, v134);
+    v142 = v141 + 2u * 1u;
+    store16(v142, 56u);
+    v143 = v141 + 4u * 1u;
+    v144 = v141 + 58u * 1u;
+    v145 = (u64)v143;
+    v146 = (u64)a3;
+    v147 = (u64)((u64)v145 - (u64)v146);
+    v148 = v147 < 54u;
+    if (v148) { v24 = 0u; goto L65; }
+    else { goto L64; }
 L64:;
-    v124 = load8(v92);
-    v125 = a0 + 212u * 1u;
-    v126 = load64(v125);
-    v127 = load64(a0);
-    v128 = v126 == v127;
-    if (v128) { goto L65; }
-    else { goto L66; }
-L65:;
-    v129 = a0 + 220u * 1u;
-    store8(v129, v124);
+    memory_move(v143, a3, 54u);
     goto L66;
+L65:;
+    v149 = v143 + v24 * 1u;
+    v150 = a3 + v24 * 1u;
+    v151 = load8(v150);
+    store8(v149, v151);
+    v152 = (u64)((u64)v24 + (u64)1u);
+    v153 = v152 == 54u;
+    if (v153) { goto L66; }
+    else { v24 = v152; goto L65; }
 L66:;
-    v130 = a0 + 10u * 1u;
-    store8(v130, v124);
-    v28 = (struct s2){ 0 }; goto L93;
+    v154 = (u16)v23;
+    store16(v144, v154);
+    v155 = v141 + 6u * 1u;
+    store16(v155, 14336u);
+    v156 = swap16(v134);
+    v157 = v141 + 32u * 1u;
+    store16(v157, v156);
+    v158 = v141 + 54u * 1u;
+    store16(v158, 1024u);
+    v159 = load64(v138);
+    v160 = (u64)((u64)v159 + (u64)1u);
+    store64(v138, v160);
+    goto L69;
 L67:;
-    v131 = load8(v92);
-    v132 = a0 + 212u * 1u;
-    v133 = load64(v132);
-    v134 = load64(a0);
-    v135 = v133 == v134;
-    if (v135) { goto L68; }
-    else { goto L69; }
+    f73(a0, v12, a3);
+    goto L69;
 L68:;
-    v136 = a0 + 226u * 1u;
-    store8(v136, v131);
+    f74(a0, v29, a1, v26, v25, a3);
     goto L69;
 L69:;
-    v137 = a0 + 16u * 1u;
-    store8(v137, v131);
-    v28 = (struct s2){ 0 }; goto L93;
-L70:;
-    v138 = load8(v92);
-    v139 = a0 + 212u * 1u;
-    v140 = load64(v139);
-    v141 = load64(a0);
-    v142 = v140 == v141;
-    if (v142) { goto L71; }
-    else { goto L72; }
-L71:;
-    v143 = a0 + 222u * 1u;
-    store8(v143, v138);
-    goto L72;
-L72:;
-    v144 = a0 + 12u * 1u;
-    store8(v144, v138);
-    v28 = (struct s2){ 0 }; goto L93;
-L73:;
-    v145 = load8(v92);
-    v146 = a0 + 8u * 1u;
-    store8(v146, v145);
-    v28 = (struct s2){ 0 }; goto L93;
-L74:;
-    v147 = a0 + 228u * 1u;
-    v148 = v92 + 2u * 1u;
-    v149 = load8(v148);
-    v150 = load8(v92);
-    v151 = v92 + 1u * 1u;
-    v152 = load8(v151);
-    v153 = (u16)v150;
-    v154 = (u16)((u32)v153 << (8u & 15u));
-    v155 = (u16)v152;
-    v156 = (u16)((u32)v154 | (u32)v155);
-    store16(v147, v156);
-    v157 = (u8)((u32)v149 & (u32)1u);
-    v158 = a0 + 230u * 1u;
-    store8(v158, v157);
-    v159 = (u8)((u32)v149 >> (1u & 7u));
-    v160 = (u8)((u32)v159 & (u32)1u);
-    v161 = a0 + 231u * 1u;
-    store8(v161, v160);
-    v162 = (u8)((u32)v149 >> (2u & 7u));
-    v163 = (u8)((u32)v162 & (u32)1u);
-    v164 = a0 + 232u * 1u;
-    store8(v164, v163);
-    v28 = (struct s2){ 0 }; goto L93;
-L75:;
-    v165 = load8(v92);
-    v166 = a0 + 240u * 1u;
-    v167 = a0 + 432u * 1u;
-    v168 = load64(v167);
-    v169 = v91 == 65535u;
-    if (v169) { goto L76; }
-    else { goto L79; }
-L76:;
-    v170 = v168 == 0u;
-    if (v170) { v28 = (struct s2){ 0 }; goto L93; }
-    else { goto L77; }
-L77:;
-    v171 = (u64)v13;
-    v25 = 0u; goto L78;
-L78:;
-    v172 = (u64)((u64)v25 * (u64)24u);
-    v173 = v166 + v172 * 1u;
-    v174 = v173 + 16u * 1u;
-    v175 = v174 + v171 * 1u;
-    store8(v175, v165);
-    v176 = (u64)((u64)v25 + (u64)1u);
-    v177 = v176 == v168;
-    if (v177) { v28 = (struct s2){ 0 }; goto L93; }
-    else { v25 = v176; goto L78; }
-L79:;
-    v178 = (u64)v91;
-    v179 = (u64)((u64)v178 * (u64)24u);
-    v180 = v166 + v179 * 1u;
-    v181 = v180 + UINT64_C(18446744073709551608) * 1u;
-    v182 = (u64)v13;
-    v183 = v181 + v182 * 1u;
-    store8(v183, v165);
-    v28 = (struct s2){ 0 }; goto L93;
-L80:;
-    v184 = a1 + 4u * 1u;
-    v185 = load16(v184);
-    switch (v12) {
-    case 13u: goto L81;
-    case 14u: goto L88;
-    case 0u: v28 = (struct s2){ 0 }; goto L93;
-    case 1u: v28 = (struct s2){ 0 }; goto L93;
-    case 2u: v28 = (struct s2){ 0 }; goto L93;
-    case 3u: v28 = (struct s2){ 0 }; goto L93;
-    case 4u: v28 = (struct s2){ 0 }; goto L93;
-    case 5u: v28 = (struct s2){ 0 }; goto L93;
-    case 6u: v28 = (struct s2){ 0 }; goto L93;
-    case 7u: v28 = (struct s2){ 0 }; goto L93;
-    case 8u: v28 = (struct s2){ 0 }; goto L93;
-    case 9u: v28 = (struct s2){ 0 }; goto L93;
-    case 10u: v28 = (struct s2){ 0 }; goto L93;
-    case 11u: v28 = (struct s2){ 0 }; goto L93;
-    case 12u: v28 = (struct s2){ 0 }; goto L93;
-    case 15u: v28 = (struct s2){ 0 }; goto L93;
-    case 16u: v28 = (struct s2){ 0 }; goto L93;
-    default: goto L30;
-    }
-L81:;
-    v186 = a0 + 240u * 1u;
-    v187 = a0 + 432u * 1u;
-    v188 = load64(v187);
-    v189 = v185 == 65535u;
-    if (v189) { goto L82; }
-    else { goto L86; }
-L82:;
-    v190 = v188 == 0u;
-    if (v190) { v28 = (struct s2){ 0 }; goto L93; }
-    else { v26 = 0u; goto L83; }
-L83:;
-    v191 = (u64)((u64)v26 * (u64)24u);
-    v192 = v186 + v191 * 1u;
-    v193 = load8(v192);
-    v194 = v193 == 2u;
-    if (v194) { goto L84; }
-    else { goto L85; }
-L84:;
-    store8(v192, 3u);
-    goto L85;
-L85:;
-    v195 = (u64)((u64)v26 + (u64)1u);
-    v196 = v195 == v188;
-    if (v196) { v28 = (struct s2){ 0 }; goto L93; }
-    else { v26 = v195; goto L83; }
-L86:;
-    v197 = (u64)v185;
-    v198 = (u64)((u64)v197 * (u64)24u);
-    v199 = v186 + v198 * 1u;
-    v200 = v199 + UINT64_C(18446744073709551592) * 1u;
-    v201 = load8(v200);
-    v202 = v201 == 2u;
-    if (v202) { goto L87; }
-    else { v28 = (struct s2){ 0 }; goto L93; }
-L87:;
-    store8(v200, 3u);
-    v28 = (struct s2){ 0 }; goto L93;
-L88:;
-    v203 = a0 + 240u * 1u;
-    v204 = a0 + 432u * 1u;
-    v205 = load64(v204);
-    v206 = v185 == 65535u;
-    if (v206) { goto L89; }
-    else { goto L91; }
-L89:;
-    v207 = v205 == 0u;
-    if (v207) { v28 = (struct s2){ 0 }; goto L93; }
-    else { v27 = 0u; goto L90; }
-L90:;
-    v208 = (u64)((u64)v27 * (u64)24u);
-    v209 = v203 + v208 * 1u;
-    store8(v209, 2u);
-    v210 = (u64)((u64)v27 + (u64)1u);
-    v211 = v210 == v205;
-    if (v211) { v28 = (struct s2){ 0 }; goto L93; }
-    else { v27 = v210; goto L90; }
-L91:;
-    v212 = (u64)v185;
-    v213 = (u64)((u64)v212 * (u64)24u);
-    v214 = v203 + v213 * 1u;
-    v215 = v214 + UINT64_C(18446744073709551592) * 1u;
-    store8(v215, 2u);
-    v28 = (struct s2){ 0 }; goto L93;
-L92:;
-    UNREACHABLE;
-L93:;
-    v216 = v28.m0;
-    v217 = v28.m1;
-    if (v8) { goto L94; }
-    else { goto L111; }
-L94:;
-    v218 = v216 == 1u;
-    if (v218) { goto L95; }
-    else { goto L96; }
-L95:;
-    v219 = a3 + 58u * 1u;
-    store8(v219, 0u);
-    v220 = a3 + 56u * 1u;
-    v221 = load16(v220);
-    v222 = a3 + 64u * 1u;
-    v223 = load_address(v222);
-    v224 = (u16)v217;
-    v225 = (u16)((u32)v224 + (u32)1u);
-    v226 = a3 + 54u * 1u;
-    v227 = load16(v226);
-    v228 = load_address(v223);
-    v229 = v223 + 16u * 1u;
-    v230 = load64(v229);
-    v231 = (u64)((u64)v230 * (u64)1476u);
-    v232 = v228 + v231 * 1u;
-    store16(v232, v221);
-    v233 = v232 + 2u * 1u;
-    store16(v233, 60u);
-    v234 = v232 + 4u * 1u;
-    f60(a3, v221, v225, v227, v234);
-    v235 = load64(v229);
-    v236 = (u64)((u64)v235 + (u64)1u);
-    store64(v229, v236);
-    goto L112;
-L96:;
-    v237 = load8(a1);
-    v238 = v237 == 3u;
-    if (v238) { goto L97; }
-    else { goto L101; }
-L97:;
-    v239 = a3 + 58u * 1u;
-    store8(v239, 0u);
-    v240 = a3 + 56u * 1u;
-    v241 = load16(v240);
-    v242 = a3 + 64u * 1u;
-    v243 = load_address(v242);
-    v244 = load_address(v243);
-    v245 = v243 + 16u * 1u;
-    v246 = load64(v245);
-    v247 = (u64)((u64)v246 * (u64)1476u);
-    v248 = v244 + v247 * 1u;
-    store16(v248, v241);
-    v249 = v248 + 2u * 1u;
-    store16(v249, 54u);
-    v250 = v248 + 4u * 1u;
-    v251 = (u64)v250;
-    v252 = (u64)a3;
-    v253 = (u64)((u64)v251 - (u64)v252);
-    v254 = v253 < 54u;
-    if (v254) { v29 = 0u; goto L99; }
-    else { goto L98; }
-L98:;
-    memory_move(v250, a3, 54u);
-    goto L100;
-L99:;
-    v255 = v250 + v29 * 1u;
-    v256 = a3 + v29 * 1u;
-    v257 = load8(v256);
-    store8(v255, v257);
-    v258 = (u64)((u64)v29 + (u64)1u);
-    v259 = v258 == 54u;
-    if (v259) { goto L100; }
-    else { v29 = v258; goto L99; }
-L100:;
-    v260 = v248 + 6u * 1u;
-    store16(v260, 13824u);
-    v261 = swap16(v241);
-    v262 = v248 + 32u * 1u;
-    store16(v262, v261);
-    v263 = v248 + 54u * 1u;
-    store16(v263, 512u);
-    v264 = load64(v245);
-    v265 = (u64)((u64)v264 + (u64)1u);
-    store64(v245, v265);
-    goto L112;
-L101:;
-    switch (v12) {
-    case 7u: v30 = 10u; goto L105;
-    case 8u: goto L102;
-    case 9u: goto L103;
-    case 10u: v31 = 0u; goto L106;
-    case 15u: goto L104;
-    case 0u: goto L110;
-    case 1u: goto L110;
-    case 2u: goto L110;
-    case 3u: goto L110;
-    case 4u: goto L110;
-    case 5u: goto L110;
-    case 6u: goto L110;
-    case 11u: goto L110;
-    case 12u: goto L110;
-    case 13u: goto L110;
-    case 14u: goto L110;
-    case 16u: goto L110;
-    default: goto L30;
-    }
-L102:;
-    v30 = 16u; goto L105;
-L103:;
-    v30 = 8u; goto L105;
-L104:;
-    v30 = 12u; goto L105;
-L105:;
-    v266 = a0 + v30 * 1u;
-    v267 = load8(v266);
-    v31 = v267; goto L106;
-L106:;
-    v268 = a3 + 58u * 1u;
-    store8(v268, 0u);
-    v269 = a3 + 56u * 1u;
-    v270 = load16(v269);
-    v271 = a3 + 64u * 1u;
-    v272 = load_address(v271);
-    v273 = load_address(v272);
-    v274 = v272 + 16u * 1u;
-    v275 = load64(v274);
-    v276 = (u64)((u64)v275 * (u64)1476u);
-    v277 = v273 + v276 * 1u;
-    store16(v277, v270);
-    v278 = v277 + 2u * 1u;
-    store16(v278, 56u);
-    v279 = v277 + 4u * 1u;
-    v280 = v277 + 58u * 1u;
-    v281 = (u64)v279;
-    v282 = (u64)a3;
-    v283 = (u64)((u64)v281 - (u64)v282);
-    v284 = v283 < 54u;
-    if (v284) { v32 = 0u; goto L108; }
-    else { goto L107; }
-L107:;
-    memory_move(v279, a3, 54u);
-    goto L109;
-L108:;
-    v285 = v279 + v32 * 1u;
-    v286 = a3 + v32 * 1u;
-    v287 = load8(v286);
-    store8(v285, v287);
-    v288 = (u64)((u64)v32 + (u64)1u);
-    v289 = v288 == 54u;
-    if (v289) { goto L109; }
-    else { v32 = v288; goto L108; }
-L109:;
-    v290 = (u16)v31;
-    store16(v280, v290);
-    v291 = v277 + 6u * 1u;
-    store16(v291, 14336u);
-    v292 = swap16(v270);
-    v293 = v277 + 32u * 1u;
-    store16(v293, v292);
-    v294 = v277 + 54u * 1u;
-    store16(v294, 1024u);
-    v295 = load64(v274);
-    v296 = (u64)((u64)v295 + (u64)1u);
-    store64(v274, v296);
-    goto L112;
-L110:;
-    f62(a0, v12, a3);
-    goto L112;
-L111:;
-    f63(a0, v35, a1, v216, v217, a3);
-    goto L112;
-L112:;
     return;
-L113:;
-    v297 = a3 + 58u * 1u;
-    store8(v297, 0u);
-    v298 = a3 + 56u * 1u;
-    v299 = load16(v298);
-    v300 = a3 + 64u * 1u;
-    v301 = load_address(v300);
-    v302 = a3 + 54u * 1u;
-    v303 = load16(v302);
-    v304 = load_address(v301);
-    v305 = v301 + 16u * 1u;
-    v306 = load64(v305);
-    v307 = (u64)((u64)v306 * (u64)1476u);
-    v308 = v304 + v307 * 1u;
-    store16(v308, v299);
-    v309 = v308 + 2u * 1u;
-    store16(v309, 60u);
-    v310 = v308 + 4u * 1u;
-    f60(a3, v299, 2u, v303, v310);
-    v311 = load64(v305);
-    v312 = (u64)((u64)v311 + (u64)1u);
-    store64(v305, v312);
-    goto L112;
+L70:;
+    v161 = a3 + 58u * 1u;
+    store8(v161, 0u);
+    v162 = a3 + 56u * 1u;
+    v163 = load16(v162);
+    v164 = a3 + 64u * 1u;
+    v165 = load_address(v164);
+    v166 = a3 + 54u * 1u;
+    v167 = load16(v166);
+    v168 = load_address(v165);
+    v169 = v165 + 16u * 1u;
+    v170 = load64(v169);
+    v171 = (u64)((u64)v170 * (u64)1476u);
+    v172 = v168 + v171 * 1u;
+    store16(v172, v163);
+    v173 = v172 + 2u * 1u;
+    store16(v173, 60u);
+    v174 = v172 + 4u * 1u;
+    f72(a3, v163, 2u, v167, v174);
+    v175 = load64(v169);
+    v176 = (u64)((u64)v175 + (u64)1u);
+    store64(v169, v176);
+    goto L69;
 }
 
-static void f60(address a0, u16 a1, u16 a2, u16 a3, address a4) {
+static void f72(address a0, u16 a1, u16 a2, u16 a3, address a4) {
     u64 v5, v7, v8, v9, v14, v16, v17;
     address v6, v11, v12, v19, v20, v21, v23, v25, v26, v28;
     u8 v10, v13, v15, v18;
@@ -14471,7 +16400,7 @@ L2:;
     else { v5 = v14; goto L2; }
 L3:;
     v16 = (u64)v6;
-    v17 = (u64)((u64)v16 - (u64)ADDRESS(c137));
+    v17 = (u64)((u64)v16 - (u64)ADDRESS(c140));
     v18 = v17 < 12u;
     if (v18) { goto L4; }
     else { goto L5; }
@@ -14483,7 +16412,7 @@ L4:;
     store32(v20, 0u);
     goto L6;
 L5:;
-    memory_cpy(v6, ADDRESS(c137), 12u);
+    memory_cpy(v6, ADDRESS(c140), 12u);
     goto L6;
 L6:;
     v21 = a4 + 50u * 1u;
@@ -14502,108 +16431,7 @@ L6:;
     return;
 }
 
-static u8 f61(address a0, address a1, u64 a2) {
-    address v3, v6, v8, v10, v12, v15, v29;
-    u64 v4, v17;
-    u8 v5, v7, v9, v11, v13, v14, v16, v18, v19, v20, v21, v25, v27, v28, v30, v31;
-    u8 v32, v33, v34, v35, v36, v37, v38, v39, v40, v41, v42, v43, v44, v45, v46;
-    u16 v22, v23, v24, v26;
-    u64 block0[3];
-    v6 = ADDRESS(block0);
-    v7 = load8(a0);
-    v8 = a0 + 1u * 1u;
-    v9 = load8(v8);
-    v10 = a0 + 2u * 1u;
-    v11 = load8(v10);
-    v12 = a0 + 3u * 1u;
-    v13 = load8(v12);
-    switch (v7) {
-    case 0u: v5 = 0u; goto L13;
-    case 1u: goto L1;
-    case 2u: goto L2;
-    case 7u: goto L5;
-    case 8u: goto L6;
-    case 3u: goto L7;
-    case 4u: goto L7;
-    case 5u: goto L7;
-    case 6u: goto L7;
-    default: goto L14;
-    }
-L1:;
-    v5 = 1u; goto L13;
-L2:;
-    v14 = a2 == 0u;
-    if (v14) { v3 = a1; v4 = 0u; goto L4; }
-    else { goto L3; }
-L3:;
-    v15 = a1 + 1u * 1u;
-    v16 = load8(a1);
-    v17 = (u64)v16;
-    v18 = v16 > v9;
-    if (v18) { v5 = 0u; goto L13; }
-    else { v3 = v15; v4 = v17; goto L4; }
-L4:;
-    memory_set(v6, 0u, 24u);
-    f16(v6, v3, v4);
-    v19 = load8(v6);
-    v20 = v19 == 0u;
-    v5 = v20; goto L13;
-L5:;
-    v21 = load8(a1);
-    v22 = (u16)v9;
-    v23 = (u16)((u32)0u - (u32)v22);
-    v24 = (u16)((i16)(i8)v21);
-    v25 = (i16)v23 <= (i16)v24;
-    v26 = (u16)v11;
-    v27 = (i16)v24 <= (i16)v26;
-    v28 = v25 ? v27 : 0u;
-    v5 = v28; goto L13;
-L6:;
-    v29 = a1 + 2u * 1u;
-    v30 = load8(v29);
-    v31 = (u8)((u32)v30 & (u32)3u);
-    v32 = v31 != 3u;
-    v5 = v32; goto L13;
-L7:;
-    v33 = load8(a1);
-    switch (v7) {
-    case 3u: v5 = 1u; goto L13;
-    case 4u: goto L8;
-    case 5u: goto L9;
-    case 6u: goto L10;
-    default: goto L11;
-    }
-L8:;
-    v34 = v9 <= v33;
-    v35 = v33 <= v11;
-    v36 = v34 ? v35 : 0u;
-    v5 = v36; goto L13;
-L9:;
-    v37 = v9 <= v33;
-    v38 = v33 <= v11;
-    v39 = v37 ? v38 : 0u;
-    v40 = v33 == v13;
-    v41 = v39 ? 1u : v40;
-    v5 = v41; goto L13;
-L10:;
-    v42 = (u8)((u32)v33 + (u32)2u);
-    v43 = v42 < 5u;
-    if (v43) { goto L12; }
-    else { v5 = 0u; goto L13; }
-L11:;
-    UNREACHABLE;
-L12:;
-    v44 = (u8)((v42) & UINT64_C(31));
-    v45 = (u8)(((u32)25u >> (v44 & 7u)) & UINT64_C(31));
-    v46 = (u8)((v45) & UINT64_C(1));
-    v5 = v46; goto L13;
-L13:;
-    return v5;
-L14:;
-    UNREACHABLE;
-}
-
-static void f62(address a0, u8 a1, address a2) {
+static void f73(address a0, u8 a1, address a2) {
     u64 v3, v4, v5, v6, v11, v19, v20, v27, v28, v29, v34, v36, v37, v38, v43, v52;
     u64 v53, v55, v63, v64, v71, v72, v73, v78, v80, v81, v82, v87, v96, v97;
     address v7, v9, v10, v12, v13, v15, v16, v17, v18, v21, v24, v25, v26, v31, v32, v40;
@@ -14769,7 +16597,7 @@ L15:;
     return;
 }
 
-static void f63(address a0, address a1, address a2, u8 a3, u8 a4, address a5) {
+static void f74(address a0, address a1, address a2, u8 a3, u8 a4, address a5) {
     u16 v6, v7, v17, v21, v22, v40, v42, v43, v51, v56, v74, v75, v88, v89, v94, v95;
     u16 v96, v97, v102, v126, v127, v132, v150, v151, v166, v184, v186, v187, v192, v210, v211;
     u64 v8, v9, v10, v11, v13, v14, v20, v31, v34, v35, v36, v46, v47, v52, v53, v60;
@@ -14816,7 +16644,7 @@ L3:;
     v34 = (u64)v7;
     v35 = (u64)v22;
     v36 = (u64)a4;
-    v37 = ADDRESS(c223) + v36 * 2u;
+    v37 = ADDRESS(c228) + v36 * 2u;
     v8 = v34; goto L4;
 L4:;
     v38 = load8(v24);
@@ -14839,7 +16667,7 @@ L5:;
     store16(v49, 60u);
     v50 = v48 + 4u * 1u;
     v51 = (u16)(v8);
-    f60(a5, v51, v42, v43, v50);
+    f72(a5, v51, v42, v43, v50);
     v52 = load64(v45);
     v53 = (u64)((u64)v52 + (u64)1u);
     store64(v45, v53);
@@ -15163,7 +16991,7 @@ L37:;
     return;
 }
 
-static void f64(address a0, address a1, u64 a2) {
+static void f75(address a0, address a1, u64 a2) {
     u64 v3, v4, v5, v6, v11;
     u8 v7, v10, v12;
     address v8, v9;
@@ -15189,7 +17017,7 @@ L3:;
     return;
 }
 
-static void f65(address a0, address a1, u64 a2) {
+static void f76(address a0, address a1, u64 a2) {
     u64 v3, v4, v5, v7, v10, v12, v14, v15, v16, v21, v24, v25, v28, v29, v30, v35;
     u64 v37;
     address v6, v9, v11, v18, v19, v27, v32, v33;
@@ -15268,7 +17096,7 @@ L12:;
     return;
 }
 
-static void f66(address a0, address a1, address a2) {
+static void f77(address a0, address a1, address a2) {
     u64 v3, v4, v5, v6, v7, v8, v10, v15, v19, v22, v24, v25, v26, v29, v30, v31;
     u64 v36, v38, v41, v42, v43, v48, v50, v53, v54, v55, v60, v62, v65, v66, v67, v72;
     u64 v74, v75;
@@ -15420,7 +17248,7 @@ L21:;
     return;
 }
 
-static void f67(address a0, u64 a1, address a2, address a3, u16 a4, address a5) {
+static void f78(address a0, u64 a1, address a2, address a3, u16 a4, address a5) {
     u64 v6, v8, v15, v17, v19, v22, v40, v41;
     address v7, v9, v11, v12, v13, v14, v16, v20, v21, v23, v25, v26, v28, v34, v36, v38;
     address v39;
@@ -15466,7 +17294,7 @@ L5:;
     memory_move(v26, v7, 80u);
     goto L7;
 L6:;
-    f64(v26, v7, v19);
+    f75(v26, v7, v19);
     goto L7;
 L7:;
     v27 = load8(a3);
@@ -15502,7 +17330,218 @@ L10:;
     return;
 }
 
-static void f68(address a0, u16 a1, address a2, address a3) {
+static void f79(address a0, u8 a1, u16 a2, address a3, address a4, address a5) {
+    address v6, v8, v9, v10, v12, v13, v18, v22, v24, v27, v30, v36, v40, v42, v45, v47;
+    address v50, v53, v55, v57, v59, v61, v63, v73, v74, v75, v76, v77, v78, v79, v81, v83;
+    address v85, v91, v93, v99, v101, v103, v104, v105, v110, v111, v112, v114, v116, v118, v119, v120;
+    address v122, v123, v128, v130;
+    u64 v7, v11, v14, v28, v37, v38, v41, v51, v52, v62, v64, v82, v106;
+    u8 v15, v16, v17, v19, v20, v21, v23, v25, v26, v29, v31, v32, v33, v34, v39, v43;
+    u8 v44, v46, v48, v49, v54, v56, v58, v60, v80, v84, v86, v92, v94, v100, v102, v107;
+    u8 v109;
+    u16 v35, v65, v66, v67, v68, v69, v70, v71, v72, v87, v88, v89, v90, v95, v96, v97;
+    u16 v98, v113, v115, v117, v121, v129;
+    u32 v108, v124, v125, v126, v127;
+    u64 block0[3];
+    u64 block1[9];
+    v8 = ADDRESS(block0);
+    v9 = ADDRESS(block1);
+    v10 = a0 + 440u * 1u;
+    v11 = load64(v10);
+    v12 = load_address(a4);
+    v13 = v12 + 34u * 1u;
+    v14 = load64(v13);
+    v15 = v14 == v11;
+    if (v15) { goto L9; }
+    else { goto L1; }
+L1:;
+    v16 = load8(v12);
+    v17 = (u8)((u32)v16 >> (4u & 7u));
+    v18 = v12 + 5u * 1u;
+    v19 = load8(v18);
+    v20 = (u8)((u32)v17 | (u32)v19);
+    v21 = v20 == 0u;
+    if (v21) { goto L2; }
+    else { goto L9; }
+L2:;
+    v22 = v12 + 4u * 1u;
+    v23 = load8(v22);
+    v24 = a0 + 8u * 1u;
+    v25 = load8(v24);
+    v26 = v23 == v25;
+    if (v26) { goto L3; }
+    else { goto L9; }
+L3:;
+    v27 = v12 + 20u * 1u;
+    v28 = load64(v27);
+    v29 = v28 == v11;
+    if (v29) { goto L9; }
+    else { goto L4; }
+L4:;
+    v30 = v12 + 45u * 1u;
+    v31 = load8(v30);
+    v32 = v31 == 0u;
+    v33 = a2 == 0u;
+    v34 = (u8)(((u32)v33 | (u32)v32) & UINT64_C(1));
+    if (v34) { goto L9; }
+    else { goto L5; }
+L5:;
+    v35 = (u16)((u32)a2 + (u32)65535u);
+    v36 = a0 + 432u * 1u;
+    v37 = load64(v36);
+    v38 = (u64)v35;
+    v39 = v37 > v38;
+    if (v39) { goto L6; }
+    else { goto L9; }
+L6:;
+    v40 = a0 + 240u * 1u;
+    v41 = (u64)((u64)v38 * (u64)24u);
+    v42 = v40 + v41 * 1u;
+    v43 = load8(v42);
+    switch (v43) {
+    case 4u: goto L8;
+    case 5u: goto L8;
+    case 7u: goto L8;
+    case 8u: goto L8;
+    case 0u: goto L9;
+    case 1u: goto L9;
+    case 2u: goto L9;
+    case 3u: goto L9;
+    case 6u: goto L9;
+    default: goto L7;
+    }
+L7:;
+    UNREACHABLE;
+L8:;
+    f80(a0, a2, a3, a5);
+    goto L9;
+L9:;
+    v44 = a1 == 9u;
+    if (v44) { goto L10; }
+    else { goto L13; }
+L10:;
+    v45 = a4 + 16u * 1u;
+    v46 = load8(v45);
+    v47 = a4 + 17u * 1u;
+    v48 = load8(v47);
+    v49 = v48 == 0u;
+    v50 = load_address(a4);
+    v51 = v49 ? 52u : 54u;
+    v52 = v49 ? 53u : 55u;
+    v53 = v50 + v51 * 1u;
+    v54 = load8(v53);
+    v55 = v50 + v52 * 1u;
+    v56 = load8(v55);
+    v57 = v50 + 42u * 1u;
+    v58 = load8(v57);
+    v59 = v50 + 43u * 1u;
+    v60 = load8(v59);
+    if (v49) { goto L11; }
+    else { v6 = ADDRESS(c111); v7 = 0u; goto L12; }
+L11:;
+    v61 = a4 + 8u * 1u;
+    v62 = load64(v61);
+    v63 = v50 + 54u * 1u;
+    v64 = (u64)((u64)v62 + (u64)UINT64_C(18446744073709551562));
+    v6 = v63; v7 = v64; goto L12;
+L12:;
+    v65 = (u16)v58;
+    v66 = (u16)((u32)v65 << (8u & 15u));
+    v67 = (u16)v60;
+    v68 = (u16)((u32)v66 | (u32)v67);
+    v69 = (u16)v54;
+    v70 = (u16)((u32)v69 << (8u & 15u));
+    v71 = (u16)v56;
+    v72 = (u16)((u32)v70 | (u32)v71);
+    store8(v8, v46);
+    v73 = v8 + 1u * 1u;
+    store8(v73, 0u);
+    v74 = v8 + 2u * 1u;
+    store16(v74, v72);
+    v75 = v8 + 4u * 1u;
+    store16(v75, v68);
+    v76 = v8 + 6u * 1u;
+    store16(v76, 0u);
+    v77 = v8 + 8u * 1u;
+    store_address(v77, v6);
+    v78 = v8 + 16u * 1u;
+    store64(v78, v7);
+    v79 = v50 + 4u * 1u;
+    v80 = load8(v79);
+    v81 = v50 + 20u * 1u;
+    v82 = load64(v81);
+    v83 = v50 + 28u * 1u;
+    v84 = load8(v83);
+    v85 = v50 + 29u * 1u;
+    v86 = load8(v85);
+    v87 = (u16)v84;
+    v88 = (u16)((u32)v87 << (8u & 15u));
+    v89 = (u16)v86;
+    v90 = (u16)((u32)v88 | (u32)v89);
+    v91 = v50 + 30u * 1u;
+    v92 = load8(v91);
+    v93 = v50 + 31u * 1u;
+    v94 = load8(v93);
+    v95 = (u16)v92;
+    v96 = (u16)((u32)v95 << (8u & 15u));
+    v97 = (u16)v94;
+    v98 = (u16)((u32)v96 | (u32)v97);
+    v99 = v50 + 44u * 1u;
+    v100 = load8(v99);
+    v101 = v50 + 45u * 1u;
+    v102 = load8(v101);
+    v103 = v9 + 54u * 1u;
+    v104 = v9 + 56u * 1u;
+    v105 = v9 + 64u * 1u;
+    memory_set(v9, 0u, 64u);
+    store_address(v105, a5);
+    v106 = load64(v10);
+    v107 = v46 > 2u;
+    v108 = v107 ? UINT32_C(262144) : UINT32_C(131072);
+    v109 = v100 > v102 ? (u8)((u32)v100 - (u32)v102) : 0u;
+    store16(v103, v72);
+    store16(v104, a2);
+    v110 = v9 + 48u * 1u;
+    store16(v9, 4621u);
+    v111 = v9 + 2u * 1u;
+    store16(v111, 13824u);
+    v112 = v9 + 4u * 1u;
+    v113 = (u16)v80;
+    store16(v112, v113);
+    v114 = v9 + 20u * 1u;
+    store64(v114, v106);
+    v115 = swap16(a2);
+    v116 = v9 + 28u * 1u;
+    store16(v116, v115);
+    v117 = swap16(v98);
+    v118 = v9 + 30u * 1u;
+    store16(v118, v117);
+    v119 = v9 + 32u * 1u;
+    store16(v119, 32516u);
+    v120 = v9 + 34u * 1u;
+    store64(v120, v82);
+    v121 = swap16(v90);
+    v122 = v9 + 42u * 1u;
+    store16(v122, v121);
+    v123 = v9 + 44u * 1u;
+    v124 = (u32)v109;
+    v125 = (u32)((u32)v124 << (8u & 31u));
+    v126 = (u32)((u32)v125 | (u32)v108);
+    v127 = (u32)((u32)v126 | (u32)v124);
+    store32(v123, v127);
+    store16(v110, 256u);
+    v128 = v9 + 50u * 1u;
+    store16(v128, 512u);
+    v129 = swap16(v72);
+    v130 = v9 + 52u * 1u;
+    store16(v130, v129);
+    f81(a0, v8, v9);
+    goto L13;
+L13:;
+    return;
+}
+
+static void f80(address a0, u16 a1, address a2, address a3) {
     u64 v4, v5, v7, v15, v16, v17, v19, v20, v22, v26, v27, v35, v39, v40, v45, v50;
     u64 v51, v52;
     address v6, v11, v12, v13, v14, v23, v25, v28, v37, v38, v42, v43, v47;
@@ -15604,7 +17643,7 @@ L11:;
     return;
 }
 
-static void f69(address a0, address a1, address a2) {
+static void f81(address a0, address a1, address a2) {
     address v3, v15, v16, v17, v20, v22, v23, v24, v25, v26, v27, v28, v29, v30, v31, v33;
     address v34, v36, v38, v39, v42, v43, v44, v49, v50, v52, v53, v54, v56, v57, v60, v61;
     address v62, v65, v67, v68, v70, v71, v72, v73, v76, v77, v78, v79, v84, v85, v90, v92;
@@ -15624,7 +17663,7 @@ static void f69(address a0, address a1, address a2) {
     v20 = a1 + 2u * 1u;
     v21 = load16(v20);
     switch (v21) {
-    case 0u: v3 = ADDRESS(c110); v4 = 19u; v5 = 0u; v6 = 1u; v7 = 7u; v8 = 0u; v9 = 0u; goto L21;
+    case 0u: v3 = ADDRESS(c113); v4 = 19u; v5 = 0u; v6 = 1u; v7 = 7u; v8 = 0u; v9 = 0u; goto L21;
     case 2u: goto L1;
     case 8192u: goto L2;
     case 8193u: goto L3;
@@ -15648,45 +17687,45 @@ static void f69(address a0, address a1, address a2) {
     default: goto L22;
     }
 L1:;
-    v3 = ADDRESS(c111); v4 = 16u; v5 = 1u; v6 = 0u; v7 = 3u; v8 = 1u; v9 = 0u; goto L21;
+    v3 = ADDRESS(c114); v4 = 16u; v5 = 1u; v6 = 0u; v7 = 3u; v8 = 1u; v9 = 0u; goto L21;
 L2:;
-    v3 = ADDRESS(c112); v4 = 16u; v5 = 1u; v6 = 0u; v7 = 1u; v8 = 2u; v9 = 0u; goto L21;
+    v3 = ADDRESS(c115); v4 = 16u; v5 = 1u; v6 = 0u; v7 = 1u; v8 = 2u; v9 = 0u; goto L21;
 L3:;
-    v3 = ADDRESS(c113); v4 = 16u; v5 = 1u; v6 = 0u; v7 = 1u; v8 = 3u; v9 = 0u; goto L21;
+    v3 = ADDRESS(c116); v4 = 16u; v5 = 1u; v6 = 0u; v7 = 1u; v8 = 3u; v9 = 0u; goto L21;
 L4:;
-    v3 = ADDRESS(c114); v4 = 15u; v5 = 1u; v6 = 0u; v7 = 1u; v8 = 4u; v9 = 0u; goto L21;
+    v3 = ADDRESS(c117); v4 = 15u; v5 = 1u; v6 = 0u; v7 = 1u; v8 = 4u; v9 = 0u; goto L21;
 L5:;
-    v3 = ADDRESS(c115); v4 = 24u; v5 = 1u; v6 = 0u; v7 = 1u; v8 = 5u; v9 = 0u; goto L21;
+    v3 = ADDRESS(c118); v4 = 24u; v5 = 1u; v6 = 0u; v7 = 1u; v8 = 5u; v9 = 0u; goto L21;
 L6:;
-    v3 = ADDRESS(c116); v4 = 13u; v5 = 0u; v6 = 1u; v7 = 1u; v8 = 6u; v9 = 0u; goto L21;
+    v3 = ADDRESS(c119); v4 = 13u; v5 = 0u; v6 = 1u; v7 = 1u; v8 = 6u; v9 = 0u; goto L21;
 L7:;
-    v3 = ADDRESS(c117); v4 = 9u; v5 = 1u; v6 = 0u; v7 = 3u; v8 = 7u; v9 = 0u; goto L21;
+    v3 = ADDRESS(c120); v4 = 9u; v5 = 1u; v6 = 0u; v7 = 3u; v8 = 7u; v9 = 0u; goto L21;
 L8:;
-    v3 = ADDRESS(c118); v4 = 9u; v5 = 1u; v6 = 0u; v7 = 3u; v8 = 8u; v9 = 0u; goto L21;
+    v3 = ADDRESS(c121); v4 = 9u; v5 = 1u; v6 = 0u; v7 = 3u; v8 = 8u; v9 = 0u; goto L21;
 L9:;
-    v3 = ADDRESS(c119); v4 = 6u; v5 = 1u; v6 = 0u; v7 = 3u; v8 = 9u; v9 = 0u; goto L21;
+    v3 = ADDRESS(c122); v4 = 6u; v5 = 1u; v6 = 0u; v7 = 3u; v8 = 9u; v9 = 0u; goto L21;
 L10:;
-    v3 = ADDRESS(c120); v4 = 10u; v5 = 1u; v6 = 0u; v7 = 1u; v8 = 10u; v9 = 0u; goto L21;
+    v3 = ADDRESS(c123); v4 = 10u; v5 = 1u; v6 = 0u; v7 = 1u; v8 = 10u; v9 = 0u; goto L21;
 L11:;
-    v3 = ADDRESS(c126); v4 = 21u; v5 = 0u; v6 = 1u; v7 = 3u; v8 = 11u; v9 = 0u; goto L21;
+    v3 = ADDRESS(c129); v4 = 21u; v5 = 0u; v6 = 1u; v7 = 3u; v8 = 11u; v9 = 0u; goto L21;
 L12:;
-    v3 = ADDRESS(c128); v4 = 24u; v5 = 0u; v6 = 1u; v7 = 3u; v8 = 11u; v9 = 1u; goto L21;
+    v3 = ADDRESS(c131); v4 = 24u; v5 = 0u; v6 = 1u; v7 = 3u; v8 = 11u; v9 = 1u; goto L21;
 L13:;
-    v3 = ADDRESS(c130); v4 = 17u; v5 = 0u; v6 = 1u; v7 = 3u; v8 = 11u; v9 = 2u; goto L21;
+    v3 = ADDRESS(c133); v4 = 17u; v5 = 0u; v6 = 1u; v7 = 3u; v8 = 11u; v9 = 2u; goto L21;
 L14:;
-    v3 = ADDRESS(c121); v4 = 14u; v5 = 0u; v6 = 1u; v7 = 1u; v8 = 12u; v9 = 0u; goto L21;
+    v3 = ADDRESS(c124); v4 = 14u; v5 = 0u; v6 = 1u; v7 = 1u; v8 = 12u; v9 = 0u; goto L21;
 L15:;
-    v3 = ADDRESS(c122); v4 = 11u; v5 = 0u; v6 = 1u; v7 = 4u; v8 = 13u; v9 = 0u; goto L21;
+    v3 = ADDRESS(c125); v4 = 11u; v5 = 0u; v6 = 1u; v7 = 4u; v8 = 13u; v9 = 0u; goto L21;
 L16:;
-    v3 = ADDRESS(c123); v4 = 12u; v5 = 0u; v6 = 1u; v7 = 4u; v8 = 14u; v9 = 0u; goto L21;
+    v3 = ADDRESS(c126); v4 = 12u; v5 = 0u; v6 = 1u; v7 = 4u; v8 = 14u; v9 = 0u; goto L21;
 L17:;
-    v3 = ADDRESS(c124); v4 = 14u; v5 = 1u; v6 = 0u; v7 = 3u; v8 = 15u; v9 = 0u; goto L21;
+    v3 = ADDRESS(c127); v4 = 14u; v5 = 1u; v6 = 0u; v7 = 3u; v8 = 15u; v9 = 0u; goto L21;
 L18:;
-    v3 = ADDRESS(c125); v4 = 14u; v5 = 1u; v6 = 0u; v7 = 3u; v8 = 16u; v9 = 0u; goto L21;
+    v3 = ADDRESS(c128); v4 = 14u; v5 = 1u; v6 = 0u; v7 = 3u; v8 = 16u; v9 = 0u; goto L21;
 L19:;
-    v3 = ADDRESS(c132); v4 = 15u; v5 = 0u; v6 = 1u; v7 = 3u; v8 = 11u; v9 = 3u; goto L21;
+    v3 = ADDRESS(c135); v4 = 15u; v5 = 0u; v6 = 1u; v7 = 3u; v8 = 11u; v9 = 3u; goto L21;
 L20:;
-    v3 = ADDRESS(c134); v4 = 27u; v5 = 0u; v6 = 1u; v7 = 3u; v8 = 11u; v9 = 4u; goto L21;
+    v3 = ADDRESS(c137); v4 = 27u; v5 = 0u; v6 = 1u; v7 = 3u; v8 = 11u; v9 = 4u; goto L21;
 L21:;
     memory_set(v15, 0u, 6u);
     memory_cpy(v17, v15, 6u);
@@ -15728,7 +17767,7 @@ L22:;
     v43 = v42 + 2u * 1u;
     store16(v43, 60u);
     v44 = v42 + 4u * 1u;
-    f60(a2, v32, v35, v37, v44);
+    f72(a2, v32, v35, v37, v44);
     v45 = load64(v39);
     v46 = (u64)((u64)v45 + (u64)1u);
     store64(v39, v46);
@@ -15767,7 +17806,7 @@ L28:;
     v61 = v60 + 2u * 1u;
     store16(v61, 60u);
     v62 = v60 + 4u * 1u;
-    f60(a2, v51, 6u, v55, v62);
+    f72(a2, v51, 6u, v55, v62);
     v63 = load64(v57);
     v64 = (u64)((u64)v63 + (u64)1u);
     store64(v57, v64);
@@ -15855,14 +17894,14 @@ L38:;
     store64(v73, v95);
     goto L23;
 L39:;
-    f62(a0, v8, a2);
+    f73(a0, v8, a2);
     goto L23;
 L40:;
-    f63(a0, v16, a1, v14, v13, a2);
+    f74(a0, v16, a1, v14, v13, a2);
     goto L23;
 }
 
-static u32 f70(address a0, u16 a1, address a2, u64 a3, address a4, u64 a5, address a6, address a7) {
+static u32 f82(address a0, u16 a1, address a2, u64 a3, address a4, u64 a5, address a6, address a7) {
     u64 v8, v21, v24, v32;
     u32 v9, v10, v27, v30;
     address v11, v12, v13, v14, v15, v16, v20, v23, v25, v26, v29, v31, v33;
@@ -15907,14 +17946,14 @@ L3:;
     v26 = load_address(v23);
     f31(v13, v26);
     memory_cpy(v12, v13, 440u);
-    v27 = f55(v23, a1, a2, a3, a4, a5, a6);
+    v27 = f66(v23, a1, a2, a3, a4, a5, a6);
     memory_set(v11, 0u, 12u);
     v28 = v27 == 5u;
     if (v28) { goto L4; }
     else { v8 = 0u; v9 = 0u; goto L5; }
 L4:;
     v29 = load_address(v23);
-    f71(v11, v29, v12);
+    f83(v11, v29, v12);
     v30 = load32(v11);
     v31 = v11 + 4u * 1u;
     v32 = load64(v31);
@@ -15933,7 +17972,7 @@ L6:;
     return v10;
 }
 
-static void f71(address a0, address a1, address a2) {
+static void f83(address a0, address a1, address a2) {
     u64 v3, v5, v7, v8, v12, v13, v15, v16, v18, v19, v20, v22, v23, v24, v25, v27;
     u64 v28, v29, v30, v31, v33, v34, v35, v36, v37, v38, v40, v41, v42, v43, v44, v45;
     u64 v46, v48, v49, v50, v51, v52, v53, v54, v55, v56, v57, v58, v59, v60, v61, v62;
@@ -16932,7 +18971,7 @@ L48:;
     return;
 }
 
-static u32 f72(address a0, address a1, address a2, u64 a3, address a4) {
+static u32 f84(address a0, address a1, address a2, u64 a3, address a4) {
     u32 v5, v8, v70, v71;
     u8 v6, v7, v12, v13, v14, v17, v22, v24, v26, v28, v30, v32, v34, v36, v38, v40;
     u8 v42, v44, v47, v48, v49, v50, v51, v52, v53, v54, v55, v56, v57, v58, v59, v60;
@@ -16971,7 +19010,7 @@ L2:;
 L3:;
     memory_set(v9, 0u, 24u);
     v21 = load_address(v18);
-    f73(v9, v21, a1, a2, a3);
+    f85(v9, v21, a1, a2, a3);
     v22 = load8(v9);
     v23 = v9 + 1u * 1u;
     v24 = load8(v23);
@@ -17181,7 +19220,7 @@ L52:;
     v5 = v8; goto L4;
 }
 
-static void f73(address a0, address a1, address a2, address a3, u64 a4) {
+static void f85(address a0, address a1, address a2, address a3, u64 a4) {
     u64 v5, v6, v7, v9, v18, v21, v24, v26, v42, v43, v51, v65, v67, v68, v69, v74;
     u64 v75, v95, v99, v129, v133, v146, v147, v149, v150, v281, v283, v284, v286, v288, v295, v311;
     u64 v321, v323, v327, v347, v352, v361, v366, v367, v368, v369, v370, v371, v372, v373, v374, v375;
@@ -17634,7 +19673,7 @@ L20:;
     else { goto L21; }
 L21:;
     v325 = a1 + 192u * 1u;
-    f74(v33, v40, a1, v325);
+    f86(v33, v40, a1, v325);
     v326 = v33 + 20u * 1u;
     v327 = load64(v326);
     v328 = v33 + 34u * 1u;
@@ -17701,7 +19740,7 @@ L30:;
     if (v362) { goto L31; }
     else { v24 = v361; goto L28; }
 L31:;
-    f74(v34, v40, a1, v325);
+    f86(v34, v40, a1, v325);
     memory_cpy(v325, v34, 36u);
     v363 = v160 ? v80 : v285;
     v364 = v157 ? v84 : v287;
@@ -17823,7 +19862,7 @@ L37:;
     goto L1;
 }
 
-static void f74(address a0, address a1, address a2, address a3) {
+static void f86(address a0, address a1, address a2, address a3) {
     u64 v4, v6, v7, v8, v18, v20, v24, v26, v28, v30, v49, v50, v51, v52, v53, v54;
     u64 v55, v56, v57, v58, v59, v60, v64, v66, v67, v69, v71, v90, v91, v92, v93, v94;
     u64 v95, v96, v97, v98, v99, v100, v101, v103, v107, v109;
@@ -17991,7 +20030,309 @@ L6:;
     return;
 }
 
-static u8 f75(address a0) {
+static void f87(address a0, address a1, address a2) {
+    address v3, v10, v11, v12, v15, v17, v18, v19, v20, v21, v22, v23, v24, v28, v30, v31;
+    address v34, v35, v36, v37, v39, v41, v42, v45, v46, v47, v48, v50, v52, v53, v56, v57;
+    address v58, v59;
+    u64 v4, v32, v33, v38, v43, v44, v49, v54, v55, v60;
+    u8 v5, v6, v7, v8, v9, v13, v14, v25, v26, v27, v29, v40, v51, v61;
+    u16 v16;
+    u64 block0[1];
+    u64 block1[4];
+    u64 block2[1];
+    v10 = ADDRESS(block0);
+    v11 = ADDRESS(block1);
+    v12 = ADDRESS(block2);
+    v13 = load8(a1);
+    v14 = v13 != 0u;
+    v15 = a1 + 2u * 1u;
+    v16 = load16(v15);
+    switch (v16) {
+    case 0u: v3 = ADDRESS(c113); v4 = 19u; v5 = 0u; v6 = 1u; v7 = 7u; v8 = 0u; v9 = 0u; goto L21;
+    case 2u: goto L1;
+    case 8192u: goto L2;
+    case 8193u: goto L3;
+    case 8194u: goto L4;
+    case 8195u: goto L5;
+    case 8196u: goto L6;
+    case 8197u: goto L7;
+    case 8198u: goto L8;
+    case 8199u: goto L9;
+    case 8200u: goto L10;
+    case 8201u: goto L11;
+    case 8202u: goto L12;
+    case 8203u: goto L13;
+    case 8204u: goto L14;
+    case 8205u: goto L15;
+    case 8206u: goto L16;
+    case 8208u: goto L17;
+    case 8209u: goto L18;
+    case 24576u: goto L19;
+    case 24577u: goto L20;
+    default: goto L22;
+    }
+L1:;
+    v3 = ADDRESS(c114); v4 = 16u; v5 = 1u; v6 = 0u; v7 = 3u; v8 = 1u; v9 = 0u; goto L21;
+L2:;
+    v3 = ADDRESS(c115); v4 = 16u; v5 = 1u; v6 = 0u; v7 = 1u; v8 = 2u; v9 = 0u; goto L21;
+L3:;
+    v3 = ADDRESS(c116); v4 = 16u; v5 = 1u; v6 = 0u; v7 = 1u; v8 = 3u; v9 = 0u; goto L21;
+L4:;
+    v3 = ADDRESS(c117); v4 = 15u; v5 = 1u; v6 = 0u; v7 = 1u; v8 = 4u; v9 = 0u; goto L21;
+L5:;
+    v3 = ADDRESS(c118); v4 = 24u; v5 = 1u; v6 = 0u; v7 = 1u; v8 = 5u; v9 = 0u; goto L21;
+L6:;
+    v3 = ADDRESS(c119); v4 = 13u; v5 = 0u; v6 = 1u; v7 = 1u; v8 = 6u; v9 = 0u; goto L21;
+L7:;
+    v3 = ADDRESS(c120); v4 = 9u; v5 = 1u; v6 = 0u; v7 = 3u; v8 = 7u; v9 = 0u; goto L21;
+L8:;
+    v3 = ADDRESS(c121); v4 = 9u; v5 = 1u; v6 = 0u; v7 = 3u; v8 = 8u; v9 = 0u; goto L21;
+L9:;
+    v3 = ADDRESS(c122); v4 = 6u; v5 = 1u; v6 = 0u; v7 = 3u; v8 = 9u; v9 = 0u; goto L21;
+L10:;
+    v3 = ADDRESS(c123); v4 = 10u; v5 = 1u; v6 = 0u; v7 = 1u; v8 = 10u; v9 = 0u; goto L21;
+L11:;
+    v3 = ADDRESS(c129); v4 = 21u; v5 = 0u; v6 = 1u; v7 = 3u; v8 = 11u; v9 = 0u; goto L21;
+L12:;
+    v3 = ADDRESS(c131); v4 = 24u; v5 = 0u; v6 = 1u; v7 = 3u; v8 = 11u; v9 = 1u; goto L21;
+L13:;
+    v3 = ADDRESS(c133); v4 = 17u; v5 = 0u; v6 = 1u; v7 = 3u; v8 = 11u; v9 = 2u; goto L21;
+L14:;
+    v3 = ADDRESS(c124); v4 = 14u; v5 = 0u; v6 = 1u; v7 = 1u; v8 = 12u; v9 = 0u; goto L21;
+L15:;
+    v3 = ADDRESS(c125); v4 = 11u; v5 = 0u; v6 = 1u; v7 = 4u; v8 = 13u; v9 = 0u; goto L21;
+L16:;
+    v3 = ADDRESS(c126); v4 = 12u; v5 = 0u; v6 = 1u; v7 = 4u; v8 = 14u; v9 = 0u; goto L21;
+L17:;
+    v3 = ADDRESS(c127); v4 = 14u; v5 = 1u; v6 = 0u; v7 = 3u; v8 = 15u; v9 = 0u; goto L21;
+L18:;
+    v3 = ADDRESS(c128); v4 = 14u; v5 = 1u; v6 = 0u; v7 = 3u; v8 = 16u; v9 = 0u; goto L21;
+L19:;
+    v3 = ADDRESS(c135); v4 = 15u; v5 = 0u; v6 = 1u; v7 = 3u; v8 = 11u; v9 = 3u; goto L21;
+L20:;
+    v3 = ADDRESS(c137); v4 = 27u; v5 = 0u; v6 = 1u; v7 = 3u; v8 = 11u; v9 = 4u; goto L21;
+L21:;
+    memory_set(v10, 0u, 6u);
+    memory_cpy(v12, v10, 6u);
+    store16(v11, v16);
+    v17 = v11 + 2u * 1u;
+    memory_cpy(v17, v12, 6u);
+    v18 = v11 + 8u * 1u;
+    store_address(v18, v3);
+    v19 = v11 + 16u * 1u;
+    store64(v19, v4);
+    v20 = v11 + 24u * 1u;
+    store8(v20, v6);
+    v21 = v11 + 25u * 1u;
+    store8(v21, v7);
+    v22 = v11 + 26u * 1u;
+    store8(v22, v8);
+    v23 = v11 + 27u * 1u;
+    store8(v23, v9);
+    v24 = v11 + 28u * 1u;
+    store32(v24, 0u);
+    v25 = (u8)((u32)v7 & (u32)1u);
+    v26 = v25 == 0u;
+    v27 = (u8)(((u32)v14 | (u32)v26) & UINT64_C(1));
+    if (v5) { goto L24; }
+    else { goto L30; }
+L22:;
+    v28 = a2 + 1296u * 1u;
+    v29 = load8(v28);
+    v30 = a2 + 8u * 1u;
+    v31 = a2 + 1288u * 1u;
+    v32 = load64(v31);
+    v33 = (u64)((u64)v32 * (u64)160u);
+    v34 = v30 + v33 * 1u;
+    v35 = v34 + 8u * 1u;
+    store64(v34, 0u);
+    store8(v35, 2u);
+    v36 = v34 + 9u * 1u;
+    store8(v36, v29);
+    v37 = v34 + 10u * 1u;
+    memory_set(v37, 0u, 150u);
+    v38 = (u64)((u64)v32 + (u64)1u);
+    store64(v31, v38);
+    goto L23;
+L23:;
+    return;
+L24:;
+    if (v27) { goto L25; }
+    else { goto L26; }
+L25:;
+    v39 = a2 + 1296u * 1u;
+    v40 = load8(v39);
+    v41 = a2 + 8u * 1u;
+    v42 = a2 + 1288u * 1u;
+    v43 = load64(v42);
+    v44 = (u64)((u64)v43 * (u64)160u);
+    v45 = v41 + v44 * 1u;
+    v46 = v45 + 8u * 1u;
+    store64(v45, 0u);
+    store8(v46, 2u);
+    v47 = v45 + 9u * 1u;
+    store8(v47, v40);
+    v48 = v45 + 10u * 1u;
+    memory_set(v48, 0u, 150u);
+    v49 = (u64)((u64)v43 + (u64)1u);
+    store64(v42, v49);
+    goto L23;
+L26:;
+    switch (v8) {
+    case 7u: goto L28;
+    case 8u: goto L28;
+    case 9u: goto L28;
+    case 10u: goto L28;
+    case 15u: goto L28;
+    case 0u: goto L29;
+    case 1u: goto L29;
+    case 2u: goto L29;
+    case 3u: goto L29;
+    case 4u: goto L29;
+    case 5u: goto L29;
+    case 6u: goto L29;
+    case 11u: goto L29;
+    case 12u: goto L29;
+    case 13u: goto L29;
+    case 14u: goto L29;
+    case 16u: goto L29;
+    default: goto L27;
+    }
+L27:;
+    UNREACHABLE;
+L28:;
+    v50 = a2 + 1296u * 1u;
+    v51 = load8(v50);
+    v52 = a2 + 8u * 1u;
+    v53 = a2 + 1288u * 1u;
+    v54 = load64(v53);
+    v55 = (u64)((u64)v54 * (u64)160u);
+    v56 = v52 + v55 * 1u;
+    v57 = v56 + 8u * 1u;
+    store64(v56, 0u);
+    store8(v57, 2u);
+    v58 = v56 + 9u * 1u;
+    store8(v58, v51);
+    v59 = v56 + 10u * 1u;
+    memory_set(v59, 0u, 150u);
+    v60 = (u64)((u64)v54 + (u64)1u);
+    store64(v53, v60);
+    goto L23;
+L29:;
+    f88(a0, v8, a2);
+    goto L23;
+L30:;
+    v61 = (u8)v27;
+    f89(a0, v11, a1, v61, a2);
+    goto L23;
+}
+
+static void f88(address a0, u8 a1, address a2) {
+    address v3, v5, v7, v8, v11, v12, v13, v14, v16, v18, v19, v22, v23, v24, v25;
+    u8 v4, v6, v17;
+    u64 v9, v10, v15, v20, v21, v26;
+    u64 block0[18];
+    v3 = ADDRESS(block0);
+    v4 = a1 == 1u;
+    if (v4) { goto L1; }
+    else { goto L2; }
+L1:;
+    v5 = a2 + 1296u * 1u;
+    v6 = load8(v5);
+    v7 = a2 + 8u * 1u;
+    v8 = a2 + 1288u * 1u;
+    v9 = load64(v8);
+    v10 = (u64)((u64)v9 * (u64)160u);
+    v11 = v7 + v10 * 1u;
+    v12 = v11 + 8u * 1u;
+    store64(v11, 0u);
+    store8(v12, 2u);
+    v13 = v11 + 9u * 1u;
+    store8(v13, v6);
+    v14 = v11 + 10u * 1u;
+    memory_set(v14, 0u, 150u);
+    v15 = (u64)((u64)v9 + (u64)1u);
+    store64(v8, v15);
+    goto L3;
+L2:;
+    memory_set(v3, 0u, 144u);
+    f11(a0, a1, v3);
+    v16 = a2 + 1296u * 1u;
+    v17 = load8(v16);
+    v18 = a2 + 8u * 1u;
+    v19 = a2 + 1288u * 1u;
+    v20 = load64(v19);
+    v21 = (u64)((u64)v20 * (u64)160u);
+    v22 = v18 + v21 * 1u;
+    v23 = v22 + 8u * 1u;
+    store64(v22, 0u);
+    store8(v23, 2u);
+    v24 = v22 + 9u * 1u;
+    store8(v24, v17);
+    v25 = v22 + 10u * 1u;
+    memory_set(v25, 0u, 150u);
+    v26 = (u64)((u64)v20 + (u64)1u);
+    store64(v19, v26);
+    goto L3;
+L3:;
+    return;
+}
+
+static void f89(address a0, address a1, address a2, u8 a3, address a4) {
+    u16 v5, v6, v9, v13, v14, v26;
+    u64 v7, v12, v19, v20, v22, v23, v31, v32;
+    address v8, v11, v16, v17, v18, v24, v25, v27, v28, v29, v30;
+    u8 v10, v15, v21, v33;
+    v8 = a2 + 4u * 1u;
+    v9 = load16(v8);
+    v10 = v9 == 65535u;
+    if (v10) { goto L1; }
+    else { v5 = v9; v6 = v9; goto L2; }
+L1:;
+    v11 = a0 + 432u * 1u;
+    v12 = load64(v11);
+    v13 = (u16)(v12);
+    v5 = v13; v6 = 1u; goto L2;
+L2:;
+    v14 = (u16)((u32)v5 + (u32)1u);
+    v15 = v6 < v14;
+    if (v15) { goto L3; }
+    else { goto L5; }
+L3:;
+    v16 = a4 + 1296u * 1u;
+    v17 = a4 + 8u * 1u;
+    v18 = a4 + 1288u * 1u;
+    v19 = (u64)v6;
+    v20 = (u64)v14;
+    v7 = v19; goto L4;
+L4:;
+    v21 = load8(v16);
+    v22 = load64(v18);
+    v23 = (u64)((u64)v22 * (u64)160u);
+    v24 = v17 + v23 * 1u;
+    store16(v24, 1u);
+    v25 = v24 + 2u * 1u;
+    v26 = (u16)(v7);
+    store16(v25, v26);
+    v27 = v24 + 4u * 1u;
+    store32(v27, 0u);
+    v28 = v24 + 8u * 1u;
+    store8(v28, 2u);
+    v29 = v24 + 9u * 1u;
+    store8(v29, v21);
+    v30 = v24 + 10u * 1u;
+    memory_set(v30, 0u, 150u);
+    v31 = (u64)((u64)v22 + (u64)1u);
+    store64(v18, v31);
+    v32 = (u64)((u64)v7 + (u64)1u);
+    v33 = v32 == v20;
+    if (v33) { goto L5; }
+    else { v7 = v32; goto L4; }
+L5:;
+    return;
+}
+
+static u8 f90(address a0) {
     u64 v1, v6, v11, v13, v15, v16, v18, v20, v24, v25, v27, v29, v32, v34, v38, v40;
     u64 v41, v43, v45, v49, v50, v52, v54, v57, v59;
     struct pair v2, v3, v26, v30, v31, v51, v55, v56;
@@ -18004,7 +20345,7 @@ static u8 f75(address a0) {
     else { v1 = v6; goto L3; }
 L1:;
     v8 = a0 + 48u * 1u;
-    v9 = f76(v8);
+    v9 = f91(v8);
     v10 = (u8)((v9) & UINT64_C(1));
     if (v10) { v4 = 1u; goto L17; }
     else { goto L2; }
@@ -18108,7 +20449,7 @@ L17:;
     return v4;
 }
 
-static u8 f76(address a0) {
+static u8 f91(address a0) {
     u64 v1, v2, v3, v5, v7, v8, v9, v10, v12, v13, v14, v15, v19, v22, v23, v24;
     u64 v25, v32, v34, v35, v36, v39, v40, v47, v118, v119, v121, v124, v127, v128, v131, v133;
     u64 v134, v135, v136, v138, v139, v141, v142, v144, v150, v151, v153, v155, v158, v160, v162, v163;
@@ -18433,7 +20774,7 @@ L30:;
     if (v190) { goto L31; }
     else { v9 = v7; v10 = 0u; goto L33; }
 L31:;
-    v191 = f77(a0, v3);
+    v191 = f92(a0, v3);
     if (v191) { goto L32; }
     else { goto L36; }
 L32:;
@@ -18624,7 +20965,7 @@ L44:;
     return v16;
 }
 
-static u8 f77(address a0, u64 a1) {
+static u8 f92(address a0, u64 a1) {
     u8 v2, v7, v12, v16, v17, v23, v28;
     struct pair v3, v21, v25, v26;
     address v4, v8, v18, v30;
@@ -18686,7 +21027,7 @@ u64 portable_ptpm_answer_name(u32 a0, address a1, u64 a2) {
     v8 = v7 ? 4096u : 0u;
     v9 = a1 + v8 * 1u;
     switch (a0) {
-    case 1u: v3 = 12u; v4 = ADDRESS(c0); goto L107;
+    case 1u: v3 = 12u; v4 = ADDRESS(c0); goto L110;
     case 2u: goto L1;
     case 3u: goto L2;
     case 4u: goto L3;
@@ -18713,324 +21054,333 @@ u64 portable_ptpm_answer_name(u32 a0, address a1, u64 a2) {
     case 26u: goto L24;
     case 27u: goto L25;
     case 28u: goto L26;
-    case 32u: goto L105;
-    case 33u: goto L27;
-    case 34u: goto L28;
-    case 35u: goto L29;
-    case 36u: goto L30;
-    case 37u: goto L31;
-    case 38u: goto L32;
-    case 39u: goto L33;
-    case 40u: goto L34;
-    case 41u: goto L35;
-    case 42u: goto L36;
-    case 43u: goto L37;
-    case 44u: goto L38;
-    case 45u: goto L39;
-    case 46u: goto L40;
-    case 47u: goto L41;
-    case 48u: goto L42;
-    case 49u: goto L43;
-    case 50u: goto L44;
-    case 51u: goto L45;
-    case 52u: goto L46;
-    case 53u: goto L47;
-    case 54u: goto L48;
-    case 55u: goto L49;
-    case 56u: goto L50;
-    case 57u: goto L51;
-    case 104u: goto L52;
-    case 105u: goto L53;
-    case 106u: goto L54;
-    case 107u: goto L55;
-    case 108u: goto L56;
-    case 109u: goto L57;
-    case 110u: goto L58;
-    case 112u: goto L59;
-    case 113u: goto L60;
-    case 114u: goto L61;
-    case 115u: goto L62;
-    case 116u: goto L63;
-    case 117u: goto L64;
-    case 118u: goto L65;
-    case 119u: goto L66;
-    case 120u: goto L67;
-    case 64u: goto L97;
-    case 65u: goto L68;
-    case 66u: goto L69;
-    case 67u: goto L70;
-    case 68u: goto L71;
-    case 69u: goto L72;
-    case 70u: goto L73;
-    case 71u: goto L74;
-    case 72u: goto L75;
-    case 73u: goto L76;
-    case 74u: goto L77;
-    case 75u: goto L78;
-    case 76u: goto L79;
-    case 77u: goto L80;
-    case 78u: goto L81;
-    case 79u: goto L82;
-    case 80u: goto L83;
-    case 81u: goto L84;
-    case 82u: goto L85;
-    case 83u: goto L86;
-    case 84u: goto L87;
-    case 85u: goto L88;
-    case 86u: goto L89;
-    case 87u: goto L90;
-    case 88u: goto L91;
-    case 89u: goto L92;
-    case 90u: goto L93;
-    case 91u: goto L94;
-    case 92u: goto L95;
-    case 93u: goto L96;
-    case 94u: goto L106;
-    case 95u: goto L98;
-    case 96u: goto L99;
-    case 97u: goto L100;
-    case 98u: goto L101;
-    case 99u: goto L102;
-    case 100u: goto L103;
-    case 101u: goto L104;
-    default: v6 = 0u; goto L111;
+    case 29u: goto L27;
+    case 32u: goto L108;
+    case 33u: goto L28;
+    case 34u: goto L29;
+    case 35u: goto L30;
+    case 36u: goto L31;
+    case 37u: goto L32;
+    case 38u: goto L33;
+    case 39u: goto L34;
+    case 40u: goto L35;
+    case 41u: goto L36;
+    case 42u: goto L37;
+    case 43u: goto L38;
+    case 44u: goto L39;
+    case 45u: goto L40;
+    case 46u: goto L41;
+    case 47u: goto L42;
+    case 48u: goto L43;
+    case 49u: goto L44;
+    case 50u: goto L45;
+    case 51u: goto L46;
+    case 52u: goto L47;
+    case 53u: goto L48;
+    case 54u: goto L49;
+    case 55u: goto L50;
+    case 56u: goto L51;
+    case 57u: goto L52;
+    case 104u: goto L53;
+    case 105u: goto L54;
+    case 106u: goto L55;
+    case 107u: goto L56;
+    case 108u: goto L57;
+    case 109u: goto L58;
+    case 110u: goto L59;
+    case 112u: goto L60;
+    case 113u: goto L61;
+    case 114u: goto L62;
+    case 115u: goto L63;
+    case 116u: goto L64;
+    case 117u: goto L65;
+    case 118u: goto L66;
+    case 119u: goto L67;
+    case 120u: goto L68;
+    case 121u: goto L69;
+    case 122u: goto L70;
+    case 64u: goto L100;
+    case 65u: goto L71;
+    case 66u: goto L72;
+    case 67u: goto L73;
+    case 68u: goto L74;
+    case 69u: goto L75;
+    case 70u: goto L76;
+    case 71u: goto L77;
+    case 72u: goto L78;
+    case 73u: goto L79;
+    case 74u: goto L80;
+    case 75u: goto L81;
+    case 76u: goto L82;
+    case 77u: goto L83;
+    case 78u: goto L84;
+    case 79u: goto L85;
+    case 80u: goto L86;
+    case 81u: goto L87;
+    case 82u: goto L88;
+    case 83u: goto L89;
+    case 84u: goto L90;
+    case 85u: goto L91;
+    case 86u: goto L92;
+    case 87u: goto L93;
+    case 88u: goto L94;
+    case 89u: goto L95;
+    case 90u: goto L96;
+    case 91u: goto L97;
+    case 92u: goto L98;
+    case 93u: goto L99;
+    case 94u: goto L109;
+    case 95u: goto L101;
+    case 96u: goto L102;
+    case 97u: goto L103;
+    case 98u: goto L104;
+    case 99u: goto L105;
+    case 100u: goto L106;
+    case 101u: goto L107;
+    default: v6 = 0u; goto L114;
     }
 L1:;
-    v3 = 11u; v4 = ADDRESS(c1); goto L107;
+    v3 = 11u; v4 = ADDRESS(c1); goto L110;
 L2:;
-    v3 = 13u; v4 = ADDRESS(c2); goto L107;
+    v3 = 13u; v4 = ADDRESS(c2); goto L110;
 L3:;
-    v3 = 13u; v4 = ADDRESS(c3); goto L107;
+    v3 = 13u; v4 = ADDRESS(c3); goto L110;
 L4:;
-    v3 = 12u; v4 = ADDRESS(c4); goto L107;
+    v3 = 12u; v4 = ADDRESS(c4); goto L110;
 L5:;
-    v3 = 15u; v4 = ADDRESS(c5); goto L107;
+    v3 = 15u; v4 = ADDRESS(c5); goto L110;
 L6:;
-    v3 = 11u; v4 = ADDRESS(c6); goto L107;
+    v3 = 11u; v4 = ADDRESS(c6); goto L110;
 L7:;
-    v3 = 16u; v4 = ADDRESS(c7); goto L107;
+    v3 = 16u; v4 = ADDRESS(c7); goto L110;
 L8:;
-    v3 = 19u; v4 = ADDRESS(c8); goto L107;
+    v3 = 19u; v4 = ADDRESS(c8); goto L110;
 L9:;
-    v3 = 11u; v4 = ADDRESS(c9); goto L107;
+    v3 = 11u; v4 = ADDRESS(c9); goto L110;
 L10:;
-    v3 = 12u; v4 = ADDRESS(c10); goto L107;
+    v3 = 12u; v4 = ADDRESS(c10); goto L110;
 L11:;
-    v3 = 12u; v4 = ADDRESS(c11); goto L107;
+    v3 = 12u; v4 = ADDRESS(c11); goto L110;
 L12:;
-    v3 = 13u; v4 = ADDRESS(c12); goto L107;
+    v3 = 13u; v4 = ADDRESS(c12); goto L110;
 L13:;
-    v3 = 12u; v4 = ADDRESS(c13); goto L107;
+    v3 = 12u; v4 = ADDRESS(c13); goto L110;
 L14:;
-    v3 = 13u; v4 = ADDRESS(c14); goto L107;
+    v3 = 13u; v4 = ADDRESS(c14); goto L110;
 L15:;
-    v3 = 9u; v4 = ADDRESS(c15); goto L107;
+    v3 = 9u; v4 = ADDRESS(c15); goto L110;
 L16:;
-    v3 = 14u; v4 = ADDRESS(c16); goto L107;
+    v3 = 14u; v4 = ADDRESS(c16); goto L110;
 L17:;
-    v3 = 11u; v4 = ADDRESS(c17); goto L107;
+    v3 = 11u; v4 = ADDRESS(c17); goto L110;
 L18:;
-    v3 = 10u; v4 = ADDRESS(c18); goto L107;
+    v3 = 10u; v4 = ADDRESS(c18); goto L110;
 L19:;
-    v3 = 10u; v4 = ADDRESS(c19); goto L107;
+    v3 = 10u; v4 = ADDRESS(c19); goto L110;
 L20:;
-    v3 = 12u; v4 = ADDRESS(c20); goto L107;
+    v3 = 12u; v4 = ADDRESS(c20); goto L110;
 L21:;
-    v3 = 14u; v4 = ADDRESS(c21); goto L107;
+    v3 = 14u; v4 = ADDRESS(c21); goto L110;
 L22:;
-    v3 = 8u; v4 = ADDRESS(c22); goto L107;
+    v3 = 8u; v4 = ADDRESS(c22); goto L110;
 L23:;
-    v3 = 4u; v4 = ADDRESS(c23); goto L107;
+    v3 = 4u; v4 = ADDRESS(c23); goto L110;
 L24:;
-    v3 = 7u; v4 = ADDRESS(c24); goto L107;
+    v3 = 7u; v4 = ADDRESS(c24); goto L110;
 L25:;
-    v3 = 5u; v4 = ADDRESS(c25); goto L107;
+    v3 = 5u; v4 = ADDRESS(c25); goto L110;
 L26:;
-    v3 = 4u; v4 = ADDRESS(c26); goto L107;
+    v3 = 4u; v4 = ADDRESS(c26); goto L110;
 L27:;
-    v3 = 7u; v4 = ADDRESS(c28); goto L107;
+    v3 = 12u; v4 = ADDRESS(c27); goto L110;
 L28:;
-    v3 = 7u; v4 = ADDRESS(c29); goto L107;
+    v3 = 7u; v4 = ADDRESS(c29); goto L110;
 L29:;
-    v3 = 9u; v4 = ADDRESS(c30); goto L107;
+    v3 = 7u; v4 = ADDRESS(c30); goto L110;
 L30:;
-    v3 = 12u; v4 = ADDRESS(c31); goto L107;
+    v3 = 9u; v4 = ADDRESS(c31); goto L110;
 L31:;
-    v3 = 10u; v4 = ADDRESS(c32); goto L107;
+    v3 = 12u; v4 = ADDRESS(c32); goto L110;
 L32:;
-    v3 = 4u; v4 = ADDRESS(c33); goto L107;
+    v3 = 10u; v4 = ADDRESS(c33); goto L110;
 L33:;
-    v3 = 10u; v4 = ADDRESS(c34); goto L107;
+    v3 = 4u; v4 = ADDRESS(c34); goto L110;
 L34:;
-    v3 = 13u; v4 = ADDRESS(c35); goto L107;
+    v3 = 10u; v4 = ADDRESS(c35); goto L110;
 L35:;
-    v3 = 9u; v4 = ADDRESS(c36); goto L107;
+    v3 = 13u; v4 = ADDRESS(c36); goto L110;
 L36:;
-    v3 = 16u; v4 = ADDRESS(c37); goto L107;
+    v3 = 9u; v4 = ADDRESS(c37); goto L110;
 L37:;
-    v3 = 4u; v4 = ADDRESS(c38); goto L107;
+    v3 = 16u; v4 = ADDRESS(c38); goto L110;
 L38:;
-    v3 = 7u; v4 = ADDRESS(c39); goto L107;
+    v3 = 4u; v4 = ADDRESS(c39); goto L110;
 L39:;
-    v3 = 9u; v4 = ADDRESS(c40); goto L107;
+    v3 = 7u; v4 = ADDRESS(c40); goto L110;
 L40:;
-    v3 = 9u; v4 = ADDRESS(c41); goto L107;
+    v3 = 9u; v4 = ADDRESS(c41); goto L110;
 L41:;
-    v3 = 11u; v4 = ADDRESS(c42); goto L107;
+    v3 = 9u; v4 = ADDRESS(c42); goto L110;
 L42:;
-    v3 = 8u; v4 = ADDRESS(c43); goto L107;
+    v3 = 11u; v4 = ADDRESS(c43); goto L110;
 L43:;
-    v3 = 14u; v4 = ADDRESS(c44); goto L107;
+    v3 = 8u; v4 = ADDRESS(c44); goto L110;
 L44:;
-    v3 = 19u; v4 = ADDRESS(c45); goto L107;
+    v3 = 14u; v4 = ADDRESS(c45); goto L110;
 L45:;
-    v3 = 17u; v4 = ADDRESS(c46); goto L107;
+    v3 = 19u; v4 = ADDRESS(c46); goto L110;
 L46:;
-    v3 = 13u; v4 = ADDRESS(c47); goto L107;
+    v3 = 17u; v4 = ADDRESS(c47); goto L110;
 L47:;
-    v3 = 16u; v4 = ADDRESS(c48); goto L107;
+    v3 = 13u; v4 = ADDRESS(c48); goto L110;
 L48:;
-    v3 = 15u; v4 = ADDRESS(c49); goto L107;
+    v3 = 16u; v4 = ADDRESS(c49); goto L110;
 L49:;
-    v3 = 10u; v4 = ADDRESS(c50); goto L107;
+    v3 = 15u; v4 = ADDRESS(c50); goto L110;
 L50:;
-    v3 = 16u; v4 = ADDRESS(c51); goto L107;
+    v3 = 10u; v4 = ADDRESS(c51); goto L110;
 L51:;
-    v3 = 14u; v4 = ADDRESS(c52); goto L107;
+    v3 = 16u; v4 = ADDRESS(c52); goto L110;
 L52:;
-    v3 = 12u; v4 = ADDRESS(c53); goto L107;
+    v3 = 14u; v4 = ADDRESS(c53); goto L110;
 L53:;
-    v3 = 13u; v4 = ADDRESS(c54); goto L107;
+    v3 = 12u; v4 = ADDRESS(c54); goto L110;
 L54:;
-    v3 = 10u; v4 = ADDRESS(c55); goto L107;
+    v3 = 13u; v4 = ADDRESS(c55); goto L110;
 L55:;
-    v3 = 7u; v4 = ADDRESS(c56); goto L107;
+    v3 = 10u; v4 = ADDRESS(c56); goto L110;
 L56:;
-    v3 = 11u; v4 = ADDRESS(c57); goto L107;
+    v3 = 7u; v4 = ADDRESS(c57); goto L110;
 L57:;
-    v3 = 11u; v4 = ADDRESS(c58); goto L107;
+    v3 = 11u; v4 = ADDRESS(c58); goto L110;
 L58:;
-    v3 = 13u; v4 = ADDRESS(c59); goto L107;
+    v3 = 11u; v4 = ADDRESS(c59); goto L110;
 L59:;
-    v3 = 12u; v4 = ADDRESS(c60); goto L107;
+    v3 = 13u; v4 = ADDRESS(c60); goto L110;
 L60:;
-    v3 = 9u; v4 = ADDRESS(c61); goto L107;
+    v3 = 12u; v4 = ADDRESS(c61); goto L110;
 L61:;
-    v3 = 10u; v4 = ADDRESS(c62); goto L107;
+    v3 = 9u; v4 = ADDRESS(c62); goto L110;
 L62:;
-    v3 = 10u; v4 = ADDRESS(c63); goto L107;
+    v3 = 10u; v4 = ADDRESS(c63); goto L110;
 L63:;
-    v3 = 10u; v4 = ADDRESS(c64); goto L107;
+    v3 = 10u; v4 = ADDRESS(c64); goto L110;
 L64:;
-    v3 = 8u; v4 = ADDRESS(c65); goto L107;
+    v3 = 10u; v4 = ADDRESS(c65); goto L110;
 L65:;
-    v3 = 7u; v4 = ADDRESS(c66); goto L107;
+    v3 = 8u; v4 = ADDRESS(c66); goto L110;
 L66:;
-    v3 = 11u; v4 = ADDRESS(c67); goto L107;
+    v3 = 7u; v4 = ADDRESS(c67); goto L110;
 L67:;
-    v3 = 8u; v4 = ADDRESS(c68); goto L107;
+    v3 = 11u; v4 = ADDRESS(c68); goto L110;
 L68:;
-    v3 = 10u; v4 = ADDRESS(c70); goto L107;
+    v3 = 8u; v4 = ADDRESS(c69); goto L110;
 L69:;
-    v3 = 20u; v4 = ADDRESS(c71); goto L107;
+    v3 = 7u; v4 = ADDRESS(c70); goto L110;
 L70:;
-    v3 = 12u; v4 = ADDRESS(c72); goto L107;
+    v3 = 11u; v4 = ADDRESS(c71); goto L110;
 L71:;
-    v3 = 13u; v4 = ADDRESS(c73); goto L107;
+    v3 = 10u; v4 = ADDRESS(c73); goto L110;
 L72:;
-    v3 = 15u; v4 = ADDRESS(c74); goto L107;
+    v3 = 20u; v4 = ADDRESS(c74); goto L110;
 L73:;
-    v3 = 18u; v4 = ADDRESS(c75); goto L107;
+    v3 = 12u; v4 = ADDRESS(c75); goto L110;
 L74:;
-    v3 = 12u; v4 = ADDRESS(c76); goto L107;
+    v3 = 13u; v4 = ADDRESS(c76); goto L110;
 L75:;
-    v3 = 13u; v4 = ADDRESS(c77); goto L107;
+    v3 = 15u; v4 = ADDRESS(c77); goto L110;
 L76:;
-    v3 = 17u; v4 = ADDRESS(c78); goto L107;
+    v3 = 18u; v4 = ADDRESS(c78); goto L110;
 L77:;
-    v3 = 22u; v4 = ADDRESS(c79); goto L107;
+    v3 = 12u; v4 = ADDRESS(c79); goto L110;
 L78:;
-    v3 = 19u; v4 = ADDRESS(c80); goto L107;
+    v3 = 13u; v4 = ADDRESS(c80); goto L110;
 L79:;
-    v3 = 15u; v4 = ADDRESS(c81); goto L107;
+    v3 = 17u; v4 = ADDRESS(c81); goto L110;
 L80:;
-    v3 = 16u; v4 = ADDRESS(c82); goto L107;
+    v3 = 22u; v4 = ADDRESS(c82); goto L110;
 L81:;
-    v3 = 21u; v4 = ADDRESS(c83); goto L107;
+    v3 = 19u; v4 = ADDRESS(c83); goto L110;
 L82:;
-    v3 = 17u; v4 = ADDRESS(c84); goto L107;
+    v3 = 15u; v4 = ADDRESS(c84); goto L110;
 L83:;
-    v3 = 25u; v4 = ADDRESS(c85); goto L107;
+    v3 = 16u; v4 = ADDRESS(c85); goto L110;
 L84:;
-    v3 = 21u; v4 = ADDRESS(c86); goto L107;
+    v3 = 21u; v4 = ADDRESS(c86); goto L110;
 L85:;
-    v3 = 24u; v4 = ADDRESS(c87); goto L107;
+    v3 = 17u; v4 = ADDRESS(c87); goto L110;
 L86:;
-    v3 = 24u; v4 = ADDRESS(c88); goto L107;
+    v3 = 25u; v4 = ADDRESS(c88); goto L110;
 L87:;
-    v3 = 25u; v4 = ADDRESS(c89); goto L107;
+    v3 = 21u; v4 = ADDRESS(c89); goto L110;
 L88:;
-    v3 = 15u; v4 = ADDRESS(c90); goto L107;
+    v3 = 24u; v4 = ADDRESS(c90); goto L110;
 L89:;
-    v3 = 14u; v4 = ADDRESS(c91); goto L107;
+    v3 = 24u; v4 = ADDRESS(c91); goto L110;
 L90:;
-    v3 = 10u; v4 = ADDRESS(c92); goto L107;
+    v3 = 25u; v4 = ADDRESS(c92); goto L110;
 L91:;
-    v3 = 10u; v4 = ADDRESS(c93); goto L107;
+    v3 = 15u; v4 = ADDRESS(c93); goto L110;
 L92:;
-    v3 = 13u; v4 = ADDRESS(c94); goto L107;
+    v3 = 14u; v4 = ADDRESS(c94); goto L110;
 L93:;
-    v3 = 17u; v4 = ADDRESS(c95); goto L107;
+    v3 = 10u; v4 = ADDRESS(c95); goto L110;
 L94:;
-    v3 = 18u; v4 = ADDRESS(c96); goto L107;
+    v3 = 10u; v4 = ADDRESS(c96); goto L110;
 L95:;
-    v3 = 23u; v4 = ADDRESS(c97); goto L107;
+    v3 = 13u; v4 = ADDRESS(c97); goto L110;
 L96:;
-    v3 = 15u; v4 = ADDRESS(c98); goto L107;
+    v3 = 17u; v4 = ADDRESS(c98); goto L110;
 L97:;
-    v3 = 12u; v4 = ADDRESS(c69); goto L107;
+    v3 = 18u; v4 = ADDRESS(c99); goto L110;
 L98:;
-    v3 = 21u; v4 = ADDRESS(c100); goto L107;
+    v3 = 23u; v4 = ADDRESS(c100); goto L110;
 L99:;
-    v3 = 14u; v4 = ADDRESS(c101); goto L107;
+    v3 = 15u; v4 = ADDRESS(c101); goto L110;
 L100:;
-    v3 = 16u; v4 = ADDRESS(c102); goto L107;
+    v3 = 12u; v4 = ADDRESS(c72); goto L110;
 L101:;
-    v3 = 19u; v4 = ADDRESS(c103); goto L107;
+    v3 = 21u; v4 = ADDRESS(c103); goto L110;
 L102:;
-    v3 = 12u; v4 = ADDRESS(c104); goto L107;
+    v3 = 14u; v4 = ADDRESS(c104); goto L110;
 L103:;
-    v3 = 19u; v4 = ADDRESS(c105); goto L107;
+    v3 = 16u; v4 = ADDRESS(c105); goto L110;
 L104:;
-    v3 = 18u; v4 = ADDRESS(c106); goto L107;
+    v3 = 19u; v4 = ADDRESS(c106); goto L110;
 L105:;
-    v3 = 8u; v4 = ADDRESS(c27); goto L107;
+    v3 = 12u; v4 = ADDRESS(c107); goto L110;
 L106:;
-    v3 = 9u; v4 = ADDRESS(c99); goto L107;
+    v3 = 19u; v4 = ADDRESS(c108); goto L110;
 L107:;
-    v10 = a2 < v3;
-    if (v10) { v6 = 0u; goto L111; }
-    else { goto L108; }
+    v3 = 18u; v4 = ADDRESS(c109); goto L110;
 L108:;
+    v3 = 8u; v4 = ADDRESS(c28); goto L110;
+L109:;
+    v3 = 9u; v4 = ADDRESS(c102); goto L110;
+L110:;
+    v10 = a2 < v3;
+    if (v10) { v6 = 0u; goto L114; }
+    else { goto L111; }
+L111:;
     v11 = (u64)v9;
     v12 = (u64)v4;
     v13 = (u64)((u64)v11 - (u64)v12);
     v14 = v13 < v3;
-    if (v14) { v5 = 0u; goto L110; }
-    else { goto L109; }
-L109:;
+    if (v14) { v5 = 0u; goto L113; }
+    else { goto L112; }
+L112:;
     memory_move(v9, v4, v3);
-    v6 = v3; goto L111;
-L110:;
+    v6 = v3; goto L114;
+L113:;
     v15 = v9 + v5 * 1u;
     v16 = v4 + v5 * 1u;
     v17 = load8(v16);
     store8(v15, v17);
     v18 = (u64)((u64)v5 + (u64)1u);
     v19 = v18 == v3;
-    if (v19) { v6 = v3; goto L111; }
-    else { v5 = v18; goto L110; }
-L111:;
+    if (v19) { v6 = v3; goto L114; }
+    else { v5 = v18; goto L113; }
+L114:;
     return v6;
 }
 
@@ -19080,7 +21430,7 @@ L6:;
     store8(a2, v3);
     v20 = load8(v13);
     v21 = (u64)v20;
-    v22 = ADDRESS(c224) + v21 * 4u;
+    v22 = ADDRESS(c229) + v21 * 4u;
     v23 = load32(v22);
     v4 = v23; goto L7;
 L7:;
@@ -19678,7 +22028,7 @@ L34:;
     portable_rattle_dealloc(v156);
     v32 = 35u; goto L36;
 L35:;
-    v215 = ADDRESS(c231) + v31 * 4u;
+    v215 = ADDRESS(c236) + v31 * 4u;
     v216 = load32(v215);
     v32 = v216; goto L36;
 L36:;
@@ -20327,7 +22677,7 @@ L8:;
     v8 = 35u; goto L10;
 L9:;
     v43 = (u64)v26;
-    v44 = ADDRESS(c225) + v43 * 4u;
+    v44 = ADDRESS(c230) + v43 * 4u;
     v45 = load32(v44);
     v8 = v45; goto L10;
 L10:;
@@ -20431,7 +22781,7 @@ L2:;
     if (v57) { goto L3; }
     else { v9 = v6; v10 = v7; goto L5; }
 L3:;
-    v58 = f36(v22);
+    v58 = f37(v22);
     if (v58) { goto L4; }
     else { goto L6; }
 L4:;
@@ -20941,7 +23291,7 @@ L68:;
     UNREACHABLE;
 L69:;
     v297 = (u64)v254;
-    v298 = ADDRESS(c225) + v297 * 4u;
+    v298 = ADDRESS(c230) + v297 * 4u;
     v299 = load32(v298);
     v16 = v299; goto L73;
 L70:;
@@ -20994,10 +23344,10 @@ u64 portable_ptpm_error_name(u16 a0, address a1, u64 a2) {
     else { v4 = 0u; goto L5; }
 L1:;
     v13 = (u64)v8;
-    v14 = ADDRESS(c226) + v13 * 8u;
+    v14 = ADDRESS(c231) + v13 * 8u;
     v15 = load64(v14);
     v16 = (u64)v8;
-    v17 = ADDRESS(c227) + v16 * 8u;
+    v17 = ADDRESS(c232) + v16 * 8u;
     v18 = load_address(v17);
     v19 = a2 < v15;
     if (v19) { v4 = 0u; goto L5; }
@@ -21084,87 +23434,87 @@ u32 portable_ptpm_field_parse(u16 a0, address a1, u64 a2, address a3, u64 a4, ad
     memory_set(v90, 0u, 144u);
     memory_set(v91, 0u, 16u);
     memory_set(v92, 0u, 147u);
-    store_address(v88, ADDRESS(c108));
+    store_address(v88, ADDRESS(c111));
     v96 = v88 + 8u * 1u;
     store64(v96, 0u);
     v97 = v88 + 16u * 1u;
-    store_address(v97, ADDRESS(c108));
+    store_address(v97, ADDRESS(c111));
     v98 = v88 + 24u * 1u;
     store64(v98, 0u);
     v99 = v88 + 32u * 1u;
-    store_address(v99, ADDRESS(c108));
+    store_address(v99, ADDRESS(c111));
     v100 = v88 + 40u * 1u;
     store64(v100, 0u);
     v101 = v88 + 48u * 1u;
-    store_address(v101, ADDRESS(c108));
+    store_address(v101, ADDRESS(c111));
     v102 = v88 + 56u * 1u;
     store64(v102, 0u);
     v103 = v88 + 64u * 1u;
-    store_address(v103, ADDRESS(c108));
+    store_address(v103, ADDRESS(c111));
     v104 = v88 + 72u * 1u;
     store64(v104, 0u);
     v105 = v88 + 80u * 1u;
-    store_address(v105, ADDRESS(c108));
+    store_address(v105, ADDRESS(c111));
     v106 = v88 + 88u * 1u;
     store64(v106, 0u);
     v107 = v88 + 96u * 1u;
-    store_address(v107, ADDRESS(c108));
+    store_address(v107, ADDRESS(c111));
     v108 = v88 + 104u * 1u;
     store64(v108, 0u);
     v109 = v88 + 112u * 1u;
-    store_address(v109, ADDRESS(c108));
+    store_address(v109, ADDRESS(c111));
     v110 = v88 + 120u * 1u;
     store64(v110, 0u);
     v111 = v88 + 128u * 1u;
-    store_address(v111, ADDRESS(c108));
+    store_address(v111, ADDRESS(c111));
     v112 = v88 + 136u * 1u;
     store64(v112, 0u);
     v113 = v88 + 144u * 1u;
-    store_address(v113, ADDRESS(c108));
+    store_address(v113, ADDRESS(c111));
     v114 = v88 + 152u * 1u;
     store64(v114, 0u);
     v115 = v88 + 160u * 1u;
-    store_address(v115, ADDRESS(c108));
+    store_address(v115, ADDRESS(c111));
     v116 = v88 + 168u * 1u;
     store64(v116, 0u);
     v117 = v88 + 176u * 1u;
-    store_address(v117, ADDRESS(c108));
+    store_address(v117, ADDRESS(c111));
     v118 = v88 + 184u * 1u;
     store64(v118, 0u);
     v119 = v88 + 192u * 1u;
-    store_address(v119, ADDRESS(c108));
+    store_address(v119, ADDRESS(c111));
     v120 = v88 + 200u * 1u;
     store64(v120, 0u);
     v121 = v88 + 208u * 1u;
-    store_address(v121, ADDRESS(c108));
+    store_address(v121, ADDRESS(c111));
     v122 = v88 + 216u * 1u;
     store64(v122, 0u);
     v123 = v88 + 224u * 1u;
-    store_address(v123, ADDRESS(c108));
+    store_address(v123, ADDRESS(c111));
     v124 = v88 + 232u * 1u;
     store64(v124, 0u);
     v125 = v88 + 240u * 1u;
-    store_address(v125, ADDRESS(c108));
+    store_address(v125, ADDRESS(c111));
     v126 = v88 + 248u * 1u;
     store64(v126, 0u);
     v127 = v88 + 256u * 1u;
-    store_address(v127, ADDRESS(c108));
+    store_address(v127, ADDRESS(c111));
     v128 = v88 + 264u * 1u;
     store64(v128, 0u);
     v129 = v88 + 272u * 1u;
-    store_address(v129, ADDRESS(c108));
+    store_address(v129, ADDRESS(c111));
     v130 = v88 + 280u * 1u;
     store64(v130, 0u);
     v131 = v88 + 288u * 1u;
-    store_address(v131, ADDRESS(c108));
+    store_address(v131, ADDRESS(c111));
     v132 = v88 + 296u * 1u;
     store64(v132, 0u);
     v133 = v88 + 304u * 1u;
-    store_address(v133, ADDRESS(c108));
+    store_address(v133, ADDRESS(c111));
     v134 = v88 + 312u * 1u;
     memory_set(v134, 0u, 16u);
     v135 = a2 == 0u;
-    if (v135) { v13 = ADDRESS(c108); v14 = 0u; v15 = ADDRESS(c108); v16 = 0u; v17 = ADDRESS(c108); v18 = 0u; v19 = ADDRESS(c108); v20 = 0u; v21 = ADDRESS(c108); v22 = 0u; v23 = ADDRESS(c108); v24 = 0u; v25 = ADDRESS(c108); v26 = 0u; v27 = ADDRESS(c108); v28 = 0u; v29 = ADDRESS(c108); v30 = 0u; v31 = ADDRESS(c108); v32 = 0u; v33 = ADDRESS(c108); v34 = 0u; v35 = ADDRESS(c108); v36 = 0u; v37 = ADDRESS(c108); v38 = 0u; v39 = ADDRESS(c108); v40 = 0u; v41 = ADDRESS(c108); v42 = 0u; v43 = ADDRESS(c108); v44 = 0u; v45 = ADDRESS(c108); v46 = 0u; v47 = ADDRESS(c108); v48 = 0u; v49 = ADDRESS(c108); v50 = 0u; v51 = ADDRESS(c108); goto L10; }
+    if (v135) { v13 = ADDRESS(c111); v14 = 0u; v15 = ADDRESS(c111); v16 = 0u; v17 = ADDRESS(c111); v18 = 0u; v19 = ADDRESS(c111); v20 = 0u; v21 = ADDRESS(c111); v22 = 0u; v23 = ADDRESS(c111); v24 = 0u; v25 = ADDRESS(c111); v26 = 0u; v27 = ADDRESS(c111); v28 = 0u; v29 = ADDRESS(c111); v30 = 0u; v31 = ADDRESS(c111); v32 = 0u; v33 = ADDRESS(c111); v34 = 0u; v35 = ADDRESS(c111); v36 = 0u; v37 = ADDRESS(c111); v38 = 0u; v39 = ADDRESS(c111); v40 = 0u; v41 = ADDRESS(c111); v42 = 0u; v43 = ADDRESS(c111); v44 = 0u; v45 = ADDRESS(c111); v46 = 0u; v47 = ADDRESS(c111); v48 = 0u; v49 = ADDRESS(c111); v50 = 0u; v51 = ADDRESS(c111); goto L10; }
     else { goto L1; }
 L1:;
     v136 = a1 == 0u;
@@ -21343,7 +23693,7 @@ L10:;
     v240 = load64(v239);
     switch (a0) {
     case 0u: v52 = 0u; goto L14;
-    case 2u: v53 = 0u; v54 = 1u; v55 = 6u; v56 = ADDRESS(c145); goto L32;
+    case 2u: v53 = 0u; v54 = 1u; v55 = 6u; v56 = ADDRESS(c148); goto L32;
     case 8192u: goto L15;
     case 8193u: goto L16;
     case 8194u: goto L17;
@@ -21366,7 +23716,7 @@ L10:;
     default: goto L68;
     }
 L11:;
-    v53 = 0u; v54 = 11u; v55 = 6u; v56 = ADDRESS(c155); goto L32;
+    v53 = 0u; v54 = 11u; v55 = 6u; v56 = ADDRESS(c158); goto L32;
 L12:;
     v52 = 13u; goto L14;
 L13:;
@@ -21375,37 +23725,37 @@ L14:;
     memory_set(v85, 0u, 144u);
     v58 = 0u; v59 = v52; v60 = 0u; goto L39;
 L15:;
-    v53 = 0u; v54 = 2u; v55 = 60u; v56 = ADDRESS(c146); goto L32;
+    v53 = 0u; v54 = 2u; v55 = 60u; v56 = ADDRESS(c149); goto L32;
 L16:;
-    v53 = 0u; v54 = 3u; v55 = 18u; v56 = ADDRESS(c147); goto L32;
+    v53 = 0u; v54 = 3u; v55 = 18u; v56 = ADDRESS(c150); goto L32;
 L17:;
-    v53 = 0u; v54 = 4u; v55 = 60u; v56 = ADDRESS(c148); goto L32;
+    v53 = 0u; v54 = 4u; v55 = 60u; v56 = ADDRESS(c151); goto L32;
 L18:;
-    v53 = 0u; v54 = 5u; v55 = 48u; v56 = ADDRESS(c149); goto L32;
+    v53 = 0u; v54 = 5u; v55 = 48u; v56 = ADDRESS(c152); goto L32;
 L19:;
-    v53 = 0u; v54 = 6u; v55 = 60u; v56 = ADDRESS(c150); goto L32;
+    v53 = 0u; v54 = 6u; v55 = 60u; v56 = ADDRESS(c153); goto L32;
 L20:;
-    v53 = 0u; v54 = 7u; v55 = 6u; v56 = ADDRESS(c151); goto L32;
+    v53 = 0u; v54 = 7u; v55 = 6u; v56 = ADDRESS(c154); goto L32;
 L21:;
-    v53 = 0u; v54 = 8u; v55 = 6u; v56 = ADDRESS(c152); goto L32;
+    v53 = 0u; v54 = 8u; v55 = 6u; v56 = ADDRESS(c155); goto L32;
 L22:;
-    v53 = 0u; v54 = 9u; v55 = 6u; v56 = ADDRESS(c153); goto L32;
+    v53 = 0u; v54 = 9u; v55 = 6u; v56 = ADDRESS(c156); goto L32;
 L23:;
-    v53 = 0u; v54 = 10u; v55 = 6u; v56 = ADDRESS(c154); goto L32;
+    v53 = 0u; v54 = 10u; v55 = 6u; v56 = ADDRESS(c157); goto L32;
 L24:;
-    v53 = 1u; v54 = 11u; v55 = 6u; v56 = ADDRESS(c156); goto L32;
+    v53 = 1u; v54 = 11u; v55 = 6u; v56 = ADDRESS(c159); goto L32;
 L25:;
-    v53 = 2u; v54 = 11u; v55 = 6u; v56 = ADDRESS(c157); goto L32;
+    v53 = 2u; v54 = 11u; v55 = 6u; v56 = ADDRESS(c160); goto L32;
 L26:;
-    v53 = 3u; v54 = 11u; v55 = 6u; v56 = ADDRESS(c158); goto L32;
+    v53 = 3u; v54 = 11u; v55 = 6u; v56 = ADDRESS(c161); goto L32;
 L27:;
-    v53 = 4u; v54 = 11u; v55 = 6u; v56 = ADDRESS(c159); goto L32;
+    v53 = 4u; v54 = 11u; v55 = 6u; v56 = ADDRESS(c162); goto L32;
 L28:;
-    v53 = 0u; v54 = 12u; v55 = 6u; v56 = ADDRESS(c160); goto L32;
+    v53 = 0u; v54 = 12u; v55 = 6u; v56 = ADDRESS(c163); goto L32;
 L29:;
-    v53 = 0u; v54 = 15u; v55 = 6u; v56 = ADDRESS(c161); goto L32;
+    v53 = 0u; v54 = 15u; v55 = 6u; v56 = ADDRESS(c164); goto L32;
 L30:;
-    v53 = 0u; v54 = 16u; v55 = 24u; v56 = ADDRESS(c162); goto L32;
+    v53 = 0u; v54 = 16u; v55 = 24u; v56 = ADDRESS(c165); goto L32;
 L31:;
     UNREACHABLE;
 L32:;
@@ -21461,8 +23811,8 @@ L40:;
 L41:;
     memory_cpy(v86, v85, 144u);
     switch (v59) {
-    case 1u: v61 = ADDRESS(c145); goto L54;
-    case 2u: v62 = 10u; v63 = ADDRESS(c146); goto L55;
+    case 1u: v61 = ADDRESS(c148); goto L54;
+    case 2u: v62 = 10u; v63 = ADDRESS(c149); goto L55;
     case 3u: goto L42;
     case 4u: goto L43;
     case 5u: goto L44;
@@ -21481,29 +23831,29 @@ L41:;
     default: goto L31;
     }
 L42:;
-    v62 = 3u; v63 = ADDRESS(c147); goto L55;
+    v62 = 3u; v63 = ADDRESS(c150); goto L55;
 L43:;
-    v62 = 10u; v63 = ADDRESS(c148); goto L55;
+    v62 = 10u; v63 = ADDRESS(c151); goto L55;
 L44:;
-    v62 = 8u; v63 = ADDRESS(c149); goto L55;
+    v62 = 8u; v63 = ADDRESS(c152); goto L55;
 L45:;
-    v62 = 10u; v63 = ADDRESS(c150); goto L55;
+    v62 = 10u; v63 = ADDRESS(c153); goto L55;
 L46:;
-    v61 = ADDRESS(c151); goto L54;
-L47:;
-    v61 = ADDRESS(c152); goto L54;
-L48:;
-    v61 = ADDRESS(c153); goto L54;
-L49:;
     v61 = ADDRESS(c154); goto L54;
+L47:;
+    v61 = ADDRESS(c155); goto L54;
+L48:;
+    v61 = ADDRESS(c156); goto L54;
+L49:;
+    v61 = ADDRESS(c157); goto L54;
 L50:;
-    v61 = ADDRESS(c160); goto L54;
+    v61 = ADDRESS(c163); goto L54;
 L51:;
-    v61 = ADDRESS(c161); goto L54;
+    v61 = ADDRESS(c164); goto L54;
 L52:;
-    v62 = 4u; v63 = ADDRESS(c162); goto L55;
+    v62 = 4u; v63 = ADDRESS(c165); goto L55;
 L53:;
-    v255 = ADDRESS(c228) + v58 * 8u;
+    v255 = ADDRESS(c233) + v58 * 8u;
     v256 = load_address(v255);
     v61 = v256; goto L54;
 L54:;
@@ -21557,7 +23907,7 @@ L59:;
     store8(v260, v282);
     v283 = load8(v263);
     store8(v262, v283);
-    v284 = f41(v82);
+    v284 = f42(v82);
     v285 = v284.m0;
     v286 = v284.m1;
     v287 = v276 == v286;
@@ -21591,7 +23941,7 @@ L62:;
 L63:;
     v68 = v283; v69 = v282; v70 = v281; v71 = 2u; goto L65;
 L64:;
-    f37(v83, v81, v278, v280, v86);
+    f38(v83, v81, v278, v280, v86);
     v304 = load8(v83);
     v305 = load8(v264);
     v306 = load8(v265);
@@ -21605,7 +23955,7 @@ L65:;
 L66:;
     goto L69;
 L67:;
-    f37(v84, v61, v51, v50, v86);
+    f38(v84, v61, v51, v50, v86);
     v310 = load8(v84);
     v311 = v84 + 1u * 1u;
     v312 = load8(v311);
@@ -21654,7 +24004,7 @@ L76:;
     store8(v324, v74);
     v325 = v79 + 2u * 1u;
     store8(v325, v75);
-    v326 = f42(a0, v79);
+    v326 = f43(a0, v79);
     v76 = 0u; v77 = v326; v78 = 116u; goto L78;
 L77:;
     store8(v80, v73);
@@ -21662,7 +24012,7 @@ L77:;
     store8(v327, v74);
     v328 = v80 + 2u * 1u;
     store8(v328, v75);
-    v329 = f42(a0, v80);
+    v329 = f43(a0, v80);
     v76 = 0u; v77 = v329; v78 = 117u; goto L78;
 L78:;
     store64(a5, v76);
@@ -21747,7 +24097,7 @@ u64 portable_ptpm_field_text(u16 a0, address a1, u64 a2, address a3, u64 a4) {
     case 0u: v10 = 0u; v11 = 0u; v12 = 0u; goto L28;
     case 2u: goto L5;
     case 8192u: goto L1;
-    case 8193u: v5 = 0u; v6 = 3u; v7 = 18u; v8 = ADDRESS(c147); goto L21;
+    case 8193u: v5 = 0u; v6 = 3u; v7 = 18u; v8 = ADDRESS(c150); goto L21;
     case 8194u: goto L6;
     case 8195u: goto L7;
     case 8196u: goto L8;
@@ -21768,9 +24118,9 @@ u64 portable_ptpm_field_text(u16 a0, address a1, u64 a2, address a3, u64 a4) {
     default: goto L45;
     }
 L1:;
-    v5 = 0u; v6 = 2u; v7 = 60u; v8 = ADDRESS(c146); goto L21;
+    v5 = 0u; v6 = 2u; v7 = 60u; v8 = ADDRESS(c149); goto L21;
 L2:;
-    v5 = 0u; v6 = 11u; v7 = 6u; v8 = ADDRESS(c155); goto L21;
+    v5 = 0u; v6 = 11u; v7 = 6u; v8 = ADDRESS(c158); goto L21;
 L3:;
     v10 = 0u; v11 = 13u; v12 = 0u; goto L28;
 L4:;
@@ -21780,33 +24130,33 @@ L5:;
     if (v125) { goto L46; }
     else { goto L42; }
 L6:;
-    v5 = 0u; v6 = 4u; v7 = 60u; v8 = ADDRESS(c148); goto L21;
+    v5 = 0u; v6 = 4u; v7 = 60u; v8 = ADDRESS(c151); goto L21;
 L7:;
-    v5 = 0u; v6 = 5u; v7 = 48u; v8 = ADDRESS(c149); goto L21;
+    v5 = 0u; v6 = 5u; v7 = 48u; v8 = ADDRESS(c152); goto L21;
 L8:;
-    v5 = 0u; v6 = 6u; v7 = 60u; v8 = ADDRESS(c150); goto L21;
+    v5 = 0u; v6 = 6u; v7 = 60u; v8 = ADDRESS(c153); goto L21;
 L9:;
-    v5 = 0u; v6 = 7u; v7 = 6u; v8 = ADDRESS(c151); goto L21;
+    v5 = 0u; v6 = 7u; v7 = 6u; v8 = ADDRESS(c154); goto L21;
 L10:;
-    v5 = 0u; v6 = 8u; v7 = 6u; v8 = ADDRESS(c152); goto L21;
+    v5 = 0u; v6 = 8u; v7 = 6u; v8 = ADDRESS(c155); goto L21;
 L11:;
-    v5 = 0u; v6 = 9u; v7 = 6u; v8 = ADDRESS(c153); goto L21;
+    v5 = 0u; v6 = 9u; v7 = 6u; v8 = ADDRESS(c156); goto L21;
 L12:;
-    v5 = 0u; v6 = 10u; v7 = 6u; v8 = ADDRESS(c154); goto L21;
+    v5 = 0u; v6 = 10u; v7 = 6u; v8 = ADDRESS(c157); goto L21;
 L13:;
-    v5 = 1u; v6 = 11u; v7 = 6u; v8 = ADDRESS(c156); goto L21;
+    v5 = 1u; v6 = 11u; v7 = 6u; v8 = ADDRESS(c159); goto L21;
 L14:;
-    v5 = 2u; v6 = 11u; v7 = 6u; v8 = ADDRESS(c157); goto L21;
+    v5 = 2u; v6 = 11u; v7 = 6u; v8 = ADDRESS(c160); goto L21;
 L15:;
-    v5 = 3u; v6 = 11u; v7 = 6u; v8 = ADDRESS(c158); goto L21;
+    v5 = 3u; v6 = 11u; v7 = 6u; v8 = ADDRESS(c161); goto L21;
 L16:;
-    v5 = 4u; v6 = 11u; v7 = 6u; v8 = ADDRESS(c159); goto L21;
+    v5 = 4u; v6 = 11u; v7 = 6u; v8 = ADDRESS(c162); goto L21;
 L17:;
-    v5 = 0u; v6 = 12u; v7 = 6u; v8 = ADDRESS(c160); goto L21;
+    v5 = 0u; v6 = 12u; v7 = 6u; v8 = ADDRESS(c163); goto L21;
 L18:;
-    v5 = 0u; v6 = 15u; v7 = 6u; v8 = ADDRESS(c161); goto L21;
+    v5 = 0u; v6 = 15u; v7 = 6u; v8 = ADDRESS(c164); goto L21;
 L19:;
-    v5 = 0u; v6 = 16u; v7 = 24u; v8 = ADDRESS(c162); goto L21;
+    v5 = 0u; v6 = 16u; v7 = 24u; v8 = ADDRESS(c165); goto L21;
 L20:;
     UNREACHABLE;
 L21:;
@@ -21855,7 +24205,7 @@ L28:;
     else { goto L45; }
 L29:;
     switch (v11) {
-    case 1u: v13 = 1u; v14 = ADDRESS(c145); goto L44;
+    case 1u: v13 = 1u; v14 = ADDRESS(c148); goto L44;
     case 2u: goto L30;
     case 3u: goto L31;
     case 4u: goto L32;
@@ -21875,29 +24225,29 @@ L29:;
     default: goto L20;
     }
 L30:;
-    v13 = 10u; v14 = ADDRESS(c146); goto L44;
+    v13 = 10u; v14 = ADDRESS(c149); goto L44;
 L31:;
-    v13 = 3u; v14 = ADDRESS(c147); goto L44;
+    v13 = 3u; v14 = ADDRESS(c150); goto L44;
 L32:;
-    v13 = 10u; v14 = ADDRESS(c148); goto L44;
+    v13 = 10u; v14 = ADDRESS(c151); goto L44;
 L33:;
-    v13 = 8u; v14 = ADDRESS(c149); goto L44;
+    v13 = 8u; v14 = ADDRESS(c152); goto L44;
 L34:;
-    v13 = 10u; v14 = ADDRESS(c150); goto L44;
+    v13 = 10u; v14 = ADDRESS(c153); goto L44;
 L35:;
-    v13 = 1u; v14 = ADDRESS(c151); goto L44;
-L36:;
-    v13 = 1u; v14 = ADDRESS(c152); goto L44;
-L37:;
-    v13 = 1u; v14 = ADDRESS(c153); goto L44;
-L38:;
     v13 = 1u; v14 = ADDRESS(c154); goto L44;
+L36:;
+    v13 = 1u; v14 = ADDRESS(c155); goto L44;
+L37:;
+    v13 = 1u; v14 = ADDRESS(c156); goto L44;
+L38:;
+    v13 = 1u; v14 = ADDRESS(c157); goto L44;
 L39:;
-    v13 = 1u; v14 = ADDRESS(c160); goto L44;
+    v13 = 1u; v14 = ADDRESS(c163); goto L44;
 L40:;
-    v13 = 1u; v14 = ADDRESS(c161); goto L44;
+    v13 = 1u; v14 = ADDRESS(c164); goto L44;
 L41:;
-    v13 = 4u; v14 = ADDRESS(c162); goto L44;
+    v13 = 4u; v14 = ADDRESS(c165); goto L44;
 L42:;
     v139 = load8(v118);
     v140 = (u64)v139;
@@ -21905,10 +24255,10 @@ L42:;
     v142 = (u64)((u64)v141 & (u64)1u);
     v143 = (u64)((u64)v142 + (u64)v141);
     v144 = a2 == v143;
-    if (v144) { v13 = 1u; v14 = ADDRESS(c145); goto L44; }
+    if (v144) { v13 = 1u; v14 = ADDRESS(c148); goto L44; }
     else { goto L45; }
 L43:;
-    v145 = ADDRESS(c228) + v10 * 8u;
+    v145 = ADDRESS(c233) + v10 * 8u;
     v146 = load_address(v145);
     v13 = 1u; v14 = v146; goto L44;
 L44:;
@@ -21926,7 +24276,7 @@ L46:;
     else { goto L47; }
 L47:;
     v152 = (u64)v121;
-    v153 = (u64)((u64)v152 - (u64)ADDRESS(c206));
+    v153 = (u64)((u64)v152 - (u64)ADDRESS(c209));
     v154 = v153 < 6u;
     if (v154) { goto L48; }
     else { goto L49; }
@@ -21944,7 +24294,7 @@ L48:;
     store8(v159, 32u);
     goto L50;
 L49:;
-    memory_cpy(v121, ADDRESS(c206), 6u);
+    memory_cpy(v121, ADDRESS(c209), 6u);
     goto L50;
 L50:;
     v160 = a2 == 0u;
@@ -22074,7 +24424,7 @@ L70:;
     store8(v114, v204);
     store8(v147, v206);
     store8(v148, v208);
-    v224 = f41(v114);
+    v224 = f42(v114);
     v225 = v224.m0;
     v226 = v224.m1;
     v227 = v34 == 1u;
@@ -22158,7 +24508,7 @@ L81:;
     memory_cpy(v254, v216, v252);
     v255 = load64(v111);
     v256 = swap64(v255);
-    f43(v256, v115);
+    f44(v256, v115);
     goto L196;
 L82:;
     v257 = (u64)v214;
@@ -22179,7 +24529,7 @@ L84:;
     v266 = (u64)((u64)v259 + (u64)2u);
     v267 = v265 + v259 * 1u;
     v268 = (u64)v267;
-    v269 = (u64)((u64)v268 - (u64)ADDRESS(c207));
+    v269 = (u64)((u64)v268 - (u64)ADDRESS(c210));
     v270 = v269 < 2u;
     if (v270) { goto L85; }
     else { goto L86; }
@@ -22281,7 +24631,7 @@ L97:;
     v322 = (u16)((u32)v319 - (u32)v321);
     v323 = (u16)((u32)v322 << (1u & 15u));
     v324 = (u64)v323;
-    v325 = ADDRESS(c208) + v324 * 1u;
+    v325 = ADDRESS(c211) + v324 * 1u;
     v326 = load8(v325);
     v327 = v325 + 1u * 1u;
     v328 = load8(v327);
@@ -22293,7 +24643,7 @@ L97:;
     v332 = (u64)((u64)v50 + (u64)UINT64_C(18446744073709551612));
     v333 = (u16)((u32)v320 << (1u & 15u));
     v334 = (u64)v333;
-    v335 = ADDRESS(c208) + v334 * 1u;
+    v335 = ADDRESS(c211) + v334 * 1u;
     v336 = load8(v335);
     v337 = v335 + 1u * 1u;
     v338 = load8(v337);
@@ -22322,7 +24672,7 @@ L100:;
 L101:;
     v348 = (u64)((u64)v51 + (u64)UINT64_C(18446744073709551614));
     v349 = (u64)((u64)v52 << (1u & 63u));
-    v350 = ADDRESS(c208) + v349 * 1u;
+    v350 = ADDRESS(c211) + v349 * 1u;
     v351 = load8(v350);
     v352 = v350 + 1u * 1u;
     v353 = load8(v352);
@@ -22338,7 +24688,7 @@ L102:;
     v359 = (u16)((u32)v356 - (u32)v358);
     v360 = (u16)((u32)v359 << (1u & 15u));
     v361 = (u64)v360;
-    v362 = ADDRESS(c208) + v361 * 1u;
+    v362 = ADDRESS(c211) + v361 * 1u;
     v363 = load8(v362);
     v364 = v362 + 1u * 1u;
     v365 = load8(v364);
@@ -22361,7 +24711,7 @@ L104:;
     v374 = (u64)((u64)v51 + (u64)UINT64_C(18446744073709551612));
     v375 = (u16)((u32)v357 << (1u & 15u));
     v376 = (u64)v375;
-    v377 = ADDRESS(c208) + v376 * 1u;
+    v377 = ADDRESS(c211) + v376 * 1u;
     v378 = load8(v377);
     v379 = v377 + 1u * 1u;
     v380 = load8(v379);
@@ -22411,7 +24761,7 @@ L112:;
     v399 = (u8)((u32)v398 & (u32)v214);
     v400 = v399 == 0u;
     v401 = v400 ? 5u : 4u;
-    v402 = v400 ? ADDRESS(c164) : ADDRESS(c163);
+    v402 = v400 ? ADDRESS(c167) : ADDRESS(c166);
     v403 = v40 == 1u;
     if (v403) { goto L113; }
     else { goto L195; }
@@ -22455,7 +24805,7 @@ L118:;
     v423 = (u8)((u32)v422 & (u32)3u);
     v424 = v423 == 0u;
     v425 = v424 ? 5u : 4u;
-    v426 = v424 ? ADDRESS(c164) : ADDRESS(c163);
+    v426 = v424 ? ADDRESS(c167) : ADDRESS(c166);
     v427 = v40 == 1u;
     if (v427) { goto L119; }
     else { goto L195; }
@@ -22498,7 +24848,7 @@ L124:;
     v446 = load8(v216);
     v447 = (u8)((u32)v446 & (u32)15u);
     v448 = (u64)v447;
-    f43(v448, v115);
+    f44(v448, v115);
     goto L196;
 L125:;
     v449 = load64(v216);
@@ -22527,7 +24877,7 @@ L128:;
     goto L129;
 L129:;
     v461 = (u64)((u64)v451 >> (16u & 63u));
-    f43(v461, v115);
+    f44(v461, v115);
     v462 = load8(v123);
     v463 = v462 == 1u;
     if (v463) { goto L130; }
@@ -22556,7 +24906,7 @@ L134:;
     v472 = (u32)((u32)v67 * (u32)10u);
     v473 = (u32)((u32)v472 >> (16u & 31u));
     v474 = (u64)v473;
-    f43(v474, v115);
+    f44(v474, v115);
     v475 = (u32)((u32)v472 & (u32)65534u);
     v476 = v475 == 0u;
     v477 = (u8)((u32)v68 + (u32)255u);
@@ -22709,7 +25059,7 @@ L155:;
     goto L156;
 L156:;
     v554 = (u64)v516;
-    f43(v554, v115);
+    f44(v554, v115);
     goto L196;
 L157:;
     v555 = load8(v216);
@@ -22720,10 +25070,10 @@ L157:;
 L158:;
     v558 = (u8)((u32)v555 + (u32)255u);
     v559 = (u64)v558;
-    v560 = ADDRESS(c229) + v559 * 8u;
+    v560 = ADDRESS(c234) + v559 * 8u;
     v561 = load64(v560);
     v562 = (u64)v558;
-    v563 = ADDRESS(c230) + v562 * 8u;
+    v563 = ADDRESS(c235) + v562 * 8u;
     v564 = load_address(v563);
     v565 = v40 == 1u;
     if (v565) { goto L159; }
@@ -22765,20 +25115,20 @@ L163:;
     goto L196;
 L164:;
     v584 = (u64)v555;
-    f43(v584, v115);
+    f44(v584, v115);
     goto L196;
 L165:;
     v585 = load8(v216);
     switch (v585) {
     case 1u: goto L166;
-    case 2u: v90 = 3u; v91 = ADDRESS(c166); goto L168;
+    case 2u: v90 = 3u; v91 = ADDRESS(c169); goto L168;
     case 254u: goto L167;
     default: goto L174;
     }
 L166:;
-    v90 = 3u; v91 = ADDRESS(c165); goto L168;
+    v90 = 3u; v91 = ADDRESS(c168); goto L168;
 L167:;
-    v90 = 12u; v91 = ADDRESS(c167); goto L168;
+    v90 = 12u; v91 = ADDRESS(c170); goto L168;
 L168:;
     v586 = v40 == 1u;
     if (v586) { goto L169; }
@@ -22820,7 +25170,7 @@ L173:;
     goto L196;
 L174:;
     v605 = (u64)v585;
-    f43(v605, v115);
+    f44(v605, v115);
     goto L196;
 L175:;
     v606 = a2 == v215;
@@ -22880,7 +25230,7 @@ L184:;
     v632 = (u64)((u64)v625 + (u64)2u);
     v633 = v631 + v625 * 1u;
     v634 = (u64)v633;
-    v635 = (u64)((u64)v634 - (u64)ADDRESS(c218));
+    v635 = (u64)((u64)v634 - (u64)ADDRESS(c221));
     v636 = v635 < 2u;
     if (v636) { goto L185; }
     else { goto L186; }
@@ -22994,7 +25344,7 @@ u32 portable_ptpm_id_at(u64 a0) {
     else { v1 = UINT32_C(65536); goto L2; }
 L1:;
     v3 = (u64)((u64)a0 << (1u & 63u));
-    v4 = ADDRESS(c219) + v3 * 1u;
+    v4 = ADDRESS(c222) + v3 * 1u;
     v5 = load16(v4);
     v6 = (u32)v5;
     v1 = v6; goto L2;
@@ -23010,7 +25360,7 @@ u64 portable_ptpm_id_name(u16 a0, address a1, u64 a2) {
     v8 = v7 ? 4096u : 0u;
     v9 = a1 + v8 * 1u;
     switch (a0) {
-    case 0u: v3 = ADDRESS(c110); v4 = 19u; goto L21;
+    case 0u: v3 = ADDRESS(c113); v4 = 19u; goto L21;
     case 2u: goto L1;
     case 8192u: goto L2;
     case 8193u: goto L3;
@@ -23034,45 +25384,45 @@ u64 portable_ptpm_id_name(u16 a0, address a1, u64 a2) {
     default: v6 = 0u; goto L25;
     }
 L1:;
-    v3 = ADDRESS(c111); v4 = 16u; goto L21;
+    v3 = ADDRESS(c114); v4 = 16u; goto L21;
 L2:;
-    v3 = ADDRESS(c112); v4 = 16u; goto L21;
+    v3 = ADDRESS(c115); v4 = 16u; goto L21;
 L3:;
-    v3 = ADDRESS(c113); v4 = 16u; goto L21;
+    v3 = ADDRESS(c116); v4 = 16u; goto L21;
 L4:;
-    v3 = ADDRESS(c114); v4 = 15u; goto L21;
+    v3 = ADDRESS(c117); v4 = 15u; goto L21;
 L5:;
-    v3 = ADDRESS(c115); v4 = 24u; goto L21;
+    v3 = ADDRESS(c118); v4 = 24u; goto L21;
 L6:;
-    v3 = ADDRESS(c116); v4 = 13u; goto L21;
+    v3 = ADDRESS(c119); v4 = 13u; goto L21;
 L7:;
-    v3 = ADDRESS(c117); v4 = 9u; goto L21;
+    v3 = ADDRESS(c120); v4 = 9u; goto L21;
 L8:;
-    v3 = ADDRESS(c118); v4 = 9u; goto L21;
+    v3 = ADDRESS(c121); v4 = 9u; goto L21;
 L9:;
-    v3 = ADDRESS(c119); v4 = 6u; goto L21;
+    v3 = ADDRESS(c122); v4 = 6u; goto L21;
 L10:;
-    v3 = ADDRESS(c120); v4 = 10u; goto L21;
+    v3 = ADDRESS(c123); v4 = 10u; goto L21;
 L11:;
-    v3 = ADDRESS(c126); v4 = 21u; goto L21;
+    v3 = ADDRESS(c129); v4 = 21u; goto L21;
 L12:;
-    v3 = ADDRESS(c128); v4 = 24u; goto L21;
+    v3 = ADDRESS(c131); v4 = 24u; goto L21;
 L13:;
-    v3 = ADDRESS(c130); v4 = 17u; goto L21;
+    v3 = ADDRESS(c133); v4 = 17u; goto L21;
 L14:;
-    v3 = ADDRESS(c121); v4 = 14u; goto L21;
-L15:;
-    v3 = ADDRESS(c122); v4 = 11u; goto L21;
-L16:;
-    v3 = ADDRESS(c123); v4 = 12u; goto L21;
-L17:;
     v3 = ADDRESS(c124); v4 = 14u; goto L21;
+L15:;
+    v3 = ADDRESS(c125); v4 = 11u; goto L21;
+L16:;
+    v3 = ADDRESS(c126); v4 = 12u; goto L21;
+L17:;
+    v3 = ADDRESS(c127); v4 = 14u; goto L21;
 L18:;
-    v3 = ADDRESS(c125); v4 = 14u; goto L21;
+    v3 = ADDRESS(c128); v4 = 14u; goto L21;
 L19:;
-    v3 = ADDRESS(c132); v4 = 15u; goto L21;
+    v3 = ADDRESS(c135); v4 = 15u; goto L21;
 L20:;
-    v3 = ADDRESS(c134); v4 = 27u; goto L21;
+    v3 = ADDRESS(c137); v4 = 27u; goto L21;
 L21:;
     v10 = a2 < v4;
     if (v10) { v6 = 0u; goto L25; }
@@ -23112,10 +25462,10 @@ u32 portable_ptpm_id_named(address a0, u64 a1) {
     v2 = 0u; goto L1;
 L1:;
     v10 = (u64)((u64)v2 << (1u & 63u));
-    v11 = ADDRESS(c219) + v10 * 1u;
+    v11 = ADDRESS(c222) + v10 * 1u;
     v12 = load16(v11);
     switch (v12) {
-    case 0u: v3 = ADDRESS(c110); v4 = 19u; goto L22;
+    case 0u: v3 = ADDRESS(c113); v4 = 19u; goto L22;
     case 2u: goto L2;
     case 8192u: goto L3;
     case 8193u: goto L4;
@@ -23139,45 +25489,45 @@ L1:;
     default: goto L25;
     }
 L2:;
-    v3 = ADDRESS(c111); v4 = 16u; goto L22;
+    v3 = ADDRESS(c114); v4 = 16u; goto L22;
 L3:;
-    v3 = ADDRESS(c112); v4 = 16u; goto L22;
+    v3 = ADDRESS(c115); v4 = 16u; goto L22;
 L4:;
-    v3 = ADDRESS(c113); v4 = 16u; goto L22;
+    v3 = ADDRESS(c116); v4 = 16u; goto L22;
 L5:;
-    v3 = ADDRESS(c114); v4 = 15u; goto L22;
+    v3 = ADDRESS(c117); v4 = 15u; goto L22;
 L6:;
-    v3 = ADDRESS(c115); v4 = 24u; goto L22;
+    v3 = ADDRESS(c118); v4 = 24u; goto L22;
 L7:;
-    v3 = ADDRESS(c116); v4 = 13u; goto L22;
+    v3 = ADDRESS(c119); v4 = 13u; goto L22;
 L8:;
-    v3 = ADDRESS(c117); v4 = 9u; goto L22;
+    v3 = ADDRESS(c120); v4 = 9u; goto L22;
 L9:;
-    v3 = ADDRESS(c118); v4 = 9u; goto L22;
+    v3 = ADDRESS(c121); v4 = 9u; goto L22;
 L10:;
-    v3 = ADDRESS(c119); v4 = 6u; goto L22;
+    v3 = ADDRESS(c122); v4 = 6u; goto L22;
 L11:;
-    v3 = ADDRESS(c120); v4 = 10u; goto L22;
+    v3 = ADDRESS(c123); v4 = 10u; goto L22;
 L12:;
-    v3 = ADDRESS(c126); v4 = 21u; goto L22;
+    v3 = ADDRESS(c129); v4 = 21u; goto L22;
 L13:;
-    v3 = ADDRESS(c128); v4 = 24u; goto L22;
+    v3 = ADDRESS(c131); v4 = 24u; goto L22;
 L14:;
-    v3 = ADDRESS(c130); v4 = 17u; goto L22;
+    v3 = ADDRESS(c133); v4 = 17u; goto L22;
 L15:;
-    v3 = ADDRESS(c121); v4 = 14u; goto L22;
-L16:;
-    v3 = ADDRESS(c122); v4 = 11u; goto L22;
-L17:;
-    v3 = ADDRESS(c123); v4 = 12u; goto L22;
-L18:;
     v3 = ADDRESS(c124); v4 = 14u; goto L22;
+L16:;
+    v3 = ADDRESS(c125); v4 = 11u; goto L22;
+L17:;
+    v3 = ADDRESS(c126); v4 = 12u; goto L22;
+L18:;
+    v3 = ADDRESS(c127); v4 = 14u; goto L22;
 L19:;
-    v3 = ADDRESS(c125); v4 = 14u; goto L22;
+    v3 = ADDRESS(c128); v4 = 14u; goto L22;
 L20:;
-    v3 = ADDRESS(c132); v4 = 15u; goto L22;
+    v3 = ADDRESS(c135); v4 = 15u; goto L22;
 L21:;
-    v3 = ADDRESS(c134); v4 = 27u; goto L22;
+    v3 = ADDRESS(c137); v4 = 27u; goto L22;
 L22:;
     v13 = v4 == a1;
     if (v13) { v5 = 0u; goto L24; }
@@ -23213,6 +25563,270 @@ L26:;
     v6 = v31; goto L27;
 L27:;
     return v6;
+}
+
+u32 portable_ptpm_image_seal_in(address a0, u64 a1, u64 a2, u64 a3, address a4) {
+    u32 v5, v19, v20;
+    u64 v6, v9, v13, v17, v22;
+    address v7, v14, v15, v16, v18, v21, v23;
+    u8 v8, v10, v11, v12;
+    u64 block0[3];
+    v7 = ADDRESS(block0);
+    v8 = a1 > 15u;
+    v9 = (u64)((u64)a1 + (u64)UINT64_C(18446744073709551600));
+    v10 = v9 >= a2;
+    v11 = (u8)(((u32)v8 & (u32)v10) & UINT64_C(1));
+    if (v11) { goto L1; }
+    else { v5 = 34u; v6 = 0u; goto L2; }
+L1:;
+    v12 = a0 == 0u;
+    v13 = v12 ? 4096u : 0u;
+    v14 = a0 + v13 * 1u;
+    v15 = v7 + 8u * 1u;
+    store64(v15, 0u);
+    v16 = v7 + 16u * 1u;
+    store32(v7, UINT32_C(1936749680));
+    v17 = swap64(a3);
+    v18 = v7 + 4u * 1u;
+    store64(v18, v17);
+    store64(v16, 12u);
+    v19 = f45(v14, a2, v7, 12u);
+    v20 = swap32(v19);
+    v21 = v7 + 12u * 1u;
+    store32(v21, v20);
+    v22 = (u64)((u64)a2 + (u64)16u);
+    v23 = v14 + a2 * 1u;
+    memory_cpy(v23, v7, 16u);
+    v5 = 0u; v6 = v22; goto L2;
+L2:;
+    store64(a4, v6);
+    return v5;
+}
+
+u32 portable_ptpm_image_unseal(address a0, u64 a1, address a2, address a3) {
+    u32 v4, v18;
+    address v5, v8, v11, v13, v15;
+    u8 v6, v9, v10, v16, v17;
+    u64 v7, v12, v14;
+    u64 block0[3];
+    v5 = ADDRESS(block0);
+    v6 = a0 == 0u;
+    v7 = v6 ? 4096u : 0u;
+    v8 = a0 + v7 * 1u;
+    memory_set(v5, 0u, 24u);
+    store64(a2, 0u);
+    store64(a3, 0u);
+    f46(v5, v8, a1);
+    v9 = load8(v5);
+    v10 = v9 == 0u;
+    if (v10) { goto L1; }
+    else { goto L2; }
+L1:;
+    v11 = v5 + 8u * 1u;
+    v12 = load64(v11);
+    v13 = v5 + 16u * 1u;
+    v14 = load64(v13);
+    store64(a2, v14);
+    store64(a3, v12);
+    v4 = 0u; goto L3;
+L2:;
+    v15 = v5 + 1u * 1u;
+    v16 = load8(v15);
+    v17 = v16 == 0u;
+    v18 = v17 ? 104u : 107u;
+    v4 = v18; goto L3;
+L3:;
+    return v4;
+}
+
+void portable_ptpm_limit_range(address a0, u32 a1, u32 a2) {
+    u64 v3, v22, v26;
+    address v4, v23;
+    u32 v5, v7, v10, v14;
+    u8 v6, v8, v9, v11, v12, v13, v15, v16, v17, v18, v19, v20, v21, v24, v25, v27;
+    v4 = a0 + 4u * 1u;
+    memory_set(v4, 0u, 32u);
+    v5 = (u32)((u32)a1 + (u32)128u);
+    v6 = v5 < 384u;
+    v7 = (u32)((u32)a2 + (u32)128u);
+    v8 = v7 < 384u;
+    v9 = (u8)(((u32)v6 & (u32)v8) & UINT64_C(1));
+    v3 = 0u; goto L1;
+L1:;
+    if (v9) { goto L2; }
+    else { goto L4; }
+L2:;
+    v10 = (u32)(v3);
+    v11 = (i32)a1 <= (i32)v10;
+    v12 = (i32)a2 >= (i32)v10;
+    v13 = (u8)(((u32)v11 & (u32)v12) & UINT64_C(1));
+    v14 = (u32)((u32)v10 | (u32)UINT32_C(4294967040));
+    v15 = (i32)a1 <= (i32)v14;
+    v16 = (i32)v14 <= (i32)a2;
+    v17 = (u8)(((u32)v15 & (u32)v16) & UINT64_C(1));
+    v18 = v13 ? 1u : v17;
+    if (v18) { goto L3; }
+    else { goto L4; }
+L3:;
+    v19 = (u8)(v3);
+    v20 = (u8)((u32)v19 & (u32)7u);
+    v21 = (u8)((u32)1u << (v20 & 7u));
+    v22 = (u64)((u64)v3 >> (3u & 63u));
+    v23 = v4 + v22 * 1u;
+    v24 = load8(v23);
+    v25 = (u8)((u32)v24 | (u32)v21);
+    store8(v23, v25);
+    goto L4;
+L4:;
+    v26 = (u64)((u64)v3 + (u64)1u);
+    v27 = v26 == 256u;
+    if (v27) { goto L5; }
+    else { v3 = v26; goto L1; }
+L5:;
+    return;
+}
+
+u16 portable_ptpm_limits_say(address a0, u64 a1, address a2) {
+    address v3, v8, v9, v13, v16, v17, v18, v22, v32, v33;
+    u64 v4, v7, v19, v31;
+    u16 v5, v14, v20, v23, v25;
+    u8 v6, v10, v11, v12, v15, v21, v24, v26, v27, v28, v29, v30, v34, v35, v36, v37;
+    u8 v38, v39;
+    v6 = a0 == 0u;
+    v7 = v6 ? 4096u : 0u;
+    v8 = a0 + v7 * 1u;
+    v9 = a2 + 18u * 1u;
+    v10 = load8(v9);
+    switch (v10) {
+    case 3u: goto L1;
+    case 1u: goto L2;
+    default: goto L11;
+    }
+L1:;
+    v11 = f47(v8, a1, a2);
+    if (v11) { v5 = 6u; goto L12; }
+    else { goto L11; }
+L2:;
+    v12 = f47(v8, a1, a2);
+    if (v12) { v5 = 5u; goto L12; }
+    else { goto L3; }
+L3:;
+    v13 = a2 + 12u * 1u;
+    v14 = load16(v13);
+    switch (v14) {
+    case 0u: goto L11;
+    case 2u: goto L11;
+    case 8209u: goto L11;
+    default: goto L4;
+    }
+L4:;
+    v15 = a1 == 0u;
+    if (v15) { goto L11; }
+    else { goto L5; }
+L5:;
+    v16 = a2 + 14u * 1u;
+    v17 = a2 + 19u * 1u;
+    v3 = v8; v4 = a1; goto L6;
+L6:;
+    v18 = v3 + 36u * 1u;
+    v19 = (u64)((u64)v4 + (u64)UINT64_C(18446744073709551615));
+    v20 = load16(v3);
+    v21 = v20 == v14;
+    if (v21) { goto L7; }
+    else { goto L10; }
+L7:;
+    v22 = v3 + 2u * 1u;
+    v23 = load16(v22);
+    v24 = v23 == 65535u;
+    if (v24) { goto L9; }
+    else { goto L8; }
+L8:;
+    v25 = load16(v16);
+    v26 = v25 == 65535u;
+    v27 = v23 == v25;
+    v28 = (u8)(((u32)v26 | (u32)v27) & UINT64_C(1));
+    if (v28) { goto L9; }
+    else { goto L10; }
+L9:;
+    v29 = load8(v17);
+    v30 = (u8)((u32)v29 >> (3u & 7u));
+    v31 = (u64)v30;
+    v32 = v3 + 4u * 1u;
+    v33 = v32 + v31 * 1u;
+    v34 = load8(v33);
+    v35 = (u8)((u32)v29 & (u32)7u);
+    v36 = (u8)((u32)1u << (v35 & 7u));
+    v37 = (u8)((u32)v36 & (u32)v34);
+    v38 = v37 == 0u;
+    if (v38) { v5 = 4u; goto L12; }
+    else { goto L10; }
+L10:;
+    v39 = v19 == 0u;
+    if (v39) { goto L11; }
+    else { v3 = v18; v4 = v19; goto L6; }
+L11:;
+    v5 = 0u; goto L12;
+L12:;
+    return v5;
+}
+
+u64 portable_ptpm_newest_image_in(address a0, u64 a1, u64 a2, address a3, address a4) {
+    u64 v5, v6, v7, v8, v11, v12, v13, v14, v15, v16, v19, v22, v26, v30, v31, v35;
+    u8 v9, v10, v18, v21, v23, v28, v29, v32, v33, v34, v36, v37;
+    address v17, v20, v24, v25, v27;
+    u64 block0[3];
+    v17 = ADDRESS(block0);
+    v18 = a0 == 0u;
+    v19 = v18 ? 4096u : 0u;
+    v20 = a0 + v19 * 1u;
+    v21 = a2 == 0u;
+    if (v21) { v14 = 0u; v15 = 0u; v16 = 0u; goto L10; }
+    else { goto L1; }
+L1:;
+    v22 = (u64)((u64)a1 / (u64)a2);
+    v23 = a2 > a1;
+    if (v23) { goto L9; }
+    else { goto L2; }
+L2:;
+    v24 = v17 + 8u * 1u;
+    v25 = v17 + 16u * 1u;
+    v5 = 0u; v6 = 0u; v7 = 0u; v8 = 0u; v9 = 0u; goto L3;
+L3:;
+    memory_set(v17, 0u, 24u);
+    v26 = (u64)((u64)v5 * (u64)a2);
+    v27 = v20 + v26 * 1u;
+    f46(v17, v27, a2);
+    v28 = load8(v17);
+    v29 = v28 == 0u;
+    if (v29) { goto L5; }
+    else { goto L4; }
+L4:;
+    v10 = v9; v11 = v8; v12 = v7; v13 = v6; goto L7;
+L5:;
+    v30 = load64(v24);
+    v31 = load64(v25);
+    v32 = v9 == 0u;
+    v33 = v6 < v31;
+    v34 = v32 ? 1u : v33;
+    if (v34) { goto L6; }
+    else { v10 = 1u; v11 = v8; v12 = v7; v13 = v6; goto L7; }
+L6:;
+    v10 = 1u; v11 = v5; v12 = v30; v13 = v31; goto L7;
+L7:;
+    v35 = (u64)((u64)v5 + (u64)1u);
+    v36 = v35 < v22;
+    if (v36) { v5 = v35; v6 = v13; v7 = v12; v8 = v11; v9 = v10; goto L3; }
+    else { goto L8; }
+L8:;
+    v37 = v10 == 0u;
+    if (v37) { goto L9; }
+    else { v14 = v13; v15 = v12; v16 = v11; goto L10; }
+L9:;
+    v14 = 0u; v15 = 0u; v16 = v22; goto L10;
+L10:;
+    store64(a3, v14);
+    store64(a4, v15);
+    return v16;
 }
 
 u8 portable_ptpm_passed_on_is_first(address a0, address a1, u64 a2, u64 a3, u64 a4) {
@@ -23548,7 +26162,7 @@ L2:;
     v44 = v5 + 1u * 1u;
     v45 = load8(v44);
     v46 = (u64)v45;
-    v47 = ADDRESS(c231) + v46 * 4u;
+    v47 = ADDRESS(c236) + v46 * 4u;
     v48 = load32(v47);
     v4 = v48; goto L10;
 L3:;
@@ -23745,7 +26359,7 @@ L2:;
 L3:;
     v11 = (u64)((u64)v2 << (3u & 63u));
     v12 = v7 + v11 * 1u;
-    v13 = ADDRESS(c220) + v11 * 1u;
+    v13 = ADDRESS(c225) + v11 * 1u;
     v14 = load64(v12);
     v15 = load64(v13);
     v16 = v14 == v15;
@@ -23755,7 +26369,7 @@ L4:;
     v17 = (u64)((u64)v2 | (u64)1u);
     v18 = (u64)((u64)v17 << (3u & 63u));
     v19 = v7 + v18 * 1u;
-    v20 = ADDRESS(c220) + v18 * 1u;
+    v20 = ADDRESS(c225) + v18 * 1u;
     v21 = load64(v19);
     v22 = load64(v20);
     v23 = v21 == v22;
@@ -23765,7 +26379,7 @@ L5:;
     v24 = (u64)((u64)v2 | (u64)2u);
     v25 = (u64)((u64)v24 << (3u & 63u));
     v26 = v7 + v25 * 1u;
-    v27 = ADDRESS(c220) + v25 * 1u;
+    v27 = ADDRESS(c225) + v25 * 1u;
     v28 = load64(v26);
     v29 = load64(v27);
     v30 = v28 == v29;
@@ -23775,7 +26389,7 @@ L6:;
     v31 = (u64)((u64)v2 | (u64)3u);
     v32 = (u64)((u64)v31 << (3u & 63u));
     v33 = v7 + v32 * 1u;
-    v34 = ADDRESS(c220) + v32 * 1u;
+    v34 = ADDRESS(c225) + v32 * 1u;
     v35 = load64(v33);
     v36 = load64(v34);
     v37 = v35 == v36;
@@ -23880,7 +26494,7 @@ L1:;
     memory_set(v35, 0u, 24u);
     v36 = v4 + 136u * 1u;
     store64(v36, UINT64_C(2611923443488327891));
-    v37 = f44(a0, v4);
+    v37 = f48(a0, v4);
     v2 = v37; goto L2;
 L2:;
     return v2;
@@ -23965,10 +26579,121 @@ L4:;
     memory_set(v40, 0u, 24u);
     v41 = v5 + 136u * 1u;
     store64(v41, UINT64_C(2611923443488327891));
-    v42 = f44(a0, v5);
+    v42 = f48(a0, v5);
     v3 = v42; goto L5;
 L5:;
     return v3;
+}
+
+u32 portable_ptpm_clock_ask(address a0, u16 a1, address a2, u64 a3, address a4) {
+    u8 v5, v11, v15, v16, v18, v22, v23, v26, v30, v31, v32, v40, v49;
+    address v6, v9, v10, v13, v14, v17, v19, v20, v21, v24, v25, v27, v33, v35, v37, v39;
+    address v41, v43, v45, v46, v47, v51, v52, v53, v54, v55, v56, v57, v58;
+    u16 v7, v29, v36, v38, v42, v44, v50;
+    u32 v8;
+    u64 v12, v28, v34, v48;
+    u64 block0[17];
+    u64 block1[6];
+    v9 = ADDRESS(block0);
+    v10 = ADDRESS(block1);
+    v11 = a2 == 0u;
+    v12 = v11 ? 4096u : 0u;
+    v13 = a2 + v12 * 1u;
+    memory_set(a4, 0u, 150u);
+    v14 = a0 + 8u * 1u;
+    v15 = load8(v14);
+    v16 = (u8)((v15) & UINT64_C(1));
+    if (v16) { goto L1; }
+    else { v8 = 32u; goto L13; }
+L1:;
+    v17 = load_address(a0);
+    v18 = load8(v17);
+    switch (v18) {
+    case 4u: goto L2;
+    case 1u: goto L3;
+    default: v8 = 32u; goto L13;
+    }
+L2:;
+    v19 = v17 + 8u * 1u;
+    v20 = load_address(v19);
+    v21 = v20 + 16u * 1u;
+    v22 = load8(v21);
+    v23 = v22 == 0u;
+    v5 = v23; v6 = v20; goto L4;
+L3:;
+    v24 = v17 + 8u * 1u;
+    v5 = 1u; v6 = v24; goto L4;
+L4:;
+    v25 = load_address(v6);
+    v26 = a1 == 0u;
+    if (v26) { goto L12; }
+    else { goto L5; }
+L5:;
+    v27 = v25 + 432u * 1u;
+    v28 = load64(v27);
+    v29 = (u16)(v28);
+    v30 = a1 > v29;
+    if (v30) { goto L12; }
+    else { goto L6; }
+L6:;
+    f49(v10, v25, v13, a3);
+    v31 = load8(v10);
+    v32 = v31 == 1u;
+    if (v32) { goto L7; }
+    else { goto L9; }
+L7:;
+    v33 = v10 + 8u * 1u;
+    v34 = load64(v33);
+    v35 = v10 + 16u * 1u;
+    v36 = load16(v35);
+    v37 = v10 + 18u * 1u;
+    v38 = load16(v37);
+    v39 = v10 + 24u * 1u;
+    v40 = load8(v39);
+    v41 = v10 + 26u * 1u;
+    v42 = load16(v41);
+    v43 = v10 + 28u * 1u;
+    v44 = load16(v43);
+    v45 = v10 + 32u * 1u;
+    v46 = load_address(v45);
+    v47 = v10 + 40u * 1u;
+    v48 = load64(v47);
+    memory_set(v9, 0u, 130u);
+    v49 = v48 > 130u;
+    if (v49) { v7 = 0u; goto L10; }
+    else { goto L8; }
+L8:;
+    memory_cpy(v9, v46, v48);
+    v50 = (u16)(v48);
+    v7 = v50; goto L10;
+L9:;
+    v8 = 0u; goto L13;
+L10:;
+    if (v5) { goto L11; }
+    else { v8 = 0u; goto L13; }
+L11:;
+    store64(a4, v34);
+    v51 = a4 + 8u * 1u;
+    store16(v51, v36);
+    v52 = a4 + 10u * 1u;
+    store16(v52, v38);
+    v53 = a4 + 12u * 1u;
+    store16(v53, v42);
+    v54 = a4 + 14u * 1u;
+    store16(v54, v44);
+    v55 = a4 + 16u * 1u;
+    store16(v55, v7);
+    v56 = a4 + 18u * 1u;
+    store8(v56, v40);
+    v57 = a4 + 19u * 1u;
+    memory_cpy(v57, v9, 130u);
+    v58 = a4 + 149u * 1u;
+    store8(v58, 0u);
+    v8 = 29u; goto L13;
+L12:;
+    v8 = 33u; goto L13;
+L13:;
+    return v8;
 }
 
 u32 portable_ptpm_clock_image_of(address a0, address a1, u64 a2, address a3, address a4) {
@@ -24396,10 +27121,10 @@ L3:;
     v42 = v5 + 38u * 1u;
     store16(v42, 0u);
     v43 = v5 + 40u * 1u;
-    store_address(v43, ADDRESS(c108));
+    store_address(v43, ADDRESS(c111));
     v44 = v5 + 48u * 1u;
     store64(v44, 0u);
-    f45(v5, v6);
+    f56(v5, v6);
     v45 = v6 + 1472u * 1u;
     v46 = load64(v45);
     memory_cpy(v9, v6, v46);
@@ -24594,7 +27319,7 @@ L15:;
     portable_rattle_dealloc(v116);
     v12 = (struct s2){ 0 }; goto L18;
 L16:;
-    v126 = f48(v58, v78, a4, 0u, 0u, v64, a7);
+    v126 = f59(v58, v78, a4, 0u, 0u, v64, a7);
     v127 = v58 + 48u * 1u;
     v128 = load8(v127);
     v129 = v58 + 80u * 1u;
@@ -24728,7 +27453,7 @@ L31:;
     store8(v187, 0u);
     v188 = v73 + 353u * 1u;
     store8(v188, 0u);
-    f49(v53, v73, v76, a1);
+    f60(v53, v73, v76, a1);
     v189 = load8(v53);
     v190 = v53 + 1u * 1u;
     v191 = load8(v190);
@@ -24826,7 +27551,7 @@ L40:;
     else { goto L44; }
 L41:;
     v249 = v73 + 48u * 1u;
-    v250 = f50(v52, v55, v249);
+    v250 = f61(v52, v55, v249);
     v251 = v250.m0;
     v252 = v251 == 0u;
     if (v252) { goto L44; }
@@ -24885,7 +27610,7 @@ L49:;
 L50:;
     v279 = v73 + 80u * 1u;
     v280 = v73 + 48u * 1u;
-    v281 = f50(v279, v55, v280);
+    v281 = f61(v279, v55, v280);
     v282 = v281.m0;
     v26 = v282; goto L51;
 L51:;
@@ -25054,7 +27779,7 @@ L76:;
 L77:;
     v346 = v12.m1;
     v347 = (u64)v346;
-    v348 = ADDRESS(c232) + v347 * 4u;
+    v348 = ADDRESS(c238) + v347 * 4u;
     v349 = load32(v348);
     v47 = v349; goto L78;
 L78:;
@@ -25116,7 +27841,7 @@ L3:;
     else { goto L16; }
 L4:;
     v28 = v23 + 80u * 1u;
-    f51(v10, v28, v14, a2);
+    f62(v10, v28, v14, a2);
     v29 = load8(v10);
     v30 = v10 + 24u * 1u;
     v31 = load8(v30);
@@ -25188,7 +27913,7 @@ L11:;
     goto L18;
 L12:;
     v69 = v23 + 240u * 1u;
-    f51(v11, v69, v14, a2);
+    f62(v11, v69, v14, a2);
     v70 = load8(v11);
     v71 = v11 + 24u * 1u;
     v72 = load8(v71);
@@ -25511,7 +28236,7 @@ L11:;
     store_address(v56, v37);
     v57 = v11 + 16u * 1u;
     store64(v57, v39);
-    v58 = f47(v28, v11);
+    v58 = f58(v28, v11);
     v59 = v58.m0;
     v60 = v58.m1;
     v2 = v60; v3 = v59; goto L12;
@@ -25522,7 +28247,7 @@ L12:;
     v62.m1 = v2;
     v4 = v62; goto L14;
 L13:;
-    v63 = f48(v28, v29, v31, 0u, 0u, v37, v39);
+    v63 = f59(v28, v29, v31, 0u, 0u, v37, v39);
     v4 = v63; goto L14;
 L14:;
     v64 = v4.m0;
@@ -25566,7 +28291,7 @@ L20:;
 L21:;
     v78 = v4.m1;
     v79 = (u64)v78;
-    v80 = ADDRESS(c232) + v79 * 4u;
+    v80 = ADDRESS(c238) + v79 * 4u;
     v81 = load32(v80);
     v8 = 5u; v9 = v81; goto L22;
 L22:;
@@ -25648,7 +28373,7 @@ L6:;
     store8(v51, 0u);
     v52 = v38 + 353u * 1u;
     store8(v52, 0u);
-    f49(v22, v38, v40, a1);
+    f60(v22, v38, v40, a1);
     v53 = load8(v22);
     v54 = v22 + 1u * 1u;
     v55 = load8(v54);
@@ -25901,7 +28626,7 @@ L15:;
     store8(v71, 0u);
     v72 = v28 + 353u * 1u;
     store8(v72, 0u);
-    f49(v16, v28, v30, a1);
+    f60(v16, v28, v30, a1);
     v73 = load8(v16);
     v74 = v16 + 1u * 1u;
     v75 = load8(v74);
@@ -26251,7 +28976,7 @@ L6:;
     v43 = load16(v42);
     v44 = v33 + 237u * 1u;
     v45 = load8(v44);
-    f52(v23, v33, v36, a1, v43, v45);
+    f63(v23, v33, v36, a1, v43, v45);
     goto L47;
 L7:;
     memory_set(v22, 0u, 64u);
@@ -26365,7 +29090,7 @@ L15:;
     store_address(v96, v18);
     v97 = v20 + 48u * 1u;
     store64(v97, 0u);
-    f45(v20, v36);
+    f56(v20, v36);
     v98 = v33 + 32u * 1u;
     v99 = load64(v98);
     v100 = (u64)((u64)v99 + (u64)a1) < v99 ? UINT64_C(18446744073709551615) : (u64)((u64)v99 + (u64)a1);
@@ -26529,7 +29254,7 @@ L24:;
     store_address(v192, v175);
     v193 = v19 + 48u * 1u;
     store64(v193, v177);
-    f45(v19, v36);
+    f56(v19, v36);
     v194 = load8(v152);
     v195 = (u8)((u32)v194 + (u32)255u);
     store8(v152, v195);
@@ -26683,7 +29408,7 @@ L43:;
     v263 = load16(v262);
     v264 = (u16)((u32)v263 + (u32)16384u);
     v265 = (u8)((u32)v238 + (u32)255u);
-    f52(v22, v33, v36, a1, v264, v265);
+    f63(v22, v33, v36, a1, v264, v265);
     goto L44;
 L44:;
     memory_cpy(v23, v22, 64u);
@@ -26784,7 +29509,7 @@ L58:;
     v16 = 0u; goto L60;
 L59:;
     v307 = (u64)v284;
-    v308 = ADDRESS(c232) + v307 * 4u;
+    v308 = ADDRESS(c238) + v307 * 4u;
     v309 = load32(v308);
     v16 = v309; goto L60;
 L60:;
@@ -26810,7 +29535,7 @@ u32 portable_ptpm_clock_handle(address a0, u16 a1, address a2, u64 a3, address a
     v10 = a4 == 0u;
     v11 = v10 ? 4096u : 0u;
     v12 = a4 + v11 * 1u;
-    v13 = f53(a0, a1, v9, a3, v12, a5, a6);
+    v13 = f64(a0, a1, v9, a3, v12, a5, a6);
     return v13;
 }
 
@@ -26870,12 +29595,12 @@ L3:;
     store8(v22, 1u);
     v32 = a0 + 9u * 1u;
     memory_set(v32, 0u, 7u);
-    v33 = f53(a0, a1, v16, a3, v19, a5, a6);
+    v33 = f64(a0, a1, v16, a3, v19, a5, a6);
     v34 = v33 == 5u;
     if (v34) { goto L5; }
     else { v10 = v33; goto L10; }
 L4:;
-    v35 = f70(a0, a1, v16, a3, v19, a5, a6, a7);
+    v35 = f82(a0, a1, v16, a3, v19, a5, a6, a7);
     v10 = v35; goto L10;
 L5:;
     memory_set(v11, 0u, 12u);
@@ -26903,7 +29628,7 @@ L7:;
     memory_set(v32, 0u, 7u);
     v8 = 0u; v9 = 0u; goto L9;
 L8:;
-    f71(v11, v43, v12);
+    f83(v11, v43, v12);
     store64(v36, 1u);
     store_address(v40, v43);
     store_address(a0, v36);
@@ -26962,13 +29687,13 @@ L2:;
     memory_set(v23, 0u, 7u);
     goto L4;
 L3:;
-    f73(v9, v21, a1, v12, a3);
+    f85(v9, v21, a1, v12, a3);
     v24 = load8(v9);
     v25 = v24 == 0u;
     if (v25) { goto L5; }
     else { goto L14; }
 L4:;
-    v26 = f72(a0, a1, v12, a3, a4);
+    v26 = f84(a0, a1, v12, a3, a4);
     v8 = v26; goto L53;
 L5:;
     v27 = v9 + 8u * 1u;
@@ -27314,7 +30039,7 @@ L17:;
     memory_move(v83, v8, 80u);
     goto L19;
 L18:;
-    f64(v83, v8, v77);
+    f75(v83, v8, v77);
     goto L19;
 L19:;
     v84 = v80 + 8u * 1u;
@@ -27350,6 +30075,294 @@ L23:;
     v14 = v13; goto L24;
 L24:;
     return v14;
+}
+
+u32 portable_ptpm_clock_handle_said(address a0, u16 a1, address a2, u64 a3, address a4, address a5, u64 a6, address a7, address a8) {
+    u8 v9, v20, v23, v29, v30, v31, v34, v36, v40, v41, v43, v46, v48, v49, v52, v53;
+    u8 v54, v58, v59, v60, v85, v86, v91, v92, v99, v100, v102, v103, v105, v107;
+    u32 v10, v11, v93, v94, v104;
+    address v12, v13, v14, v15, v16, v17, v18, v19, v22, v25, v26, v27, v28, v32, v35, v37;
+    address v42, v51, v55, v56, v57, v61, v63, v64, v65, v66, v67, v68, v69, v70, v71, v72;
+    address v73, v74, v75, v76, v77, v78, v79, v80, v81, v82, v83, v87, v89, v90, v95, v97;
+    address v98, v101, v108;
+    u64 v21, v24, v33, v38, v50, v88, v96, v106, v109;
+    u16 v39, v44, v45, v47, v62, v84;
+    u64 block0[163];
+    u64 block1[162];
+    u64 block2[5];
+    u64 block3[6];
+    u64 block4[3];
+    u64 block5[55];
+    u64 block6[55];
+    u64 block7[2];
+    v12 = ADDRESS(block0);
+    v13 = ADDRESS(block1);
+    v14 = ADDRESS(block2);
+    v15 = ADDRESS(block3);
+    v16 = ADDRESS(block4);
+    v17 = ADDRESS(block5);
+    v18 = ADDRESS(block6);
+    v19 = ADDRESS(block7);
+    v20 = a2 == 0u;
+    v21 = v20 ? 4096u : 0u;
+    v22 = a2 + v21 * 1u;
+    v23 = a5 == 0u;
+    v24 = v23 ? 4096u : 0u;
+    v25 = a5 + v24 * 1u;
+    store64(a7, 0u);
+    store32(a8, 0u);
+    v26 = a8 + 4u * 1u;
+    store64(v26, 0u);
+    v27 = load_address(a0);
+    v28 = a0 + 8u * 1u;
+    v29 = load8(v28);
+    memory_set(a0, 0u, 16u);
+    v30 = (u8)((v29) & UINT64_C(1));
+    if (v30) { goto L1; }
+    else { goto L30; }
+L1:;
+    v31 = load8(v27);
+    v32 = v27 + 8u * 1u;
+    v33 = load64(v32);
+    memory_set(v27, 0u, 16u);
+    v34 = v31 == 1u;
+    v35 = (address)v33;
+    if (v34) { goto L2; }
+    else { goto L29; }
+L2:;
+    memory_set(v18, 0u, 440u);
+    memory_set(v19, 0u, 12u);
+    store64(a7, 0u);
+    store32(a8, 0u);
+    store64(v26, 0u);
+    f31(v18, v35);
+    memory_cpy(v17, v18, 440u);
+    memory_set(v16, 0u, 24u);
+    v36 = a1 == 0u;
+    if (v36) { goto L27; }
+    else { goto L3; }
+L3:;
+    v37 = v35 + 432u * 1u;
+    v38 = load64(v37);
+    v39 = (u16)(v38);
+    v40 = a1 > v39;
+    if (v40) { goto L27; }
+    else { goto L4; }
+L4:;
+    v41 = a6 < 15u;
+    if (v41) { goto L26; }
+    else { goto L5; }
+L5:;
+    v42 = a4 + 4u * 1u;
+    v43 = load8(v42);
+    switch (v43) {
+    case 0u: goto L7;
+    case 1u: goto L6;
+    default: goto L25;
+    }
+L6:;
+    v44 = load16(a4);
+    v45 = (u16)((u32)v44 + (u32)2u);
+    v46 = v45 < 9u;
+    v47 = (u16)((u32)449u >> (v45 & 15u));
+    v48 = (u8)((v47) & UINT64_C(1));
+    v49 = v46 ? v48 : 0u;
+    if (v49) { goto L8; }
+    else { goto L25; }
+L7:;
+    v9 = 0u; goto L10;
+L8:;
+    v50 = (u64)v45;
+    v51 = ADDRESS(c237) + v50 * 1u;
+    v52 = load8(v51);
+    f49(v15, v35, v22, a3);
+    v53 = load8(v15);
+    v54 = v53 == 1u;
+    if (v54) { goto L9; }
+    else { v9 = 0u; goto L10; }
+L9:;
+    v55 = v15 + 8u * 1u;
+    memory_cpy(v14, v55, 40u);
+    v56 = v14 + 16u * 1u;
+    v57 = v12 + 1296u * 1u;
+    store64(v57, 0u);
+    v58 = load8(v56);
+    v59 = v58 > 2u;
+    v60 = v59 ? 4u : 2u;
+    v61 = v14 + 18u * 1u;
+    v62 = load16(v61);
+    store8(v12, v60);
+    v63 = v12 + 1u * 1u;
+    store8(v63, 0u);
+    v64 = v12 + 2u * 1u;
+    store16(v64, v62);
+    v65 = v12 + 4u * 1u;
+    store32(v65, 0u);
+    v66 = v12 + 8u * 1u;
+    store64(v66, 0u);
+    v67 = v12 + 16u * 1u;
+    store8(v67, 1u);
+    v68 = v12 + 17u * 1u;
+    memory_set(v68, 0u, 159u);
+    v69 = v12 + 176u * 1u;
+    store8(v69, 1u);
+    v70 = v12 + 177u * 1u;
+    memory_set(v70, 0u, 159u);
+    v71 = v12 + 336u * 1u;
+    store8(v71, 1u);
+    v72 = v12 + 337u * 1u;
+    memory_set(v72, 0u, 159u);
+    v73 = v12 + 496u * 1u;
+    store8(v73, 1u);
+    v74 = v12 + 497u * 1u;
+    memory_set(v74, 0u, 159u);
+    v75 = v12 + 656u * 1u;
+    store8(v75, 1u);
+    v76 = v12 + 657u * 1u;
+    memory_set(v76, 0u, 159u);
+    v77 = v12 + 816u * 1u;
+    store8(v77, 1u);
+    v78 = v12 + 817u * 1u;
+    memory_set(v78, 0u, 159u);
+    v79 = v12 + 976u * 1u;
+    store8(v79, 1u);
+    v80 = v12 + 977u * 1u;
+    memory_set(v80, 0u, 159u);
+    v81 = v12 + 1136u * 1u;
+    store8(v81, 1u);
+    v82 = v12 + 1137u * 1u;
+    memory_set(v82, 0u, 159u);
+    store8(v57, v52);
+    f87(v35, v56, v12);
+    memory_cpy(v13, v12, 1296u);
+    v83 = v14 + 10u * 1u;
+    v84 = load16(v83);
+    f34(v35, v55, v84, v56, v13);
+    v9 = 1u; goto L10;
+L10:;
+    f67(v16, v35, a1, v22, a3, v25, a6);
+    v85 = load8(v16);
+    v86 = v85 == 0u;
+    if (v86) { goto L11; }
+    else { goto L13; }
+L11:;
+    v87 = v16 + 16u * 1u;
+    v88 = load64(v87);
+    if (v9) { goto L12; }
+    else { goto L14; }
+L12:;
+    store64(a7, v88);
+    f83(v19, v35, v17);
+    memory_cpy(a8, v19, 12u);
+    goto L19;
+L13:;
+    TRAP;
+    UNREACHABLE;
+L14:;
+    v89 = v16 + 8u * 1u;
+    v90 = v16 + 9u * 1u;
+    v91 = load8(v90);
+    v92 = load8(v89);
+    store64(a7, v88);
+    f83(v19, v35, v17);
+    memory_cpy(a8, v19, 12u);
+    switch (v92) {
+    case 0u: goto L15;
+    case 9u: goto L23;
+    case 1u: v10 = 1u; goto L28;
+    case 2u: goto L16;
+    case 3u: goto L17;
+    case 4u: goto L18;
+    case 5u: goto L19;
+    case 6u: goto L20;
+    case 7u: goto L21;
+    case 8u: goto L22;
+    default: goto L24;
+    }
+L15:;
+    v93 = (u32)v91;
+    v94 = (u32)((u32)v93 + (u32)16u);
+    v10 = v94; goto L28;
+L16:;
+    v10 = 2u; goto L28;
+L17:;
+    v10 = 3u; goto L28;
+L18:;
+    v10 = 4u; goto L28;
+L19:;
+    v10 = 5u; goto L28;
+L20:;
+    v10 = 6u; goto L28;
+L21:;
+    v10 = 7u; goto L28;
+L22:;
+    v10 = 8u; goto L28;
+L23:;
+    v10 = 9u; goto L28;
+L24:;
+    UNREACHABLE;
+L25:;
+    v10 = 121u; goto L28;
+L26:;
+    v10 = 34u; goto L28;
+L27:;
+    v10 = 33u; goto L28;
+L28:;
+    store64(v27, 1u);
+    store_address(v32, v35);
+    store_address(a0, v27);
+    store8(v28, 1u);
+    v95 = a0 + 9u * 1u;
+    memory_set(v95, 0u, 7u);
+    v11 = v10; goto L35;
+L29:;
+    v96 = (u64)v31;
+    store64(v27, v96);
+    store_address(v32, v35);
+    store_address(a0, v27);
+    store8(v28, 1u);
+    v97 = a0 + 9u * 1u;
+    memory_set(v97, 0u, 7u);
+    v98 = a4 + 4u * 1u;
+    v99 = load8(v98);
+    v100 = v99 == 0u;
+    if (v100) { goto L31; }
+    else { goto L32; }
+L30:;
+    v101 = a4 + 4u * 1u;
+    v102 = load8(v101);
+    v103 = v102 == 0u;
+    if (v103) { goto L31; }
+    else { v11 = 32u; goto L35; }
+L31:;
+    v104 = f82(a0, a1, v22, a3, v25, a6, a7, a8);
+    v11 = v104; goto L35;
+L32:;
+    memory_set(a0, 0u, 16u);
+    v105 = load8(v27);
+    v106 = load64(v32);
+    memory_set(v27, 0u, 16u);
+    v107 = v105 == 4u;
+    v108 = (address)v106;
+    if (v107) { goto L34; }
+    else { goto L33; }
+L33:;
+    v109 = (u64)v105;
+    store64(v27, v109);
+    store_address(v32, v108);
+    store_address(a0, v27);
+    store8(v28, 1u);
+    memory_set(v97, 0u, 7u);
+    v11 = 32u; goto L35;
+L34:;
+    store64(v27, 4u);
+    store_address(v32, v108);
+    store_address(a0, v27);
+    store8(v28, 1u);
+    memory_set(v97, 0u, 7u);
+    v11 = 122u; goto L35;
+L35:;
+    return v11;
 }
 
 u32 portable_ptpm_clock_saving(address a0) {
@@ -27476,7 +30489,7 @@ L2:;
 L3:;
     v22 = a1 < 4u;
     v23 = v22 ? a1 : 2u;
-    v24 = f48(v20, v23, a2, 1u, a3, v11, a5);
+    v24 = f59(v20, v23, a2, 1u, a3, v11, a5);
     v25 = v24.m0;
     v26 = v25 == 0u;
     if (v26) { goto L4; }
@@ -27513,7 +30526,7 @@ L6:;
 L7:;
     v44 = v24.m1;
     v45 = (u64)v44;
-    v46 = ADDRESS(c232) + v45 * 4u;
+    v46 = ADDRESS(c238) + v45 * 4u;
     v47 = load32(v46);
     v6 = 2u; v7 = v47; goto L8;
 L8:;
@@ -27603,7 +30616,7 @@ L8:;
     store_address(v44, v15);
     v45 = v12 + 16u * 1u;
     store64(v45, a5);
-    v46 = f47(v24, v12);
+    v46 = f58(v24, v12);
     v47 = v46.m0;
     v48 = v46.m1;
     v49 = v47 == 0u;
@@ -27645,7 +30658,7 @@ L12:;
     else { goto L13; }
 L13:;
     v69 = (u64)v8;
-    v70 = ADDRESS(c232) + v69 * 4u;
+    v70 = ADDRESS(c238) + v69 * 4u;
     v71 = load32(v70);
     v9 = 2u; v10 = v71; goto L14;
 L14:;
@@ -27765,7 +30778,7 @@ L2:;
     v3 = v19; v4 = 37u; goto L18;
 L3:;
     memory_set(v6, 0u, 56u);
-    f51(v6, v18, v9, a2);
+    f62(v6, v18, v9, a2);
     v20 = load8(v6);
     v21 = v6 + 16u * 1u;
     v22 = load64(v21);
@@ -28171,7 +31184,7 @@ L8:;
     store_address(v73, v56);
     v74 = v7 + 48u * 1u;
     store64(v74, v58);
-    f45(v7, v29);
+    f56(v7, v29);
     v75 = load8(v33);
     v76 = (u8)((u32)v75 + (u32)255u);
     store8(v33, v76);
@@ -28707,7 +31720,7 @@ L24:;
     switch (v46) {
     case 0u: goto L26;
     case 1u: goto L25;
-    default: v5 = v21; v6 = ADDRESS(c108); v7 = 0u; goto L30;
+    default: v5 = v21; v6 = ADDRESS(c111); v7 = 0u; goto L30;
     }
 L25:;
     v328 = v40 + 52u * 1u;
@@ -29052,7 +32065,7 @@ L41:;
     if (v573) { goto L42; }
     else { v16 = v450; v17 = v449; goto L44; }
 L42:;
-    v574 = f75(v106);
+    v574 = f90(v106);
     v575 = v574 == 0u;
     if (v575) { goto L43; }
     else { goto L50; }

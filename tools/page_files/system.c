@@ -99,6 +99,9 @@ void __multi3(struct product *answer, u64 low, u64 high, u64 other_low, u64 othe
 u32 program_rattle_errno(void);
 void program_rattle_set_errno(u32 now);
 u64 program_rattle_arg(u64 place, address room, u64 size);
+u32 program_open(address path, u32 flags);
+u32 program_close(u32 stream);
+u32 program___xpg_strerror_r(u32 error, address room, u64 size);
 u64 program_read(u32 stream, address room, u64 size);
 u64 program_write(u32 stream, address from, u64 size);
 u64 program___write(u32 stream, address from, u64 size);
@@ -124,6 +127,28 @@ u64 program_rattle_arg(u64 place, address room, u64 size) {
     if (length < 0) return (u64)(i64)NO_ARGUMENT;
     page_word((uint32_t)place, AT(room), (uint32_t)((u64)length < size ? (u64)length : size));
     return (u64)length <= size ? (u64)length : (u64)(i64)NO_ROOM;
+}
+
+/* A page has no files: ENOENT of Linux. */
+u32 program_open(address path, u32 flags) {
+    (void)path;
+    (void)flags;
+    number = 2;
+    return (u32)-1;
+}
+
+u32 program_close(u32 stream) {
+    (void)stream;
+    return 0;
+}
+
+/* The only error of a system call that a page has is that of open. */
+u32 program___xpg_strerror_r(u32 error, address room, u64 size) {
+    static const char text[] = "No such file or directory";
+    unsigned char *to = AT(room);
+    (void)error;
+    for (u64 at = 0; at < size && at < sizeof text; at++) to[at] = (unsigned char)text[at];
+    return 0;
 }
 
 u64 program_read(u32 stream, address room, u64 size) {

@@ -39,6 +39,7 @@ class ElementOfCall:
 def call(function, name, words):
     words = re.sub(r'^(?:fastcc )', '', words)
     kind, rest = take_type(without_attributes(words))
+    rest = re.sub(r'^\([^()]*\.\.\.\) ', '', rest)                  # of a function with any number of parameters
     found = re.match(rf'@({NAME})(?=\()', rest)
     if not found:
         not_known('a call', words)

@@ -8,7 +8,10 @@ from .module import HEAP, Module
 
 PREFIX = 'program_'
 # What the program asks of others, besides its heap.
-SYSTEM = ('read', 'write', '__write', 'rattle_arg', 'rattle_errno', 'rattle_set_errno', '__sysv_signal', '__x86_get_cpuid_feature_leaf')
+SYSTEM = (
+    'open', 'close', '__xpg_strerror_r', 'read', 'write', '__write', 'rattle_arg', 'rattle_errno', 'rattle_set_errno', '__sysv_signal',
+    '__x86_get_cpuid_feature_leaf',
+)
 TARGET = '--target=wasm32-unknown-unknown --no-default-config -mcpu=mvp -mbulk-memory -msign-ext -mnontrapping-fptoint'.split()
 WARNINGS = '-Wall -Wextra -Werror -Wno-unused-but-set-variable -Wno-unused-parameter'.split()
 STACK = 4 << 20

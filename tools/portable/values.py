@@ -71,6 +71,8 @@ class Values:
             return self.address(text)
         if width(kind) is not None and (found := re.fullmatch(r'ptrto(?:int|addr) \(ptr (.*) to i64\)', text)):
             return self.address(found[1])
+        if kind in ('i8', 'i16', 'i32') and (found := re.fullmatch(rf'ptrto(?:int|addr) \(ptr (.*) to {kind}\)', text)):
+            return f'(({self.types.name(kind)}){self.address(found[1])})'
         if width(kind) is not None:
             return number(kind, number_of(kind, text))
         if kind.startswith('{') and text.startswith('{'):
