@@ -137,7 +137,9 @@ SMALL void memory_set(address to, u8 octet, u64 size) {
     if (size != 0) memset(AT(to), octet, (size_t)size);
 }
 
-/* A number with a fraction and its bits, which memory has in the order of an integer's octets. */
+/* A number with a fraction and its bits, which memory has in the order of an integer's octets. The library has no such number. So a
+   compiler that may use no register for one, as gcc says by this macro, does without them. */
+#if !defined(__GCC_IEC_559) || __GCC_IEC_559 > 0
 SMALL double double_of(u64 bits) {
     double x;
     memcpy(&x, &bits, sizeof x);
@@ -149,6 +151,7 @@ SMALL u64 bits_of(double x) {
     memcpy(&bits, &x, sizeof bits);
     return bits;
 }
+#endif
 
 /* An integer of 128 bits. */
 struct wide { u64 high, low; };
