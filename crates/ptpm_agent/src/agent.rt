@@ -7,8 +7,11 @@ ghost use Rattle.ptpm_codec.specs.Layout.{message_octets};
 ghost use Rattle.ptpm_codec.specs.Message.{IsDataField, IsRequestAction, IsValid};
 ghost use Rattle.ptpm_codec.specs.Reading.{reading};
 ghost use Rattle.ptpm_codec.specs.Spelling.{Spells};
+ghost use Rattle.ptpm_data.specs.Changes.{IsTargetPort, changed_by};
 ghost use Rattle.ptpm_data.specs.Members.{HasPort};
 ghost use Rattle.ptpm_data.specs.Observation.{left_disabled, observation_refusal};
+ghost use Rattle.ptpm_data.specs.Replies.{reply_to};
+ghost use Rattle.ptpm_data.specs.Rights.{all_rights};
 ghost use Rattle.ptpm_data.specs.Start.{unless};
 ghost use Rattle.ptpm_table.specs.Entries.{CanResend, FitsRequest, is_known};
 ghost use Rattle.ptpm_table.specs.Managers.{IsFresh, has_twice, identities, most_managers};
@@ -129,6 +132,20 @@ impl<T: ReplyTable + Drop> Agent<T> {
         ensures unchanged { OnErr result (self.new ≡ self.old) }
     {
         self.sets.observe(clock, ports)
+    }
+
+    /// Carries out a request of the clock's owner, as one of a manager with every right: by a command line, or by another
+    /// protocol. The answer has what that manager would be told. What is kept of each manager stays. So a copy of its latest
+    /// request still gets the reply of its time. Takes no memory.
+    pub fn carry_out_here(&mut self, request: &Request<'_>) -> Reply
+        requires action { IsRequestAction request.now.action }
+        requires port { IsTargetPort request.now.port self.old.sets }
+        requires octets { IsDataField request.now.octets }
+        ensures reply { result ≡ reply_to request.now all_rights self.old.sets }
+        ensures changed { self.new.sets ≡ changed_by request.now all_rights self.old.sets }
+        ensures table { self.new.table ≡ self.old.table }
+    {
+        self.sets.decide(request, Rights::ALL)
     }
 
     /// The verdict on a message, and the rights of its source if it is a new request.
