@@ -27,6 +27,8 @@ pub mod PortStates
 pub mod Reach
 pub mod Site
 pub mod SiteAnswers
+pub mod Stay
+pub mod StayLimits
 pub mod Staying
 pub mod TaiAndUtc
 pub mod Tree
