@@ -22,6 +22,7 @@ pub mod Loops
 pub mod Members
 pub mod Messages
 pub mod Octets
+pub mod Open
 pub mod Parents
 pub mod PortStates
 pub mod Reach

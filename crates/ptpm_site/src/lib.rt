@@ -26,6 +26,7 @@ mod judging_answers;
 mod judging_grandmasters;
 mod judging_leading;
 mod judging_loops;
+pub mod judging_open;
 mod judging_ports;
 mod judging_unseen;
 pub mod laws;
