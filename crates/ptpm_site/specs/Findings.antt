@@ -74,11 +74,11 @@ utc_said site s = option_map_or (λ p.
 
 -- ---- of its ports, in their order
 
-unfoldable pub state_found : SiteAnswers → Source → ℕ → List Finding
-state_found site s n = found (what.PortState n) s (staying_state site s n)
+unfoldable pub state_found : SiteAnswers → Limits → Source → ℕ → List Finding
+state_found site limits s n = found (what.PortState n) s (staying_state site limits s n)
 
-unfoldable pub lock_found : SiteAnswers → Source → ℕ → List Finding
-lock_found site s n = found (what.NotLocked n) s (unlocked_port site s n)
+unfoldable pub lock_found : SiteAnswers → Limits → Source → ℕ → List Finding
+lock_found site limits s n = found (what.NotLocked n) s (unlocked_port site limits s n)
 
 unfoldable pub link_delay_found : SiteAnswers → Limits → Source → ℕ → List Finding
 link_delay_found site limits s n = found (what.LinkDelay n) s (option_and_then (λ set. large_link_delay set limits.delay) (site.port s n))
@@ -165,8 +165,8 @@ found_above site s = grandmaster_found site s ++ parent_found site s
 
 unfoldable pub found_here : SiteAnswers → Limits → Source → List Finding
 found_here site limits s =
-    flat_map (state_found site s) (site.ports s)
-    ++ flat_map (lock_found site s) (site.ports s)
+    flat_map (state_found site limits s) (site.ports s)
+    ++ flat_map (lock_found site limits s) (site.ports s)
     ++ amounts_found site limits s
     ++ found_each compared.Time s (utc_said site s)
     ++ flat_map (interval_found site s) (site.ports s)

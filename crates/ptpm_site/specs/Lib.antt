@@ -22,11 +22,14 @@ pub mod Loops
 pub mod Members
 pub mod Messages
 pub mod Octets
+pub mod Open
 pub mod Parents
 pub mod PortStates
 pub mod Reach
 pub mod Site
 pub mod SiteAnswers
+pub mod Stay
+pub mod StayLimits
 pub mod Staying
 pub mod TaiAndUtc
 pub mod Tree

@@ -11,12 +11,12 @@ use crate::grandmasters::Masterless;
 use crate::leading::{Better, Degradation, Degraded, Leap, Untraceable, WrongOffset};
 use crate::parents::{NoMaster, Steps};
 use crate::source::Source;
+use crate::stay::Stay;
 use crate::staying::Unlocked;
 use crate::tai_and_utc::OffByUtc;
 use crate::two_offsets::TwoOffsets;
 use crate::unseen::Absence;
 use ptpm_codec::{ClockIdentity, PortIdentity};
-use ptpm_data::PortState;
 use std::alloc::AllocError;
 
 /// Something that is wrong with a clock.
@@ -48,9 +48,9 @@ pub enum What<'a> {
     /// It is the least of the clocks of a loop. The list has all of them: each is followed by the one that it
     /// follows.
     Loop(Vec<ClockIdentity>),
-    /// A port is FAULTY, or stays on its way to another state.
-    PortState(u16, PortState),
-    /// A port stays in UNCALIBRATED.
+    /// A port is FAULTY, or stays on its way to another state for too long.
+    PortState(u16, Stay),
+    /// A port stays in UNCALIBRATED for too long.
     NotLocked(u16, Unlocked),
     /// It takes TAI and UTC for each other, or all clocks that follow it do.
     OffByUtc(OffByUtc),

@@ -199,8 +199,8 @@ fn judge_here(
     ensures { OnOk result (findings.new.items ≡ findings.old.items ++ found_here (site_answers site.now) given.now.limits source) }
 {
     let (sources, limits) = (given.sources, given.limits);
-    judge_ports(site, source, ports, findings)?;
-    judge_locks(site, source, ports, findings)?;
+    judge_ports(site, source, ports, limits, findings)?;
+    judge_locks(site, source, ports, limits, findings)?;
     judge_amounts(site, source, ports, sources, limits, findings)?;
     judge_utc(site, source, findings)?;
     judge_intervals(site, source, ports, findings)

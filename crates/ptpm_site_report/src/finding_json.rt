@@ -1,6 +1,7 @@
 //! A finding as a JSON object.
 
 use crate::json::{identity_value, member_value, port_value, quality_value, text_value};
+use crate::seconds::whole_seconds;
 use ptpm_data::PortState;
 use ptpm_site::announcing::Seldom;
 use ptpm_site::changes::Change;
@@ -92,22 +93,14 @@ fn put_values(
             }
             put(map, alloc, "clocks", Value::Array(values))
         }
-        What::PortState(port, state) => {
-            put(map, alloc, "portNumber", Value::from(*port))?;
-            put(
-                map,
-                alloc,
-                "portState",
-                text_value(alloc, state_name(Some(*state)))?,
-            )
-        }
+        What::PortState(port, stay) => put_state(alloc, map, *port, stay.state, stay.time),
         What::NotLocked(port, unlocked) => {
-            put(map, alloc, "portNumber", Value::from(*port))?;
-            put(
-                map,
+            put_state(
                 alloc,
-                "portState",
-                text_value(alloc, state_name(Some(PortState::Uncalibrated)))?,
+                map,
+                *port,
+                PortState::Uncalibrated,
+                unlocked.time,
             )?;
             let offset = match unlocked.offset {
                 Some(offset) => Value::from(offset),
@@ -151,6 +144,28 @@ fn put_values(
             put(map, alloc, "offsets", both)
         }
     }
+}
+
+/// Puts the state of a port, and for how many whole seconds it is known to be in it or in another on its way.
+fn put_state(
+    alloc: Global,
+    map: &mut Map<String, Value>,
+    port: u16,
+    state: PortState,
+    time: Option<u64>,
+) -> Result<(), AllocError> {
+    put(map, alloc, "portNumber", Value::from(port))?;
+    put(
+        map,
+        alloc,
+        "portState",
+        text_value(alloc, state_name(Some(state)))?,
+    )?;
+    let seconds = match time {
+        Some(time) => Value::from(whole_seconds(time)),
+        None => Value::Null,
+    };
+    put(map, alloc, "seconds", seconds)
 }
 
 fn put_masterless(

@@ -1,6 +1,7 @@
 //! A finding as a line of text.
 
 use crate::intervals::{Exact, Seconds, Whole};
+use crate::seconds::whole_seconds;
 use ptpm_codec::PortIdentity;
 use ptpm_site::announcing::Seldom;
 use ptpm_site::changes::Change;
@@ -13,6 +14,7 @@ use ptpm_site::heard::kind_name;
 use ptpm_site::leading::{Better, Leap, Untraceable, WrongOffset};
 use ptpm_site::member::state_name;
 use ptpm_site::parents::{NoMaster, Steps};
+use ptpm_site::stay::Stay;
 use ptpm_site::staying::Unlocked;
 use ptpm_site::tai_and_utc::OffByUtc;
 use ptpm_site::two_offsets::TwoOffsets;
@@ -53,7 +55,7 @@ impl fmt::Display for Said<'_> {
                 }
                 Ok(())
             }
-            What::PortState(port, state) => write!(f, " port {port} {}", state_name(Some(*state))),
+            What::PortState(port, stay) => write_stay(*port, stay, f),
             What::NotLocked(port, unlocked) => write_unlocked(*port, unlocked, f),
             What::OffByUtc(how) => write_off_by_utc(how, f),
             What::Offset(offset) => write!(f, " offsetFromMaster {} ns", Exact(*offset)),
@@ -177,12 +179,26 @@ fn write_two_offsets<W: fmt::Write>(
     write!(f, " two offsets in one look: {first} ns and {second} ns")
 }
 
+fn write_stay<W: fmt::Write>(port: u16, stay: &Stay, f: &mut fmt::Formatter<W>) -> fmt::Result {
+    write!(f, " port {port} {}", state_name(Some(stay.state)))?;
+    write_time(stay.time, f)
+}
+
+/// How long a port was in a state, in whole seconds, if that is known.
+fn write_time<W: fmt::Write>(time: Option<u64>, f: &mut fmt::Formatter<W>) -> fmt::Result {
+    match time {
+        Some(time) => write!(f, " for {} s", whole_seconds(time)),
+        None => Ok(()),
+    }
+}
+
 fn write_unlocked<W: fmt::Write>(
     port: u16,
     unlocked: &Unlocked,
     f: &mut fmt::Formatter<W>,
 ) -> fmt::Result {
     write!(f, " port {port} UNCALIBRATED")?;
+    write_time(unlocked.time, f)?;
     match unlocked.offset {
         Some(offset) => write!(f, ", offset {} ns", Whole(offset)),
         None => Ok(()),

@@ -12,6 +12,7 @@ mod grandmaster_line;
 mod intervals;
 mod json;
 mod label;
+mod line_words;
 mod lines;
 mod metric_families;
 mod nagios;
