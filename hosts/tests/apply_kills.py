@@ -1,5 +1,5 @@
-"""Runs of ptpm-manage that are killed while they change three clocks, for hosts/tests/apply: at random times, over a link that loses 30 and
-repeats 20 of a hundred frames each way, or at each call by which they save and send. `resume` ends each apply. After each kill what the
+"""Runs of ptpm-manage that are killed while they change three clocks, for hosts/tests/apply: at random times, over a link that loses 30,
+repeats 20 and swaps 10 of a hundred frames each way, or at each call by which they save and send. `resume` ends each apply. After each kill what the
 clocks took as new is set beside the journal."""
 import glob
 import json
@@ -11,13 +11,14 @@ import time
 import zlib
 from collections import Counter
 
-from apply_network import ANSWERED_NEW, HOME, MANAGER, SET, Clock, Network, within
+from apply_link import SET, Troubles
+from apply_network import ANSWERED_NEW, HOME, MANAGER, Clock, Network, within
 
 IDENTITIES = [f"02c0fffffe00010{number}" for number in (1, 2, 3)]
 VALUES = {"PRIORITY1": (0, 255), "PRIORITY2": (0, 255), "CLOCK_ACCURACY": (0x17, 0x31)}
 PORT_VALUES = {"LOG_SYNC_INTERVAL": (-8, 1), "ANNOUNCE_RECEIPT_TIMEOUT": (2, 10)}
 REFUSED_ID, REFUSED_FIELD = 0x6001, "f700"          # LOG_MIN_PDELAY_REQ_INTERVAL, -9: below the profile's range
-LOSS, REPEAT = 0.30, 0.20
+TROUBLES = Troubles(loss=0.30, repeat=0.20, swap=0.10)
 MOST_LIVES, PATIENT_AFTER, PATIENCE = 400, 60, 60
 MOST_CALLS = 25                                      # of a step and what comes before it
 SETTLED = 0.1                                       # by then what was on its way has come in,
@@ -56,14 +57,14 @@ class Journal:
 
 
 class Observed:
-    """What a clock took as new: each answer that it logged beside the request that passed on to it."""
+    """What a clock took as new: each answer that it logged beside the request that came in there."""
 
     def __init__(self, network, clock):
         self.network, self.clock, self.counted = network, clock, 0
 
     def asked(self):
-        passed = list(self.network.middle.passed)
-        return [request for request in passed if (request.source, request.target) == (MANAGER, self.clock.identity)]
+        seen = list(self.network.observer.seen[self.clock.name])
+        return [request for request in seen if (request.source, request.target) == (MANAGER, self.clock.identity)]
 
     def sets(self):
         """The SETs that it took as new since the last `count`: the id and the dataField."""
@@ -73,7 +74,7 @@ class Observed:
             time.sleep(0.05)
             asked, answers = self.asked(), self.clock.answers()
         if len(asked) != len(answers):
-            raise Broken(f"{self.clock.name}: {len(asked)} requests passed, and {len(answers)} were judged")
+            raise Broken(f"{self.clock.name}: {len(asked)} requests came in, and {len(answers)} were judged")
         found = []
         for request, (answer, size) in zip(asked, answers):
             if request.whole != size:
@@ -92,9 +93,9 @@ class Observed:
 class Changes:
     """Plans for three clocks, and what is checked of what became of them."""
 
-    def __init__(self, work, seed, loss=0.0, repeat=0.0):
+    def __init__(self, work, seed, troubles=None):
         self.work, self.chance = work, random.Random(seed)
-        self.network = Network(work, [Clock(f"c{place}", identity) for place, identity in enumerate(IDENTITIES)], None, loss, repeat, seed)
+        self.network = Network(work, [Clock(f"c{place}", identity) for place, identity in enumerate(IDENTITIES)], None, troubles, seed)
         self.observed = [Observed(self.network, clock) for clock in self.network.clocks.values()]
         self.counts, self.places = Counter(), Counter()
 
@@ -171,7 +172,7 @@ class Kills(Changes):
     """They are applied, killed at random times, resumed and rolled back."""
 
     def __init__(self, work, seed):
-        super().__init__(work, seed, LOSS, REPEAT)
+        super().__init__(work, seed, TROUBLES)
 
     def life(self, words, seconds, before):
         """A run, killed this long after its journal is there; its status, or None if it was killed."""
