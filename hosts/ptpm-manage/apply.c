@@ -7,8 +7,10 @@
 #include "marks.h"
 #include "notices.h"
 #include "plan.h"
+#include "probe.h"
 #include "program.h"
 #include "steps.h"
+#include "stopping.h"
 #include "transport.h"
 #include <errno.h>
 #include <stdlib.h>
@@ -30,9 +32,10 @@ static int status_of(enum ending ending) {
 
 static int show_plan(const struct task *task) {
     struct plan plan;
-    int status = make_plan(&plan, task);
+    int status = make_plan(&plan, task), probed = ANSWERED;
+    if (task->plan.is_probed && !stopped) probed = probe_clocks(&plan, task);
     print_plan(&plan);
-    return status;
+    return probed == ANSWERED ? status : probed;
 }
 
 /* ---- a journal is carried out */
