@@ -1,6 +1,7 @@
 """Runs of ptpm-manage that are killed while they change three clocks, for hosts/tests/apply. They are killed at random times, over a link that
 loses 30, repeats 20 and swaps 10 of a hundred frames each way, or at each call by which they save and send. `resume` ends each apply.
 After each kill what the clocks took as new is set beside the journal, and what was reported too."""
+import glob
 import json
 import os
 import signal
@@ -190,7 +191,7 @@ def kill_at_clocks(work, kills, seed):
 class Points(Changes):
     """An apply of three steps, or four with one that is refused, whose journal is made here. Its first `resume` is killed at one of the calls
     by which it saves and sends: at the first, in the next apply at the second, and so on. The next three are killed at others, and the
-    last is not."""
+    last is not. At half of the kills the machine loses its power too (dies.c). Every second apply begins without files of sessions."""
 
     def __init__(self, work, seed):
         super().__init__(work, seed)
@@ -206,6 +207,8 @@ class Points(Changes):
 
     def make(self, call):
         """The path of a new journal."""
+        for path in glob.glob(os.path.join(self.work, "state/ptpm/*-1.*")) if call % 2 == 0 else []:
+            os.remove(path)
         value = f"{call % 100:02x}00"
         steps = [self.step(0, 0, 0x2005, value), self.step(1, 0, 0x2006, value), self.step(1, 1, 0x200B, f"{254 + call % 2:02x}00")]
         if call % 4 == 0:
@@ -219,9 +222,11 @@ class Points(Changes):
 
     def is_killed_at(self, call):
         """Whether a `resume` was killed at this call; 0 is none."""
-        process = self.start(["resume"], LD_PRELOAD=os.path.join(HOME, "dies.so"), DIES_AT=str(call), DIES_FROM="start")
+        loses = self.chance.randrange(2)
+        process = self.start(["resume"], LD_PRELOAD=os.path.join(HOME, "dies.so"), DIES_AT=str(call), DIES_FROM="start", LOSES=str(loses))
         is_killed = process.wait(PATIENCE) in (-signal.SIGKILL, 128 + signal.SIGKILL)
         self.counts["kills"] += is_killed
+        self.counts["power cuts"] += is_killed and loses
         return is_killed
 
     def point(self, call):
@@ -238,10 +243,11 @@ class Points(Changes):
         self.check_end(journal)
         return is_killed
 
-    def run(self):
+    def run(self, kills=None):
+        """Kills at each call, or as many kills as are asked."""
         began, call = time.monotonic(), 1
         try:
-            while self.point(call):
+            while self.point(call) and (kills is None or self.counts["kills"] < kills):
                 call += 1
         finally:
             self.end()
