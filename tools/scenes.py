@@ -41,11 +41,12 @@ SITE = [("receiver", ["eth0"], "020000.fffe.000010", "time server", 100),
         ("left", ["eth0"], "020000.fffe.000031", "camera 7", 128), ("right", ["eth0"], "020000.fffe.000032", "camera 8", 128)]
 NEIGHBOUR = [("neighbour", ["eth0"], "020000.fffe.000020", "", 128)]
 
-# The clocks of a page that begins none itself: at the device, with the manager.
+# The clocks that a page does not begin itself: at the device, with the manager.
 AGENT = "ptpm-clock -m 020000fffe000010/1"
 AGENTS = {"docs/ptpm-manage.md": [f"{AGENT} aabbccfffeddee01 eth0 eth1", f"{AGENT} -d 4 aabbccfffeddee01 eth0",
                                   f"{AGENT} -2 aabbccfffeddee01 eth0"],
-          "docs/bindings.md": [f"{AGENT} aabbccfffeddee01 eth0"]}
+          "docs/bindings.md": [f"{AGENT} aabbccfffeddee01 eth0"],
+          "README.md": [f"{AGENT} aabbccfffeddee02 eth0"]}
 
 
 def shell(text, host=None, **words):
