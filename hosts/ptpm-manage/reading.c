@@ -1,6 +1,7 @@
 #include "reading.h"
 #include "exchange.h"
 #include "monotonic.h"
+#include "notices.h"
 #include "random.h"
 #include "stopping.h"
 #include <stdbool.h>
@@ -29,9 +30,10 @@ bool begin_reading(struct ptpm_session *session, const struct task *task, uint16
 }
 
 bool finish_reading(struct ptpm_session *session, const struct task *task) {
-    while (!stopped) {
+    for (int attempt = 1; !stopped; attempt++) {
         enum sending sending = send_again(session);
         if (sending == NONE_LEFT) return false;
+        if (attempt > 1) show_progress("no answer yet: attempt %d", attempt);
         if (sending != NO_TRANSPORT && is_answered_before(session, milliseconds() + task->timeout)) return true;
     }
     return false;

@@ -67,8 +67,11 @@ static const char help_text[] =
     "  -x, --hexadecimal       VALUE and answers are octets of the dataField in hexadecimal\n"
     "      --text              VALUE is a text, for USER_DESCRIPTION\n"
     "      --json              each answer as a line, an object of JSON; status as one object\n"
-    "\n"
+    "\n";
+
+static const char site_text[] =
     "Several clocks from one file:\n"
+    "      --probe             plan also asks each clock a SET that changes nothing: does it take any?\n"
     "      --expect PLAN       apply sends nothing if its plan is another one than this, of eight digits\n"
     "      --give-up           resume ends the apply, whose last step may have been carried out\n"
     "\n"
@@ -129,6 +132,7 @@ static void print_ids(void) {
 /* Prints the text of --help, and ends the program. */
 static _Noreturn void help(void) {
     fputs(help_text, stdout);
+    fputs(site_text, stdout);
     fputs(asking_text, stdout);
     printf("ID, in either case, or four hexadecimal digits:");
     print_ids();
@@ -143,7 +147,7 @@ static _Noreturn void version(void) {
 }
 
 /* Options without a letter of their own, and a word that is none: getopt's for a string that begins with a hyphen. */
-enum { WORD = 1, UDP = 256, TEXT, VERSION, GIVE_UP, JSON, ANY_SOURCE, NAMES, EXPECT };
+enum { WORD = 1, UDP = 256, TEXT, VERSION, GIVE_UP, JSON, ANY_SOURCE, NAMES, EXPECT, PROBE };
 
 /* The same, only for `collect` and `status`. */
 enum site_option { LISTEN = 512, DRAW, HTML, OPENMETRICS, NAGIOS, OUTPUT, MAX_OFFSET, MAX_DELAY, TAI_UTC, ONCE, WATCH };
@@ -166,8 +170,8 @@ static const struct option options[] = {
     { "wait", required_argument, NULL, 'w' }, { "attempts", required_argument, NULL, 'a' },
     { "timeout", required_argument, NULL, 't' }, { "times", required_argument, NULL, 'n' },
     { "give-up", no_argument, NULL, GIVE_UP }, { "listen", required_argument, NULL, LISTEN }, { "json", no_argument, NULL, JSON },
-    { "names", required_argument, NULL, NAMES }, { "expect", required_argument, NULL, EXPECT }, { "draw", no_argument, NULL, DRAW },
-    { "html", no_argument, NULL, HTML },
+    { "names", required_argument, NULL, NAMES }, { "expect", required_argument, NULL, EXPECT }, { "probe", no_argument, NULL, PROBE },
+    { "draw", no_argument, NULL, DRAW }, { "html", no_argument, NULL, HTML },
     { "openmetrics", no_argument, NULL, OPENMETRICS }, { "nagios", no_argument, NULL, NAGIOS },
     { "output", required_argument, NULL, OUTPUT }, { "max-offset", required_argument, NULL, MAX_OFFSET },
     { "max-delay", required_argument, NULL, MAX_DELAY }, { "tai-utc", required_argument, NULL, TAI_UTC },
@@ -311,6 +315,7 @@ static void take_option(struct task *task, struct words *words, int option, cons
     case 'T': words->target = value; break;
     case NAMES: read_clock_names(value); break;
     case EXPECT: take_expected(&task->plan, value); break;
+    case PROBE: task->plan.is_probed = true; break;
     case 'p': read_port(words, value); break;
     case 'd': words->domain = value; break;
     case 'b': words->hops = number("hops", value, 0, 255); break;
@@ -549,6 +554,7 @@ void read_task(struct task *task, int argc, char **argv) {
     judge_site_options(&task->site);
     judge_json(task);
     if (task->plan.expected != NULL && task->plan.verb != APPLY) refuse("--expect: it is of apply alone");
+    if (task->plan.is_probed && task->plan.verb != PLAN) refuse("--probe: it is of plan alone");
     if (task->site.listen < 0) task->site.listen = LISTENED;
     long port = words.port >= 0 ? words.port : words.target_port;
     task->port = port < 0 ? 0 : (uint16_t)port;

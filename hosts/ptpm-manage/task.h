@@ -30,6 +30,7 @@ struct plan_options {
     enum plan_verb verb;
     const char *word;                           /* the file, or the apply that is rolled back */
     const char *expected;                       /* the id of the plan that was approved, or NULL */
+    bool is_probed;                             /* each clock is asked whether it takes SETs of this manager */
 };
 
 struct task {
