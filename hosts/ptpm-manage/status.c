@@ -1,4 +1,5 @@
 #define _GNU_SOURCE
+#define _GNU_SOURCE
 #include "status.h"
 #include "asking.h"
 #include "collect.h"
@@ -47,9 +48,18 @@ static void free_look(struct look *look) {
     *look = (struct look){ 0 };
 }
 
+/* The message of a line, behind its words, and in *size how much of the line it has. */
+static const char *message_in_line(const char *line, size_t *size) {
+    const char *space = memrchr(line, ' ', *size);
+    if (space == NULL) return line;
+    *size -= (size_t)(space + 1 - line);
+    return space + 1;
+}
+
 /* Whether the clock that gave a line answered this time too. */
 static bool is_of_seen_clock(const char *line, size_t size) {
     uint8_t domain, clock[8];
+    line = message_in_line(line, &size);
     const char *domain_text = line + DOMAIN_IN_LINE, *clock_text = line + CLOCK_IN_LINE;
     if (size < LEAST_LINE) return false;
     return read_octets(&domain_text, &domain, 1) == 1 && read_octets(&clock_text, clock, 8) == 8 && is_seen(domain, clock);

@@ -1,0 +1,30 @@
+/* The lines of a collection, as `ptpm site` reads them: words NAME=VALUE, and a message in hexadecimal behind them. at= is when it came or
+   was sent, in seconds since 1970; from= who sent it; on= the interface. */
+#ifndef LINES_H
+#define LINES_H
+
+#include <stddef.h>
+#include <stdint.h>
+#include <stdio.h>
+#include <time.h>
+
+/* A message that came in, or one that was sent: then nobody sent it to this host, and `from` is "". `on` is NULL on a Unix socket. */
+struct line {
+    struct timespec at;
+    const char *from, *on;
+    const uint8_t *message;
+    size_t size;
+};
+
+struct timespec time_now(void);
+
+void write_line(FILE *to, const struct line *line);
+
+/* The message that went out last: a line for each interface that it went out at. */
+void write_sent(FILE *to, const uint8_t *message, size_t size);
+
+/* What is known of this host: a line that begins with #ptpm. own= has the identities that its interfaces would have; clock=synchronised is
+   there if the kernel says so of the clock that at= is read from. */
+void write_host_note(FILE *to);
+
+#endif
