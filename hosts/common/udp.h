@@ -13,8 +13,8 @@ enum { EVENT_PORT = 319, GENERAL_PORT = 320 };
    can't be made: errno says why, and *what at which step. */
 int open_udp(const char *interface, bool is_six, const char **what);
 
-/* A socket at UDP port 319 of an interface, in the same group: a copy of each event message to the group comes in there (Sync and
-   Delay_Req). -1 as above. */
+/* A socket at UDP port 319 of an interface, in the same group. A copy of each event message to the group comes in there: Sync and
+   Delay_Req. -1 as above. */
 int open_event_udp(const char *interface, bool is_six, const char **what);
 
 /* A socket of an interface at a port of its own, to ask from. A unicast answer comes back to it, since that goes to the port of the

@@ -25,7 +25,7 @@ void write_sent(FILE *to, const uint8_t *message, size_t size) {
     for (size_t i = 1; (line.on = sent_at(i)) != NULL; i++) write_line(to, &line);
 }
 
-/* As ntpd, chronyd or phc2sys told the kernel. */
+/* By what ntpd, chronyd or phc2sys reported to the kernel. */
 static bool is_synchronised(void) {
     struct timex state = { 0 };
     int answer = adjtimex(&state);

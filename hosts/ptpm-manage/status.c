@@ -48,7 +48,7 @@ static void free_look(struct look *look) {
     *look = (struct look){ 0 };
 }
 
-/* The message of a line, behind its words, and in *size how much of the line it has. */
+/* The message of a line, after its words, and in *size how much of the line it has. */
 static const char *message_in_line(const char *line, size_t *size) {
     const char *space = memrchr(line, ' ', *size);
     if (space == NULL) return line;

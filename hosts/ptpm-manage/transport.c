@@ -381,7 +381,7 @@ static bool is_from_here(const struct end *end, const struct sockaddr *sender) {
     return false;
 }
 
-/* Where the message that came in last was from. */
+/* The sender of the message that came in last, and the end that it came in at. */
 static struct place latest_place;
 static const struct end *latest_end;
 

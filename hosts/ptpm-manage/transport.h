@@ -23,8 +23,8 @@ void widen_transport(void);
 /* Opens it again at each interface that was removed and made again under its name. What is sent at one that is gone says so. */
 void renew_transport(void);
 
-/* Over UDP and Ethernet, has messages of every type come in, also those to UDP port 319 if the program may hear them, or, as at
-   first, only management messages. */
+/* Over UDP and Ethernet, has messages of every type come in, or, as at first, only management messages. Of those to UDP port 319 it has
+   come in what the program may hear. */
 void receive_every_type(bool is_every);
 
 /* Says what clock isn't heard, if the program may hear no copies of what comes by unicast to UDP port 320 of this host. */
@@ -50,13 +50,13 @@ const char *sent_at(size_t place);
    signal asks the program to end. */
 const uint8_t *receive_message(size_t *size, int64_t end);
 
-/* Who sent the message that came in last, as a text without spaces: an address of IPv4 or IPv6, a MAC, or a path; "" if that is not
-   known. And the interface that it came in at; NULL on a Unix socket. */
+/* The sender of the message that came in last, as a text without spaces: an address of IPv4 or IPv6, a MAC, or a path. "" if it is
+   not known. And the interface that it came in at; NULL on a Unix socket. */
 const char *sender_text(void);
 const char *came_in_at(void);
 
-/* The identity that this host has at an interface by its hardware address, as write_identity writes it: the first, the second and so
-   on; whether there is one. */
+/* The identity that this host has at an interface by its hardware address: at the first, the second and so on. Whether there is
+   one. */
 bool own_identity(size_t place, uint8_t identity[8]);
 
 #endif
