@@ -1,5 +1,5 @@
-/* The lines of a collection, which `ptpm site` reads: words NAME=VALUE, and then a message in hexadecimal. at= is when it came or was
-   sent, in seconds since 1970. from= has its sender, and on= the interface. */
+/* The lines of a collection, which `ptpm site` reads: words NAME=VALUE, and then a message in hexadecimal. The word at= has
+   when it came or was sent, in seconds since 1970, from= its sender, and on= the interface. */
 #ifndef LINES_H
 #define LINES_H
 
@@ -23,8 +23,8 @@ void write_line(FILE *to, const struct line *line);
 /* The message that went out last: a line for each interface that it went out at. */
 void write_sent(FILE *to, const uint8_t *message, size_t size);
 
-/* What is known of this host: a line that begins with #ptpm. own= has the identities that its interfaces would have. clock=synchronised
-   is there if the kernel says so of its clock, which at= is read from. */
+/* What is known of this host: a line that begins with #ptpm. The word own= has the identities that its interfaces would have. The
+   word clock=synchronised is there if the kernel says so of its clock, which at= is read from. */
 void write_host_note(FILE *to);
 
 #endif
