@@ -16,10 +16,11 @@
 #include <stdlib.h>
 #include <string.h>
 
-/* One request each 50 ms: all at once lose answers in the buffers of the clocks, which hear each other's answers too. A burst of
-   requests to only one clock has fewer answers than such a buffer holds. There are no more, however many clocks are asked: one host
-   may answer as thousands. If more clocks than MOST_SILENT give no answer when they are asked by themselves, they are such. */
-enum { STEP = 50, BURST = 128, MOST_SILENT = 128, DOMAINS_AT_ONCE = 32 };
+/* One request each 50 ms: all at once lose answers in the buffers of the clocks, which hear each other's answers too. Where each domain
+   gets one there is one each 4 ms. A burst of requests to only one clock has fewer answers than such a buffer holds. There are no more,
+   however many clocks are asked: one host may answer as thousands. If more clocks than MOST_SILENT give no answer when they are asked by
+   themselves, they are such. */
+enum { STEP = 50, DOMAIN_STEP = 4, BURST = 128, MOST_SILENT = 128, DOMAINS_AT_ONCE = 32 };
 
 /* A socket without room is tried again this often, this many milliseconds apart. A silence that never comes is waited for this
    many time-outs at most. */
@@ -134,6 +135,7 @@ static void take_answer(const struct request *request, const uint8_t *message) {
     enum seen seen = see_answer(&answer);
     if (seen == SEEN_BEFORE || seen == NO_PLACE) return;
     latest = milliseconds();
+    if (output == NULL) return;
     clear_progress();
     write_line(output, &(struct line){ .at = time_now(), .from = sender_text(), .on = came_in_at(), .message = message, .size = size });
 }
@@ -330,24 +332,42 @@ static bool ask_in_all(const struct task *task, const struct domains *domains) {
     return true;
 }
 
-/* Asks, and hears what clocks send by themselves meanwhile. */
+/* Asks, and hears what clocks send by themselves meanwhile. What was heard since the last time counts too. */
 static bool ask_and_hear(const struct task *task, const struct domains *domains) {
-    hear_none();
     write_host_note(output);
     receive_every_type(true);
     bool is_asked = ask_in_all(task, domains);
     receive_every_type(false);
     write_heard(output);
+    hear_none();
     return is_asked;
 }
 
-int collect_answers(const struct task *task, const struct collected *what, const struct domains *domains, FILE *to) {
+/* From now on these ids are asked for, and this is where lines go; NULL if nowhere. */
+static void begin(const struct collected *what, FILE *to) {
     see_none();
     collected = what;
     output = to;
     sent = 0;
     let_go = 0;
     has_no_transport = false;
+}
+
+void add_answering_domains(struct domains *domains, const struct task *task) {
+    static const struct collected first_alone = { 1, { PTPM_ID_DEFAULT_DATA_SET } };
+    begin(&first_alone, NULL);
+    for (int domain = 0; domain < DOMAINS && !stopped && !has_no_transport; domain++) {
+        if (!start_request(task, (uint8_t)domain, 0)) break;
+        send_when_room(requests[domain].message, requests[domain].size, false);
+        hear_until(milliseconds() + DOMAIN_STEP);
+    }
+    hear_until_quiet(task);
+    for (size_t i = 0; i < seen_count(); i++) domains->is_in[seen_clock(i)->domain] = true;
+    stop_requests();
+}
+
+int collect_answers(const struct task *task, const struct collected *what, const struct domains *domains, FILE *to) {
+    begin(what, to);
     bool is_asked = is_site() ? ask_and_hear(task, domains) : ask_in_all(task, domains);
     return is_asked ? end_of_collection(task, domains) : NOT_ASKED;
 }

@@ -1,4 +1,4 @@
-/* What clocks send by themselves, heard while a site is asked: the latest Announce, Sync, Follow_Up and Delay_Req of each port. So a
+/* What clocks send by themselves, heard while a site is asked, or between two times: the latest Announce, Sync, Follow_Up and Delay_Req of each port. So a
    clock shows itself that answers no management message. Strangers may send without end, so there is room for a number of ports. */
 #ifndef HEARD_H
 #define HEARD_H

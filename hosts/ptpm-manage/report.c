@@ -185,6 +185,13 @@ void free_report(struct report *report) {
     *report = (struct report){ 0 };
 }
 
+bool has_finding_named(const struct report *report, const char *name) {
+    for (size_t i = 0; i < report->count; i++) {
+        if (is_piece(&report->findings[i].key[NAME_PART], name)) return true;
+    }
+    return false;
+}
+
 bool has_passing_finding(const struct report *report) {
     for (size_t i = 0; i < report->count; i++) {
         if (is_passing(&report->findings[i])) return true;

@@ -29,6 +29,9 @@ void read_report(struct report *report);
 /* Frees what a report holds, which then holds nothing. */
 void free_report(struct report *report);
 
+/* Whether a report has a finding of this name. */
+bool has_finding_named(const struct report *report, const char *name);
+
 /* Whether a report has a finding that may be only momentary: while a change goes through a site its clocks do not agree. */
 bool has_passing_finding(const struct report *report);
 

@@ -78,12 +78,22 @@ static void leave_seen(struct look *look) {
     look->size = left;
 }
 
+/* How many boundary clocks pass the requests on, at most, if it is more than the task says. */
+static uint8_t hops;
+
+/* Collects the lines of a look; the status. */
+static int collect_lines(FILE *lines, const struct task *task, const struct domains *domains) {
+    struct task as_far = *task;
+    if (hops > as_far.settings.hops) as_far.settings.hops = hops;
+    return collect_answers(&as_far, &of_site, domains, lines);
+}
+
 /* Collects, and has it shown after the lines of an earlier look, if there is one; the status. */
-static int look_at_site(struct look *look, const struct task *task, const struct domains *domains, struct look *earlier) {
+static int look_once(struct look *look, const struct task *task, const struct domains *domains, struct look *earlier) {
     *look = (struct look){ 0 };
     FILE *lines = open_memstream(&look->lines, &look->size);
     if (lines == NULL) refuse("nothing was asked: %s", strerror(errno));
-    look->status = collect_answers(task, &of_site, domains, lines);
+    look->status = collect_lines(lines, task, domains);
     bool is_whole = !ferror(lines);
     if (fclose(lines) != 0 || !is_whole || look->lines == NULL) {
         complain("there is no memory for the answers");
@@ -96,6 +106,20 @@ static int look_at_site(struct look *look, const struct task *task, const struct
     };
     enum shown_as as = task->is_json ? AS_JSON : AS_TEXT;
     look->status = run_site_program(&task->site, as, parts, 2, &look->report);
+    return look->status;
+}
+
+/* Looks at the site. As long as a clock may have others after it that a request did not come to, it looks again, further. From then
+   on each look goes as far. */
+static int look_at_site(struct look *look, const struct task *task, const struct domains *domains, struct look *earlier) {
+    look_once(look, task, domains, earlier);
+    if (hops < task->settings.hops) hops = task->settings.hops;
+    while (!stopped && !task->site.is_as_far_as_named && hops < UINT8_MAX && has_finding_named(&look->report, "out_of_reach")) {
+        hops = (uint8_t)(hops < UINT8_MAX / 2 ? 2 * hops + 1 : UINT8_MAX);
+        show_progress("a clock is at the last of the boundary hops; a look with %d", hops);
+        free_look(look);
+        look_once(look, task, domains, earlier);
+    }
     return look->status;
 }
 

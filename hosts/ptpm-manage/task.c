@@ -521,6 +521,7 @@ static void read_reach(struct task *task, const struct words *words) {
     if (words->domain != NULL && is_site) read_domains(&task->site, words->domain);
     else if (words->domain != NULL) settings->domain = (uint8_t)number("domain", words->domain, 0, 255);
     bool is_far = is_site || task->plan.verb != NO_PLAN;
+    task->site.is_as_far_as_named = words->hops >= 0;
     settings->hops = (uint8_t)(words->hops >= 0 ? words->hops : is_far ? SITE_HOPS : HOPS);
     settings->attempts = (uint8_t)(words->attempts >= 0 ? words->attempts : is_site ? SITE_ATTEMPTS : ATTEMPTS);
     if (is_site || task->interface_count < 2) return;
