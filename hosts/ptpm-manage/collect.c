@@ -16,8 +16,8 @@
 #include <stdlib.h>
 #include <string.h>
 
-/* One request each 50 ms: all at once lose answers in the buffers of the clocks, which hear each other's answers too. Where each domain
-   gets one there is one each 4 ms. A burst of requests to only one clock has fewer answers than such a buffer holds. There are no more,
+/* One request each 50 ms: all at once lose answers in the buffers of the clocks, which hear each other's answers too. If each domain
+   gets one, there is one each 4 ms. A burst of requests to only one clock has fewer answers than such a buffer holds. There are no more,
    however many clocks are asked: one host may answer as thousands. If more clocks than MOST_SILENT give no answer when they are asked by
    themselves, they are such. */
 enum { STEP = 50, DOMAIN_STEP = 4, BURST = 128, MOST_SILENT = 128, DOMAINS_AT_ONCE = 32 };
