@@ -14,12 +14,17 @@
 #include "transport.h"
 #include "words.h"
 #include <errno.h>
+#include <libgen.h>
+#include <limits.h>
 #include <poll.h>
 #include <stdbool.h>
 #include <stdlib.h>
 #include <string.h>
 #include <time.h>
 #include <unistd.h>
+
+/* The socket of a ptp4l whose configuration names no other. */
+#define OWN_CLOCK "/var/run/ptp4l"
 
 /* A change has gone through a site by then. */
 enum { BEFORE_SECOND_LOOK = 2000, TIME_TEXT = 32 };
@@ -78,6 +83,13 @@ static void leave_seen(struct look *look) {
     look->size = left;
 }
 
+/* Whether a socket may be made beside it. */
+static bool may_write_beside(const char *path) {
+    char folder[PATH_MAX];
+    snprintf(folder, sizeof folder, "%s", path);
+    return access(dirname(folder), W_OK) == 0;
+}
+
 /* How many boundary clocks pass the requests on, at most, if it is more than the task says. */
 static uint8_t hops;
 
@@ -109,11 +121,15 @@ static int look_once(struct look *look, const struct task *task, const struct do
     return look->status;
 }
 
-/* Looks at the site. As long as a clock may have others after it that a request did not come to, it looks again, further. From then
-   on each look goes as far. */
+/* Looks at the site. If others name a clock of this host, it looks again, also at the socket of the ptp4l here. As long as a clock may have
+   others after it that a request did not come to, it looks again, further. From then on each look goes as far. */
 static int look_at_site(struct look *look, const struct task *task, const struct domains *domains, struct look *earlier) {
     look_once(look, task, domains, earlier);
     if (hops < task->settings.hops) hops = task->settings.hops;
+    if (!stopped && has_finding_named(&look->report, "own_host") && may_write_beside(OWN_CLOCK) && ask_own_clock(OWN_CLOCK)) {
+        free_look(look);
+        look_once(look, task, domains, earlier);
+    }
     while (!stopped && !task->site.is_as_far_as_named && hops < UINT8_MAX && has_finding_named(&look->report, "out_of_reach")) {
         hops = (uint8_t)(hops < UINT8_MAX / 2 ? 2 * hops + 1 : UINT8_MAX);
         show_progress("a clock is at the last of the boundary hops; a look with %d", hops);

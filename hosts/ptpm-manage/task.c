@@ -444,6 +444,13 @@ static void read_value(struct task *task, const struct words *words) {
     else read_octets_of(task, value[0]);
 }
 
+/* A site is asked at interfaces, and at the socket of this host's own clock, which isn't heard there. */
+static void part_own_socket(struct task *task) {
+    if (!task->site.is_collected || task->path == NULL || task->interface_count == 0) return;
+    task->own_socket = task->path;
+    task->path = NULL;
+}
+
 /* Whether what is said about the clock and the way to it is complete, and said once. */
 static void judge(const struct task *task, const struct words *words) {
     if (task->path == NULL && task->interface_count == 0 && task->address == NULL) {
@@ -546,6 +553,7 @@ void read_task(struct task *task, int argc, char **argv) {
     read_every_port(task, &words);
     read_asked(task, &words);
     read_reach(task, &words);
+    part_own_socket(task);
     judge(task, &words);
     judge_site_options(&task->site);
     judge_json(task);

@@ -49,6 +49,7 @@ struct task {
     const char *interfaces[MOST_INTERFACES];    /* the way: interfaces; only `collect` and `status` may have several, */
     int interface_count;
     const char *address, *path;                 /* an address, with one of these or none, or a Unix socket */
+    const char *own_socket;                     /* the Unix socket of a clock on this host, asked beside the interfaces of a site, or NULL */
     bool is_six, is_ethernet;                   /* at an interface IPv6, or IEEE 802.3, instead of IPv4 */
     bool is_any_source;                         /* over UDP also what comes from addresses that are not on the link */
     const char *numbers;                        /* the file that keeps the session, or NULL */

@@ -2,6 +2,7 @@
 #include "transport.h"
 #include "ethernet.h"
 #include "general_port.h"
+#include "message_places.h"
 #include "monotonic.h"
 #include "netlink.h"
 #include "notices.h"
@@ -32,13 +33,15 @@ static struct sockaddr_storage clock_address;
 static socklen_t clock_size;
 static struct end ends[MOST_INTERFACES];
 static size_t end_count;
+static struct end own_clock = { .socket = -1, .asking = -1, .events = -1 };        /* a Unix socket to ask the one on this host */
+static struct sockaddr_un own_clock_address = { .sun_family = AF_UNIX };
 static int copies = -1;         /* of what comes by unicast to UDP port 320 of this host; -1 if the program may hear none */
 /* What the transport is called in a notice. */
 static char name[MOST_INTERFACES * (IFNAMSIZ + 2) + sizeof ((struct sockaddr_un *)0)->sun_path];
 static bool is_six, is_ethernet, is_any_source;
 static bool is_to_one;          /* messages go to one address, and not to a group */
 
-enum { MOST_DATAGRAM = 65536, ROOM_FOR_MANY = 4 << 20, SOCKETS_OF_END = 3, MOST_WAITS = SOCKETS_OF_END * MOST_INTERFACES + 1 };
+enum { MOST_DATAGRAM = 65536, ROOM_FOR_MANY = 4 << 20, SOCKETS_OF_END = 3, MOST_WAITS = SOCKETS_OF_END * MOST_INTERFACES + 2 };
 
 const char *transport_name(void) { return name; }
 
@@ -188,18 +191,34 @@ void tell_missing_addresses(void) {
     }
 }
 
-static void open_beside(const char *path) {
+/* A socket beside the one at a path, from which that one is asked. */
+static int open_beside(const char *path) {
     char own_path[sizeof ((struct sockaddr_un *)0)->sun_path + 32];
     int size = snprintf(own_path, sizeof own_path, "%s.%ld", path, (long)getpid());
     if ((size_t)size >= sizeof ((struct sockaddr_un *)0)->sun_path) refuse("--unix %s: the path is too long", path);
-    ends[0].socket = open_unix(own_path);
-    ends[0].asking = ends[0].events = -1;
+    return open_unix(own_path);
+}
+
+static bool is_answered_at(const struct sockaddr_un *address) {
+    int probe = socket(AF_UNIX, SOCK_DGRAM | SOCK_CLOEXEC, 0);
+    bool is_there = probe >= 0 && connect(probe, (const struct sockaddr *)address, sizeof *address) == 0;
+    if (probe >= 0) close(probe);
+    return is_there;
+}
+
+bool ask_own_clock(const char *path) {
+    if (own_clock.socket >= 0 || strlen(path) >= sizeof own_clock_address.sun_path) return false;
+    strcpy(own_clock_address.sun_path, path);
+    if (!is_answered_at(&own_clock_address)) return false;
+    own_clock.socket = open_beside(path);
+    return true;
 }
 
 void open_transport(const struct task *task) {
-    if (task->path != NULL) open_beside(task->path);
+    if (task->path != NULL) ends[0] = (struct end){ .socket = open_beside(task->path), .asking = -1, .events = -1 };
     for (size_t i = 0; i < end_count && task->path == NULL; i++) open_at_interface(&ends[i]);
     if (task->path == NULL && !is_ethernet) copies = open_copies(is_six);
+    if (task->own_socket != NULL && !ask_own_clock(task->own_socket)) refuse("nothing was sent: %s: no clock is there", task->own_socket);
 }
 
 static void widen(int socket) {
@@ -279,6 +298,25 @@ static ssize_t send_datagram(const struct end *end, const uint8_t *octets, size_
     return sendmsg(end->asking >= 0 ? end->asking : end->socket, &head, MSG_DONTWAIT);
 }
 
+/* A clock of this host may have the identity of the one who asks, and heeds no message of its own. So clock 0 asks it. */
+static const uint8_t nobody[8];
+static uint8_t asker[8];
+
+static void send_to_own_clock(const uint8_t *octets, size_t size) {
+    static uint8_t message[MOST_DATAGRAM];
+    if (size < SOURCE_PORT_AT || size > sizeof message) return;
+    memcpy(asker, octets + SOURCE_AT, sizeof asker);
+    memcpy(message, octets, size);
+    memcpy(message + SOURCE_AT, nobody, sizeof nobody);
+    sendto(own_clock.socket, message, size, MSG_DONTWAIT, (struct sockaddr *)&own_clock_address, sizeof own_clock_address);
+}
+
+/* Its answer goes to the one who asks. */
+static void address_to_asker(uint8_t *message, size_t size) {
+    bool is_to_nobody = size >= STARTING_HOPS_AT && memcmp(message + TARGET_AT, nobody, sizeof nobody) == 0;
+    if (is_to_nobody) memcpy(message + TARGET_AT, asker, sizeof asker);
+}
+
 enum sending send_message(const uint8_t *octets, size_t size) {
     enum sending sending = NO_TRANSPORT;
     for (size_t i = 0; i < end_count; i++) {
@@ -286,6 +324,7 @@ enum sending send_message(const uint8_t *octets, size_t size) {
         if (ends[i].has_sent) sending = OUT;
         else if (sending == NO_TRANSPORT && (errno == EAGAIN || errno == EWOULDBLOCK || errno == ENOBUFS)) sending = NO_ROOM;
     }
+    if (own_clock.socket >= 0 && sending == OUT) send_to_own_clock(octets, size);
     return sending;
 }
 
@@ -303,17 +342,19 @@ struct arrival { int socket; const struct end *end; };
 static bool next_arrival(struct arrival *arrival, int64_t wait) {
     static size_t latest;
     struct pollfd waits[MOST_WAITS];
-    size_t count = SOCKETS_OF_END * end_count + 1;
+    size_t count = SOCKETS_OF_END * end_count + 2;
     for (size_t i = 0; i < end_count; i++) {
         waits[SOCKETS_OF_END * i] = (struct pollfd){ ends[i].socket, POLLIN, 0 };
         waits[SOCKETS_OF_END * i + 1] = (struct pollfd){ ends[i].asking, POLLIN, 0 };
         waits[SOCKETS_OF_END * i + 2] = (struct pollfd){ ends[i].events, POLLIN, 0 };
     }
+    waits[count - 2] = (struct pollfd){ own_clock.socket, POLLIN, 0 };
     waits[count - 1] = (struct pollfd){ copies, POLLIN, 0 };
     if (wait_for(waits, count, wait) <= 0) return false;
     do latest = (latest + 1) % count;
     while (waits[latest].revents == 0);
-    *arrival = (struct arrival){ waits[latest].fd, latest == count - 1 ? NULL : &ends[latest / SOCKETS_OF_END] };
+    const struct end *end = latest == count - 1 ? NULL : latest == count - 2 ? &own_clock : &ends[latest / SOCKETS_OF_END];
+    *arrival = (struct arrival){ waits[latest].fd, end };
     return true;
 }
 
@@ -431,9 +472,10 @@ static const uint8_t *message_of(const struct arrival *arrival, const uint8_t *o
         size_t place = message_in_copy(octets, size, sender);
         return place == 0 ? NULL : octets + place;
     }
-    size_t place = is_ethernet ? message_in(octets, found, arrival->end->station) : 0;
+    bool is_frame = is_ethernet && end->interface != NULL;
+    size_t place = is_frame ? message_in(octets, found, end->station) : 0;
     *size -= place;
-    return is_ethernet && place == 0 ? NULL : octets + place;
+    return is_frame && place == 0 ? NULL : octets + place;
 }
 
 const uint8_t *receive_message(size_t *size, int64_t end) {
@@ -442,6 +484,7 @@ const uint8_t *receive_message(size_t *size, int64_t end) {
         struct arrival arrival;
         struct place from;
         ssize_t found = next_arrival(&arrival, left) ? receive_from(arrival.socket, datagram, sizeof datagram, &from) : -1;
+        if (found > 0 && arrival.end == &own_clock) address_to_asker(datagram, (size_t)found);
         const uint8_t *message = found < 0 ? NULL : message_of(&arrival, datagram, (size_t)found, &from, size);
         if (message != NULL) return message;
     }

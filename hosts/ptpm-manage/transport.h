@@ -17,6 +17,9 @@ void find_transport(struct task *task);
 /* Opens it. Ends the program with status 2 if it can't be opened. */
 void open_transport(const struct task *task);
 
+/* Asks a clock of this host too, from now on, on its Unix socket. Whether it can. */
+bool ask_own_clock(const char *path);
+
 /* Gives its socket room for the answers of many clocks, 4 MiB as far as the system allows. */
 void widen_transport(void);
 
