@@ -4,6 +4,7 @@
 #include "asking.h"
 #include "collect.h"
 #include "message_places.h"
+#include "monotonic.h"
 #include "notices.h"
 #include "output_file.h"
 #include "ptpm_program.h"
@@ -26,14 +27,20 @@
 /* The socket of a ptp4l whose configuration names no other. */
 #define OWN_CLOCK "/var/run/ptp4l"
 
-/* A change has gone through a site by then. */
-enum { BEFORE_SECOND_LOOK = 2000, TIME_TEXT = 32 };
+/* A change has gone through a site by then. What is open is looked at again as often, and as long as this. */
+enum { BEFORE_SECOND_LOOK = 2000, MOST_OPEN = 30000, TIME_TEXT = 32 };
+
+/* So much is kept of looks while something is open. */
+enum { MOST_KEPT_LINES = 64 << 20 };
 
 /* `ptpm site` found something, or failed, or it lacks the answers. */
 enum { FINDINGS = 1 };
 
-/* The places of the domain and of the clock in a line of hexadecimal. */
-enum { DOMAIN_IN_LINE = 2 * DOMAIN_AT, CLOCK_IN_LINE = 2 * SOURCE_AT, LEAST_LINE = 2 * SOURCE_PORT_AT };
+/* Places in a line of hexadecimal. */
+enum {
+    DOMAIN_IN_LINE = 2 * DOMAIN_AT, CLOCK_IN_LINE = 2 * SOURCE_AT, LEAST_LINE = 2 * TLV_AT,
+    TYPE_IN_LINE = 2 * TYPE_AT + 1, ACTION_IN_LINE = 2 * ACTION_AT + 1,
+};
 
 /* A look at the site: the answers as lines, and what they show. */
 struct look {
@@ -61,22 +68,23 @@ static const char *message_in_line(const char *line, size_t *size) {
     return space + 1;
 }
 
-/* Whether the clock that gave a line answered this time too. */
-static bool is_of_seen_clock(const char *line, size_t size) {
+/* Whether a line is a request, or of a clock that answered this time too. */
+static bool is_kept_line(const char *line, size_t size) {
     uint8_t domain, clock[8];
     line = message_in_line(line, &size);
     const char *domain_text = line + DOMAIN_IN_LINE, *clock_text = line + CLOCK_IN_LINE;
     if (size < LEAST_LINE) return false;
+    if (line[TYPE_IN_LINE] == 'd' && line[ACTION_IN_LINE] == '0') return true;
     return read_octets(&domain_text, &domain, 1) == 1 && read_octets(&clock_text, clock, 8) == 8 && is_seen(domain, clock);
 }
 
-/* Keeps only those lines of a look whose clocks answered this time. */
+/* Keeps only the requests of a look, and those lines whose clocks answered this time. */
 static void leave_seen(struct look *look) {
     size_t left = 0;
     for (size_t at = 0, next; at < look->size; at = next) {
         const char *end = memchr(look->lines + at, '\n', look->size - at);
         next = end == NULL ? look->size : (size_t)(end - look->lines) + 1;
-        if (!is_of_seen_clock(look->lines + at, next - at)) continue;
+        if (!is_kept_line(look->lines + at, next - at)) continue;
         memmove(look->lines + left, look->lines + at, next - at);
         left += next - at;
     }
@@ -153,6 +161,37 @@ static void look_twice(struct look *look, const struct task *task, struct domain
     if (second.status == FINDINGS && second.report.has_findings && findings_left(&second.report) == 0) second.status = 0;
     free_look(look);
     *look = second;
+}
+
+/* Puts the lines of an earlier look before those of this one, if there is room for both. */
+static void join_lines(struct look *look, const struct look *earlier) {
+    size_t size = earlier->size + look->size;
+    char *lines = size <= MOST_KEPT_LINES ? malloc(size + 1) : NULL;
+    if (lines == NULL) return;
+    memcpy(lines, earlier->lines, earlier->size);
+    memcpy(lines + earlier->size, look->lines, look->size);
+    free(look->lines);
+    look->lines = lines;
+    look->size = size;
+}
+
+/* Looks at the site, and then again and again while something is open that time decides, over the lines of all these looks. */
+static void look_until_decided(struct look *look, const struct task *task, struct domains *domains) {
+    int64_t end = milliseconds() + MOST_OPEN;
+    look_twice(look, task, domains, NULL);
+    while (!stopped && !task->site.is_once && has_open(&look->report) && milliseconds() < end) {
+        struct look next;
+        show_progress("something is open; another look in %d s", BEFORE_SECOND_LOOK / 1000);
+        listen_for_domains(domains, task, BEFORE_SECOND_LOOK);
+        if (stopped) return;
+        look_at_site(&next, task, domains, look);
+        leave_out_passing(&next.report, &look->report);
+        if (look->size > 0) join_lines(&next, look);
+        free_look(look);
+        *look = next;
+    }
+    leave_out_changes(&look->report);
+    if (look->status == FINDINGS && look->report.has_findings && findings_left(&look->report) == 0) look->status = 0;
 }
 
 /* Whether colour is wanted: on a terminal, unless the environment says that it is not. */
@@ -269,6 +308,7 @@ static int watch(struct look *earlier, const struct task *task, struct domains *
         }
         print_difference(&look, earlier, task);
         keep_clocks();
+        if (has_open(&look.report) && earlier->size > 0) join_lines(&look, earlier);
         free_look(earlier);
         *earlier = look;
     }
@@ -282,7 +322,7 @@ int show_status(const struct task *task) {
     if (task->site.output != NULL) find_output_file(task->site.output);
     widen_transport();
     find_domains(&domains, task);
-    look_twice(&look, task, &domains, NULL);
+    look_until_decided(&look, task, &domains);
     int status = stopped ? BY_SIGNAL + stopped : print_look(&look, task);
     if (!stopped && task->site.watch > 0 && status != NOT_ASKED) status = watch(&look, task, &domains);
     free_look(&look);

@@ -78,6 +78,7 @@ static const char help_text[] =
     "                          limit\n"
     "      --max-delay NS      delays above this limit too\n"
     "      --tai-utc S         how many seconds TAI is before UTC (37)\n"
+    "      --settle SECONDS    a port that is not locked, or in no lasting state, is a finding after this (10)\n"
     "      --draw              status as an SVG file\n"
     "      --html              status as a page in HTML\n"
     "      --openmetrics       status as numbers for Prometheus\n"
@@ -146,7 +147,7 @@ static _Noreturn void version(void) {
 enum { WORD = 1, UDP = 256, TEXT, VERSION, GIVE_UP, JSON, ANY_SOURCE, NAMES, EXPECT };
 
 /* The same, only for `collect` and `status`. */
-enum site_option { LISTEN = 512, DRAW, HTML, OPENMETRICS, NAGIOS, OUTPUT, MAX_OFFSET, MAX_DELAY, TAI_UTC, ONCE, WATCH };
+enum site_option { LISTEN = 512, DRAW, HTML, OPENMETRICS, NAGIOS, OUTPUT, MAX_OFFSET, MAX_DELAY, TAI_UTC, SETTLE, ONCE, WATCH };
 
 enum { MOST_WORDS = 2 + MOST_FIELD_WORDS, MOST_FIELD = 1418, NOT_NAMED = -1 };
 
@@ -171,6 +172,7 @@ static const struct option options[] = {
     { "openmetrics", no_argument, NULL, OPENMETRICS }, { "nagios", no_argument, NULL, NAGIOS },
     { "output", required_argument, NULL, OUTPUT }, { "max-offset", required_argument, NULL, MAX_OFFSET },
     { "max-delay", required_argument, NULL, MAX_DELAY }, { "tai-utc", required_argument, NULL, TAI_UTC },
+    { "settle", required_argument, NULL, SETTLE },
     { "once", no_argument, NULL, ONCE }, { "watch", required_argument, NULL, WATCH },
     { "hexadecimal", no_argument, NULL, 'x' }, { "text", no_argument, NULL, TEXT }, { "quiet", no_argument, NULL, 'q' },
     { "help", no_argument, NULL, 'h' }, { "version", no_argument, NULL, VERSION },
@@ -210,6 +212,12 @@ static const char *tai_utc(const char *option, const char *text) {
     return text;
 }
 
+/* How many seconds a port may take to lock, which goes there too. */
+static const char *settle(const char *option, const char *text) {
+    if (decimal(text, MOST_SECONDS) < 0) refuse("%s %s: it takes a number of seconds from 0 to %d", option, text, MOST_SECONDS);
+    return text;
+}
+
 /* A site is shown in one form. */
 static void take_form(struct site_options *site, enum shown_as form) {
     if (site->form != AS_TEXT && site->form != form) refuse("--draw, --html, --openmetrics and --nagios exclude each other");
@@ -219,7 +227,8 @@ static void take_form(struct site_options *site, enum shown_as form) {
 /* Takes an option of `collect` and `status`; whether it is one of these. */
 static bool take_site_option(struct site_options *site, int option, const char *value) {
     static const char *const names[] = {
-        "--listen", "--draw", "--html", "--openmetrics", "--nagios", "--output", "--max-offset", "--max-delay", "--tai-utc", "--once", "--watch",
+        "--listen", "--draw", "--html", "--openmetrics", "--nagios", "--output", "--max-offset", "--max-delay", "--tai-utc",
+        "--settle", "--once", "--watch",
     };
     if (option < LISTEN || option > WATCH) return false;
     const char *name = names[option - LISTEN];
@@ -229,6 +238,7 @@ static bool take_site_option(struct site_options *site, int option, const char *
     case MAX_OFFSET: site->max_offset = limit(name, value, true); break;
     case MAX_DELAY: site->max_delay = limit(name, value, false); break;
     case TAI_UTC: site->tai_utc = tai_utc(name, value); break;
+    case SETTLE: site->settle = settle(name, value); break;
     case DRAW: take_form(site, AS_DRAWING); break;
     case HTML: take_form(site, AS_PAGE); break;
     case OPENMETRICS: take_form(site, AS_NUMBERS); break;
