@@ -58,6 +58,8 @@ static long sent;                       /* messages that went out */
 static int64_t latest;                  /* when an answer came that is no copy */
 static size_t let_go;                   /* clocks that are asked no more */
 static bool has_no_transport;
+static const struct seen_clock *expected;
+static size_t expected_count;
 
 /* What is asked for a plan is read by nobody who wants to know what else was heard. */
 static bool is_site(void) { return collected == &of_site; }
@@ -257,21 +259,31 @@ static const struct request *unanswered_by(uint8_t domain, const uint8_t clock[8
     return is_seen(domain, clock) || is_own(clock) ? NULL : request_of(domain, 0);
 }
 
-/* Asks each clock of these domains that was heard and has not answered for the first id; how many these are. If one answers, it lacks
-   the others. */
-static size_t ask_heard(bool is_written) {
+void expect_clocks(const struct seen_clock *clocks, size_t count) {
+    expected = clocks;
+    expected_count = count;
+}
+
+/* Asks a clock for the first id, if it has not answered; whether it was asked. If it answers, it lacks the others. */
+static bool ask_silent(uint8_t domain, const uint8_t clock[8], bool is_written) {
+    const struct request *request = unanswered_by(domain, clock);
+    return request != NULL && ask_alone(request, clock, is_written);
+}
+
+/* Asks each clock of these domains that was heard or is expected and has not answered; how many these are. */
+static size_t ask_absent(bool is_written) {
     size_t count = 0;
     uint8_t domain;
     const uint8_t *before = NULL;
-    for (size_t i = 0, size = 0; !stopped; i++) {
-        const uint8_t *clock = heard_clock(i, &domain);
-        if (clock == NULL) break;
-        const struct request *request = unanswered_by(domain, clock);
+    size_t place = 0;
+    for (const uint8_t *clock; !stopped && (clock = heard_clock(place, &domain)) != NULL; place++) {
         bool is_again = before != NULL && memcmp(before, clock, 8) == 0;
+        count += !is_again && ask_silent(domain, clock, is_written);
         before = clock;
-        if (request == NULL || is_again || !ask_alone(request, clock, is_written)) continue;
-        count++;
-        if (++size % BURST == 0) hear_until(milliseconds() + STEP);
+    }
+    for (size_t i = 0; i < expected_count && !stopped; i++) {
+        count += ask_silent(expected[i].domain, expected[i].identity, is_written);
+        if (count % BURST == BURST - 1) hear_until(milliseconds() + STEP);
     }
     return count;
 }
@@ -289,7 +301,7 @@ static bool ask_in(const struct task *task, const uint8_t *domains, size_t count
     ask_every();
     hear_until_quiet(task);
     for (int round = 1; round <= task->settings.attempts && !stopped && !has_no_transport; round++) {
-        size_t lacks = count_lacking() + ask_heard(round == 1);
+        size_t lacks = count_lacking() + ask_absent(round == 1);
         if (lacks == 0) break;
         show_progress("%zu clocks so far; attempt %d for %zu answers that are missing", seen_count(), round, lacks);
         ask_lacking(round == 1);

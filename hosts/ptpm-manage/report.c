@@ -10,7 +10,7 @@
 /* Findings that a change may make for a moment. The answers of a clock are not of one time, and a change goes from clock to
    clock. */
 static const char *const passing[] = {
-    "mute", "two_grandmasters", "no_master", "grandmaster_not_seen", "parent_not_seen", "parent_not_master", "steps",
+    "gone", "mute", "two_grandmasters", "no_master", "grandmaster_not_seen", "parent_not_seen", "parent_not_master", "steps",
     "grandmaster_differs", "loop", "off_by_utc", "offset", "delay", "utc", "gm_holdover", "gm_degraded", "gm_free_running", "not_traceable", "utc_invalid",
     "utc_offset", "better_clock", "identity_twice",
 };
@@ -323,7 +323,20 @@ void print_report_text(FILE *to, const struct report *report, bool is_coloured) 
     print_piece(to, report, &report->tail);
 }
 
+/* A new grandmaster is a line of its own: the domain, `grandmaster`, and the words after the finding's name. */
+static void print_grandmaster(FILE *to, const char *lead, const struct finding *finding, const char *colour) {
+    const struct piece *name = &finding->key[NAME_PART], *domain = &finding->key[DOMAIN_PART];
+    const char *words = name->at + name->size;
+    fprintf(to, "%s%s= %.*s grandmaster", lead, colour == NULL ? "" : colour, (int)domain->size, domain->at);
+    print_lines(to, words, (size_t)(finding->whole.at + finding->whole.size - words));
+    fprintf(to, "%s\n", colour == NULL ? "" : plain);
+}
+
 static void print_change(FILE *to, const char *lead, char sign, const struct finding *finding, const char *colour) {
+    if (is_piece(&finding->key[NAME_PART], "grandmaster_changed")) {
+        print_grandmaster(to, lead, finding, colour);
+        return;
+    }
     fprintf(to, "%s%s%c ", lead, colour == NULL ? "" : colour, sign);
     print_lines(to, finding->whole.at, finding->whole.size);
     fprintf(to, "%s\n", colour == NULL ? "" : plain);

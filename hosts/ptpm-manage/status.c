@@ -68,23 +68,22 @@ static const char *message_in_line(const char *line, size_t *size) {
     return space + 1;
 }
 
-/* Whether a line is a request, or of a clock that answered this time too. */
-static bool is_kept_line(const char *line, size_t size) {
+/* Whether a line is the answer of a clock that did not answer in the latest look. */
+static bool is_of_absent_clock(const char *line, size_t size) {
     uint8_t domain, clock[8];
     line = message_in_line(line, &size);
     const char *domain_text = line + DOMAIN_IN_LINE, *clock_text = line + CLOCK_IN_LINE;
-    if (size < LEAST_LINE) return false;
-    if (line[TYPE_IN_LINE] == 'd' && line[ACTION_IN_LINE] == '0') return true;
-    return read_octets(&domain_text, &domain, 1) == 1 && read_octets(&clock_text, clock, 8) == 8 && is_seen(domain, clock);
+    if (size < LEAST_LINE || line[TYPE_IN_LINE] != 'd' || line[ACTION_IN_LINE] == '0') return false;
+    return read_octets(&domain_text, &domain, 1) == 1 && read_octets(&clock_text, clock, 8) == 8 && !is_seen(domain, clock);
 }
 
-/* Keeps only the requests of a look, and those lines whose clocks answered this time. */
-static void leave_seen(struct look *look) {
+/* Keeps only those answers of an earlier look whose clocks did not answer in the latest one. So they stay gone until they do. */
+static void leave_absent(struct look *look) {
     size_t left = 0;
     for (size_t at = 0, next; at < look->size; at = next) {
         const char *end = memchr(look->lines + at, '\n', look->size - at);
         next = end == NULL ? look->size : (size_t)(end - look->lines) + 1;
-        if (!is_kept_line(look->lines + at, next - at)) continue;
+        if (!is_of_absent_clock(look->lines + at, next - at)) continue;
         memmove(look->lines + left, look->lines + at, next - at);
         left += next - at;
     }
@@ -120,7 +119,6 @@ static int look_once(struct look *look, const struct task *task, const struct do
         return look->status = FINDINGS;
     }
     if (look->status != ANSWERED && look->status != NOT_ANSWERED) return look->status;
-    if (earlier != NULL && earlier->size > 0) leave_seen(earlier);
     struct piece parts[2] = {
         { earlier == NULL ? NULL : earlier->lines, earlier == NULL ? 0 : earlier->size }, { look->lines, look->size },
     };
@@ -251,14 +249,9 @@ static bool was_seen(const struct seen_clock *clock) {
     return false;
 }
 
-/* Prints which clocks came and which went since the look before. */
+/* Prints which clocks came since the look before. Those that went have a finding. */
 static void print_clocks(const char *lead) {
     char clock[IDENTITY_TEXT];
-    for (size_t i = 0; i < count_before; i++) {
-        if (is_seen(clocks_before[i].domain, clocks_before[i].identity)) continue;
-        write_identity(clock, clocks_before[i].identity);
-        printf("%s- %u %s answers no more\n", lead, clocks_before[i].domain, clock);
-    }
     for (size_t i = 0; i < seen_count(); i++) {
         if (was_seen(seen_clock(i))) continue;
         write_identity(clock, seen_clock(i)->identity);
@@ -269,6 +262,7 @@ static void print_clocks(const char *lead) {
 static void keep_clocks(void) {
     count_before = seen_count();
     for (size_t i = 0; i < count_before; i++) clocks_before[i] = *seen_clock(i);
+    expect_clocks(clocks_before, count_before);
 }
 
 /* What differs from the look before, each line after the time. */
@@ -308,7 +302,8 @@ static int watch(struct look *earlier, const struct task *task, struct domains *
         }
         print_difference(&look, earlier, task);
         keep_clocks();
-        if (has_open(&look.report) && earlier->size > 0) join_lines(&look, earlier);
+        if (!has_open(&look.report) || earlier->size > MOST_KEPT_LINES / 2) leave_absent(earlier);
+        if (earlier->size > 0) join_lines(&look, earlier);
         free_look(earlier);
         *earlier = look;
     }
