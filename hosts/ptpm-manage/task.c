@@ -81,6 +81,7 @@ static const char site_text[] =
     "                          limit\n"
     "      --max-delay NS      delays above this limit too\n"
     "      --tai-utc S         how many seconds TAI is before UTC (37)\n"
+    "      --settle SECONDS    a port that is not locked, or in no lasting state, is a finding after this (10)\n"
     "      --draw              status as an SVG file\n"
     "      --html              status as a page in HTML\n"
     "      --openmetrics       status as numbers for Prometheus\n"
@@ -150,7 +151,7 @@ static _Noreturn void version(void) {
 enum { WORD = 1, UDP = 256, TEXT, VERSION, GIVE_UP, JSON, ANY_SOURCE, NAMES, EXPECT, PROBE };
 
 /* The same, only for `collect` and `status`. */
-enum site_option { LISTEN = 512, DRAW, HTML, OPENMETRICS, NAGIOS, OUTPUT, MAX_OFFSET, MAX_DELAY, TAI_UTC, ONCE, WATCH };
+enum site_option { LISTEN = 512, DRAW, HTML, OPENMETRICS, NAGIOS, OUTPUT, MAX_OFFSET, MAX_DELAY, TAI_UTC, SETTLE, ONCE, WATCH };
 
 enum { MOST_WORDS = 2 + MOST_FIELD_WORDS, MOST_FIELD = 1418, NOT_NAMED = -1 };
 
@@ -175,6 +176,7 @@ static const struct option options[] = {
     { "openmetrics", no_argument, NULL, OPENMETRICS }, { "nagios", no_argument, NULL, NAGIOS },
     { "output", required_argument, NULL, OUTPUT }, { "max-offset", required_argument, NULL, MAX_OFFSET },
     { "max-delay", required_argument, NULL, MAX_DELAY }, { "tai-utc", required_argument, NULL, TAI_UTC },
+    { "settle", required_argument, NULL, SETTLE },
     { "once", no_argument, NULL, ONCE }, { "watch", required_argument, NULL, WATCH },
     { "hexadecimal", no_argument, NULL, 'x' }, { "text", no_argument, NULL, TEXT }, { "quiet", no_argument, NULL, 'q' },
     { "help", no_argument, NULL, 'h' }, { "version", no_argument, NULL, VERSION },
@@ -214,6 +216,12 @@ static const char *tai_utc(const char *option, const char *text) {
     return text;
 }
 
+/* How many seconds a port may take to lock, which goes there too. */
+static const char *settle(const char *option, const char *text) {
+    if (decimal(text, MOST_SECONDS) < 0) refuse("%s %s: it takes a number of seconds from 0 to %d", option, text, MOST_SECONDS);
+    return text;
+}
+
 /* A site is shown in one form. */
 static void take_form(struct site_options *site, enum shown_as form) {
     if (site->form != AS_TEXT && site->form != form) refuse("--draw, --html, --openmetrics and --nagios exclude each other");
@@ -223,7 +231,8 @@ static void take_form(struct site_options *site, enum shown_as form) {
 /* Takes an option of `collect` and `status`; whether it is one of these. */
 static bool take_site_option(struct site_options *site, int option, const char *value) {
     static const char *const names[] = {
-        "--listen", "--draw", "--html", "--openmetrics", "--nagios", "--output", "--max-offset", "--max-delay", "--tai-utc", "--once", "--watch",
+        "--listen", "--draw", "--html", "--openmetrics", "--nagios", "--output", "--max-offset", "--max-delay", "--tai-utc",
+        "--settle", "--once", "--watch",
     };
     if (option < LISTEN || option > WATCH) return false;
     const char *name = names[option - LISTEN];
@@ -233,6 +242,7 @@ static bool take_site_option(struct site_options *site, int option, const char *
     case MAX_OFFSET: site->max_offset = limit(name, value, true); break;
     case MAX_DELAY: site->max_delay = limit(name, value, false); break;
     case TAI_UTC: site->tai_utc = tai_utc(name, value); break;
+    case SETTLE: site->settle = settle(name, value); break;
     case DRAW: take_form(site, AS_DRAWING); break;
     case HTML: take_form(site, AS_PAGE); break;
     case OPENMETRICS: take_form(site, AS_NUMBERS); break;
@@ -449,6 +459,13 @@ static void read_value(struct task *task, const struct words *words) {
     else read_octets_of(task, value[0]);
 }
 
+/* A site is asked at interfaces, and at the socket of this host's own clock, which isn't heard there. */
+static void part_own_socket(struct task *task) {
+    if (!task->site.is_collected || task->path == NULL || task->interface_count == 0) return;
+    task->own_socket = task->path;
+    task->path = NULL;
+}
+
 /* Whether what is said about the clock and the way to it is complete, and said once. */
 static void judge(const struct task *task, const struct words *words) {
     if (task->path == NULL && task->interface_count == 0 && task->address == NULL) {
@@ -526,6 +543,7 @@ static void read_reach(struct task *task, const struct words *words) {
     if (words->domain != NULL && is_site) read_domains(&task->site, words->domain);
     else if (words->domain != NULL) settings->domain = (uint8_t)number("domain", words->domain, 0, 255);
     bool is_far = is_site || task->plan.verb != NO_PLAN;
+    task->site.is_as_far_as_named = words->hops >= 0;
     settings->hops = (uint8_t)(words->hops >= 0 ? words->hops : is_far ? SITE_HOPS : HOPS);
     settings->attempts = (uint8_t)(words->attempts >= 0 ? words->attempts : is_site ? SITE_ATTEMPTS : ATTEMPTS);
     if (is_site || task->interface_count < 2) return;
@@ -550,6 +568,7 @@ void read_task(struct task *task, int argc, char **argv) {
     read_every_port(task, &words);
     read_asked(task, &words);
     read_reach(task, &words);
+    part_own_socket(task);
     judge(task, &words);
     judge_site_options(&task->site);
     judge_json(task);
