@@ -15,8 +15,8 @@ static const char *const passing[] = {
     "utc_offset", "better_clock", "identity_twice",
 };
 
-/* A finding that reports a change, and so goes by itself; and those whose values are other ones each time. */
-static const char changed[] = "changed";
+/* Findings that report a change, and so are there for one look; and those whose values are other ones each time. */
+static const char *const changes[] = { "changed", "grandmaster_changed" };
 static const char *const moving[] = { "not_locked", "off_by_utc", "offset", "delay" };
 
 static const char red[] = "\033[31m", green[] = "\033[32m", plain[] = "\033[0m";
@@ -40,6 +40,8 @@ static bool has_two_offsets(const struct finding *finding) {
     const char *name = finding->key[NAME_PART].at, *end = finding->whole.at + finding->whole.size;
     return (size_t)(end - name) >= sizeof words - 1 && memcmp(name, words, sizeof words - 1) == 0;
 }
+
+static bool is_change(const struct finding *finding) { return is_one_of(finding, changes, sizeof changes / sizeof *changes); }
 
 static bool is_moving(const struct finding *finding) {
     return is_one_of(finding, moving, sizeof moving / sizeof *moving) || has_two_offsets(finding);
@@ -287,7 +289,7 @@ static void print_lacking(FILE *to, const char *lead, char sign, const struct re
     for (size_t i = 0; i < report->count; i++) {
         const struct finding *finding = &report->findings[i];
         const struct sorted *same = is_moving(finding) ? &kinds : &texts;
-        bool is_in_other = is_piece(&finding->key[NAME_PART], changed) ? sign == '-' : has_finding(same, finding);
+        bool is_in_other = is_change(finding) ? sign == '-' : has_finding(same, finding);
         if (!finding->is_left_out && !is_in_other) print_change(to, lead, sign, finding, colour);
     }
     free(kinds.at);

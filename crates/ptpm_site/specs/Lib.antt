@@ -10,6 +10,7 @@ pub mod Evidence
 pub mod Findings
 pub mod Following
 pub mod Forest
+pub mod GrandmasterChanges
 pub mod Grandmasters
 pub mod Growing
 pub mod Heard

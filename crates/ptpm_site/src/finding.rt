@@ -7,6 +7,7 @@ use crate::announcing::Seldom;
 use crate::changes::Change;
 use crate::completeness::Missing;
 use crate::differences::Differs;
+use crate::grandmaster_changes::GrandmasterChange;
 use crate::grandmasters::Masterless;
 use crate::leading::{Better, Degradation, Degraded, Leap, Untraceable, WrongOffset};
 use crate::parents::{NoMaster, Steps};
@@ -82,6 +83,8 @@ pub enum What<'a> {
     Incomplete(Missing),
     /// It was reached by the last of this many boundary hops, and has two ports or more.
     OutOfReach(u8),
+    /// Clocks went from one grandmaster to another.
+    GrandmasterChanged(GrandmasterChange),
     /// Answers to two requests differ.
     Changed(Option<u16>, Change<'a>),
     /// Answers to one request differ.
@@ -119,6 +122,7 @@ impl What<'_> {
             What::BetterClock(_) => "better_clock",
             What::Incomplete(_) => "incomplete",
             What::OutOfReach(_) => "out_of_reach",
+            What::GrandmasterChanged(_) => "grandmaster_changed",
             What::Changed(..) => "changed",
             What::IdentityTwice(..) | What::TwoOffsets(_) => "identity_twice",
         }

@@ -18,6 +18,7 @@ pub mod evidence;
 pub mod finding;
 mod following;
 pub mod forest;
+pub mod grandmaster_changes;
 pub mod grandmasters;
 pub mod heard;
 pub mod judging;
