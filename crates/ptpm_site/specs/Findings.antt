@@ -29,6 +29,7 @@ use Rattle.ptpm_site.specs.Changes.{MemberChange, contradiction, member_change}
 use Rattle.ptpm_site.specs.Completeness.{lacking}
 use Rattle.ptpm_site.specs.Differences.{grandmaster_differs, mechanism_differs, other_grandmaster, utc_differs, what_differs}
 use Rattle.ptpm_site.specs.Following.{beside, followed, is_own_grandmaster}
+use Rattle.ptpm_site.specs.Gone.{is_gone}
 use Rattle.ptpm_site.specs.GrandmasterChanges.{grandmaster_changes}
 use Rattle.ptpm_site.specs.Grandmasters.{is_one_of_two, leads, masterless_reason, unseen_grandmaster}
 use Rattle.ptpm_site.specs.Leading.{better_clock, without_source, invalid_offset, announced_leap, not_traceable, wrong_offset}
@@ -282,8 +283,15 @@ found_of site limits s =
 unfoldable pub unseen_reported : SiteAnswers → Source → List Said
 unseen_reported site s = option_to_list (option_map (λ why. said s (says (what.Unseen why))) (unseen site s))
 
+-- it answered before
+unfoldable pub gone_reported : SiteAnswers → Source → List Said
+gone_reported site s = if is_gone site.heard s then said s (says what.Gone) ∷ [] else []
+
+abbrev pub absent_reported : SiteAnswers → Source → List Said
+absent_reported site s = gone_reported site s ++ unseen_reported site s ++ changes_reported site s
+
 abbrev pub found_at : SiteAnswers → Limits → Source → List Said
-found_at site limits s = if site.seen s then found_of site limits s else unseen_reported site s ++ changes_reported site s
+found_at site limits s = if site.seen s then found_of site limits s else absent_reported site s
 
 -- the findings of all clocks
 abbrev pub findings_of : SiteAnswers → Limits → List Said

@@ -30,6 +30,8 @@ pub struct Finding<'a> {
 /// What is wrong, in the order in which the findings of a clock are reported.
 #[derive(Drop)]
 pub enum What<'a> {
+    /// It answered, and not to the last request to all clocks.
+    Gone,
     /// It is not seen, and a clock names it or it sends by itself.
     Unseen(Absence),
     /// It is one of two or more clocks of the domain that are their own grandmasters and have a port in MASTER.
@@ -97,6 +99,7 @@ impl What<'_> {
     /// Its name, which scripts read.
     pub fn name(&self) -> &'static str {
         match self {
+            What::Gone => "gone",
             What::Unseen(unseen) => unseen.name(),
             What::TwoGrandmasters => "two_grandmasters",
             What::NoMaster(_) => "no_master",
@@ -133,7 +136,8 @@ impl What<'_> {
     /// Whether time is wrong or missing by it, or two clocks look like one. Any other finding is a warning.
     pub fn is_critical(&self) -> bool {
         match self {
-            What::TwoGrandmasters
+            What::Gone
+            | What::TwoGrandmasters
             | What::NoMaster(_)
             | What::GrandmasterNotSeen(_)
             | What::ParentNotSeen(_)

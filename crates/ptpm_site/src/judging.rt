@@ -6,7 +6,7 @@ ghost use Rattle.std.specs.List.{flat_map};
 ghost use Rattle.std.specs.List.Sorted.{IsStrictlySortedBy};
 ghost use Rattle.ptpm_site.specs.Answers.{source_cmp};
 ghost use Rattle.ptpm_site.specs.Evidence.{IsOf};
-ghost use Rattle.ptpm_site.specs.Findings.{changes_reported, findings_of, found_above, found_at, found_here, found_of, leader_found, reported, unseen_reported};
+ghost use Rattle.ptpm_site.specs.Findings.{absent_reported, findings_of, found_above, found_at, found_here, found_of, leader_found, reported};
 ghost use Rattle.ptpm_site.specs.GrandmasterChanges.{grandmaster_changes};
 ghost use Rattle.ptpm_site.specs.Grandmasters.{leading_clocks};
 ghost use Rattle.ptpm_site.specs.Loops.{AreLeast, loop_of};
@@ -24,7 +24,7 @@ use crate::judging_grandmasters::{judge_grandmaster, judge_parent};
 use crate::judging_leading::judge_leader;
 use crate::judging_loops::judge_loop;
 use crate::judging_ports::{judge_intervals, judge_locks, judge_ports};
-use crate::judging_unseen::judge_unseen;
+use crate::judging_unseen::{judge_gone, judge_unseen};
 use crate::limits::Limits;
 use crate::marks::is_marked;
 use crate::reach::Reach;
@@ -143,8 +143,9 @@ fn judge_absent(
     requires of { IsOf (site_answers site.now).heard given.now.evidence.now }
     requires changes { given.now.changes.now ≡ grandmaster_changes (site_answers site.now) }
     ensures { OnOk result (reported findings.new.items
-        ≡ reported findings.old.items ++ unseen_reported (site_answers site.now) subject ++ changes_reported (site_answers site.now) subject) }
+        ≡ reported findings.old.items ++ absent_reported (site_answers site.now) subject) }
 {
+    judge_gone(site, given.evidence, subject, findings)?;
     judge_unseen(site, given.evidence, subject, given.sources, findings)?;
     judge_changes(given.changes, subject, findings)
 }
