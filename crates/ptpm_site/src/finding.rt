@@ -7,6 +7,7 @@ use crate::announcing::Seldom;
 use crate::changes::Change;
 use crate::completeness::Missing;
 use crate::differences::Differs;
+use crate::grandmaster_changes::GrandmasterChange;
 use crate::grandmasters::Masterless;
 use crate::leading::{Better, Degradation, Degraded, Leap, Untraceable, WrongOffset};
 use crate::parents::{NoMaster, Steps};
@@ -29,6 +30,8 @@ pub struct Finding<'a> {
 /// What is wrong, in the order in which the findings of a clock are reported.
 #[derive(Drop)]
 pub enum What<'a> {
+    /// It answered, and not to the last request to all clocks.
+    Gone,
     /// It is not seen, and a clock names it or it sends by itself.
     Unseen(Absence),
     /// It is one of two or more clocks of the domain that are their own grandmasters and have a port in MASTER.
@@ -82,6 +85,8 @@ pub enum What<'a> {
     Incomplete(Missing),
     /// It was reached by the last of this many boundary hops, and has two ports or more.
     OutOfReach(u8),
+    /// Clocks went from one grandmaster to another.
+    GrandmasterChanged(GrandmasterChange),
     /// Answers to two requests differ.
     Changed(Option<u16>, Change<'a>),
     /// Answers to one request differ.
@@ -94,6 +99,7 @@ impl What<'_> {
     /// Its name, which scripts read.
     pub fn name(&self) -> &'static str {
         match self {
+            What::Gone => "gone",
             What::Unseen(unseen) => unseen.name(),
             What::TwoGrandmasters => "two_grandmasters",
             What::NoMaster(_) => "no_master",
@@ -119,6 +125,7 @@ impl What<'_> {
             What::BetterClock(_) => "better_clock",
             What::Incomplete(_) => "incomplete",
             What::OutOfReach(_) => "out_of_reach",
+            What::GrandmasterChanged(_) => "grandmaster_changed",
             What::Changed(..) => "changed",
             What::IdentityTwice(..) | What::TwoOffsets(_) => "identity_twice",
         }
@@ -129,7 +136,8 @@ impl What<'_> {
     /// Whether time is wrong or missing by it, or two clocks look like one. Any other finding is a warning.
     pub fn is_critical(&self) -> bool {
         match self {
-            What::TwoGrandmasters
+            What::Gone
+            | What::TwoGrandmasters
             | What::NoMaster(_)
             | What::GrandmasterNotSeen(_)
             | What::ParentNotSeen(_)

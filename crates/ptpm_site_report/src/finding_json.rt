@@ -8,6 +8,7 @@ use ptpm_site::changes::Change;
 use ptpm_site::completeness::Missing;
 use ptpm_site::differences::Differs;
 use ptpm_site::finding::{Finding, What};
+use ptpm_site::grandmaster_changes::GrandmasterChange;
 use ptpm_site::grandmasters::Masterless;
 use ptpm_site::heard::kind_name;
 use ptpm_site::leading::{Better, Leap, Untraceable, WrongOffset};
@@ -136,6 +137,7 @@ fn put_values(
         What::BetterClock(better) => put_better(alloc, map, better),
         What::Incomplete(missing) => put_missing(alloc, map, missing),
         What::OutOfReach(hops) => put(map, alloc, "boundaryHops", Value::from(*hops)),
+        What::GrandmasterChanged(change) => put_grandmaster_change(alloc, map, change),
         What::Changed(port, change) | What::IdentityTwice(port, change) => {
             put_change(alloc, map, *port, change)
         }
@@ -310,6 +312,16 @@ fn put_better(
         quality_value(alloc, better.quality)?,
     )?;
     put(map, alloc, "priority1", Value::from(better.priority1))
+}
+
+fn put_grandmaster_change(
+    alloc: Global,
+    map: &mut Map<String, Value>,
+    change: &GrandmasterChange,
+) -> Result<(), AllocError> {
+    put(map, alloc, "before", identity_value(alloc, change.before)?)?;
+    put(map, alloc, "after", identity_value(alloc, change.after)?)?;
+    put(map, alloc, "clocks", Value::from(change.clocks))
 }
 
 /// What the port says of its intervals, and the interval of the port that it follows, in seconds.

@@ -13,7 +13,7 @@ pub(crate) struct FindingName {
 }
 
 /// All names, in the order in which the findings of a clock are reported.
-pub(crate) const ALL: [FindingName; 29] = [
+pub(crate) const ALL: [FindingName; 30] = [
     FindingName {
         name: "own_host",
         meaning: "The clock is the host that asks, which does not hear itself at an interface.",
@@ -147,6 +147,11 @@ pub(crate) const ALL: [FindingName; 29] = [
     FindingName {
         name: "out_of_reach",
         meaning: "The last boundary hop reached the clock: clocks behind it are not asked.",
+        is_critical: false,
+    },
+    FindingName {
+        name: "grandmaster_changed",
+        meaning: "Clocks have another grandmaster than before.",
         is_critical: false,
     },
     FindingName {

@@ -9,6 +9,7 @@ use ptpm_site::completeness::Missing;
 use ptpm_site::data_sets::ClockQuality;
 use ptpm_site::differences::Differs;
 use ptpm_site::finding::{Finding, What};
+use ptpm_site::grandmaster_changes::GrandmasterChange;
 use ptpm_site::grandmasters::Masterless;
 use ptpm_site::heard::kind_name;
 use ptpm_site::leading::{Better, Leap, Untraceable, WrongOffset};
@@ -79,6 +80,7 @@ impl fmt::Display for Said<'_> {
                 write!(f, " the last of {hops} boundary hops: ")?;
                 f.write_str("clocks behind it are not asked")
             }
+            What::GrandmasterChanged(change) => write_grandmaster_change(change, f),
             What::Changed(port, change) => write_change(*port, change, "then", f),
             What::IdentityTwice(port, change) => write_change(*port, change, "and", f),
             What::TwoOffsets(offsets) => write_two_offsets(offsets, f),
@@ -168,6 +170,15 @@ fn write_change<W: fmt::Write>(
         after,
     } = change;
     write!(f, " {} {before}, {word} {after}", member.name())
+}
+
+fn write_grandmaster_change<W: fmt::Write>(
+    change: &GrandmasterChange,
+    f: &mut fmt::Formatter<W>,
+) -> fmt::Result {
+    let (before, after, clocks) = (change.before, change.after, change.clocks);
+    let noun = if clocks == 1 { "clock" } else { "clocks" };
+    write!(f, " {before}, then {after}; {clocks} {noun}")
 }
 
 fn write_two_offsets<W: fmt::Write>(
