@@ -48,8 +48,6 @@ static bool has_two_offsets(const struct finding *finding) {
     return (size_t)(end - name) >= sizeof words - 1 && memcmp(name, words, sizeof words - 1) == 0;
 }
 
-static bool is_change(const struct finding *finding) { return is_one_of(finding, changes, sizeof changes / sizeof *changes); }
-
 static bool is_moving(const struct finding *finding) {
     return is_one_of(finding, moving, sizeof moving / sizeof *moving) || has_two_offsets(finding);
 }
