@@ -10,7 +10,7 @@
 /* Findings that a change may make for a moment. The answers of a clock are not of one time, and a change goes from clock to
    clock. */
 static const char *const passing[] = {
-    "mute", "two_grandmasters", "no_master", "grandmaster_not_seen", "parent_not_seen", "parent_not_master", "steps",
+    "gone", "mute", "two_grandmasters", "no_master", "grandmaster_not_seen", "parent_not_seen", "parent_not_master", "steps",
     "grandmaster_differs", "loop", "off_by_utc", "offset", "delay", "utc", "gm_holdover", "gm_degraded", "gm_free_running", "not_traceable", "utc_invalid",
     "utc_offset", "better_clock", "identity_twice",
 };
