@@ -1,5 +1,5 @@
--- What counts of the messages that clocks send by themselves: those of a clock that is gone count from the first of the last looks of
--- its domain on.
+-- What counts of the messages that clocks send by themselves. Those of a clock that is gone count from the first of the last looks
+-- of its domain on.
 use Rattle.std.specs.Prelude.{ℕ, ◌==◌, ◌||◌, ◌++◌, Bool, true, not, List, [], ◌∷◌, Option, Some, None, if◌then◌else◌}
 use Rattle.std.specs.List.{filter_map, list_any}
 use Rattle.ptpm_site.specs.declared.heard.Heard.{Heard}

@@ -52,7 +52,7 @@ fn put_values(
     what: &What<'_>,
 ) -> Result<(), AllocError> {
     match what {
-        What::Unseen(Absence::OwnHost) | What::TwoGrandmasters => Ok(()),
+        What::Gone | What::Unseen(Absence::OwnHost) | What::TwoGrandmasters => Ok(()),
         What::Unseen(Absence::Mute(kind)) => put(
             map,
             alloc,

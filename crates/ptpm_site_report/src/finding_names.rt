@@ -13,7 +13,12 @@ pub(crate) struct FindingName {
 }
 
 /// All names, in the order in which the findings of a clock are reported.
-pub(crate) const ALL: [FindingName; 30] = [
+pub(crate) const ALL: [FindingName; 31] = [
+    FindingName {
+        name: "gone",
+        meaning: "The clock answered before, and answers no more.",
+        is_critical: true,
+    },
     FindingName {
         name: "own_host",
         meaning: "The clock is the host that asks, which does not hear itself at an interface.",

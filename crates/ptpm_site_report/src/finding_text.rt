@@ -42,6 +42,7 @@ impl fmt::Display for Said<'_> {
     fn fmt<W: fmt::Write>(&self, f: &mut fmt::Formatter<W>) -> fmt::Result {
         f.write_str(self.0.name())?;
         match self.0 {
+            What::Gone => f.write_str(" answers no more"),
             What::Unseen(unseen) => write_unseen(unseen, f),
             What::TwoGrandmasters => Ok(()),
             What::NoMaster(why) => write_masterless(why, f),
