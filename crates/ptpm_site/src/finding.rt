@@ -7,6 +7,7 @@ use crate::announcing::Seldom;
 use crate::changes::Change;
 use crate::completeness::Missing;
 use crate::differences::Differs;
+use crate::expected::{OtherLeaders, Outside, Unmet};
 use crate::grandmasters::Masterless;
 use crate::leading::{Better, Degradation, Degraded, Leap, Untraceable, WrongOffset};
 use crate::parents::{NoMaster, Steps};
@@ -29,6 +30,14 @@ pub struct Finding<'a> {
 /// What is wrong, in the order in which the findings of a clock are reported.
 #[derive(Drop)]
 pub enum What<'a> {
+    /// The inventory names it, and it is not seen. The description that it has there, if it has one.
+    Absent(Option<&'a str>),
+    /// The inventory of its domain does not name it.
+    Unexpected,
+    /// A member is not as the inventory wants it.
+    NotAsExpected(Unmet<'a>),
+    /// Other clocks lead than those that the inventory wants. It is the first of them.
+    OtherLeaders(OtherLeaders<'a>),
     /// It is not seen, and a clock names it or it sends by itself.
     Unseen(Absence),
     /// It is one of two or more clocks of the domain that are their own grandmasters and have a port in MASTER.
@@ -78,6 +87,8 @@ pub enum What<'a> {
     Leap(Leap),
     /// It leads, and there is a clock of a better class that does not.
     BetterClock(Better),
+    /// A member is not what the profile allows.
+    Profile(Outside),
     /// Not all that it was asked for was answered.
     Incomplete(Missing),
     /// It was reached by the last of this many boundary hops, and has two ports or more.
@@ -94,6 +105,9 @@ impl What<'_> {
     /// Its name, which scripts read.
     pub fn name(&self) -> &'static str {
         match self {
+            What::Absent(_) => "absent",
+            What::Unexpected => "unexpected",
+            What::NotAsExpected(_) | What::OtherLeaders(_) => "not_as_expected",
             What::Unseen(unseen) => unseen.name(),
             What::TwoGrandmasters => "two_grandmasters",
             What::NoMaster(_) => "no_master",
@@ -117,6 +131,7 @@ impl What<'_> {
             What::UtcOffset(_) => "utc_offset",
             What::Leap(_) => "leap",
             What::BetterClock(_) => "better_clock",
+            What::Profile(_) => "profile",
             What::Incomplete(_) => "incomplete",
             What::OutOfReach(_) => "out_of_reach",
             What::Changed(..) => "changed",
@@ -129,7 +144,8 @@ impl What<'_> {
     /// Whether time is wrong or missing by it, or two clocks look like one. Any other finding is a warning.
     pub fn is_critical(&self) -> bool {
         match self {
-            What::TwoGrandmasters
+            What::Absent(_)
+            | What::TwoGrandmasters
             | What::NoMaster(_)
             | What::GrandmasterNotSeen(_)
             | What::ParentNotSeen(_)
