@@ -13,7 +13,22 @@ pub(crate) struct FindingName {
 }
 
 /// All names, in the order in which the findings of a clock are reported.
-pub(crate) const ALL: [FindingName; 29] = [
+pub(crate) const ALL: [FindingName; 33] = [
+    FindingName {
+        name: "absent",
+        meaning: "The inventory names the clock, and it did not answer.",
+        is_critical: true,
+    },
+    FindingName {
+        name: "unexpected",
+        meaning: "The inventory does not name the clock.",
+        is_critical: false,
+    },
+    FindingName {
+        name: "not_as_expected",
+        meaning: "It is not as the inventory says.",
+        is_critical: false,
+    },
     FindingName {
         name: "own_host",
         meaning: "The clock is the host that asks, which does not hear itself at an interface.",
@@ -137,6 +152,11 @@ pub(crate) const ALL: [FindingName; 29] = [
     FindingName {
         name: "better_clock",
         meaning: "A clock of a better class stands by, and does not lead.",
+        is_critical: false,
+    },
+    FindingName {
+        name: "profile",
+        meaning: "It is set to what the profile does not allow.",
         is_critical: false,
     },
     FindingName {
