@@ -16,6 +16,7 @@ mod datagrams;
 pub mod description;
 pub mod differences;
 pub mod evidence;
+pub mod expected;
 pub mod finding;
 mod following;
 pub mod forest;

@@ -1,5 +1,7 @@
 //! A finding as a JSON object.
 
+use crate::expected_json::{put_other_leaders, put_outside, put_unmet};
+use crate::expected_text::clock_of;
 use crate::json::{identity_value, member_value, port_value, quality_value, text_value};
 use crate::seconds::whole_seconds;
 use ptpm_data::PortState;
@@ -28,7 +30,10 @@ pub(crate) fn finding_value(alloc: Global, finding: &Finding<'_>) -> Result<Valu
         &mut map,
         alloc,
         "clockIdentity",
-        identity_value(alloc, source.clock)?,
+        match clock_of(finding) {
+            Some(clock) => identity_value(alloc, clock)?,
+            None => text_value(alloc, "-")?,
+        },
     )?;
     put(
         &mut map,
@@ -52,7 +57,14 @@ fn put_values(
     what: &What<'_>,
 ) -> Result<(), AllocError> {
     match what {
-        What::Gone | What::Unseen(Absence::OwnHost) | What::TwoGrandmasters => Ok(()),
+        What::Absent(_)
+        | What::Unexpected
+        | What::Gone
+        | What::Unseen(Absence::OwnHost)
+        | What::TwoGrandmasters => Ok(()),
+        What::NotAsExpected(unmet) => put_unmet(alloc, map, unmet),
+        What::OtherLeaders(other) => put_other_leaders(alloc, map, other),
+        What::Profile(outside) => put_outside(alloc, map, *outside),
         What::Unseen(Absence::Mute(kind)) => put(
             map,
             alloc,

@@ -13,7 +13,22 @@ pub(crate) struct FindingName {
 }
 
 /// All names, in the order in which the findings of a clock are reported.
-pub(crate) const ALL: [FindingName; 31] = [
+pub(crate) const ALL: [FindingName; 35] = [
+    FindingName {
+        name: "absent",
+        meaning: "The inventory names the clock, and it did not answer.",
+        is_critical: true,
+    },
+    FindingName {
+        name: "unexpected",
+        meaning: "The inventory does not name the clock.",
+        is_critical: false,
+    },
+    FindingName {
+        name: "not_as_expected",
+        meaning: "It is not as the inventory says.",
+        is_critical: false,
+    },
     FindingName {
         name: "gone",
         meaning: "The clock answered before, and answers no more.",
@@ -142,6 +157,11 @@ pub(crate) const ALL: [FindingName; 31] = [
     FindingName {
         name: "better_clock",
         meaning: "A clock of a better class stands by, and does not lead.",
+        is_critical: false,
+    },
+    FindingName {
+        name: "profile",
+        meaning: "It is set to what the profile does not allow.",
         is_critical: false,
     },
     FindingName {
