@@ -46,6 +46,7 @@ AGENT = "ptpm-clock -m 020000fffe000010/1"
 AGENTS = {"docs/ptpm-manage.md": [f"{AGENT} aabbccfffeddee01 eth0 eth1", f"{AGENT} -d 4 aabbccfffeddee01 eth0",
                                   f"{AGENT} -2 aabbccfffeddee01 eth0"],
           "docs/bindings.md": [f"{AGENT} aabbccfffeddee01 eth0"],
+          "docs/changing-a-site.md": [f"{AGENT} aabbccfffeddee01 eth0", f"{AGENT} aabbccfffeddee02 eth0"],
           "README.md": [f"{AGENT} aabbccfffeddee02 eth0"]}
 
 
@@ -157,6 +158,11 @@ class Scene:
 
     def run(self, text):
         return shell(text, host=self.place, cwd=self.home, env=self.environment, stdin=subprocess.DEVNULL, timeout=300)
+
+    def latest_apply(self):
+        """Its name."""
+        names = [name for name in os.listdir("/var/lib/ptpm/apply") if name.endswith(".journal")]
+        return max(names, key=lambda name: os.path.getmtime(f"/var/lib/ptpm/apply/{name}"), default="none")[:-len(".journal")]
 
     def leave_pending(self, text):
         """Ends a run of `set PRIORITY1 100` before its answer, so that the next run finds its request."""
