@@ -1,8 +1,8 @@
 /* dies.so, for hosts/tests/apply: LD_PRELOAD of a program that saves and sends. With DIES_AT=N in the environment it is killed right
    before the N-th call by which it writes, synchronizes, renames or sends. Calls are counted from the rename of a journal on, or from
    its start if DIES_FROM is `start`. Of a write that counts, half is written first: so a line is torn. With LOSES=1 the machine loses its
-   power too: what was appended to a file and not synchronized is gone, and so is a file whose folder was not synchronized after it
-   got its name; the one before it is there again. */
+   power too. What was appended to a file and not synchronized is gone then. If a file was renamed and its folder not synchronized,
+   the file before it is there again. */
 #define _GNU_SOURCE
 #include <fcntl.h>
 #include <limits.h>
@@ -16,8 +16,8 @@
 #include <sys/syscall.h>
 #include <unistd.h>
 
-/* What is in memory alone: the octets of a file after this size, and a file of this folder and name. The one before it is kept as
-   NAME.before, if there was one. */
+/* What is not on the disk yet: the octets of a file after this size, and that a file has this name in this folder. The one that had the
+   name before is kept as NAME.before, if there was one. */
 static struct { bool is_there; int file; off_t size; } appended;
 static struct { bool is_there, had_one; int folder; char name[NAME_MAX]; } renamed;
 
