@@ -108,13 +108,7 @@ fn put_values(
         }
         What::PortState(port, stay) => put_state(alloc, map, *port, stay.state, stay.time),
         What::NotLocked(port, unlocked) => {
-            put_state(
-                alloc,
-                map,
-                *port,
-                PortState::Uncalibrated,
-                unlocked.time,
-            )?;
+            put_state(alloc, map, *port, PortState::Uncalibrated, unlocked.time)?;
             let offset = match unlocked.offset {
                 Some(offset) => Value::from(offset),
                 None => Value::Null,
