@@ -30,4 +30,5 @@ pub mod SavingClock
 pub mod SessionStanding
 pub mod SavingSession
 pub mod Device
+pub mod Changing
 pub mod Limits
