@@ -354,7 +354,7 @@ enum {
 /* What an earlier run left under way. */
 enum { PTPM_NOTHING_LEFT = 0, PTPM_QUESTION_LEFT = 1, PTPM_GET_LEFT = 2, PTPM_CHANGE_LEFT = 3 };
 
-/* Where the step is that a change of several clocks began last in a session. */
+/* What became of the step that a change of several clocks began last in a session. */
 enum {
     PTPM_STEP_NONE_LEFT = 0,            /* no step is uncertain, and no request under way */
     PTPM_STEP_UNDER_WAY = 1,            /* it may have been carried out: it is sent again, with its number */
@@ -1270,11 +1270,11 @@ enum ptpm_reported ptpm_asker_report(const struct ptpm_asker *asker, uint8_t *oc
 /* Ends what the handle holds, if it holds anything. The handle then holds nothing, and may be started again. */
 void ptpm_asker_stop(struct ptpm_asker *asker);
 
-/* Says where the step is that a change of several clocks began last in a session, after a crash too. A step is a SET, and a journal notes
-   when it is begun and what is answered.
-   Takes:   the number with which the journal has the step as begun, if it has no answer to it; its managementId, its port, or 0, and the
-            size octets of its dataField; the number of the latest step there whose answer it has; PTPM_NO_NUMBER for a number that it
-            lacks. And the image that the file of the session has: no octets if there is no file.
+/* Says what became of the step that a change of several clocks began last in a session, after a crash too. A step is a SET. A journal notes
+   when it is begun, and what is answered.
+   Takes:   the number with which the journal has a step as begun without an answer. The step's managementId, port or 0, and the size
+            octets of its dataField. The number of the latest step whose answer the journal has. PTPM_NO_NUMBER stands for a number that
+            it lacks. And the image in the session's file, or no octets if there is no file.
    Returns: PTPM_STEP_NONE_LEFT to PTPM_STEP_OF_ANOTHER. */
 uint32_t ptpm_step_standing(uint32_t begun, uint16_t id, uint16_t port, const uint8_t *octets, size_t size, uint32_t told,
                             const uint8_t *image, size_t image_size);

@@ -444,7 +444,7 @@ PTPM_QUESTION_LEFT = 1
 PTPM_GET_LEFT = 2
 PTPM_CHANGE_LEFT = 3
 
-# Where the step is that a change of several clocks began last in a session.
+# What became of the step that a change of several clocks began last in a session.
 PTPM_STEP_NONE_LEFT = 0
 PTPM_STEP_UNDER_WAY = 1
 PTPM_STEP_NEVER_BEGUN = 2

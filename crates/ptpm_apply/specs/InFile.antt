@@ -1,4 +1,4 @@
--- What the file of a session has, as far as it says where a step is.
+-- What the file of a session has, as far as it says what became of a step.
 use Rattle.std.specs.Prelude.{ℕ, List, Option, Some, None, if◌then◌else◌}
 use Rattle.ptpm_data.specs.Request.{RequestValue}
 use Rattle.ptpm_manager.specs.ImageReading.{session_at}

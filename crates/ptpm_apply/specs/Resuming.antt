@@ -22,7 +22,7 @@ desk_after file s moves = moved_by (opened_desk file s) moves
 abbrev pub watch_after : Option SessionValue → SessionValue → List Move → Watch
 watch_after file s moves = watched_by (opened_desk file s) nothing_seen moves
 
--- a step is begun, or the latest step is told
+-- a step is begun, or the latest step has an answer
 abbrev pub noted_begun : ℕ → RequestValue → Option ℕ → Noted
 noted_begun number q told = record { begun = Some (record { number = number; request = q }); told = told }
 

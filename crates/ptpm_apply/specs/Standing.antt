@@ -1,5 +1,5 @@
--- Where the step is that a journal has begun last in the session with a clock, by what the file of the session has (this project's
--- profile).
+-- What became of the step that a journal has begun last in the session with a clock. The file of the session says it (this
+-- project's profile).
 use Rattle.std.specs.Prelude.{ℕ, ◌==◌, Option, Some, None, if◌then◌else◌}
 use Rattle.ptpm_data.specs.Request.{RequestValue}
 use Rattle.ptpm_table.specs.Numbering.{same_request}

@@ -26,21 +26,22 @@ IsNoted steps notes m = (is_question m.request ≡ true) ⊎ IsOfStep steps note
 
 -- ---- a journal
 
--- how many steps are noted as told
+-- how many answers to steps are noted
 abbrev pub told_count : List Note → ℕ
 told_count [] = 0
 told_count (IsBegun tag number ∷ further) = told_count further
 told_count (IsTold tag number outcome ∷ further) = told_count further + 1
 told_count (IsLetGo number ∷ further) = told_count further
 
--- Steps are noted in their turn: the one after those that are told is begun, once or again, and then it is told. Nothing is given up.
+-- Steps are noted in their turn: the first without an answer is begun, once or again, and then its answer is noted. Nothing is given
+-- up.
 abbrev pub AreInTurn : List Note → Type 0
 AreInTurn [] = Unit {0}
 AreInTurn (IsBegun tag number ∷ further) = (tag ≡ told_count further) × AreInTurn further
 AreInTurn (IsTold tag number outcome ∷ further) = SaysBegun further tag number × AreInTurn further
 AreInTurn (IsLetGo number ∷ further) = ⊥
 
--- a message with one of the steps that are told, or with the next one
+-- a message with one of the steps whose answers are noted, or with the next one
 pub record IsInTurn (steps : ℕ → RequestValue) (journal : List Note) (m : Sent) : Type 0 where
   pub tag : ℕ
   pub is_step : m.request ≡ steps tag

@@ -14,12 +14,13 @@ ghost use Rattle.ptpm_apply.specs.Watching.{Sent, sent_in};
 
 use crate::standing::Standing;
 
-/// Where a step is said to be, it is. Let a program begin with what the file of a session has, and with nothing noted. Let any
-/// moves follow that are allowed at its desk, with crashes anywhere among them.
+/// What is said of a step is so. Let a program begin with what the file of a session has, and with nothing noted. Let any moves
+/// follow that are allowed at its desk, with crashes anywhere among them.
 /// - If a step is said to be under way, the file has its request under its number.
 /// - Let the latest note say that a step is begun. If it is said to be never begun, or its number to be taken, no message of it
 ///   left since that note.
-/// - Let the latest note say that a step is told. If that is said of the request under way, it is the one that was answered.
+/// - Let the latest note have the answer to a step. If the request under way is said to be that step's, it is the one that was
+///   answered.
 pub fn standing_is_right()
     ensures under_way { (file : Option SessionValue) (s : SessionValue) (moves : List Move)
         (number : ℕ) (q : RequestValue) (told : Option ℕ) →
@@ -46,17 +47,16 @@ pub fn standing_is_right()
 {}
 
 /// No step is sent before it is noted as begun. Let nothing but a question be under way in the file at first, and let nothing but
-/// questions and steps be begun. Then each message with another request than a question has a step, and the notes have that step as
-/// begun under the number of the message.
+/// questions and steps be begun. Then each message has a question, or a step that the notes have as begun under its number.
 pub fn begun_before_sent()
     ensures { (steps : ℕ → RequestValue) (file : Option SessionValue) (s : SessionValue) (moves : List Move) →
         IsFree file → AreAllowed (opened_desk file s) moves → AreAsked steps moves →
         AllByRecursion (IsNoted steps (desk_after file s moves).notes) (sent_in (opened_desk file s) moves) }
 {}
 
-/// What is sent are the steps that are told, and the next one at most. Let a journal have the notes of the sessions with several
-/// clocks, and let steps be noted there in their turn. Then each message that such a session hands out has a question, or one of the
-/// steps that the journal has as told, or the step after these. The steps that it has as told are the first ones.
+/// What is sent are the steps whose answers are noted, and the next one at most. Let a journal have the notes of the sessions with
+/// several clocks, and let steps be noted there in their turn. Then each message that such a session hands out has a question, or a
+/// step whose answer is noted, or the next step. Those whose answers are noted are the first ones.
 pub fn steps_in_turn()
     ensures sent { (steps : ℕ → RequestValue) (journal : List Note)
         (file : Option SessionValue) (s : SessionValue) (moves : List Move) →

@@ -1,4 +1,4 @@
-//! Where the step is that a journal has begun last in the session with a clock.
+//! What became of the step that a journal has begun last in the session with a clock.
 
 ghost use Rattle.std.specs.Prelude.{◌≡◌};
 ghost use Rattle.std.specs.Option.{option_map};
@@ -10,7 +10,7 @@ use crate::in_file::InFile;
 use crate::noted::{Begun, Noted};
 use ptpm_data::Request;
 
-/// Where it is. A program that was ended goes on from there.
+/// What became of it. A program that was ended goes on from there.
 #[derive(Clone, Copy, Debug, PartialEq, Eq)]
 pub enum Standing {
     /// No step is uncertain, and no request is under way.
@@ -29,7 +29,7 @@ pub enum Standing {
     OfAnother,
 }
 
-/// Where the step is by what the journal has, and by the image in the session's file. Without a file there are no octets.
+/// What became of it, by what the journal has and by the image in the session's file. Without a file there are no octets.
 pub fn find_standing(noted: &Noted<'_>, image: &[u8]) -> Standing
     ensures { result ≡ standing_of noted.now (option_map in_file_of (session_in image.now)) }
 {
@@ -40,7 +40,7 @@ pub fn find_standing(noted: &Noted<'_>, image: &[u8]) -> Standing
     }
 }
 
-/// Where a step is that is begun and has no answer noted.
+/// What became of a step that is begun and has no answer noted.
 fn standing_of_begun(begun: &Begun<'_>, file: &Option<InFile<'_>>) -> Standing
     ensures { result ≡ begun_in begun.now file.now }
 {

@@ -1,6 +1,7 @@
 -- A desk is what one asker has: its session as it is, the session as its file has it, and the notebook of its owner. Nothing is sent
 -- that the file has not. Nothing leaves the file that the notes have not as reported. Nothing is begun that the notes have not as
--- begun, nor before an answer shows that its number is new, nor while the file has another request (this project's profile).
+-- begun, nor before an answer shows that its number is new. Nothing is begun while the file has another request (this project's
+-- profile).
 use Rattle.std.specs.Prelude.{◌≡◌, ◌⊎◌, ℕ, ◌+◌, ◌||◌, Bool, true, false, List, [], ◌∷◌, Option, Some, None}
 use Rattle.ptpm_codec.specs.SequenceNumber.{number_of}
 use Rattle.ptpm_data.specs.Request.{RequestValue}

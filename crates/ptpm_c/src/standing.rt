@@ -1,4 +1,4 @@
-//! Where a step of a change of several clocks is, for hosts in C. The call takes no handle and no memory.
+//! What became of a step of a change of several clocks, for hosts in C. The call takes no handle and no memory.
 
 ghost use Rattle.std.specs.Prelude.{◌≡◌};
 ghost use Rattle.std.specs.Option.{option_map};
@@ -8,7 +8,7 @@ ghost use Rattle.ptpm_host.specs.StepStanding.{noted_of, standing_number};
 
 use ptpm_host::step_standing;
 
-/// Where the step is that was begun last in a session, by what a journal has of it and by the image in the session's file.
+/// What became of the step that was begun last in a session, by a journal and by the image in the session's file.
 #[unsafe(no_mangle)]
 pub extern "C" fn ptpm_step_standing(
     begun: u32,

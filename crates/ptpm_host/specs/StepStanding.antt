@@ -1,4 +1,4 @@
--- Where the step is that a change of several clocks began last in a session, in plain numbers.
+-- What became of the step that a change of several clocks began last in a session, in plain numbers.
 use Rattle.std.specs.Prelude.{ℕ, nat_lt, List, Option, Some, None, option_map, if◌then◌else◌}
 use Rattle.ptpm_codec.specs.declared.message.Action.TheVariants as actions
 use Rattle.ptpm_manager.specs.Ask.{named_port}

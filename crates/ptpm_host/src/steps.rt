@@ -1,4 +1,4 @@
-//! Where the step is that a change of several clocks began last in a session, in plain numbers.
+//! What became of the step that a change of several clocks began last in a session, in plain numbers.
 
 ghost use Rattle.std.specs.Prelude.{◌≡◌};
 ghost use Rattle.std.specs.Option.{option_map};
@@ -12,7 +12,7 @@ use ptpm_apply::{Begun, Noted, Standing, find_standing};
 use ptpm_codec::{Action, PortIdentity};
 use ptpm_data::Request;
 
-/// Where a step is by what a journal has, and by the image in the session's file: `standing_number`. A number over 65,535 is none.
+/// What became of a step, by a journal and by the image in the session's file: `standing_number`. A number over 65,535 is none.
 /// Without a file there are no octets. Port 0 names none.
 pub fn step_standing(begun: u32, id: u16, port: u16, octets: &[u8], told: u32, image: &[u8]) -> u32
     ensures { result
@@ -65,8 +65,8 @@ fn target_port(port: u16) -> u16
     }
 }
 
-/// 0 nothing is left, 1 it is under way, 2 it was never begun, 3 its number is taken, 4 unknown, 5 it is told, 6 another program's
-/// request is under way.
+/// 0 nothing is left, 1 it is under way, 2 it was never begun, 3 its number is taken, 4 unknown. 5 a step with an answer is under
+/// way, 6 another program's request is.
 fn standing_number(standing: Standing) -> u32
     ensures { result ≡ standing_number standing }
 {

@@ -194,7 +194,7 @@ static uint32_t number_or_none(char **words) {
     return takes_word(words, "none") ? PTPM_NO_NUMBER : (uint32_t)next_number(words, 0);
 }
 
-/* `step BEGUN ID PORT FIELD TOLD OCTETS`: where a step is; a number may be none. */
+/* `step BEGUN ID PORT FIELD TOLD OCTETS`: what became of a step. A number may be none. */
 static void run_step(char *words) {
     static const char *const where[] = { "nothing left", "under way", "never begun", "number taken", "unknown", "told", "another's" };
     static struct octets field, image;

@@ -419,7 +419,7 @@ pub const PTPM_QUESTION_LEFT: u32 = 1;
 pub const PTPM_GET_LEFT: u32 = 2;
 pub const PTPM_CHANGE_LEFT: u32 = 3;
 
-// Where the step is that a change of several clocks began last in a session.
+// What became of the step that a change of several clocks began last in a session.
 pub const PTPM_STEP_NONE_LEFT: u32 = 0;
 pub const PTPM_STEP_UNDER_WAY: u32 = 1;
 pub const PTPM_STEP_NEVER_BEGUN: u32 = 2;
