@@ -139,15 +139,6 @@ int ask_step(struct desk *desk, struct journal *journal, long step) {
 
 /* ---- what an earlier run left */
 
-static struct in_file in_file_of(const struct desk *desk) {
-    const struct kept_session *session = &desk->session;
-    const struct task *left = &session->earlier.task;
-    return (struct in_file){
-        .is_there = session->has_file, .is_request = session->earlier.is_left, .number = session->earlier.number, .action = left->action,
-        .id = left->id, .port = left->port, .octets = left->octets, .size = left->size, .next_number = session->next_number,
-    };
-}
-
 static struct noted noted_of(const struct desk *desk, const struct journal *journal) {
     struct noted noted = { 0 };
     for (size_t i = 0; i < journal->count; i++) {
@@ -161,10 +152,13 @@ static struct noted noted_of(const struct desk *desk, const struct journal *jour
     return noted;
 }
 
+/* What the file has, the asker has: nothing was asked there since it was opened. */
 static enum standing find_standing(const struct desk *desk, const struct journal *journal) {
+    static uint8_t image[PTPM_SESSION_IMAGE_OCTETS];
+    size_t size = 0;
     struct noted noted = noted_of(desk, journal);
-    struct in_file file = in_file_of(desk);
-    return standing_of(&noted, &file);
+    if (desk->session.has_file) ptpm_asker_image(&desk->session.asker, image, sizeof image, &size);
+    return standing_of(&noted, image, size);
 }
 
 static int stop_at_stranger(const struct desk *desk, const struct journal *journal) {

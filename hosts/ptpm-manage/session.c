@@ -136,7 +136,6 @@ static void open_octets(struct kept_session *session, const struct task *task, u
         answer = restore(asker, task, octets, size);
     }
     if (answer != PTPM_ASKER_RESTORED) refuse_octets(answer);
-    session->next_number = (uint16_t)(image.number + 1);
     read_earlier(asker, task, &image, &session->earlier);
 }
 

@@ -20,7 +20,6 @@ struct kept_session {
     struct ptpm_asker asker;
     struct session_file *file;
     bool has_file;              /* there was one */
-    uint16_t next_number;       /* that it says is the next one's */
     struct earlier earlier;
 };
 

@@ -1,9 +1,12 @@
-/* What became of the step that an apply began last at a clock, by what its journal and the file of the session have. */
+/* What became of the step that an apply began last at a clock, by what its journal and the file of the session have. The library says it
+   (ptpm_step_standing). */
 #ifndef STANDING_H
 #define STANDING_H
 
 #include "journal.h"
+#include "ptpm.h"
 #include <stdbool.h>
+#include <stddef.h>
 #include <stdint.h>
 
 /* What the journal has of a clock. */
@@ -14,28 +17,17 @@ struct noted {
     uint16_t told_number;           /* and with which number the latest of these was begun */
 };
 
-/* What the file of the session has. A question is no request here: it asks whether a number is new. */
-struct in_file {
-    bool is_there;
-    bool is_request;                /* a request is under way, */
-    uint16_t number;                /* with this number: */
-    uint8_t action;
-    uint16_t id, port;
-    const uint8_t *octets;
-    size_t size;
-    uint16_t next_number;           /* of the next request */
-};
-
 enum standing {
-    NOTHING_LEFT,                   /* no step is uncertain, and no request under way */
-    UNDER_WAY,                      /* the step may have been carried out: its request is sent again */
-    NEVER_BEGUN,                    /* no message of it left */
-    NUMBER_TAKEN,                   /* nor here: another program took the number, and its request is under way */
-    UNKNOWN,                        /* another program used the session since, or the file is gone */
-    IS_TOLD,                        /* the request under way is that of a step whose answer is noted */
-    OF_ANOTHER                      /* it is another program's */
+    NOTHING_LEFT = PTPM_STEP_NONE_LEFT,
+    UNDER_WAY = PTPM_STEP_UNDER_WAY,
+    NEVER_BEGUN = PTPM_STEP_NEVER_BEGUN,
+    NUMBER_TAKEN = PTPM_STEP_NUMBER_TAKEN,
+    UNKNOWN = PTPM_STEP_UNKNOWN,
+    IS_TOLD = PTPM_STEP_TOLD,
+    OF_ANOTHER = PTPM_STEP_OF_ANOTHER
 };
 
-enum standing standing_of(const struct noted *noted, const struct in_file *file);
+/* size octets: the image that the file of the session has, and none if there is no file. */
+enum standing standing_of(const struct noted *noted, const uint8_t *image, size_t size);
 
 #endif

@@ -444,6 +444,18 @@ PTPM_QUESTION_LEFT = 1
 PTPM_GET_LEFT = 2
 PTPM_CHANGE_LEFT = 3
 
+# What became of the step that a change of several clocks began last in a session.
+PTPM_STEP_NONE_LEFT = 0
+PTPM_STEP_UNDER_WAY = 1
+PTPM_STEP_NEVER_BEGUN = 2
+PTPM_STEP_NUMBER_TAKEN = 3
+PTPM_STEP_UNKNOWN = 4
+PTPM_STEP_TOLD = 5
+PTPM_STEP_OF_ANOTHER = 6
+
+# No sequenceId.
+PTPM_NO_NUMBER = 65536
+
 # What ptpm_id_named answers if no id has the name.
 PTPM_NO_ID = 65536
 
@@ -836,6 +848,7 @@ CALLS: Dict[str, Tuple[Any, List[Any]]] = {
     "ptpm_asker_earlier": (c_uint32, [POINTER(ptpm_asker), c_uint8, POINTER(c_uint8)]),
     "ptpm_asker_report": (c_uint32, [POINTER(ptpm_asker), POINTER(c_uint8), c_size_t, POINTER(c_size_t), POINTER(c_uint16)]),
     "ptpm_asker_stop": (None, [POINTER(ptpm_asker)]),
+    "ptpm_step_standing": (c_uint32, [c_uint32, c_uint16, c_uint16, c_char_p, c_size_t, c_uint32, c_char_p, c_size_t]),
     "ptpm_image_seal_in": (c_uint32, [POINTER(c_uint8), c_size_t, c_size_t, c_uint64, POINTER(c_size_t)]),
     "ptpm_image_unseal": (c_uint32, [c_char_p, c_size_t, POINTER(c_uint64), POINTER(c_size_t)]),
     "ptpm_newest_image_in": (c_size_t, [c_char_p, c_size_t, c_size_t, POINTER(c_uint64), POINTER(c_size_t)]),

@@ -491,6 +491,16 @@ extern "C" {
         error: *mut u16,
     ) -> ptpm_reported;
     pub fn ptpm_asker_stop(asker: *mut ptpm_asker);
+    pub fn ptpm_step_standing(
+        begun: u32,
+        id: u16,
+        port: u16,
+        octets: *const u8,
+        size: usize,
+        told: u32,
+        image: *const u8,
+        image_size: usize,
+    ) -> u32;
     pub fn ptpm_image_seal_in(octets: *mut u8, room: usize, size: usize, count: u64, sealed: *mut usize) -> ptpm_saved;
     pub fn ptpm_image_unseal(octets: *const u8, size: usize, count: *mut u64, image: *mut usize) -> ptpm_restored;
     pub fn ptpm_newest_image_in(octets: *const u8, size: usize, place: usize, count: *mut u64, image: *mut usize) -> usize;

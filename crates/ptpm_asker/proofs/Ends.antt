@@ -1,5 +1,5 @@
 -- A program that ends at any moment is opened again with what its file has.
-use Rattle.std.proofs.Common.{◌≡◌, ℕ, Bool, true, false, List, [], ◌∷◌, ◌++◌, Option, Some, None, refl, sym, ap, subst, is_some, ◌==◌, ◌&&◌, length}
+use Rattle.std.proofs.Common.{◌≡◌, true, false, List, [], ◌∷◌, ◌++◌, Option, Some, None, refl, sym, ap, subst, is_some, ◌==◌, ◌&&◌, length}
 use Rattle.std.proofs.lemmas.Bool.{cond_both}
 use Rattle.ptpm_codec.specs.declared.message.Action.{Action}
 use Rattle.ptpm_codec.specs.declared.message.Action.TheVariants as actions
@@ -11,11 +11,11 @@ use Rattle.ptpm_asker.specs.declared.earlier.Earlier.TheVariants as earlier
 use Rattle.ptpm_asker.specs.declared.stage.Stage.{Stage}
 use Rattle.ptpm_asker.specs.declared.stage.Stage.TheVariants as stages
 use Rattle.ptpm_asker.specs.Asker.{AskerValue}
-use Rattle.ptpm_asker.specs.Desk.{Crashes, Run, IsBegun, IsTold, Move, Note, Notes, Saves, latest_number, moved_by}
+use Rattle.ptpm_asker.specs.Desk.{Crashes, Run, IsBegun, IsFreeOf, IsTold, Move, Note, Notes, Saves, moved_by}
 use Rattle.ptpm_asker.specs.Question.{asks_question, by_action, earlier_of, is_question}
 use Rattle.ptpm_asker.specs.Turns.{latest, next}
 use Rattle.ptpm_asker.specs.Allowed.{Opening, reopens}
-use Rattle.ptpm_asker.proofs.Standing.{Goes, IsFreeOf, IsUnderWay, RestsWith, Stands, StandsAt, desk, goes_after}
+use Rattle.ptpm_asker.proofs.Standing.{Goes, IsUnderWay, RestsWith, StandsAt, desk, goes_after}
 
 under_way : (f : SessionValue) (q : RequestValue) → f.unanswered ≡ Some q → IsUnderWay (Some f) (anew f)
 under_way f q e = record { waiting = ap is_some e; has = (refl, refl) }

@@ -1,29 +1,25 @@
 -- Each input goes on, at each stage.
-use Rattle.std.proofs.Common.{◌≡◌, ◌∙◌, ℕ, ◌+◌, ◌-◌, ◌%◌, Bool, true, false, not, min, ◌&&◌, ◌||◌, List, [], ◌∷◌, ◌++◌, length, Option, Some, None, inl, inr, refl, sym, ap, subst, is_some, if◌then◌else◌}
-use Rattle.std.proofs.lemmas.Bool.{and_parts, cases_Bool, not-false}
-use Rattle.std.specs.Option.{option_or}
-use Rattle.ptpm_codec.specs.Ordered.{first_of}
+use Rattle.std.proofs.Common.{◌≡◌, ◌∙◌, ℕ, ◌+◌, ◌-◌, ◌%◌, Bool, true, false, not, min, ◌&&◌, List, [], ◌∷◌, ◌++◌, Option, Some, None, inl, inr, refl, sym, ap, subst, is_some, if◌then◌else◌}
+use Rattle.std.proofs.lemmas.Bool.{and_parts}
 use Rattle.ptpm_codec.specs.SequenceNumber.{number_of}
 use Rattle.ptpm_data.specs.Request.{RequestValue}
 use Rattle.ptpm_manager.specs.declared.ask.Ask.{Ask}
-use Rattle.ptpm_manager.specs.declared.error.BeginError.{BeginError}
-use Rattle.ptpm_manager.specs.declared.error.BeginError.TheVariants as begins
 use Rattle.ptpm_manager.specs.declared.receiving.Received.{Received}
 use Rattle.ptpm_manager.specs.declared.receiving.Received.TheVariants as received
 use Rattle.ptpm_manager.specs.declared.report.Outcome.{Outcome}
 use Rattle.ptpm_manager.specs.Receiving.{left_by, received_of}
-use Rattle.ptpm_manager.specs.Session.{SessionValue, answered, begun, fresh, given_up, is_waiting, retuned, send_refusal}
+use Rattle.ptpm_manager.specs.Session.{SessionValue, answered, begun, given_up, is_waiting, retuned}
 use Rattle.ptpm_asker.specs.declared.earlier.Earlier.{Earlier}
 use Rattle.ptpm_asker.specs.declared.earlier.Earlier.TheVariants as earlier
 use Rattle.ptpm_asker.specs.declared.output.Output.TheVariants as outputs
 use Rattle.ptpm_asker.specs.declared.stage.Stage.{Stage}
 use Rattle.ptpm_asker.specs.declared.stage.Stage.TheVariants as stages
 use Rattle.ptpm_asker.specs.Asker.{AskerValue, setup_with}
-use Rattle.ptpm_asker.specs.Desk.{Begins, Continues, Desk, HasIt, HasNoneOut, HasRequest, Hears, IsBegun, IsLetGo, IsTold, LeavesTold, LetsGo, MayLeave, Move, Note, Notes, Retunes, Returns, Run, Saves, Starts, TakesBack, heard_after, latest_number, moved, unsent_run}
+use Rattle.ptpm_asker.specs.Desk.{Begins, Continues, HasIt, HasNoneOut, HasRequest, Hears, IsBegun, IsFree, IsFreeOf, IsLetGo, IsTold, LeavesTold, LetsGo, MayLeave, Move, Note, Notes, Retunes, Returns, Run, Saves, Starts, TakesBack, heard_after, known_after, latest_number, moved, unsent_run}
 use Rattle.ptpm_asker.specs.Question.{asked_request, asks_question, question}
-use Rattle.ptpm_asker.specs.Turns.{Turn, after_moves, announces, asked_of, asks, asks_in_session, begins_wanted, goes_on, goes_on_asking, goes_on_begun, goes_on_saved, fails, has_more_numbers, has_no_way, has_read, heard_as, hears_at, idle, is_answered, is_left_question, is_new_session, is_over, is_unsettled, is_used_up, latest, lets_go, most_readings, next, read_as, reads_wanted, renewed, resumes, rests, saves, sends, settled, settles, settling_domain, stays, taken_back, takes_back, tested, tests_wanted, turn, unsents, unsents_at, waits, wakes_at, with_question}
+use Rattle.ptpm_asker.specs.Turns.{after_moves, announces, asked_of, asks, asks_in_session, begins_wanted, goes_on, goes_on_asking, goes_on_begun, goes_on_saved, fails, has_more_numbers, has_no_way, has_read, heard_as, hears_at, idle, is_answered, is_left_question, is_new_session, is_over, is_unsettled, is_used_up, latest, lets_go, most_readings, next, read_as, reads_wanted, renewed, resumes, rests, saves, sends, settled, settles, settling_domain, stays, taken_back, takes_back, tested, tests_wanted, turn, unsents, unsents_at, waits, wakes_at, with_question}
 use Rattle.ptpm_asker.specs.Allowed.{done_at}
-use Rattle.ptpm_asker.proofs.Standing.{Goes, GoesOn, IsAsking, IsAtRest, IsFree, IsFreeOf, IsKnown, IsNoting, IsOfLatest, IsQuestionLeft, IsResting, IsSaving, IsTelling, IsUnderWay, IsWaiting, IsWell, RestsWith, Stands, StandsAt, TestsQuestion, desk, goes_after, goes_if, goes_on_after}
+use Rattle.ptpm_asker.proofs.Standing.{Goes, GoesOn, IsAsking, IsAtRest, IsKnown, IsNoting, IsOfLatest, IsQuestionLeft, IsSaving, IsTelling, IsUnderWay, IsWell, RestsWith, Stands, StandsAt, TestsQuestion, desk, goes_after, goes_if, goes_on_after}
 use Rattle.ptpm_asker.proofs.Parts.{announces_so, back_leaves, fails_so, free_leaves, idles, is_one, resumes_so, saves_so, sends_so, told_leaves}
 
 -- ---- ask
@@ -71,13 +67,13 @@ goes_on_begun_so a file notes run now wanted w at none =
     let asked = asked_request (question a.drawn wanted) in
     let begin = Begins 0 asked in
     let is_question_ = is_one a.drawn wanted w.size in
-    let r = unsent_run run.heard in
+    let r = unsent_run run.is_known in
     let e = desk q.session file notes r in
     goes_if (asks_in_session a) d [] (after_moves (begin ∷ []) (goes_on_begun q now)) (goes_on_begun a now)
     (λ (h : asks_in_session a ≡ true).
     let parts = and_parts (not a.is_new) a.is_kept h in
     let new = not_so a.is_new parts.0 in
-    goes_on_after d begin [] (goes_on_begun q now) (nothing_waits a.session at.nothing, inl is_question_)
+    goes_on_after d begin [] (goes_on_begun q now) (nothing_waits a.session at.nothing, at.free, inl is_question_)
     (goes_if a.is_new e [] (announces q) (if a.is_kept then saves c else waits q now)
     (λ (n : a.is_new ≡ true). absurd (both_ways a.is_new n new))
     (λ _. goes_if a.is_kept e [] (saves c) (waits q now)
@@ -203,10 +199,10 @@ pub answered_so : (a : AskerValue) (file : Option SessionValue) (notes : List No
     → IsUnderWay file a.session
     → TestsQuestion a
     → GoesOn
-    (desk (answered a.session) file notes (record run { heard = Some (record { number = latest_number a.session; outcome = outcome }) })) []
+    (desk (answered a.session) file notes (record run { heard = Some (record { number = latest_number a.session; outcome = outcome }); is_known = true })) []
     (is_answered (settled (record a { session = answered a.session })) outcome)
 answered_so a file notes run outcome w under tests =
-    let r = record run { heard = Some (record { number = latest_number a.session; outcome = outcome }) } in
+    let r = record run { heard = Some (record { number = latest_number a.session; outcome = outcome }); is_known = true } in
     let b = settled (record a { session = answered a.session }) in
     let d = desk b.session file notes r in
     let c = record b { is_new = true } in
@@ -229,6 +225,7 @@ answered_so a file notes run outcome w under tests =
           outcome = outcome;
           due_is = refl;
           is_heard = ap (λ (n : ℕ). Some (record { number = n; outcome = outcome })) (sym same);
+          known = refl;
           nothing = refl;
           of_latest = of_latest file a.session.unanswered (latest_number a.session) under.has;
           none_left = refl;
@@ -260,7 +257,7 @@ taken_as : (r read : Received) (a : AskerValue) (file : Option SessionValue) (no
     → a.stage ≡ stages.Asking
     → IsWell a file run
     → IsAsking a file run []
-    → GoesOn (desk (left_by a.session r) file notes (record run { heard = heard_after a.session run.heard r })) [] (heard_as a r read)
+    → GoesOn (desk (left_by a.session r) file notes (record run { heard = heard_after a.session run.heard r; is_known = known_after run.is_known r })) [] (heard_as a r read)
 taken_as (received.Answered report) read a file notes run is w here = answered_so a file notes run report.outcome w here.under_way here.tests
 taken_as (received.Ignored reason) read a file notes run is w here = read_so read a file notes run is w here
 
@@ -299,12 +296,12 @@ test_so a (Some wanted) file notes run first numbers_left now all u =
     let d = desk a.session file notes run in
     let begins = Starts (setup_with a.settings first) a.session.domain in
     let ask = Begins 0 (asked_request (question a.drawn wanted)) in
-    let r = unsent_run None in
+    let r = unsent_run false in
     let no_file = all.well.unkept u in
     let is_question_ = is_one a.drawn wanted all.well.size in
     let has : HasIt file b.session = subst (λ (f : Option SessionValue). HasIt f b.session) (sym no_file) is_question_ in
     goes_on_after d begins [] (after_moves (ask ∷ []) (sends b now)) no_file
-    (goes_on_after (moved d begins) ask [] (sends b now) (refl, inl is_question_)
+    (goes_on_after (moved d begins) ask [] (sends b now) (refl, subst IsFree (sym no_file) tt, inl is_question_)
     (sends_so b file notes r [] now
     (record { size = all.well.size; first = refl; unkept = all.well.unkept; known = λ (n : false ≡ true). absurd (cc) })
     (record { waiting = refl; has = has })
@@ -424,6 +421,7 @@ idle_back stages.Telling a file notes run due i h = record {
   outcome = h.outcome;
   due_is = h.due_is;
   is_heard = h.is_heard;
+  known = h.known;
   nothing = h.nothing;
   of_latest = h.of_latest;
   none_left = h.none_left;
@@ -623,10 +621,10 @@ begins_so (Some wanted) a file notes run due w here known =
     let asked = asked_request wanted in
     let b = record a { session = begun a.session asked; wanted = None; is_testing = false } in
     let d = desk a.session file (note ∷ notes) run in
-    let r = unsent_run run.heard in
+    let r = unsent_run run.is_known in
     let same = ap (λ n. number_of n (a.session.issued + 1)) w.first in
     goes_after (desk a.session file notes run) (Notes note) (Begins a.tag asked ∷ []) [] (begins_wanted a (Some wanted)) tt
-    (goes_on_after d (Begins a.tag asked) [] (saves b) (nothing_waits a.session here.rests.nothing, inr ((refl, same), known refl))
+    (goes_on_after d (Begins a.tag asked) [] (saves b) (nothing_waits a.session here.rests.nothing, here.rests.free, inr ((refl, same), known refl))
     (saves_so b file (note ∷ notes) r [] (record { size = w.size; first = w.first; unkept = w.unkept; known = w.known })
     (free_leaves file b.session (note ∷ notes) r here.rests.free) (λ (t : false ≡ true) v. absurd (cc))
     (λ t v. record { none_left = refl; none_out = refl }) (λ (v : true ≡ false) s. absurd (cc)) here.none_left))
@@ -650,7 +648,7 @@ told_so a file notes run due w here =
     (told_file file a.session a.tag (latest_number a.session) (latest a) here.outcome notes run here.of_latest same)
     (λ t v. absurd (both_ways (is_waiting a.session) v (nothing_waits a.session here.nothing)))
     (λ t v. absurd (both_ways (is_waiting a.session) v (nothing_waits a.session here.nothing)))
-    (λ v s. ap is_some here.is_heard) here.none_left)
+    (λ v s. here.known) here.none_left)
 
 nothing_due : (a : AskerValue) (file : Option SessionValue) (notes : List Note) (run : Run) (due : List Move)
     → Stands a file notes run due

@@ -1,5 +1,5 @@
 -- Turns that others are made of, and how they go on.
-use Rattle.std.proofs.Common.{◌≡◌, ◌≤◌, ℕ, ◌+◌, Bool, true, false, List, [], ◌∷◌, length, take, Option, Some, None, inl, inr, refl, sym, ap, subst, is_some, cond, ◌==◌, ◌&&◌, ◌||◌, arith}
+use Rattle.std.proofs.Common.{◌≡◌, ◌≤◌, ℕ, Bool, true, false, List, [], ◌∷◌, length, take, Option, Some, None, inl, inr, refl, sym, ap, subst, is_some, cond, ◌==◌, ◌&&◌, ◌||◌, arith}
 use Rattle.std.proofs.lemmas.Bool.{cond_both}
 use Rattle.std.proofs.lemmas.List.{length-take-le}
 use Rattle.ptpm_data.specs.ManagementId.{is_of_port}
@@ -7,14 +7,13 @@ use Rattle.ptpm_data.specs.Request.{RequestValue}
 use Rattle.ptpm_manager.specs.declared.ask.Ask.{Ask}
 use Rattle.ptpm_manager.specs.Ask.{request_at_port, request_of}
 use Rattle.ptpm_manager.specs.Session.{SessionValue, is_waiting, resumed, send_refusal, sent}
-use Rattle.ptpm_asker.specs.declared.earlier.Earlier.{Earlier}
 use Rattle.ptpm_asker.specs.declared.earlier.Earlier.TheVariants as earlier
 use Rattle.ptpm_asker.specs.declared.output.Output.TheVariants as outputs
 use Rattle.ptpm_asker.specs.Asker.{AskerValue}
-use Rattle.ptpm_asker.specs.Desk.{Desk, HasIt, HasNoneOut, HasRequest, IsTakenBack, Run, LeavesTold, MayLeave, Move, Note, Resumes, SaysTold, Sends, latest_number}
-use Rattle.ptpm_asker.specs.Question.{asked_request, asks_question, is_question, question}
-use Rattle.ptpm_asker.specs.Turns.{Turn, announces, fails, has_sent, idle, is_unsettled, next_wake, resumes, saves, sends, turn}
-use Rattle.ptpm_asker.proofs.Standing.{Goes, GoesOn, IsAtRest, IsFree, IsFreeOf, IsKnown, IsOut, IsUnderWay, IsUnsent, IsWell, KnowsOut, Stands, TestsQuestion, desk, goes_if, goes_on_after}
+use Rattle.ptpm_asker.specs.Desk.{HasNoneOut, IsFree, IsFreeOf, IsTakenBack, Run, LeavesTold, MayLeave, Move, Note, Resumes, SaysTold, Sends, latest_number}
+use Rattle.ptpm_asker.specs.Question.{asked_request, is_question, question}
+use Rattle.ptpm_asker.specs.Turns.{announces, fails, has_sent, idle, is_unsettled, next_wake, resumes, saves, sends, turn}
+use Rattle.ptpm_asker.proofs.Standing.{GoesOn, IsAtRest, IsKnown, IsUnderWay, IsUnsent, IsWell, KnowsOut, Stands, TestsQuestion, desk, goes_if, goes_on_after}
 
 pub idles : (a : AskerValue) (file : Option SessionValue) (notes : List Note) (run : Run) (due : List Move)
     → Stands a file notes run due

@@ -1,7 +1,6 @@
 -- What holds of an asker and its driver at each moment, and how a turn goes on from it.
-use Rattle.std.proofs.Common.{◌≡◌, ℕ, ◌+◌, Bool, true, false, List, [], ◌∷◌, ◌++◌, length, Option, Some, None, refl, is_some, if◌then◌else◌}
+use Rattle.std.proofs.Common.{◌≡◌, ℕ, Bool, true, false, List, [], ◌∷◌, length, Option, Some, None, is_some, if◌then◌else◌}
 use Rattle.std.proofs.lemmas.Bool.{cond_both}
-use Rattle.ptpm_data.specs.Request.{RequestValue}
 use Rattle.ptpm_manager.specs.declared.ask.Ask.{Ask}
 use Rattle.ptpm_manager.specs.declared.report.Outcome.{Outcome}
 use Rattle.ptpm_manager.specs.Session.{SessionValue, is_waiting}
@@ -10,19 +9,10 @@ use Rattle.ptpm_asker.specs.declared.earlier.Earlier.TheVariants as earlier
 use Rattle.ptpm_asker.specs.declared.stage.Stage.{Stage}
 use Rattle.ptpm_asker.specs.declared.stage.Stage.TheVariants as stages
 use Rattle.ptpm_asker.specs.Asker.{AskerValue}
-use Rattle.ptpm_asker.specs.Desk.{AreAllowed, Desk, HasIt, HasNoneOut, Run, IsAllowed, IsBegun, IsTold, LeavesTold, Move, Note, Notes, Saves, latest_number, moved, moved_by}
-use Rattle.ptpm_asker.specs.Question.{asks_question, is_question}
+use Rattle.ptpm_asker.specs.Desk.{AreAllowed, Desk, HasIt, HasNoneOut, Run, IsAllowed, IsBegun, IsFree, IsTold, LeavesTold, Move, Note, Notes, Saves, latest_number, moved, moved_by}
+use Rattle.ptpm_asker.specs.Question.{asks_question}
 use Rattle.ptpm_asker.specs.Turns.{Turn, after_moves, is_unsettled, latest, next}
 use Rattle.ptpm_asker.specs.Allowed.{due_after}
-
--- a question at most is under way in the file
-abbrev pub IsFreeOf : Option RequestValue → Type 0
-IsFreeOf None = Unit {0}
-IsFreeOf (Some q) = is_question q ≡ true
-
-abbrev pub IsFree : Option SessionValue → Type 0
-IsFree None = Unit {0}
-IsFree (Some f) = IsFreeOf f.unanswered
 
 -- the file's latest request is that of this number
 abbrev pub IsOfLatest : Option SessionValue → ℕ → Type 0
@@ -66,7 +56,7 @@ IsUnsent a run = a.is_testing ≡ false → is_waiting a.session ≡ true → Ha
 
 -- what is wanted is announced only after an answer of this run
 abbrev pub IsKnown : Option Ask → Run → Type 0
-IsKnown wanted run = is_some wanted ≡ true → is_some run.heard ≡ true
+IsKnown wanted run = is_some wanted ≡ true → run.is_known ≡ true
 
 pub record IsResting (a : AskerValue) (file : Option SessionValue) (due : List Move) : Type 0 where
   pub due_is : due ≡ []
@@ -101,6 +91,7 @@ pub record IsTelling (a : AskerValue) (file : Option SessionValue) (run : Run) (
   pub outcome : Outcome
   pub due_is : due ≡ Notes (IsTold a.tag (latest a) outcome) ∷ []
   pub is_heard : run.heard ≡ Some (record { number = latest a; outcome = outcome })
+  pub known : run.is_known ≡ true
   pub nothing : a.session.unanswered ≡ None
   pub of_latest : IsOfLatest file (latest_number a.session)
   pub none_left : a.earlier ≡ earlier.NoRequest
@@ -119,7 +110,7 @@ pub record IsWell (a : AskerValue) (file : Option SessionValue) (run : Run) : Ty
   pub size : length a.drawn ≡ 26
   pub first : a.first ≡ a.session.setup.first
   pub unkept : a.is_kept ≡ false → file ≡ None
-  pub known : a.is_new ≡ true → is_some run.heard ≡ true
+  pub known : a.is_new ≡ true → run.is_known ≡ true
 
 pub record Stands (a : AskerValue) (file : Option SessionValue) (notes : List Note) (run : Run) (due : List Move) : Type 0 where
   pub well : IsWell a file run

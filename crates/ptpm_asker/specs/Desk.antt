@@ -1,7 +1,8 @@
 -- A desk is what one asker has: its session as it is, the session as its file has it, and the notebook of its owner. Nothing is sent
 -- that the file has not. Nothing leaves the file that the notes have not as reported. Nothing is begun that the notes have not as
--- begun, nor before an answer shows that its number is new (this project's profile).
-use Rattle.std.specs.Prelude.{◌≡◌, ◌⊎◌, ℕ, ◌+◌, ◌||◌, Bool, true, false, List, [], ◌∷◌, Option, Some, None, is_some}
+-- begun, nor before an answer shows that its number is new. Nothing is begun while the file has another request (this project's
+-- profile).
+use Rattle.std.specs.Prelude.{◌≡◌, ◌⊎◌, ℕ, ◌+◌, ◌||◌, Bool, true, false, List, [], ◌∷◌, Option, Some, None}
 use Rattle.ptpm_codec.specs.SequenceNumber.{number_of}
 use Rattle.ptpm_data.specs.Request.{RequestValue}
 use Rattle.ptpm_manager.specs.declared.receiving.Received.{Received}
@@ -25,8 +26,10 @@ pub record Heard : Type 0 where
 
 -- what a program knows since it began, and loses by a crash
 pub record Run : Type 0 where
-  -- the latest answer that was heard
+  -- the answer to the request that was begun last
   pub heard : Option Heard
+  -- whether any answer was heard
+  pub is_known : Bool
   -- whether a message of the latest request left, or may have, before the one that was handed out last
   pub has_left : Bool
   -- whether that one left, as far as is known
@@ -41,11 +44,11 @@ pub record Desk : Type 0 where
 
 -- what was under way before may have left
 abbrev pub new_run : Run
-new_run = record { heard = None; has_left = true; is_out = false }
+new_run = record { heard = None; is_known = false; has_left = true; is_out = false }
 
--- no message of the latest request left
-abbrev pub unsent_run : Option Heard → Run
-unsent_run heard = record { heard = heard; has_left = false; is_out = false }
+-- a request is begun: it has no answer, and no message of it left
+abbrev pub unsent_run : Bool → Run
+unsent_run known = record { heard = None; is_known = known; has_left = false; is_out = false }
 
 -- the number of the request that was begun last, and that of the next one
 abbrev pub latest_number : SessionValue → ℕ
@@ -84,16 +87,23 @@ abbrev pub heard_after : SessionValue → Option Heard → Received → Option H
 heard_after s before (received.Answered report) = Some (record { number = latest_number s; outcome = report.outcome })
 heard_after s before (received.Ignored reason) = before
 
+abbrev pub known_after : Bool → Received → Bool
+known_after before (received.Answered report) = true
+known_after before (received.Ignored reason) = before
+
 abbrev pub moved : Desk → Move → Desk
-moved d (Begins tag request) = record d { live = begun d.live request; run = unsent_run d.run.heard }
+moved d (Begins tag request) = record d { live = begun d.live request; run = unsent_run d.run.is_known }
 moved d Saves = record d { file = Some d.live }
 moved d Sends = record d {
   live = sent d.live;
-  run = record { heard = d.run.heard; has_left = d.run.has_left || d.run.is_out; is_out = true };
+  run = record d.run { has_left = d.run.has_left || d.run.is_out; is_out = true };
 }
 moved d (Hears datagram) = record d {
   live = left_by d.live (received_of d.live datagram);
-  run = record d.run { heard = heard_after d.live d.run.heard (received_of d.live datagram) };
+  run = record d.run {
+    heard = heard_after d.live d.run.heard (received_of d.live datagram);
+    is_known = known_after d.run.is_known (received_of d.live datagram);
+  };
 }
 moved d (Notes note) = record d { notes = note ∷ d.notes }
 moved d (Resumes attempts) = record d { live = resumed d.live attempts }
@@ -156,6 +166,15 @@ abbrev pub LeavesTold : Option SessionValue → SessionValue → List Note → R
 LeavesTold None s notes r = Unit {0}
 LeavesTold (Some f) s notes r = MayLeave f.unanswered f s notes r
 
+-- a question at most is under way in the file
+abbrev pub IsFreeOf : Option RequestValue → Type 0
+IsFreeOf None = Unit {0}
+IsFreeOf (Some q) = is_question q ≡ true
+
+abbrev pub IsFree : Option SessionValue → Type 0
+IsFree None = Unit {0}
+IsFree (Some f) = IsFreeOf f.unanswered
+
 -- what is noted as reported is what the answer says that was heard
 abbrev pub IsHeard : Note → Option Heard → Type 0
 IsHeard (IsBegun tag number) heard = Unit {0}
@@ -164,11 +183,11 @@ IsHeard (IsLetGo number) heard = Unit {0}
 
 -- the notes have this as begun under the next number, and an answer of this run says that this number is new
 abbrev pub IsKnownNew : Desk → ℕ → Type 0
-IsKnownNew d tag = SaysBegun d.notes tag (next_number d.live) × (is_some d.run.heard ≡ true)
+IsKnownNew d tag = SaysBegun d.notes tag (next_number d.live) × (d.run.is_known ≡ true)
 
 abbrev pub IsAllowed : Desk → Move → Type 0
 IsAllowed d (Begins tag request) =
-    (is_waiting d.live ≡ false) × ((is_question request ≡ true) ⊎ IsKnownNew d tag)
+    (is_waiting d.live ≡ false) × IsFree d.file × ((is_question request ≡ true) ⊎ IsKnownNew d tag)
 IsAllowed d Saves = LeavesTold d.file d.live d.notes d.run
 IsAllowed d Sends = (is_waiting d.live ≡ true) × HasIt d.file d.live
 IsAllowed d (Hears datagram) = Unit {0}

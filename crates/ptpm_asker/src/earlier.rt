@@ -34,21 +34,14 @@ impl Earlier {
     ghost use Rattle.ptpm_asker.specs.Turns.{is_left_question, is_unsettled, settling_domain};
 
     /// What a session's image has under way.
-    #[tactic(auto, unfolding(ptpm_manager::specs::ImageReading::request_at))]
     pub(crate) fn of_image(image: &[u8]) -> Earlier
         requires { is_long image.now ≡ true }
         ensures { result ≡ earlier_of (unanswered_at image.now) }
     {
-        if image[IS_UNDER_WAY] == 0 {
-            return Earlier::NoRequest;
+        match request_in(image) {
+            Some(request) => Earlier::of_request(&request),
+            None => Earlier::NoRequest,
         }
-        let (_, octets) = image.split_at(FRONT);
-        Earlier::of_request(&Request {
-            action: action_of(image[53]),
-            id: u16_at(image, 54),
-            port: u16_at(image, 56),
-            octets,
-        })
     }
 
     fn of_request(request: &Request<'_>) -> Earlier
@@ -93,6 +86,24 @@ impl Earlier {
     }
 }
 
+/// The request that a session's image has under way, its octets lent.
+#[tactic(auto, unfolding(ptpm_manager::specs::ImageReading::request_at))]
+pub fn request_in(image: &[u8]) -> Option<Request<'_>>
+    requires { is_long image.now ≡ true }
+    ensures { result ≡ unanswered_at image.now }
+{
+    if image[IS_UNDER_WAY] == 0 {
+        return None;
+    }
+    let (_, octets) = image.split_at(FRONT);
+    Some(Request {
+        action: action_of(image[53]),
+        id: u16_at(image, 54),
+        port: u16_at(image, 56),
+        octets,
+    })
+}
+
 /// The action of a request by its code in an image.
 fn action_of(code: u8) -> Action
     ensures { result ≡ request_action code }
@@ -104,7 +115,8 @@ fn action_of(code: u8) -> Action
     }
 }
 
-fn is_question(request: &Request<'_>) -> bool
+/// Whether a request is the question whether a number is new.
+pub fn is_question(request: &Request<'_>) -> bool
     ensures { result ≡ is_question request.now }
 {
     let size = request.octets.len();

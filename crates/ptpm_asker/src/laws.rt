@@ -12,8 +12,9 @@ ghost use Rattle.ptpm_asker.specs.Desk.{Note};
 /// - nothing is sent that the file has not, but the question whether a number is new, while there is no file;
 /// - nothing leaves the file that the notes have not as reported or given up, but a question, and a request that had no way out;
 /// - nothing is begun that the notes have not as begun, but a question;
+/// - nothing is begun while the file has a request under way, but a question;
 /// - nothing but a question is begun before an answer of this run shows that its number is new;
-/// - what is noted as reported is what an answer says that was heard.
+/// - what is noted as reported is what an answer to the latest request says that was heard.
 pub fn asker_is_allowed()
     ensures { (o : Opening) (file : Option SessionValue) (notes : List Note) (inputs : List Input) →
         IsAllowedAsker o file notes inputs }

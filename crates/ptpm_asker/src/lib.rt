@@ -14,7 +14,7 @@ mod settings;
 mod stage;
 
 pub use asker::Asker;
-pub use earlier::Earlier;
+pub use earlier::{Earlier, is_question, request_in};
 pub use laws::asker_is_allowed;
 pub use output::Output;
 pub use question::DRAWN_OCTETS;

@@ -36,6 +36,7 @@ mod saving;
 mod saving_clock;
 mod sealing;
 mod session;
+mod standing;
 mod survey;
 mod withholding;
 mod withholding_session;

@@ -3,13 +3,15 @@ use Rattle.std.proofs.Common.{arith, ◌≡◌, ℕ, List, [], ◌∷◌, ◌++�
 use Rattle.ptpm_codec.specs.declared.error.ErrorId.{ErrorId}
 use Rattle.ptpm_codec.specs.declared.identity.PortIdentity.{PortIdentity}
 use Rattle.ptpm_data.specs.Members.{DataSetsValue}
+use Rattle.ptpm_data.specs.Rights.{all_rights}
+use Rattle.ptpm_data.proofs.Keeping.{changed_by-ports}
 use Rattle.ptpm_data.proofs.Observed.{observed-ports}
 use Rattle.ptpm_agent.specs.Laws.{StandsAt, due_messages, initial_clock_state}
 use Rattle.ptpm_agent.specs.Once.{Delivery, History, RequestCopy, copy_of, initial_history, joins}
 use Rattle.ptpm_agent.specs.Turn.{Clock, State, outbox_of}
 use Rattle.ptpm_agent.specs.Window.{IsInTime}
 use Rattle.ptpm_agent.proofs.AtMostOnce.{after_copy-ports, stands-initial_history}
-use Rattle.ptpm_device.specs.Decided.{ComeInTime, ComesInTime, Delivered, Happening, Observed, after_arrival, after_decision, after_happening, after_happenings, decided_in_place, due_decided, history_after}
+use Rattle.ptpm_device.specs.Decided.{Changed, ComeInTime, ComesInTime, Delivered, Happening, Observed, after_arrival, after_decision, after_happening, after_happenings, decided_in_place, due_decided, history_after}
 use Rattle.ptpm_device.specs.Saying.{turn_said}
 use Rattle.ptpm_device.proofs.Steps.{DecidesAs, decides_as, turn_said-no_copy}
 
@@ -30,6 +32,7 @@ stands-happening : (first : PortIdentity → ℕ) (c : Clock) (ports : ℕ) (s :
     → StandsAt first (after_happening c s x) (history_after c ports h x)
 stands-happening first c ports s h (Delivered x say) many at time = stands-arrival first c ports s h x say (copy_of c ports x) many refl at time
 stands-happening first c ports s h (Observed o seen) many at time = grind arith
+stands-happening first c ports s h (Changed q) many at time = grind arith
 
 after_decision-ports : (c : Clock) (h : History) (k : RequestCopy) (say : Option ErrorId)
     → length (after_decision c h k say).sets.ports ≡ length h.sets.ports
@@ -40,6 +43,7 @@ history_after-ports : (c : Clock) (ports : ℕ) (h : History) (x : Happening)
     → length (history_after c ports h x).sets.ports ≡ length h.sets.ports
 history_after-ports c ports h (Delivered x say) = grind (arith, after_decision-ports)
 history_after-ports c ports h (Observed o seen) = observed-ports o seen h.sets
+history_after-ports c ports h (Changed q) = changed_by-ports q all_rights h.sets
 
 -- ---- all that happens
 

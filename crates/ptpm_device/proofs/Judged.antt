@@ -1,11 +1,10 @@
 -- Where a device is asked, and that what it says moves neither the verdict nor what is passed on.
-use Rattle.std.proofs.Common.{◌≡◌, ℕ, is_none, List, [], Option, Some, None, Ok, Bool, true, false, length, refl, sym, ◌∙◌, ap, subst, ⊎_elim}
+use Rattle.std.proofs.Common.{◌≡◌, ℕ, is_none, List, Option, Some, None, true, false, refl, sym, ◌∙◌, ap, subst, ⊎_elim}
 use Rattle.std.proofs.lemmas.Bool.{and_parts, cases_Bool, false≢true}
 use Rattle.ptpm_codec.specs.declared.error.ErrorId.{ErrorId}
 use Rattle.ptpm_codec.specs.declared.message.Message.{Message}
 use Rattle.ptpm_codec.specs.Reading.{message_of}
 use Rattle.ptpm_data.specs.Refusals.{refusal_of}
-use Rattle.ptpm_agent.specs.declared.verdict.Verdict.{Verdict}
 use Rattle.ptpm_agent.specs.declared.verdict.Verdict.TheVariants as verdicts
 use Rattle.ptpm_agent.specs.Addressing.{request_of}
 use Rattle.ptpm_agent.specs.Turn.{Clock, State, Turned, judged, turn}

@@ -1,26 +1,24 @@
 -- A copy in time is a new request to the clock exactly if it joins its history.
 use Rattle.std.proofs.lemmas.Slice.Eq.{bytes_eq-Decides}
-use Rattle.std.proofs.Common.{arith, bytes_eq, ◌≡◌, ℕ, ◌<◌, ◌%◌, ◌||◌, Option, Some, None, Bool, true, false, length, refl, sym, ◌∙◌, ap, subst, ⊎_elim}
-use Rattle.std.proofs.lemmas.Bool.{cases_Bool, or_cases, true≢false, false≢true, cond-true}
+use Rattle.std.proofs.Common.{arith, bytes_eq, ◌≡◌, ℕ, ◌<◌, Option, Some, None, Bool, true, false, refl, sym, ◌∙◌, ap}
+use Rattle.std.proofs.lemmas.Bool.{true≢false, false≢true}
 use Rattle.std.specs.FinMap.{get}
 use Rattle.ptpm_codec.specs.declared.identity.PortIdentity.{PortIdentity}
 use Rattle.ptpm_codec.specs.declared.message.Message.{Message}
-use Rattle.ptpm_codec.specs.Reading.{message_of}
 use Rattle.ptpm_data.specs.Request.{RequestValue}
-use Rattle.ptpm_table.specs.declared.reply_table.Look.{Look}
 use Rattle.ptpm_table.specs.declared.reply_table.Look.TheVariants as looks
 use Rattle.ptpm_table.specs.declared.serial.Serial.{Serial}
-use Rattle.ptpm_table.specs.declared.serial.Serial.TheVariants.{Same, Newer, Older}
+use Rattle.ptpm_table.specs.declared.serial.Serial.TheVariants.{Same, Newer}
 use Rattle.ptpm_table.specs.Entries.{Entry}
-use Rattle.ptpm_table.specs.Numbering.{look_at, look_by, same_request}
-use Rattle.ptpm_table.specs.Serial.{InWindow, order_of, serial_of}
+use Rattle.ptpm_table.specs.Numbering.{look_at, same_request}
+use Rattle.ptpm_table.specs.Serial.{serial_of}
 use Rattle.ptpm_table.proofs.SerialLaws.{order_of-newer}
 use Rattle.ptpm_agent.specs.declared.verdict.Verdict.{Verdict}
 use Rattle.ptpm_agent.specs.declared.verdict.Verdict.TheVariants as verdicts
 use Rattle.ptpm_agent.specs.Addressing.{request_of}
-use Rattle.ptpm_agent.specs.Laws.{IsKept, IsLatest, StandsAt}
-use Rattle.ptpm_agent.specs.Once.{Delivery, History, RequestCopy, after_copy, copy_from, greatest, is_copy, joins}
-use Rattle.ptpm_agent.specs.Turn.{Clock, State, carried_out, is_repeat, judged, next_by, verdict_at}
+use Rattle.ptpm_agent.specs.Laws.{IsKept, StandsAt}
+use Rattle.ptpm_agent.specs.Once.{Delivery, History, RequestCopy, after_copy, copy_from, greatest, joins}
+use Rattle.ptpm_agent.specs.Turn.{Clock, State, carried_out, judged, next_by}
 use Rattle.ptpm_agent.specs.Window.{IsInTime}
 use Rattle.ptpm_agent.proofs.Entries.{accepted_kept}
 use Rattle.ptpm_agent.proofs.Numbers.{serial_of-number_of}

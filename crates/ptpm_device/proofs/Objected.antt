@@ -1,5 +1,5 @@
 -- A request that is kept with the device's error is a repeat by then, and is answered as one.
-use Rattle.std.proofs.Common.{◌≡◌, ℕ, ◌<◌, List, [], Option, Some, None, Ok, IsTrue, true, false, length, refl, sym, ◌∙◌, ap, subst}
+use Rattle.std.proofs.Common.{◌≡◌, ℕ, ◌<◌, List, [], Option, Some, None, Ok, true, false, length, refl, sym, ◌∙◌, ap, subst}
 use Rattle.std.specs.Prelude.{IfSome}
 use Rattle.std.proofs.lemmas.Bool.{false≢true, true≢false}
 use Rattle.std.specs.FinMap.{get}
@@ -21,8 +21,8 @@ use Rattle.ptpm_agent.specs.Turn.{Clock, NumberedRequest, State, Turned, judged,
 use Rattle.ptpm_agent.proofs.Entries.{get-insert_same}
 use Rattle.ptpm_agent.proofs.Fitting.{may_judge_action, may_judge_port}
 use Rattle.ptpm_agent.proofs.Turns.{CopyParts, forwarded-copy, judged-copy, new_parts, turn-message}
-use Rattle.ptpm_device.specs.Asking.{asked, is_asked}
-use Rattle.ptpm_device.specs.Saying.{after_objection, counts, objected, objected_by, turn_said}
+use Rattle.ptpm_device.specs.Asking.{asked}
+use Rattle.ptpm_device.specs.Saying.{after_objection, counts, objected_by, turn_said}
 use Rattle.ptpm_device.proofs.Asked.{AskedParts, asked_parts}
 use Rattle.ptpm_device.proofs.Judged.{judged-asked, turn_said-none}
 use Rattle.ptpm_device.proofs.New.{look_at-kept}

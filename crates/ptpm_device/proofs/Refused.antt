@@ -1,14 +1,11 @@
 -- The reply to a refused request, answer by answer.
-use Rattle.std.proofs.Common.{arith, ◌≡◌, ℕ, ◌<◌, ◌≤◌, is_none, not, map, List, [], ◌∷◌, Option, Some, None, Bool, true, false, length, refl, sym, ◌∙◌, ap, subst}
+use Rattle.std.proofs.Common.{arith, ◌≡◌, ℕ, ◌≤◌, map, List, [], ◌∷◌, Option, Some, None, Bool, true, false, length, refl, sym, ◌∙◌, ap, subst}
 use Rattle.std.proofs.lemmas.List.Elements.{All-cons, All-get_or, All-map, All-nil}
-use Rattle.std.proofs.lemmas.Option.{get_or_from_slice_get, none-some, slice_get-map, slice_get_within}
-use Rattle.std.specs.List.{All, slice_get}
-use Rattle.std.specs.Option.{option_map}
+use Rattle.std.specs.List.{All}
 use Rattle.ptpm_codec.specs.declared.error.ErrorId.{ErrorId}
 use Rattle.ptpm_codec.specs.declared.message.Action.{Action}
 use Rattle.ptpm_codec.specs.declared.message.Action.TheVariants as actions
 use Rattle.ptpm_codec.specs.Message.{reply_action}
-use Rattle.ptpm_data.specs.declared.reply.PortAnswer.{PortAnswer}
 use Rattle.ptpm_data.specs.declared.rights.Rights.{Rights}
 use Rattle.ptpm_data.specs.AnswerLaws.{answered_more}
 use Rattle.ptpm_data.specs.Changes.{IsTargetPort, changed_by}
@@ -16,42 +13,36 @@ use Rattle.ptpm_data.specs.ManagementId.{is_of_port}
 use Rattle.ptpm_data.specs.Members.{DataSetsValue}
 use Rattle.ptpm_data.specs.Refusals.{refusal_of}
 use Rattle.ptpm_data.specs.Replies.{answer, answerers, named_ports, outcome, read_refusal, read_reply_to, reply_of, reply_to}
-use Rattle.ptpm_data.specs.Reply.{Answer, ReplyValue, answer_of, outcome_of}
+use Rattle.ptpm_data.specs.Reply.{Answer, ReplyValue}
 use Rattle.ptpm_data.specs.Request.{RequestValue}
 use Rattle.ptpm_data.specs.RequestLaws.{IsSized}
 use Rattle.ptpm_data.proofs.Keeping.{changed_by-ports, changed_by-sized}
 use Rattle.ptpm_data.proofs.ReplyLemmas.{answers_of, reply_of-all, reply_of-count}
 use Rattle.ptpm_table.specs.Entries.{FitsAnswer, FitsCount, FitsRequest}
-use Rattle.ptpm_device.specs.Refusing.{is_refused, refused_answer}
+use Rattle.ptpm_device.specs.Changing.{error_of, first_error}
+use Rattle.ptpm_device.specs.Refusing.{refused_answer}
 
 -- ---- each answer of a refusal is one
 
-outcome-refused : (refusal : Option ErrorId) (action : Action) (octets : List ℕ)
-    → not (is_refused (outcome refusal action octets)) ≡ is_none refusal
-outcome-refused (Some error) action octets = refl
-outcome-refused None actions.Command octets = refl
-outcome-refused None _ octets = refl
+error_of-outcome : (refusal : Option ErrorId) (action : Action) (octets : List ℕ)
+    → error_of (outcome refusal action octets) ≡ refusal
+error_of-outcome (Some error) action octets = refl
+error_of-outcome None actions.Command octets = refl
+error_of-outcome None _ octets = refl
 
-pub reply_of-refused : (q : RequestValue) (refusal : Option ErrorId) (d : DataSetsValue)
-    → All (λ a. not (is_refused a.outcome) ≡ is_none refusal) (reply_of q refusal d).answers
+reply_of-errors : (q : RequestValue) (refusal : Option ErrorId) (d : DataSetsValue)
+    → All (λ a. error_of a.outcome ≡ refusal) (reply_of q refusal d).answers
 unfolding answer
-reply_of-refused q refusal d =
-    reply_of-all (λ a. not (is_refused a.outcome) ≡ is_none refusal) q refusal d
-    (λ port. outcome-refused refusal q.action _)
+reply_of-errors q refusal d =
+    reply_of-all (λ a. error_of a.outcome ≡ refusal) q refusal d (λ port. error_of-outcome refusal q.action _)
 
--- the first answer tells whether the request is refused
-pub permitted_first : (q : RequestValue) (rights : Rights) (d : DataSetsValue) (answers : List PortAnswer) (a : PortAnswer)
-    → slice_get answers 0 ≡ Some a
-    → map answer_of answers ≡ (reply_to q rights d).answers
-    → not (is_refused (outcome_of a.what)) ≡ is_none (refusal_of q rights)
-unfolding reply_to
-permitted_first q rights d answers a first e =
-    let values : List Answer = (reply_to q rights d).answers in
-    let get : slice_get values 0 ≡ Some (answer_of a) =
-    sym (ap (λ (xs : List Answer). slice_get xs 0) e) ∙ (slice_get-map answer_of answers 0 ∙ ap (option_map answer_of) first) in
-    subst (λ (x : Answer). not (is_refused x.outcome) ≡ is_none (refusal_of q rights)) (get_or_from_slice_get values 0 (answer_of a) (answer_of a) get)
-    (All-get_or (λ x. not (is_refused x.outcome) ≡ is_none (refusal_of q rights)) values 0 (answer_of a)
-    (slice_get_within values 0 (answer_of a) get) (reply_of-refused q (refusal_of q rights) (changed_by q rights d)))
+first_of_all : (refusal : Option ErrorId) (answers : List Answer)
+    → 1 ≤ length answers
+    → All (λ a. error_of a.outcome ≡ refusal) answers
+    → first_error answers ≡ refusal
+first_of_all refusal [] some all = absurd (omega arith)
+first_of_all refusal (a ∷ answers) some all =
+    All-get_or (λ x. error_of x.outcome ≡ refusal) (a ∷ answers) 0 a (omega arith) all
 
 reply_to-some : (q : RequestValue) (rights : Rights) (d : DataSetsValue)
     → IsTargetPort q.port d
@@ -61,18 +52,26 @@ unfolding reply_to
 reply_to-some q rights d port sized =
     (reply_of-count q (refusal_of q rights) (changed_by q rights d) (grind (arith, changed_by-ports)) (changed_by-sized q rights d sized)).0
 
--- and there is one
-pub some_first : (q : RequestValue) (rights : Rights) (d : DataSetsValue) (answers : List PortAnswer)
+-- the first answer tells why the request is refused
+first_error-refusal : (q : RequestValue) (rights : Rights) (d : DataSetsValue)
     → IsTargetPort q.port d
     → IsSized d
-    → slice_get answers 0 ≡ None
-    → map answer_of answers ≡ (reply_to q rights d).answers
-    → ⊥
-some_first q rights d [] port sized none e =
-    let some : 1 ≤ length (reply_to q rights d).answers = reply_to-some q rights d port sized in
-    let empty : 0 ≡ length (reply_to q rights d).answers = ap length e in
-    omega arith
-some_first q rights d (a ∷ answers) port sized none e = none-some a (sym none)
+    → first_error (reply_to q rights d).answers ≡ refusal_of q rights
+unfolding reply_to
+first_error-refusal q rights d port sized =
+    first_of_all (refusal_of q rights) (reply_to q rights d).answers (reply_to-some q rights d port sized)
+    (reply_of-errors q (refusal_of q rights) (changed_by q rights d))
+
+-- as code reads it
+pub refusal-read : (q : RequestValue) (rights : Rights) (d e : DataSetsValue) (reply : ReplyValue) (o : Option ErrorId)
+    → IsTargetPort q.port d
+    → IsSized e
+    → e ≡ d
+    → reply ≡ reply_to q rights d
+    → o ≡ first_error reply.answers
+    → refusal_of q rights ≡ o
+refusal-read q rights d e reply o port sized same is read =
+    sym (first_error-refusal q rights d port (subst IsSized same sized)) ∙ (sym (ap (λ (r : ReplyValue). first_error r.answers) is) ∙ sym read)
 
 -- ---- its answers, made of those of another reply
 

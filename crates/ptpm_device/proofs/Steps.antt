@@ -1,8 +1,7 @@
 -- One delivery at a clock whose device may object.
-use Rattle.std.proofs.Common.{arith, ◌≡◌, ℕ, ◌<◌, ◌&&◌, List, [], ◌∷◌, ◌++◌, Option, Some, None, Ok, Result, Bool, true, false, length, cond, if◌then◌else◌, refl, sym, ◌∙◌, ap, subst, ⊎_elim}
+use Rattle.std.proofs.Common.{arith, ◌≡◌, ℕ, ◌<◌, ◌&&◌, List, [], Option, Some, None, Bool, true, false, length, refl, sym, ◌∙◌, ap, subst, ⊎_elim}
 use Rattle.std.proofs.lemmas.Bool.{cases_Bool, and_left, cond-true, cond-false, true≢false}
 use Rattle.std.specs.FinMap.{get, insert}
-use Rattle.ptpm_codec.specs.declared.error.DecodeError.{DecodeError}
 use Rattle.ptpm_codec.specs.declared.error.ErrorId.{ErrorId}
 use Rattle.ptpm_codec.specs.declared.identity.PortIdentity.{PortIdentity}
 use Rattle.ptpm_codec.specs.declared.message.Message.{Message}
@@ -11,16 +10,15 @@ use Rattle.ptpm_codec.specs.Reading.{message_of}
 use Rattle.ptpm_codec.proofs.IdentityLaws.{same_identity-true}
 use Rattle.ptpm_data.specs.Members.{DataSetsValue}
 use Rattle.ptpm_data.specs.Replies.{reply_of}
-use Rattle.ptpm_data.specs.Reply.{ReplyValue}
 use Rattle.ptpm_table.specs.Entries.{Entry}
 use Rattle.ptpm_table.proofs.Identities.{same_identity-refl}
 use Rattle.ptpm_agent.specs.Addressing.{request_of}
 use Rattle.ptpm_agent.specs.Laws.{IsKept, IsLatest, StandsAt, due_messages}
-use Rattle.ptpm_agent.specs.Once.{Accepted, Delivery, History, RequestCopy, after_copy, copy_from, copy_of, due_reply, greatest, is_copy, joins, kept_reply}
-use Rattle.ptpm_agent.specs.Turn.{Clock, State, Turned, judged, next_by, numbered_from, outbox_of, turn, turn_by}
+use Rattle.ptpm_agent.specs.Once.{Delivery, History, RequestCopy, after_copy, copy_from, copy_of, due_reply, greatest, is_copy, joins}
+use Rattle.ptpm_agent.specs.Turn.{Clock, State, Turned, judged, next_by, numbered_from, turn}
 use Rattle.ptpm_agent.specs.Window.{IsInTime, IsNumbered}
-use Rattle.ptpm_agent.proofs.AtMostOnce.{DeliversCopy, TurnsAs, delivers_copy, no_copy, turn-no_copy, turns_as}
-use Rattle.ptpm_agent.proofs.Entries.{get-insert_other, get-insert_same, greatest_other, kept_other, kept_same}
+use Rattle.ptpm_agent.proofs.AtMostOnce.{TurnsAs, delivers_copy, no_copy, turn-no_copy, turns_as}
+use Rattle.ptpm_agent.proofs.Entries.{get-insert_other, get-insert_same, greatest_other}
 use Rattle.ptpm_agent.proofs.Turns.{is_copy-new, turn-message}
 use Rattle.ptpm_device.specs.Asking.{is_asked, is_new, is_permitted}
 use Rattle.ptpm_device.specs.Decided.{after_decision, due_decided, is_decided, refused_copy}

@@ -7,11 +7,13 @@ use Rattle.ptpm_data.specs.declared.observation.ClockObservation.{ClockObservati
 use Rattle.ptpm_data.specs.declared.observation.PortObservation.{PortObservation}
 use Rattle.ptpm_data.specs.Replies.{reply_of}
 use Rattle.ptpm_data.specs.Reply.{ReplyValue}
+use Rattle.ptpm_data.specs.Request.{RequestValue}
 use Rattle.ptpm_agent.specs.Observing.{moved_history, moved_state}
 use Rattle.ptpm_agent.specs.Once.{Delivery, History, RequestCopy, after_copy, copy_of, due_reply, joins}
 use Rattle.ptpm_agent.specs.Turn.{Clock, State}
 use Rattle.ptpm_agent.specs.Window.{IsInTime}
 use Rattle.ptpm_device.specs.Asking.{is_permitted}
+use Rattle.ptpm_device.specs.Changing.{changed_history, changed_state}
 use Rattle.ptpm_device.specs.Saying.{turn_said}
 
 -- ---- what happens at a clock
@@ -21,10 +23,13 @@ pub data Happening : Type 0 where
   Delivered : (delivery : Delivery) → (say : Option ErrorId) → Happening
   -- the host reports what it observes; if this is refused, nothing moves
   Observed : (clock : ClockObservation) → (ports : List PortObservation) → Happening
+  -- the device's owner asks for a change at the device itself; if this is refused, nothing changes
+  Changed : (request : RequestValue) → Happening
 
 abbrev pub after_happening : Clock → State → Happening → State
 after_happening c s (Delivered x say) = (turn_said c s say x.ingress x.datagram).next
 after_happening c s (Observed o ports) = moved_state o ports s
+after_happening c s (Changed q) = changed_state q s
 
 -- a clock after all of these, in their order
 abbrev pub after_happenings : Clock → State → List Happening → State
@@ -67,20 +72,22 @@ after_arrival c h (Some k) say = after_decision c h k say
 abbrev pub history_after : Clock → ℕ → History → Happening → History
 history_after c ports h (Delivered x say) = after_arrival c h (copy_of c ports x) say
 history_after c ports h (Observed o seen) = moved_history o seen h
+history_after c ports h (Changed q) = changed_history q h
 
 -- of happenings in their order, each accepted request applied or refused once, in order of first acceptance, and each
--- observation in its place
+-- observation and each change at the device in its place
 abbrev pub decided_in_place : Clock → ℕ → History → List Happening → History
 decided_in_place c ports h [] = h
 decided_in_place c ports h (x ∷ xs) = decided_in_place c ports (history_after c ports h x) xs
 
 -- ---- in time
 
--- a copy that comes in has the sequenceId of its index, and lies in the window; of an observation nothing is asked
+-- a copy that comes in has the sequenceId of its index, and lies in the window; of anything else nothing is asked
 abbrev pub ComesInTime : (PortIdentity → ℕ) → Clock → ℕ → History → Happening → Type 0
 ComesInTime first c ports h (Delivered x say) =
     (k : RequestCopy) → copy_of c ports x ≡ Some k → IsInTime first h k
 ComesInTime first c ports h (Observed o seen) = Unit {0}
+ComesInTime first c ports h (Changed q) = Unit {0}
 
 -- each of a list, as it comes
 abbrev pub ComeInTime : (PortIdentity → ℕ) → Clock → ℕ → History → List Happening → Type 0

@@ -1,4 +1,5 @@
 pub mod Asking
 pub mod Refusing
 pub mod Saying
+pub mod Changing
 pub mod Decided

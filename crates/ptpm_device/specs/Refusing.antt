@@ -1,14 +1,10 @@
--- Answers that are refusals, and a reply whose every answer is one.
-use Rattle.std.specs.Prelude.{◌≡◌, ◌+◌, Bool, true, false, List, [], ◌++◌, length, map}
+-- A reply whose every answer is a refusal.
+use Rattle.std.specs.Prelude.{◌≡◌, ◌+◌, List, [], ◌++◌, length, map}
 use Rattle.std.proofs.Common.{◌∙◌, ap, refl, sym}
 use Rattle.std.proofs.lemmas.List.{length-map, map-append}
 use Rattle.ptpm_codec.specs.declared.error.ErrorId.{ErrorId}
 use Rattle.ptpm_data.specs.AnswerLaws.{answered_count, answered_more, answered_none, answered_twice}
-use Rattle.ptpm_data.specs.Reply.{Answer, Outcome, Refused, ReplyValue}
-
-abbrev pub is_refused : Outcome → Bool
-is_refused (Refused error) = true
-is_refused _ = false
+use Rattle.ptpm_data.specs.Reply.{Answer, Refused, ReplyValue}
 
 -- the answer of the same port, or of the clock, with this error
 abbrev pub refused_answer : ErrorId → Answer → Answer

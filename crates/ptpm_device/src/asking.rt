@@ -4,15 +4,14 @@ ghost use Rattle.std.specs.Prelude.{◌≡◌, ◌<◌, ◌^◌, IfSome, is_none
 ghost use Rattle.ptpm_codec.specs.Message.{IsDataField, IsRequestAction, IsValid};
 ghost use Rattle.ptpm_data.specs.Changes.{IsTargetPort};
 ghost use Rattle.ptpm_data.specs.Refusals.{refusal_of};
-ghost use Rattle.ptpm_data.specs.Reply.{outcome_of};
 ghost use Rattle.ptpm_agent.specs.Addressing.{request_of};
 ghost use Rattle.ptpm_agent.specs.Agent.{clock_of, state_of};
 ghost use Rattle.ptpm_device.specs.Asking.{asked, is_asked, is_change, is_here};
-ghost use Rattle.ptpm_device.specs.Refusing.{is_refused};
 
+use crate::changing::first_refusal;
 use ptpm_agent::Agent;
 use ptpm_codec::{Action, PortIdentity, View, view};
-use ptpm_data::{DataSets, Request, Rights, What, data_sets_law};
+use ptpm_data::{DataSets, Request, Rights, data_sets_law};
 use ptpm_table::{Look, ReplyTable};
 use std::marker::Model;
 
@@ -80,7 +79,8 @@ fn is_asked<T: ReplyTable + Drop>(agent: &Agent<T>, message: &View<'_>) -> bool
     }
 }
 
-fn is_change(action: Action) -> bool
+/// Whether it is a SET or a COMMAND.
+pub fn is_change(action: Action) -> bool
     ensures { result ≡ is_change action }
 {
     action == Action::Set || action == Action::Command
@@ -111,16 +111,7 @@ fn is_permitted(sets: &DataSets, request: &Request<'_>, rights: Rights) -> bool
     data_sets_law(sets);
     let mut copy = sets.copy();
     let reply = copy.decide(request, rights);
-    match reply.answers.first() {
-        Some(answer) => !is_refused(&answer.what),
-        None => false,
-    }
-}
-
-fn is_refused(what: &What) -> bool
-    ensures { result ≡ is_refused (outcome_of what.now) }
-{
-    matches!(what, What::Refused(_))
+    first_refusal(&reply).is_none()
 }
 
 /// What a request asks.

@@ -10,6 +10,7 @@ pub mod Session
 pub mod SurveySettings
 pub mod Survey
 pub mod Asker
+pub mod StepStanding
 pub mod Names
 pub mod Texts
 pub mod TextsLaws
@@ -29,4 +30,5 @@ pub mod SavingClock
 pub mod SessionStanding
 pub mod SavingSession
 pub mod Device
+pub mod Changing
 pub mod Limits

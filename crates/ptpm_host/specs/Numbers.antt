@@ -31,6 +31,8 @@ use Rattle.ptpm_seal.specs.declared.sealing.UnsealError.{UnsealError}
 use Rattle.ptpm_seal.specs.declared.sealing.UnsealError.TheVariants as unseals
 use Rattle.ptpm_host.specs.declared.refusal.AskerRefusal.{AskerRefusal}
 use Rattle.ptpm_host.specs.declared.refusal.AskerRefusal.TheVariants as askers
+use Rattle.ptpm_host.specs.declared.refusal.ChangeRefusal.{ChangeRefusal}
+use Rattle.ptpm_host.specs.declared.refusal.ChangeRefusal.TheVariants as changes
 use Rattle.ptpm_host.specs.declared.refusal.ClockRestoreRefusal.{ClockRestoreRefusal}
 use Rattle.ptpm_host.specs.declared.refusal.ClockRestoreRefusal.TheVariants as clock_restores
 use Rattle.ptpm_host.specs.declared.refusal.HandleRefusal.{HandleRefusal}
@@ -168,6 +170,13 @@ saving_number saving.Unsaved = unsaved
 abbrev pub said_number : SaidRefusal → ℕ
 said_number (said.Handle refusal) = handle_number refusal
 said_number said.BadSay = 121
+
+-- why a change at the device itself is not carried out
+abbrev pub change_number : ChangeRefusal → ℕ
+change_number changes.NoPort = 33
+change_number changes.NotPermitted = 40
+change_number changes.BadValue = 41
+change_number (changes.Refused error) = 26
 
 -- why a clock or a session does not count as saved
 abbrev pub saved_number : SavedRefusal → ℕ

@@ -21,6 +21,7 @@ mod names;
 mod numbers;
 mod observing;
 mod outbox;
+mod owner_change;
 mod parsing;
 mod passed_on;
 mod rate;
@@ -34,6 +35,7 @@ mod session_settings;
 mod session_standing;
 mod settings;
 mod standing;
+mod steps;
 mod survey;
 mod survey_settings;
 mod texts;
@@ -53,18 +55,19 @@ pub use limits::{Limit, limits_say};
 pub use names::hand_out_name;
 pub use numbers::{
     ASKED_CHANGE, CANT_OBJECT, NO_ASKER, NO_CLOCK, NO_MEMORY, NO_ROOM, NO_SESSION, NO_SURVEY,
-    OTHER_SIZES, asker_number, begin_number, clock_restore_number, give_up_number, handle_number,
-    heard_number, observe_number, outcome_number, parse_number, read_number, report_number,
-    restore_number, resume_number, said_number, saved_number, saving_number, send_number,
-    session_number, start_number, surveyed_number, unseal_number, verdict_number,
+    OTHER_SIZES, asker_number, begin_number, change_number, clock_restore_number, give_up_number,
+    handle_number, heard_number, observe_number, outcome_number, parse_number, read_number,
+    report_number, restore_number, resume_number, said_number, saved_number, saving_number,
+    send_number, session_number, start_number, surveyed_number, unseal_number, verdict_number,
 };
 pub use observing::{ObservedClock, ObservedPort, left_number};
 pub use parsing::parse_field;
 pub use passed_on::{MessageKey, PassedOn, PassedOnPlace};
 pub use rate::Rate;
 pub use refusal::{
-    AskerRefusal, ClockRestoreRefusal, HandleRefusal, ParseRefusal, ReadRefusal, ReportRefusal,
-    SaidRefusal, SavedRefusal, SavingRefusal, SendRefusal, SessionRefusal, StartRefusal,
+    AskerRefusal, ChangeRefusal, ClockRestoreRefusal, HandleRefusal, ParseRefusal, ReadRefusal,
+    ReportRefusal, SaidRefusal, SavedRefusal, SavingRefusal, SendRefusal, SessionRefusal,
+    StartRefusal,
 };
 pub use reported_outcome::ReportedOutcome;
 pub use saving_clock::SavingClock;
@@ -72,6 +75,7 @@ pub use sent::Sent;
 pub use session::{Heard, HostedSession};
 pub use session_settings::SessionSettings;
 pub use settings::{ClockSettings, ManagerSettings, PortSettings};
+pub use steps::step_standing;
 pub use survey::{HostedSurvey, Source, SurveyAnswer};
 pub use survey_settings::{SURVEY_PORT, SurveySettings};
 pub use texts::hand_out_lines;

@@ -7,11 +7,12 @@
 //! refusals of a restore, and those from 112 on are further refusals of a call.
 
 ghost use Rattle.std.specs.Prelude.{◌≡◌, ◌≤◌};
-ghost use Rattle.ptpm_host.specs.Numbers.{asker_number, begin_number, cause_number, clock_restore_number, give_up_number, handle_number, heard_number, image_number, managers_number, member_number, observe_number, parse_number, read_number, reason_number, report_number, restore_number, resume_number, said_number, saved_number, saving_number, send_number, session_number, start_number, surveyed_number, outcome_number, unseal_number, values_number, verdict_number};
+ghost use Rattle.ptpm_host.specs.Numbers.{asker_number, begin_number, cause_number, change_number, clock_restore_number, give_up_number, handle_number, heard_number, image_number, managers_number, member_number, observe_number, parse_number, read_number, reason_number, report_number, restore_number, resume_number, said_number, saved_number, saving_number, send_number, session_number, start_number, surveyed_number, outcome_number, unseal_number, values_number, verdict_number};
 
 use crate::refusal::{
-    AskerRefusal, ClockRestoreRefusal, HandleRefusal, ParseRefusal, ReadRefusal, ReportRefusal,
-    SaidRefusal, SavedRefusal, SavingRefusal, SendRefusal, SessionRefusal, StartRefusal,
+    AskerRefusal, ChangeRefusal, ClockRestoreRefusal, HandleRefusal, ParseRefusal, ReadRefusal,
+    ReportRefusal, SaidRefusal, SavedRefusal, SavingRefusal, SendRefusal, SessionRefusal,
+    StartRefusal,
 };
 use crate::reported_outcome::ReportedOutcome;
 use crate::session::Heard;
@@ -169,6 +170,19 @@ pub fn said_number(refusal: SaidRefusal) -> u32
     match refusal {
         SaidRefusal::Handle(refusal) => handle_number(refusal),
         SaidRefusal::BadSay => 121,
+    }
+}
+
+/// Why a change at the device itself is not carried out, 26, 33, 40 or 41.
+pub fn change_number(refusal: ChangeRefusal) -> u32
+    ensures number { result ≡ change_number refusal }
+    ensures some { 1 ≤ result }
+{
+    match refusal {
+        ChangeRefusal::NoPort => 33,
+        ChangeRefusal::NotPermitted => 40,
+        ChangeRefusal::BadValue => 41,
+        ChangeRefusal::Refused(_) => 26,
     }
 }
 

@@ -1,5 +1,6 @@
 //! Why a call changes nothing.
 
+use ptpm_codec::ErrorId;
 use ptpm_data::StartError;
 use ptpm_manager::SendError;
 use ptpm_saved::RestoreError;
@@ -44,6 +45,19 @@ pub enum SaidRefusal {
     Handle(HandleRefusal),
     /// It is no say: of another kind, or an objection with an error that no device gives.
     BadSay,
+}
+
+/// Why a change at the device itself is not carried out, in the order in which the reasons are judged.
+#[derive(Clone, Copy, Debug, PartialEq, Eq)]
+pub enum ChangeRefusal {
+    /// It names neither a port of the clock nor every port.
+    NoPort,
+    /// It is neither a SET nor a COMMAND.
+    NotPermitted,
+    /// Its dataField has an odd number of octets, or over 1,418.
+    BadValue,
+    /// A manager with every right would be refused with this error.
+    Refused(ErrorId),
 }
 
 /// Why a clock that is to be saved handles no datagram, in the order in which the reasons are judged.

@@ -7,12 +7,12 @@ use crate::blanks::blank;
 use crate::clock::{Handled, HostedClock, MOST_SENT};
 use crate::observing::{ObservedClock, ObservedPort};
 use crate::outbox::Outbox;
-use crate::refusal::{HandleRefusal, SavedRefusal, SavingRefusal};
+use crate::refusal::{ChangeRefusal, HandleRefusal, SavedRefusal, SavingRefusal};
 use crate::sent::Sent;
 use crate::standing::{Standing, Withheld};
 use ptpm_agent::Verdict;
 use ptpm_codec::view;
-use ptpm_data::{ObservationError, PortsLeftDisabled, data_sets_law};
+use ptpm_data::{ChangedMembers, ObservationError, PortsLeftDisabled, data_sets_law};
 use ptpm_table::{Outgoing, SureTable};
 
 /// A clock that sends no message of a new request before its host says that it is saved, and takes no datagram meanwhile. Each
@@ -20,7 +20,7 @@ use ptpm_table::{Outgoing, SureTable};
 #[derive(Drop)]
 pub struct SavingClock {
     clock: Box<HostedClock>,
-    /// How many new requests there were since it began to be saved, modulo 2^64.
+    /// How many new requests, and changes at the device itself, there were since it began to be saved, modulo 2^64.
     changes: u64,
     standing: Standing,
     ghost kept: { is_kept clock.value standing ≡ true },
@@ -29,14 +29,16 @@ pub struct SavingClock {
 const _: () = prove!(size_of::<SavingClock>() == 40);
 
 impl SavingClock {
-    ghost use Rattle.std.specs.Prelude.{◌≢◌, ◌≤◌, ◌==◌, ◌++◌, ◌↔◌, All, IfNone, IfOk, IfSome, IsSome, MatchResult, None, OnErr, Some, [], drop, if◌then◌else◌, length, take};
+    ghost use Rattle.std.specs.Prelude.{◌≢◌, ◌≤◌, ◌==◌, ◌++◌, ◌↔◌, All, IfNone, IfOk, IfSome, IsSome, MatchResult, None, OnErr, OnOk, Some, [], drop, if◌then◌else◌, length, take};
     ghost use Rattle.std.specs.List.{AllZip};
+    ghost use Rattle.ptpm_data.specs.Changed.{changed};
     ghost use Rattle.ptpm_data.specs.Members.{has_port};
     ghost use Rattle.ptpm_data.specs.ObservationBack.{Observation};
     ghost use Rattle.ptpm_data.specs.Start.{unless};
     ghost use Rattle.ptpm_agent.specs.Turn.{outbox_of, turn};
     ghost use Rattle.ptpm_saved.specs.Image.{clock_image};
     ghost use Rattle.ptpm_saved.specs.Saving.{Comes, Notes, Saves};
+    ghost use Rattle.ptpm_host.specs.Changing.{IsUnsavedHere, change_refusal, request_here};
     ghost use Rattle.ptpm_host.specs.Clock.{IsWhole, KeepsBehind, clock_in, messages_in, state_in};
     ghost use Rattle.ptpm_host.specs.Observing.{IsObserved, clock_observation, observe_refusal, port_observations, ports_left};
     ghost use Rattle.ptpm_host.specs.Blanks.{AreBlanked};
@@ -193,6 +195,40 @@ impl SavingClock {
         ensures unchanged { OnErr result (self.new ≡ self.old) }
     {
         self.clock.observe(clock, ports)
+    }
+
+    /// What `HostedClock::change_here` does, whether something is unsaved or not. Then something is, and what waits goes on
+    /// waiting. Takes no memory.
+    pub fn change_here(
+        &mut self,
+        action: u8,
+        id: u16,
+        port: u16,
+        octets: &[u8],
+    ) -> Result<ChangedMembers, ChangeRefusal>
+        ensures changed { OnOk result
+            (IsUnsavedHere (request_here action id port octets.now) self.old self.new) }
+        ensures members { IfOk result
+            (λ members.
+            members
+            ≡ changed self.old.clock.value.agent.sets self.new.clock.value.agent.sets) }
+        ensures refusal { MatchResult result
+            (λ _.
+            change_refusal (request_here action id port octets.now)
+            self.old.clock.value.agent.sets
+            ≡ None)
+            (λ e.
+            change_refusal (request_here action id port octets.now)
+            self.old.clock.value.agent.sets
+            ≡ Some e) }
+        ensures unchanged { OnErr result (self.new ≡ self.old) }
+    {
+        let members = self.clock.change_here(action, id, port, octets)?;
+        if let Standing::Saved = self.standing {
+            self.standing = Standing::Unsaved;
+        }
+        self.changes = self.changes.wrapping_add(1);
+        Ok(members)
     }
 
     /// Leaves the clock's image at the head of `octets`, as `HostedClock::image` does. Answers how many octets it has, and its

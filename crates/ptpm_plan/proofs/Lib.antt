@@ -1,5 +1,7 @@
 pub mod AskingLemmas
 pub mod Courses
+pub mod Doublings
+pub mod Groups
 pub mod Least
 pub mod Once
 pub mod OneBest

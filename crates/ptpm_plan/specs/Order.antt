@@ -83,3 +83,14 @@ module _ (s : Surveyed) (before after : List RankedClock) where
 -- by what a change is sorted into a plan of these changes
 abbrev pub order_key : Surveyed → List Change → Change → OrderKey
 order_key s changes = let before = ranks_of s.clocks.items in key_by s before (ranks_after changes before)
+
+-- the six groups, one after the other
+abbrev pub group : Turn → ℕ
+group turns.MorePatience = 1
+group turns.Sender = 2
+group turns.Free = 3
+group turns.LessPatience = 4
+group turns.Unranked = 5
+group (turns.Better after) = 5
+group (turns.Worse best after) = 5
+group (turns.Move hops) = 6

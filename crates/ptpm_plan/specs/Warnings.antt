@@ -1,5 +1,5 @@
 -- Of what a plan warns (this project's profile).
-use Rattle.std.specs.Prelude.{ℕ, Bool, List, Option, None, Some, if◌then◌else◌}
+use Rattle.std.specs.Prelude.{ℕ, ◌^◌, ◌==◌, nat_lt, ℤ, pos, negsuc, Bool, List, Option, None, Some, if◌then◌else◌}
 use Rattle.ptpm_codec.specs.Layout.{octet}
 use Rattle.ptpm_data.specs.PortSetting.{said_of}
 use Rattle.ptpm_data.specs.Ranges.{is_in_range}
@@ -37,3 +37,8 @@ refusal_by c (Some setting) =
 
 abbrev pub refusal : Change → Option Warning
 refusal c = refusal_by c (setting_of c.id)
+
+-- an octet is below a power of 2, whose exponent may be negative
+abbrev pub below_doublings : ℤ → ℕ → Bool
+below_doublings (pos doublings) octet = nat_lt octet (2 ^ doublings)
+below_doublings (negsuc n) octet = octet == 0

@@ -1,13 +1,19 @@
 //! What is promised of the order of a plan.
 
 ghost use Rattle.std.specs.Prelude.{ℕ, ◌≤◌, List, length};
-ghost use Rattle.std.specs.List.Sorted.{IsPermutation, IsSortedByKey};
+ghost use Rattle.std.specs.List.Sorted.{IsNonDecreasingBy, IsPermutation, IsSortedByKey};
 ghost use Rattle.ptpm_plan.specs.declared.change.Change.{Change};
 ghost use Rattle.ptpm_plan.specs.declared.surveyed.Surveyed.{Surveyed};
 ghost use Rattle.ptpm_plan.specs.BestClock.{alterations, AreApart, HaveOneEach, ranks_of};
-ghost use Rattle.ptpm_plan.specs.Order.{order_key};
+ghost use Rattle.ptpm_plan.specs.Order.{group, order_key};
 
 use crate::order::OrderKey;
+
+/// The six groups are asked one after the other.
+pub fn groups_law()
+    ensures { (s : Surveyed) (given asked : List Change) → IsSortedByKey (order_key s given) ⟦<OrderKey as Ord>⟧.cmp asked
+        → IsNonDecreasingBy (λ (c : Change). group (order_key s given c).turn) asked }
+{}
 
 /// If each clock of a domain has one change of its rank at most, its best clock changes once at most along the order.
 /// So it changes from the present one straight to the final one.

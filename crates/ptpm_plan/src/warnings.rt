@@ -1,8 +1,8 @@
 //! Of what a plan warns.
 
-ghost use Rattle.std.specs.Prelude.{◌≡◌, IfOk};
+ghost use Rattle.std.specs.Prelude.{◌≡◌, ◌^◌, nat_lt, IfOk};
 ghost use Rattle.std.specs.List.{filter_map};
-ghost use Rattle.ptpm_plan.specs.Warnings.{refusal, setting_of, takes};
+ghost use Rattle.ptpm_plan.specs.Warnings.{below_doublings, refusal, setting_of, takes};
 
 use crate::best_clock::{BestClocks, best_clocks, first_octet};
 use crate::change::{Change, PlannedId};
@@ -166,10 +166,26 @@ impl Announcing {
 /// seconds.
 fn is_below_two(sender: i8, receiver: i8, timeout: u8) -> bool {
     let doublings = i16::from(sender) + 1 - i16::from(receiver);
+    is_below_doublings(doublings, timeout)
+}
+
+/// Whether an octet is below a power of 2, whose exponent may be negative.
+fn is_below_doublings(doublings: i16, octet: u8) -> bool
+    ensures { result ≡ below_doublings doublings octet }
+{
     if doublings < 0 {
-        timeout == 0
-    } else if doublings < 8 {
-        timeout < 1 << doublings
+        octet == 0
+    } else {
+        is_below_power(octet, doublings.unsigned_abs())
+    }
+}
+
+/// Whether an octet is below a power of 2.
+fn is_below_power(octet: u8, exponent: u16) -> bool
+    ensures { result ≡ nat_lt octet (2 ^ exponent) }
+{
+    if exponent < 8 {
+        u16::from(octet) < 1 << exponent
     } else {
         true
     }

@@ -419,6 +419,18 @@ pub const PTPM_QUESTION_LEFT: u32 = 1;
 pub const PTPM_GET_LEFT: u32 = 2;
 pub const PTPM_CHANGE_LEFT: u32 = 3;
 
+// What became of the step that a change of several clocks began last in a session.
+pub const PTPM_STEP_NONE_LEFT: u32 = 0;
+pub const PTPM_STEP_UNDER_WAY: u32 = 1;
+pub const PTPM_STEP_NEVER_BEGUN: u32 = 2;
+pub const PTPM_STEP_NUMBER_TAKEN: u32 = 3;
+pub const PTPM_STEP_UNKNOWN: u32 = 4;
+pub const PTPM_STEP_TOLD: u32 = 5;
+pub const PTPM_STEP_OF_ANOTHER: u32 = 6;
+
+// No sequenceId.
+pub const PTPM_NO_NUMBER: u32 = 65536;
+
 // What `ptpm_id_named` answers if no id has the name.
 pub const PTPM_NO_ID: u32 = 65536;
 

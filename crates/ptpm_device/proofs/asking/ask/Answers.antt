@@ -1,6 +1,5 @@
-use Rattle.std.proofs.Common.{arith, ◌≡◌, Some, None, Ok, true, false, sym, ◌∙◌}
+use Rattle.std.proofs.Common.{arith, ◌≡◌, Some, true, false, sym, ◌∙◌}
 use Rattle.std.proofs.lemmas.Bool.{cond-false, cond-true}
-use Rattle.ptpm_codec.specs.Reading.{reading}
 use Rattle.ptpm_agent.specs.Agent.{clock_of, state_of}
 use Rattle.ptpm_agent.specs.Turn.{numbered_from}
 use Rattle.ptpm_device.specs.Asking.{asked, is_asked}

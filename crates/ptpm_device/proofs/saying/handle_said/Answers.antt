@@ -1,4 +1,4 @@
-use Rattle.std.proofs.Common.{◌≡◌, ◌∙◌, sym, true, false}
+use Rattle.std.proofs.Common.{◌∙◌, sym}
 use Rattle.ptpm_agent.specs.Agent.{clock_of, state_of}
 use Rattle.ptpm_device.proofs.Objected.{turned_counted, turned_uncounted}
 use Rattle.ptpm_device.proofs.saying.handle_said.Goals as goal

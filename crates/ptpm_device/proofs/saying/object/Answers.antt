@@ -1,5 +1,4 @@
 use Rattle.std.proofs.Common.{arith, sym}
-use Rattle.ptpm_table.specs.Entries.{is_known}
 use Rattle.ptpm_agent.specs.Agent.{clock_of, state_of}
 use Rattle.ptpm_device.proofs.Objected.{change_parts}
 use Rattle.ptpm_device.proofs.saying.object.Goals as goal

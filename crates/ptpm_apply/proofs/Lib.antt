@@ -1,0 +1,5 @@
+pub mod Heard
+pub mod InTurn
+pub mod Requests
+pub mod Resumed
+pub mod Watches

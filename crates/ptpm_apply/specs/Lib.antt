@@ -1,0 +1,5 @@
+pub mod InFile
+pub mod Standing
+pub mod Watching
+pub mod Resuming
+pub mod Steps
