@@ -4,12 +4,15 @@ pub mod AnswerOrder
 pub mod Answers
 pub mod Changes
 pub mod Completeness
+pub mod Counted
 pub mod Datagrams
 pub mod Differences
 pub mod Evidence
 pub mod Findings
 pub mod Following
 pub mod Forest
+pub mod Gone
+pub mod GrandmasterChanges
 pub mod Grandmasters
 pub mod Growing
 pub mod Heard
@@ -18,6 +21,7 @@ pub mod KeptAnswers
 pub mod KeptStatements
 pub mod Leading
 pub mod LeftOut
+pub mod Looks
 pub mod Loops
 pub mod Members
 pub mod Messages

@@ -89,9 +89,16 @@ impl Clock {
             AnswerContent::Current(set) => self.currents.push(Received { request, at, set })?,
             AnswerContent::Parent(set) => self.parents.push(Received { request, at, set })?,
             AnswerContent::Time(set) => self.times.push(Received { request, at, set })?,
-            AnswerContent::Description(set) => self.descriptions.push(Received { request, at, set })?,
+            AnswerContent::Description(set) => self
+                .descriptions
+                .push(Received { request, at, set })?,
             AnswerContent::Port(number, set) => {
-                put_port(alloc, &mut self.ports, number, Received { request, at, set })?;
+                put_port(
+                    alloc,
+                    &mut self.ports,
+                    number,
+                    Received { request, at, set },
+                )?;
             }
             AnswerContent::Refused(set) => self.refused.push(Received { request, at, set })?,
         }

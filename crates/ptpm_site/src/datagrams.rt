@@ -12,7 +12,7 @@ use ptpm_codec::view;
 use std::alloc::{AllocError, Global};
 
 impl Site {
-    /// Takes a datagram of which it is not known when it came.
+    /// Takes a datagram whose time of arrival is unknown.
     pub fn take_datagram(&mut self, alloc: Global, datagram: &[u8]) -> Result<(), AllocError>
         ensures { OnOk result (TakesDatagram self.old self.new None datagram.now) }
     {

@@ -5,8 +5,8 @@ use std::str::FromStr;
 /// Nanoseconds in a second.
 const SECOND: u64 = 1_000_000_000;
 
-/// When the datagram of a line came, in nanoseconds since 1970, by the first word `at=`. It is `None` if there is no such word, or
-/// if that is no time: seconds in decimal digits, and behind a point one to nine digits more.
+/// When the datagram of a line came, in nanoseconds since 1970, by the first word `at=`. A time has seconds in decimal digits, and
+/// after a point one to nine digits more. It is `None` if there is no such word, or if it has no time.
 pub(crate) fn at_of(line: &str) -> Option<u64> {
     for word in line.split(' ') {
         if let Some(time) = word.strip_prefix("at=") {
@@ -31,7 +31,7 @@ fn whole_of(digits: &str) -> Option<u64> {
     number_of(digits)?.checked_mul(SECOND)
 }
 
-/// The part of a second that is behind a point, in nanoseconds.
+/// The part of a second after a point, in nanoseconds.
 fn fraction_of(digits: &str) -> Option<u64> {
     if 9 < digits.len() {
         return None;

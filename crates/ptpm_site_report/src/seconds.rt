@@ -13,7 +13,7 @@ pub(crate) struct IntervalSeconds(pub(crate) i64);
 #[derive(Clone, Copy)]
 pub(crate) struct NanosecondSeconds(pub(crate) u64);
 
-/// The whole seconds in so many nanoseconds.
+/// The whole seconds in N nanoseconds.
 pub(crate) fn whole_seconds(nanoseconds: u64) -> u64 {
     nanoseconds / SECOND
 }
