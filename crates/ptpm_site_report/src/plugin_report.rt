@@ -2,7 +2,7 @@
 
 use crate::nagios::{Plugin, Standing};
 use crate::names::Names;
-use crate::site_lines::read_site;
+use crate::site_lines::read_shown;
 use ptpm_commands::Fault;
 use ptpm_expected::expectations::{Expectations, picture_of};
 use ptpm_site::left_out::LeftOut;
@@ -32,9 +32,7 @@ pub fn report_standing_expected<R: Read + Drop, O: Write>(
     reader: R,
     out: &mut O,
 ) -> Result<Standing, Fault> {
-    let mut site = read_site(alloc, reader)?;
-    let left_out = site.keep_first();
-    site.drop_gone(alloc).map_err(|_| Fault::OutOfMemory)?;
+    let (site, left_out) = read_shown(alloc, reader)?;
     standing_of(alloc, limits, expectations, names, &site, left_out, out)
 }
 

@@ -10,7 +10,7 @@ use crate::json::Object;
 use crate::names::Names;
 use crate::openmetrics::Metrics;
 use crate::page::print_page;
-use crate::site_lines::read_site;
+use crate::site_lines::read_shown;
 use crate::text::Sheet;
 use ptpm_commands::Fault;
 use ptpm_expected::expectations::{Expectations, picture_of};
@@ -93,9 +93,7 @@ pub fn report_named<R: Read + Drop, O: Write>(
     reader: R,
     out: &mut O,
 ) -> Result<Conclusion, Fault> {
-    let mut site = read_site(alloc, reader)?;
-    let left_out = site.keep_first();
-    site.drop_gone(alloc).map_err(|_| Fault::OutOfMemory)?;
+    let (site, left_out) = read_shown(alloc, reader)?;
     report_of(alloc, options, names, &site, left_out, out)
 }
 
@@ -108,8 +106,7 @@ pub fn report_expected<R: Read + Drop, O: Write>(
     reader: R,
     out: &mut O,
 ) -> Result<Conclusion, Fault> {
-    let mut site = read_site(alloc, reader)?;
-    let left_out = site.keep_first();
+    let (site, left_out) = read_shown(alloc, reader)?;
     report_held(alloc, options, expectations, names, &site, left_out, out)
 }
 
