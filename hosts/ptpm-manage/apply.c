@@ -7,8 +7,10 @@
 #include "marks.h"
 #include "notices.h"
 #include "plan.h"
+#include "probe.h"
 #include "program.h"
 #include "steps.h"
+#include "stopping.h"
 #include "transport.h"
 #include <errno.h>
 #include <stdlib.h>
@@ -30,9 +32,10 @@ static int status_of(enum ending ending) {
 
 static int show_plan(const struct task *task) {
     struct plan plan;
-    int status = make_plan(&plan, task);
+    int status = make_plan(&plan, task), probed = ANSWERED;
+    if (task->plan.is_probed && !stopped) probed = probe_clocks(&plan, task);
     print_plan(&plan);
-    return status;
+    return probed == ANSWERED ? status : probed;
 }
 
 /* ---- a journal is carried out */
@@ -49,7 +52,7 @@ static void judge_ports(const struct step *steps, size_t count) {
 static int carry_out(const struct task *task, struct journal *journal) {
     int status = carry_out_steps(task, journal);
     if (status == ANSWERED) status = status_of(journal->ending);
-    print_apply(journal, task->is_json);
+    print_apply(journal, status == NOT_ANSWERED, task->is_json);
     leave_sessions();
     return status;
 }
@@ -74,7 +77,7 @@ static int begin(const struct task *task, struct journal *journal) {
 static int apply_plan(const struct task *task, const struct plan *plan) {
     struct journal journal = { 0 };
     if (task->plan.expected != NULL && strcmp(task->plan.expected, plan->id) != 0) {
-        complain("nothing was sent: the plan is %s by now, and not %s", plan->id, task->plan.expected);
+        complain("nothing was sent: the plan is another one by now");
         return NOT_AS_ASKED;
     }
     if (plan->count == 0) return ANSWERED;
@@ -92,7 +95,7 @@ static int apply(const struct task *task) {
     if (find_open_journal(&open)) refuse("nothing was sent: %s is open: ptpm-manage resume or rollback comes first", open.name);
     int status = make_plan(&plan, task);
     print_plan(&plan);
-    if (status == ANSWERED && fflush(stdout)) return NOT_WRITTEN;
+    if (fflush(stdout)) return NOT_WRITTEN;
     if (status == REFUSED || status == NOT_ANSWERED) complain("nothing was sent");
     return status == ANSWERED ? apply_plan(task, &plan) : status;
 }
@@ -122,7 +125,7 @@ static void take_up(const struct task *task, struct journal *journal) {
 static int give_up_apply(const struct task *task, struct journal *journal) {
     if (!note_begun_step(journal) || !end_journal(journal, GIVEN_UP, journal->begun)) return NOT_WRITTEN;
     if (journal->begun != NO_STEP) complain("step %ld may have been carried out", journal->begun + 1);
-    print_apply(journal, task->is_json);
+    print_apply(journal, true, task->is_json);
     return NOT_ANSWERED;
 }
 

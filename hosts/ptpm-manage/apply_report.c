@@ -85,9 +85,9 @@ static size_t count_done(const struct journal *journal) {
     return count;
 }
 
-static void print_text_of(const struct journal *journal) {
+static void print_text_of(const struct journal *journal, const char *end) {
     const char *what = *journal->rolls_back != '\0' ? "rollback" : "apply";
-    printf("%s %s: %s: %zu of %zu done\n", what, journal->name, ending_name(journal->ending), count_done(journal), journal->count);
+    printf("%s %s: %s: %zu of %zu done\n", what, journal->name, end, count_done(journal), journal->count);
     for (size_t i = 0; i < journal->count; i++) {
         printf("  %zu ", i + 1);
         print_state(journal, i);
@@ -130,10 +130,10 @@ static void print_step_as_json(const struct journal *journal, size_t place) {
     putchar('}');
 }
 
-static void print_json_of(const struct journal *journal) {
+static void print_json_of(const struct journal *journal, const char *end) {
     printf("{\"apply\":\"%s\"", journal->name);
     if (*journal->rolls_back != '\0') printf(",\"rollsBack\":\"%s\"", journal->rolls_back);
-    printf(",\"end\":\"%s\",\"steps\":[", ending_name(journal->ending));
+    printf(",\"end\":\"%s\",\"steps\":[", end);
     for (size_t i = 0; i < journal->count; i++) {
         if (i > 0) putchar(',');
         print_step_as_json(journal, i);
@@ -141,8 +141,9 @@ static void print_json_of(const struct journal *journal) {
     puts("]}");
 }
 
-void print_apply(const struct journal *journal, bool is_json) {
+void print_apply(const struct journal *journal, bool is_silent, bool is_json) {
+    const char *end = journal->ending == IS_OPEN && is_silent ? "silent" : ending_name(journal->ending);
     clear_progress();
-    if (is_json) print_json_of(journal);
-    else print_text_of(journal);
+    if (is_json) print_json_of(journal, end);
+    else print_text_of(journal, end);
 }

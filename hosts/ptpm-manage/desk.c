@@ -202,15 +202,11 @@ int see_to_desk(struct desk *desk, struct journal *journal) {
 int read_member(const struct task *task, const struct step *step, uint8_t domain, struct answer *answer) {
     static struct task reading;
     char clock[IDENTITY_TEXT];
-    struct ptpm_session session = { 0 };
     reading = *task;
     memcpy(reading.settings.target, step->clock, 8);
     reading.settings.domain = domain;
     reading.port = step->port;
-    bool is_answered = begin_reading(&session, &reading, step->id, task->settings.attempts) && finish_reading(&session, &reading);
-    if (is_answered) take_report(&session, answer);
-    ptpm_session_stop(&session);
-    if (is_answered) return ANSWERED;
+    if (read_by_nobody(&reading, step->id, task->settings.attempts, answer)) return ANSWERED;
     if (stopped) return BY_SIGNAL + stopped;
     write_identity(clock, step->clock);
     complain("no answer of %s at %s in domain %u to a read of %s", clock, transport_name(), domain, id_name(step->id));

@@ -155,6 +155,17 @@ int make_plan(struct plan *plan, const struct task *task) {
     return stopped ? BY_SIGNAL + stopped : status;
 }
 
+/* Of an object of JSON, the warnings are the last member: they end with a bracket. */
+void add_warning(struct plan *plan, const char *text, bool is_json) {
+    char *more = NULL;
+    const char *old = plan->text.text, *end = is_json ? strrchr(old, ']') : old + plan->text.size;
+    int size = end == NULL ? -1 : is_json ? asprintf(&more, "%.*s%s\"%s\"%s", (int)(end - old), old, end[-1] == '[' ? "" : ",", text, end)
+                                          : asprintf(&more, "%swarning: %s\n", old, text);
+    if (size < 0) give_up("a warning");
+    free(plan->text.text);
+    plan->text = (struct printed){ more, (size_t)size };
+}
+
 void print_plan(const struct plan *plan) {
     clear_progress();
     if (plan->text.text != NULL) fputs(plan->text.text, stdout);

@@ -5,6 +5,7 @@
 #include "journal.h"
 #include "ptpm_program.h"
 #include "task.h"
+#include <stdbool.h>
 
 enum { PLAN_ID = 8 };
 
@@ -19,6 +20,9 @@ struct plan {
    something can't be set. It is 2 if the file is refused, and 3 if something is not reached. Or it is that of the program, if the clocks
    could not be asked. */
 int make_plan(struct plan *plan, const struct task *task);
+
+/* Adds a warning to what is printed. Its text needs no escape in JSON. */
+void add_warning(struct plan *plan, const char *text, bool is_json);
 
 /* Prints it. */
 void print_plan(const struct plan *plan);

@@ -33,6 +33,9 @@ const MILLISECOND: u64 = 1_000_000;
 /// How many seconds TAI is before UTC, since 2017.
 const TAI_UTC: i16 = 37;
 
+/// How many seconds a port may take to settle without `--settle` (this project's profile).
+const SETTLE: u32 = 10;
+
 /// Does what the words say, and answers the exit status. The first word is the program's name. 0: it was done.
 /// 1: a fault, with the line `ptpm: FAULT` on `err`, or `check` wrote faults on `out`. 2: the words were refused,
 /// with the reason on `err`. `plan` answers 1 if something can't be set, 2 if its file is refused, and 3 if something is not
@@ -460,6 +463,7 @@ fn site_limits(values: &ArgMatches<'_>) -> Limits {
         offset: most_offset(values),
         delay: values.get_one("max-delay"),
         tai_utc: values.get_one("tai-utc").unwrap_or(TAI_UTC),
+        settle: values.get_one("settle").unwrap_or(SETTLE),
     }
 }
 
@@ -810,7 +814,15 @@ fn with_limits<'a>(alloc: Global, site: Command<'a>) -> Result<Command<'a>, Allo
         "TAI is S seconds before UTC, 37 if it is not given",
     )
     .value_parser(value_parser!(i16));
-    with(site, tai_utc)
+    let site = with(site, tai_utc)?;
+    let settle = option(
+        alloc,
+        "settle",
+        "SECONDS",
+        "A port may take SECONDS to lock or to settle in a state, 10 if it is not given",
+    )
+    .value_parser(value_parser!(u32));
+    with(site, settle)
 }
 
 /// An option `--NAME N` that is an event line's number.

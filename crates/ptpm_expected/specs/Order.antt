@@ -11,6 +11,7 @@ place_of (what.OtherLeaders leaders) = 2
 place_of (what.Profile outside) = 4
 place_of (what.Incomplete missing) = 5
 place_of (what.OutOfReach hops) = 5
+place_of (what.GrandmasterChanged change) = 5
 place_of (what.Changed port change) = 5
 place_of (what.IdentityTwice port change) = 5
 place_of (what.TwoOffsets offsets) = 5

@@ -19,6 +19,7 @@ fn place_of(what: &What<'_>) -> u8
         What::Profile(_) => 4,
         What::Incomplete(_)
         | What::OutOfReach(_)
+        | What::GrandmasterChanged(_)
         | What::Changed(..)
         | What::IdentityTwice(..)
         | What::TwoOffsets(_) => 5,

@@ -8,16 +8,17 @@ use crate::changes::Change;
 use crate::completeness::Missing;
 use crate::differences::Differs;
 use crate::expected::{OtherLeaders, Outside, Unmet};
+use crate::grandmaster_changes::GrandmasterChange;
 use crate::grandmasters::Masterless;
 use crate::leading::{Better, Degradation, Degraded, Leap, Untraceable, WrongOffset};
 use crate::parents::{NoMaster, Steps};
 use crate::source::Source;
+use crate::stay::Stay;
 use crate::staying::Unlocked;
 use crate::tai_and_utc::OffByUtc;
 use crate::two_offsets::TwoOffsets;
 use crate::unseen::Absence;
 use ptpm_codec::{ClockIdentity, PortIdentity};
-use ptpm_data::PortState;
 use std::alloc::AllocError;
 
 /// Something that is wrong with a clock.
@@ -38,6 +39,8 @@ pub enum What<'a> {
     NotAsExpected(Unmet<'a>),
     /// Other clocks lead than those that the inventory wants. It is the first of them.
     OtherLeaders(OtherLeaders<'a>),
+    /// It answered, and not to the last request to all clocks.
+    Gone,
     /// It is not seen, and a clock names it or it sends by itself.
     Unseen(Absence),
     /// It is one of two or more clocks of the domain that are their own grandmasters and have a port in MASTER.
@@ -57,9 +60,9 @@ pub enum What<'a> {
     /// It is the least of the clocks of a loop. The list has all of them: each is followed by the one that it
     /// follows.
     Loop(Vec<ClockIdentity>),
-    /// A port is FAULTY, or stays on its way to another state.
-    PortState(u16, PortState),
-    /// A port stays in UNCALIBRATED.
+    /// A port is FAULTY, or stays on its way to another state for too long.
+    PortState(u16, Stay),
+    /// A port stays in UNCALIBRATED for too long.
     NotLocked(u16, Unlocked),
     /// It takes TAI and UTC for each other, or all clocks that follow it do.
     OffByUtc(OffByUtc),
@@ -93,6 +96,8 @@ pub enum What<'a> {
     Incomplete(Missing),
     /// It was reached by the last of this many boundary hops, and has two ports or more.
     OutOfReach(u8),
+    /// Clocks went from one grandmaster to another.
+    GrandmasterChanged(GrandmasterChange),
     /// Answers to two requests differ.
     Changed(Option<u16>, Change<'a>),
     /// Answers to one request differ.
@@ -108,6 +113,7 @@ impl What<'_> {
             What::Absent(_) => "absent",
             What::Unexpected => "unexpected",
             What::NotAsExpected(_) | What::OtherLeaders(_) => "not_as_expected",
+            What::Gone => "gone",
             What::Unseen(unseen) => unseen.name(),
             What::TwoGrandmasters => "two_grandmasters",
             What::NoMaster(_) => "no_master",
@@ -134,6 +140,7 @@ impl What<'_> {
             What::Profile(_) => "profile",
             What::Incomplete(_) => "incomplete",
             What::OutOfReach(_) => "out_of_reach",
+            What::GrandmasterChanged(_) => "grandmaster_changed",
             What::Changed(..) => "changed",
             What::IdentityTwice(..) | What::TwoOffsets(_) => "identity_twice",
         }
@@ -145,6 +152,7 @@ impl What<'_> {
     pub fn is_critical(&self) -> bool {
         match self {
             What::Absent(_)
+            | What::Gone
             | What::TwoGrandmasters
             | What::NoMaster(_)
             | What::GrandmasterNotSeen(_)

@@ -13,7 +13,7 @@ pub(crate) struct FindingName {
 }
 
 /// All names, in the order in which the findings of a clock are reported.
-pub(crate) const ALL: [FindingName; 33] = [
+pub(crate) const ALL: [FindingName; 35] = [
     FindingName {
         name: "absent",
         meaning: "The inventory names the clock, and it did not answer.",
@@ -28,6 +28,11 @@ pub(crate) const ALL: [FindingName; 33] = [
         name: "not_as_expected",
         meaning: "It is not as the inventory says.",
         is_critical: false,
+    },
+    FindingName {
+        name: "gone",
+        meaning: "The clock answered before, and answers no more.",
+        is_critical: true,
     },
     FindingName {
         name: "own_host",
@@ -167,6 +172,11 @@ pub(crate) const ALL: [FindingName; 33] = [
     FindingName {
         name: "out_of_reach",
         meaning: "The last boundary hop reached the clock: clocks behind it are not asked.",
+        is_critical: false,
+    },
+    FindingName {
+        name: "grandmaster_changed",
+        meaning: "Clocks have another grandmaster than before.",
         is_critical: false,
     },
     FindingName {

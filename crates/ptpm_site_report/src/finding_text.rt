@@ -4,6 +4,7 @@ use crate::expected_text::{
     ChoicesText, ClocksText, OutsideText, UnmetMember, WantedText, clock_of, unmet_value,
 };
 use crate::intervals::{Exact, Seconds, Whole};
+use crate::seconds::whole_seconds;
 use ptpm_codec::PortIdentity;
 use ptpm_site::announcing::Seldom;
 use ptpm_site::changes::Change;
@@ -12,11 +13,13 @@ use ptpm_site::data_sets::ClockQuality;
 use ptpm_site::differences::Differs;
 use ptpm_site::expected::{OtherLeaders, Unmet};
 use ptpm_site::finding::{Finding, What};
+use ptpm_site::grandmaster_changes::GrandmasterChange;
 use ptpm_site::grandmasters::Masterless;
 use ptpm_site::heard::kind_name;
 use ptpm_site::leading::{Better, Leap, Untraceable, WrongOffset};
 use ptpm_site::member::state_name;
 use ptpm_site::parents::{NoMaster, Steps};
+use ptpm_site::stay::Stay;
 use ptpm_site::staying::Unlocked;
 use ptpm_site::tai_and_utc::OffByUtc;
 use ptpm_site::two_offsets::TwoOffsets;
@@ -51,6 +54,7 @@ impl fmt::Display for Said<'_> {
             What::NotAsExpected(unmet) => write_unmet(unmet, f),
             What::OtherLeaders(other) => write_other_leaders(other, f),
             What::Profile(outside) => write!(f, " {}", OutsideText(*outside)),
+            What::Gone => f.write_str(" answers no more"),
             What::Unseen(unseen) => write_unseen(unseen, f),
             What::Absent(None) | What::Unexpected | What::TwoGrandmasters => Ok(()),
             What::NoMaster(why) => write_masterless(why, f),
@@ -65,7 +69,7 @@ impl fmt::Display for Said<'_> {
                 }
                 Ok(())
             }
-            What::PortState(port, state) => write!(f, " port {port} {}", state_name(Some(*state))),
+            What::PortState(port, stay) => write_stay(*port, stay, f),
             What::NotLocked(port, unlocked) => write_unlocked(*port, unlocked, f),
             What::OffByUtc(how) => write_off_by_utc(how, f),
             What::Offset(offset) => write!(f, " offsetFromMaster {} ns", Exact(*offset)),
@@ -89,6 +93,7 @@ impl fmt::Display for Said<'_> {
                 write!(f, " the last of {hops} boundary hops: ")?;
                 f.write_str("clocks behind it are not asked")
             }
+            What::GrandmasterChanged(change) => write_grandmaster_change(change, f),
             What::Changed(port, change) => write_change(*port, change, "then", f),
             What::IdentityTwice(port, change) => write_change(*port, change, "and", f),
             What::TwoOffsets(offsets) => write_two_offsets(offsets, f),
@@ -202,6 +207,15 @@ fn write_change<W: fmt::Write>(
     write!(f, " {} {before}, {word} {after}", member.name())
 }
 
+fn write_grandmaster_change<W: fmt::Write>(
+    change: &GrandmasterChange,
+    f: &mut fmt::Formatter<W>,
+) -> fmt::Result {
+    let (before, after, clocks) = (change.before, change.after, change.clocks);
+    let noun = if clocks == 1 { "clock" } else { "clocks" };
+    write!(f, " {before}, then {after}; {clocks} {noun}")
+}
+
 fn write_two_offsets<W: fmt::Write>(
     offsets: &TwoOffsets,
     f: &mut fmt::Formatter<W>,
@@ -211,12 +225,26 @@ fn write_two_offsets<W: fmt::Write>(
     write!(f, " two offsets in one look: {first} ns and {second} ns")
 }
 
+fn write_stay<W: fmt::Write>(port: u16, stay: &Stay, f: &mut fmt::Formatter<W>) -> fmt::Result {
+    write!(f, " port {port} {}", state_name(Some(stay.state)))?;
+    write_time(stay.time, f)
+}
+
+/// How long a port was in a state, in whole seconds, if that is known.
+fn write_time<W: fmt::Write>(time: Option<u64>, f: &mut fmt::Formatter<W>) -> fmt::Result {
+    match time {
+        Some(time) => write!(f, " for {} s", whole_seconds(time)),
+        None => Ok(()),
+    }
+}
+
 fn write_unlocked<W: fmt::Write>(
     port: u16,
     unlocked: &Unlocked,
     f: &mut fmt::Formatter<W>,
 ) -> fmt::Result {
     write!(f, " port {port} UNCALIBRATED")?;
+    write_time(unlocked.time, f)?;
     match unlocked.offset {
         Some(offset) => write!(f, ", offset {} ns", Whole(offset)),
         None => Ok(()),

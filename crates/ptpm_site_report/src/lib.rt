@@ -15,6 +15,7 @@ mod intervals;
 mod inventory_text;
 mod json;
 mod label;
+mod line_words;
 mod lines;
 mod metric_families;
 mod nagios;

@@ -34,6 +34,7 @@ pub fn report_standing_expected<R: Read + Drop, O: Write>(
 ) -> Result<Standing, Fault> {
     let mut site = read_site(alloc, reader)?;
     let left_out = site.keep_first();
+    site.drop_gone(alloc).map_err(|_| Fault::OutOfMemory)?;
     standing_of(alloc, limits, expectations, names, &site, left_out, out)
 }
 

@@ -95,6 +95,7 @@ pub fn report_named<R: Read + Drop, O: Write>(
 ) -> Result<Conclusion, Fault> {
     let mut site = read_site(alloc, reader)?;
     let left_out = site.keep_first();
+    site.drop_gone(alloc).map_err(|_| Fault::OutOfMemory)?;
     report_of(alloc, options, names, &site, left_out, out)
 }
 

@@ -1,5 +1,6 @@
 //! The answers among lines of datagrams.
 
+use crate::line_words::at_of;
 use ptpm_commands::Fault;
 use ptpm_commands::lines::Lines;
 use ptpm_site::site::Site;
@@ -16,7 +17,8 @@ pub(crate) fn read_site<R: Read + Drop>(alloc: Global, reader: R) -> Result<Site
             break;
         }
         if let Some(datagram) = lines.datagram(alloc, number)? {
-            site.take_datagram(alloc, datagram.as_slice())
+            let at = at_of(lines.text(number)?);
+            site.take_datagram_at(alloc, at, datagram.as_slice())
                 .map_err(|_| Fault::OutOfMemory)?;
         }
     }
