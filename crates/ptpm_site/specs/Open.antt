@@ -17,8 +17,8 @@ open_lock_found site limits s n = found (what.NotLocked n) s (open_lock site lim
 
 -- what is open, if none of these is found
 abbrev pub unless_found : List Finding → List Finding → List Finding
-unless_found [] open = open
-unless_found (f ∷ fs) open = []
+unless_found [] others = others
+unless_found (f ∷ fs) others = []
 
 -- A port of the clock stays too long.
 unfoldable pub states_found : SiteAnswers → Limits → Source → List Finding

@@ -19,12 +19,12 @@ pub fn open_of<'a>(
     site: &'a Site,
     limits: Limits,
 ) -> Result<Vec<Finding<'a>>, AllocError>
-    ensures { IfOk result (λ open. open.items ≡ open_of (site_answers site.now) limits) }
+    ensures { IfOk result (λ found. found.items ≡ open_of (site_answers site.now) limits) }
 {
     let sources = site.sources(alloc)?;
-    let mut open = Vec::new(alloc);
-    judge_open_of(alloc, site, sources.as_slice(), limits, &mut open)?;
-    Ok(open)
+    let mut findings = Vec::new(alloc);
+    judge_open_of(alloc, site, sources.as_slice(), limits, &mut findings)?;
+    Ok(findings)
 }
 
 /// What is open at each of these clocks, one after another.
@@ -33,12 +33,12 @@ fn judge_open_of(
     site: &Site,
     sources: &[Source],
     limits: Limits,
-    open: &mut Vec<Finding<'_>>,
+    findings: &mut Vec<Finding<'_>>,
 ) -> Result<(), AllocError>
-    ensures { OnOk result (open.new.items ≡ open.old.items ++ flat_map (open_at (site_answers site.now) limits) sources.now) }
+    ensures { OnOk result (findings.new.items ≡ findings.old.items ++ flat_map (open_at (site_answers site.now) limits) sources.now) }
 {
     for source in sources {
-        judge_open(alloc, site, *source, limits, open)?;
+        judge_open(alloc, site, *source, limits, findings)?;
     }
     Ok(())
 }
@@ -50,13 +50,13 @@ fn judge_open(
     site: &Site,
     source: Source,
     limits: Limits,
-    open: &mut Vec<Finding<'_>>,
+    findings: &mut Vec<Finding<'_>>,
 ) -> Result<(), AllocError>
-    ensures { OnOk result (open.new.items ≡ open.old.items ++ open_at (site_answers site.now) limits source) }
+    ensures { OnOk result (findings.new.items ≡ findings.old.items ++ open_at (site_answers site.now) limits source) }
 {
     let ports = site.ports(alloc, source)?;
-    judge_open_states(alloc, site, source, ports.as_slice(), limits, open)?;
-    judge_open_locks(alloc, site, source, ports.as_slice(), limits, open)
+    judge_open_states(alloc, site, source, ports.as_slice(), limits, findings)?;
+    judge_open_locks(alloc, site, source, ports.as_slice(), limits, findings)
 }
 
 /// `port_state`, for a clock with these ports. Nothing is open where a port has the finding.
@@ -67,15 +67,15 @@ fn judge_open_states(
     source: Source,
     ports: &[u16],
     limits: Limits,
-    open: &mut Vec<Finding<'_>>,
+    findings: &mut Vec<Finding<'_>>,
 ) -> Result<(), AllocError>
     requires { ports.now ≡ (site_answers site.now).ports source }
-    ensures { OnOk result (open.new.items ≡ open.old.items ++ open_states (site_answers site.now) limits source) }
+    ensures { OnOk result (findings.new.items ≡ findings.old.items ++ open_states (site_answers site.now) limits source) }
 {
     let mut found = Vec::new(alloc);
     judge_ports(site, source, ports, limits, &mut found)?;
     if found.is_empty() {
-        add_open_states(site, source, ports, limits, open)
+        add_open_states(site, source, ports, limits, findings)
     } else {
         Ok(())
     }
@@ -89,16 +89,16 @@ fn judge_open_locks(
     source: Source,
     ports: &[u16],
     limits: Limits,
-    open: &mut Vec<Finding<'_>>,
+    findings: &mut Vec<Finding<'_>>,
 ) -> Result<(), AllocError>
     requires { ports.now ≡ (site_answers site.now).ports source }
-    ensures { OnOk result (open.new.items ≡ open.old.items ++ open_locks (site_answers site.now) limits source) }
+    ensures { OnOk result (findings.new.items ≡ findings.old.items ++ open_locks (site_answers site.now) limits source) }
 {
     let mut found = Vec::new(alloc);
     judge_locks(site, source, ports, limits, &mut found)?;
     judge_intervals(site, source, ports, &mut found)?;
     if found.is_empty() {
-        add_open_locks(site, source, ports, limits, open)
+        add_open_locks(site, source, ports, limits, findings)
     } else {
         Ok(())
     }
@@ -109,12 +109,12 @@ fn add_open_states(
     source: Source,
     ports: &[u16],
     limits: Limits,
-    open: &mut Vec<Finding<'_>>,
+    findings: &mut Vec<Finding<'_>>,
 ) -> Result<(), AllocError>
-    ensures { OnOk result (open.new.items ≡ open.old.items ++ flat_map (open_state_found (site_answers site.now) limits source) ports.now) }
+    ensures { OnOk result (findings.new.items ≡ findings.old.items ++ flat_map (open_state_found (site_answers site.now) limits source) ports.now) }
 {
     for port in ports {
-        add_open_state(site, source, *port, limits, open)?;
+        add_open_state(site, source, *port, limits, findings)?;
     }
     Ok(())
 }
@@ -125,12 +125,12 @@ fn add_open_state(
     source: Source,
     port: u16,
     limits: Limits,
-    open: &mut Vec<Finding<'_>>,
+    findings: &mut Vec<Finding<'_>>,
 ) -> Result<(), AllocError>
-    ensures { OnOk result (open.new.items ≡ open.old.items ++ open_state_found (site_answers site.now) limits source port) }
+    ensures { OnOk result (findings.new.items ≡ findings.old.items ++ open_state_found (site_answers site.now) limits source port) }
 {
     match open_state(site, limits, source, port) {
-        Some(stay) => add_finding(open, source, What::PortState(port, stay)),
+        Some(stay) => add_finding(findings, source, What::PortState(port, stay)),
         None => Ok(()),
     }
 }
@@ -140,12 +140,12 @@ fn add_open_locks(
     source: Source,
     ports: &[u16],
     limits: Limits,
-    open: &mut Vec<Finding<'_>>,
+    findings: &mut Vec<Finding<'_>>,
 ) -> Result<(), AllocError>
-    ensures { OnOk result (open.new.items ≡ open.old.items ++ flat_map (open_lock_found (site_answers site.now) limits source) ports.now) }
+    ensures { OnOk result (findings.new.items ≡ findings.old.items ++ flat_map (open_lock_found (site_answers site.now) limits source) ports.now) }
 {
     for port in ports {
-        add_open_lock(site, source, *port, limits, open)?;
+        add_open_lock(site, source, *port, limits, findings)?;
     }
     Ok(())
 }
@@ -156,12 +156,12 @@ fn add_open_lock(
     source: Source,
     port: u16,
     limits: Limits,
-    open: &mut Vec<Finding<'_>>,
+    findings: &mut Vec<Finding<'_>>,
 ) -> Result<(), AllocError>
-    ensures { OnOk result (open.new.items ≡ open.old.items ++ open_lock_found (site_answers site.now) limits source port) }
+    ensures { OnOk result (findings.new.items ≡ findings.old.items ++ open_lock_found (site_answers site.now) limits source port) }
 {
     match open_lock(site, limits, source, port) {
-        Some(unlocked) => add_finding(open, source, What::NotLocked(port, unlocked)),
+        Some(unlocked) => add_finding(findings, source, What::NotLocked(port, unlocked)),
         None => Ok(()),
     }
 }

@@ -27,7 +27,7 @@ pub struct Picture<'a> {
     pub rows: Vec<TreeRow>,
     pub findings: Vec<Finding<'a>>,
     /// What is a finding if it lasts.
-    pub open: Vec<Finding<'a>>,
+    pub open_findings: Vec<Finding<'a>>,
     pub left_out: LeftOut,
 }
 
@@ -44,19 +44,19 @@ impl<'a> Picture<'a> {
         ensures rows { IfOk result (λ picture. All (IsRow (site_answers site.now)) picture.rows.items) }
         ensures domains { IfOk result (λ picture. IsNonDecreasingBy (row_domain (site_answers site.now).clocks) picture.rows.items) }
         ensures findings { IfOk result (λ picture. reported picture.findings.items ≡ findings_of (site_answers site.now) limits) }
-        ensures open { IfOk result (λ picture. picture.open.items ≡ open_of (site_answers site.now) limits) }
+        ensures unsettled { IfOk result (λ picture. picture.open_findings.items ≡ open_of (site_answers site.now) limits) }
     {
         let forest = Forest::of(alloc, site)?;
         let least = least_of_loops(alloc, forest.followed.as_slice())?;
         let rows = rows(alloc, site, &forest, least.as_slice())?;
         let findings = findings_of(alloc, site, least.as_slice(), limits)?;
-        let open = open_of(alloc, site, limits)?;
+        let open_findings = open_of(alloc, site, limits)?;
         Ok(Picture {
             site,
             forest,
             rows,
             findings,
-            open,
+            open_findings,
             left_out,
         })
     }

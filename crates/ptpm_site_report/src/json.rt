@@ -35,7 +35,7 @@ impl Object<'_, '_> {
             print_value(alloc, clock_value(alloc, *source, clock, self.1), out)?;
         }
         writeln!(out, "{}],", if domain.is_some() { "]}" } else { "" })?;
-        print_findings(alloc, "open", self.0.open.as_slice(), out)?;
+        print_findings(alloc, "open", self.0.open_findings.as_slice(), out)?;
         print_findings(alloc, "findings", self.0.findings.as_slice(), out)?;
         let (clocks, ports) = (self.0.left_out.clocks, self.0.left_out.ports);
         writeln!(

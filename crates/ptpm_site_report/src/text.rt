@@ -68,12 +68,12 @@ impl Sheet<'_, '_> {
 
     /// What is open, one a line, if there is any.
     fn print_open<O: Write>(&self, out: &mut O) -> Result<(), Fault> {
-        let open = self.0.open.as_slice();
-        if open.is_empty() {
+        let unsettled = self.0.open_findings.as_slice();
+        if unsettled.is_empty() {
             return Ok(());
         }
-        writeln!(out, "open: {}", open.len())?;
-        for finding in open {
+        writeln!(out, "open: {}", unsettled.len())?;
+        for finding in unsettled {
             write!(out, "{}", Words(finding))?;
             self.print_description(finding.source, out)?;
         }
