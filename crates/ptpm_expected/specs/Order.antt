@@ -1,7 +1,9 @@
 -- The place of a finding among those of its clock.
 use Rattle.std.specs.Prelude.{ℕ}
+use Rattle.ptpm_site.specs.declared.finding.Finding.{Finding}
 use Rattle.ptpm_site.specs.declared.finding.What.{What}
 use Rattle.ptpm_site.specs.declared.finding.What.TheVariants as what
+use Rattle.ptpm_expected.specs.declared.order.FindingKey.{FindingKey}
 
 abbrev pub place_of : What → ℕ
 place_of (what.Absent description) = 0
@@ -16,3 +18,7 @@ place_of (what.Changed port change) = 5
 place_of (what.IdentityTwice port change) = 5
 place_of (what.TwoOffsets offsets) = 5
 place_of _ = 3
+
+-- by what findings are sorted: the clock, by domain and identity, and the place
+abbrev pub finding_key : Finding → FindingKey
+finding_key f = record { source = f.source; place = place_of f.what }

@@ -1,10 +1,14 @@
 //! The findings of a site that is held to an inventory.
 
+ghost use Rattle.std.specs.Prelude.{OnOk};
+ghost use Rattle.std.specs.List.Sorted.{IsSortedByKey};
+ghost use Rattle.ptpm_expected.specs.Order.{finding_key};
+
 use crate::inventory::{Entry, Inventory, Rule};
 use crate::judging_inventory::{judge_absent, judge_entries, judge_unexpected};
 use crate::meeting::is_as_wanted;
 use crate::named::Named;
-use crate::order::put_in_order;
+use crate::order::{FindingKey, put_in_order};
 use crate::senders::Senders;
 use ptpm_codec::ClockIdentity;
 use ptpm_site::finding::{Finding, What};
@@ -30,7 +34,9 @@ pub fn hold_to_inventory<'a>(
     sources: &[Source],
     inventory: &'a Inventory,
     findings: &mut Vec<Finding<'a>>,
-) -> Result<(), AllocError> {
+) -> Result<(), AllocError>
+    ensures { OnOk result (IsSortedByKey finding_key ⟦<FindingKey as Ord>⟧.cmp findings.new.items) }
+{
     let held = Held {
         site,
         inventory,

@@ -12,7 +12,7 @@ pub mod judging_profile;
 mod meeting;
 mod members;
 mod named;
-mod order;
+pub mod order;
 pub mod outside;
 pub mod profile;
 mod quoted;
