@@ -21,7 +21,7 @@ class AtPtp4l(Runs):
     def __init__(self, work, seed):
         super().__init__(work, seed)
         self.namespace, self.process = f"ptpm-apply-{os.getpid()}-p", None
-        self.socket = os.path.join(work, "ptp4l")
+        self.socket, self.is_taken = os.path.join(work, "ptp4l"), True
         try:
             self.begin()
         except BaseException:
