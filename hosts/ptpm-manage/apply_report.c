@@ -62,6 +62,11 @@ static void write_change(FILE *to, const struct step *step) {
 
 /* ---- text */
 
+/* Whether the step may have been carried out, and has no answer. */
+static bool is_uncertain(const struct journal *journal, size_t place) {
+    return journal->told[place].outcome == NOT_TOLD && journal->begun == (long)place && !journal->is_unsent;
+}
+
 static void print_state(const struct journal *journal, size_t place) {
     const struct told *told = &journal->told[place];
     const char *error = error_name(told->error);
@@ -75,7 +80,7 @@ static void print_state(const struct journal *journal, size_t place) {
         fputs("answered ", stdout);
         write_value(stdout, journal->steps[place].id, told->answer.octets, told->answer.size);
         break;
-    case NOT_TOLD: fputs(journal->begun == (long)place ? "may be: it was sent, and has no answer" : "not asked", stdout); break;
+    case NOT_TOLD: fputs(is_uncertain(journal, place) ? "may be: it was sent, and has no answer" : "not asked", stdout); break;
     }
 }
 
@@ -104,7 +109,7 @@ static void print_state_as_json(const struct journal *journal, size_t place) {
     static const char *const names[] = { "notAsked", "done", "refused", "answered" };
     const struct told *told = &journal->told[place];
     const char *error = error_name(told->error);
-    printf(",\"state\":\"%s\"", told->outcome == NOT_TOLD && journal->begun == (long)place ? "mayBe" : names[told->outcome]);
+    printf(",\"state\":\"%s\"", is_uncertain(journal, place) ? "mayBe" : names[told->outcome]);
     if (told->outcome != IS_REFUSED) return;
     if (error != NULL) printf(",\"managementErrorId\":\"%s\"", error);
     else printf(",\"managementErrorId\":\"0x%04x\"", told->error);

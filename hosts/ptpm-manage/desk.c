@@ -83,10 +83,11 @@ static int not_saved(const struct desk *desk) {
 
 /* Drives the asker until it rests. `step` is what it asks, or NO_STEP. */
 static int carry_out(struct desk *desk, struct journal *journal, long step, bool is_anothers) {
-    for (;;) {
+    for (bool is_begun = false;;) {
         switch (drive(&desk->driver)) {
         case PTPM_NOTE_BEGUN:
             if (!note_begun(journal, step, desk->driver.handed.number)) return not_noted(journal);
+            is_begun = true;
             begin_driving(&desk->driver);
             say_noted(&desk->driver);
             break;
@@ -95,7 +96,10 @@ static int carry_out(struct desk *desk, struct journal *journal, long step, bool
             say_noted(&desk->driver);
             break;
         case PTPM_SAVE_IT:
-            if (!save_session(&desk->session)) return not_saved(desk);
+            if (!save_session(&desk->session)) {
+                journal->is_unsent = is_begun && desk->driver.sent == 0;
+                return not_saved(desk);
+            }
             if (say_saved(&desk->driver)) return ANSWERED;
             break;
         default: return no_answer_to(desk, journal, step);

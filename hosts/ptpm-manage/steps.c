@@ -56,7 +56,7 @@ void take_sessions(const struct task *task, const struct journal *journal) {
 bool mark_sessions(void) {
     for (size_t i = 0; i < desk_count; i++) {
         if (make_mark(desks[i]->session.file->path)) continue;
-        complain("nothing was sent: %s.apply: %s", desks[i]->session.file->path, strerror(errno));
+        complain("nothing was sent: %s.apply: %s: the apply stays open", desks[i]->session.file->path, strerror(errno));
         return false;
     }
     return true;

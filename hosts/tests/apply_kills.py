@@ -19,6 +19,7 @@ PORT_VALUES = {"LOG_SYNC_INTERVAL": (-8, 1), "ANNOUNCE_RECEIPT_TIMEOUT": (2, 10)
 REFUSED_ID, REFUSED_FIELD = 0x6001, "f700"          # LOG_MIN_PDELAY_REQ_INTERVAL, -9: below the profile's range
 TROUBLES = Troubles(loss=0.30, repeat=0.20, swap=0.10)
 MOST_LIVES, PATIENT_AFTER, PATIENCE = 400, 60, 60
+KILLS, LOSES, FAILS = ENDS = ("KILLS", "LOSES", "FAILS")     # what may become of a run at a call (dies.c)
 MOST_CALLS = 25                                      # of a step and what comes before it
 SETTLED = 0.1                                       # by then what was on its way has come in,
 MOST_SAVING = 10                                    # and a clock has saved, and judged it
@@ -89,11 +90,13 @@ class Changes(Runs):
         """The steps that are told are the first ones. The clocks took these, each once and in order, or these and the one that is begun."""
         if sorted(journal.told) != list(range(len(journal.told))):
             raise Broken(f"told {sorted(journal.told)} of {len(journal.steps)}")
+        self.is_taken = False
         for clock in self.observed:
             own = [place for place, step in enumerate(journal.steps) if step["clock"] == clock.clock.identity]
             told = [self.change(journal, place) for place in own if place in journal.told]
             also = [self.change(journal, place) for place in own if place == journal.begun]
             new = clock.new()
+            self.is_taken |= new != told
             if new != told and new != told + also:
                 raise Broken(f"{clock.clock.name} took {new}; told {told}, begun {also}, journal {journal.place()}")
         for place, note in journal.told.items():
@@ -190,8 +193,9 @@ def kill_at_clocks(work, kills, seed):
 
 class Points(Changes):
     """An apply of three steps, or four with one that is refused, whose journal is made here. Its first `resume` is killed at one of the calls
-    by which it saves and sends: at the first, in the next apply at the second, and so on. The next three are killed at others, and the
-    last is not. At half of the kills the machine loses its power too (dies.c). Every second apply begins without files of sessions."""
+    by which it saves and sends: at the first, in the next apply at the second, and so on. At the next three such calls it is
+    killed again, or the call fails; the last run is left alone. At some kills the machine loses its power too (dies.c). Every second apply
+    begins without files of sessions."""
 
     def __init__(self, work, seed):
         super().__init__(work, seed)
@@ -220,26 +224,26 @@ class Points(Changes):
             file.write(f"{zlib.crc32(text.encode()):08x} {text}\n")
         return path
 
-    def is_killed_at(self, call):
+    def is_killed_at(self, call, by):
         """Whether a `resume` was killed at this call; 0 is none."""
-        loses = self.chance.randrange(2)
-        process = self.start(["resume"], LD_PRELOAD=os.path.join(HOME, "dies.so"), DIES_AT=str(call), DIES_FROM="start", LOSES=str(loses))
-        is_killed = process.wait(PATIENCE) in (-signal.SIGKILL, 128 + signal.SIGKILL)
+        environment = {"LD_PRELOAD": os.path.join(HOME, "dies.so"), "DIES_AT": str(call), "DIES_FROM": "start", by: "1"}
+        is_killed = self.start(["resume"], **environment).wait(PATIENCE) in (-signal.SIGKILL, 128 + signal.SIGKILL)
         self.counts["kills"] += is_killed
-        self.counts["power cuts"] += is_killed and loses
+        self.counts["power cuts"] += is_killed and by == LOSES
         return is_killed
 
     def point(self, call):
         """Whether the apply was killed at this call, and so goes on beyond it."""
         path = self.make(call)
-        is_killed = self.is_killed_at(call)
+        is_killed = self.is_killed_at(call, self.chance.choice(ENDS[:2]))
         for at in (None, *(self.chance.randrange(1, MOST_CALLS) for _ in range(3)), 0):
             if at is not None:
-                self.is_killed_at(at)
+                self.is_killed_at(at, self.chance.choice(ENDS))
             time.sleep(SETTLED)
             journal = Journal(path)
             self.places[journal.place()] += 1
             self.check(journal)
+            self.check_report(journal)
         self.check_end(journal)
         return is_killed
 

@@ -2,6 +2,7 @@
 (apply_link.py), and an observer beside each clock (apply_observer.py). It needs root and /dev/net/tun."""
 import fcntl
 import os
+import pty
 import re
 import struct
 import subprocess
@@ -134,9 +135,25 @@ class Network:
     def manage(self, *words, state="state", namespace=None, **more):
         """A run of the manager's program."""
         where = self.near if namespace is None else namespace
-        top = os.path.dirname(HOME)
-        environment = {**os.environ, "XDG_STATE_HOME": os.path.join(self.work, state), "PATH": os.environ["PATH"] + ":" + top}
-        return run(*within(where), os.path.join(HOME, "manage"), "-i", "e1", *words, env=environment, **more)
+        return run(*within(where), os.path.join(HOME, "manage"), "-i", "e1", *words, env=self.environment(state), **more)
+
+    def environment(self, state):
+        return {**os.environ, "XDG_STATE_HOME": os.path.join(self.work, state), "PATH": os.environ["PATH"] + ":" + os.path.dirname(HOME)}
+
+    def manage_at_terminal(self, *words):
+        """Such a run whose standard error is a terminal: its status, and what is shown there."""
+        ours, theirs = pty.openpty()
+        process = subprocess.Popen([*within(self.near), os.path.join(HOME, "manage"), "-i", "e1", *words], stdout=subprocess.DEVNULL,
+                                   stderr=theirs, env=self.environment("state"))
+        os.close(theirs)
+        shown = b""
+        try:
+            while octets := os.read(ours, 65536):
+                shown += octets
+        except OSError:                     # its end has no reader any more
+            pass
+        os.close(ours)
+        return process.wait(60), shown.decode()
 
     def set(self, name, number, *words):
         """Another manager has the clock carry a SET out. `number` is the port, 0 if it is none."""

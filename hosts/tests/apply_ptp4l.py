@@ -5,14 +5,13 @@ import re
 import subprocess
 import time
 
-from apply_kills import Kills
+from apply_kills import PATIENCE, Kills
 from apply_network import HOME, must, run, within
 from apply_runs import Broken, Runs
 
 NAMES = {0x2005: "priority1", 0x2006: "priority2"}
 REFUSED_ID = 0x2010                     # CLOCK_ACCURACY: a ptp4l takes no SET of it
 IDENTITY = "020000fffe000022"
-MOST_STARTING = 20
 
 
 class AtPtp4l(Runs):
@@ -21,7 +20,7 @@ class AtPtp4l(Runs):
     def __init__(self, work, seed):
         super().__init__(work, seed)
         self.namespace, self.process = f"ptpm-apply-{os.getpid()}-p", None
-        self.socket = os.path.join(work, "ptp4l")
+        self.socket, self.is_taken = os.path.join(work, "ptp4l"), True
         try:
             self.begin()
         except BaseException:
@@ -39,11 +38,6 @@ class AtPtp4l(Runs):
         with open(os.path.join(self.work, "log"), "w") as log:
             self.process = subprocess.Popen([*within(self.namespace), "ptp4l", "-f", config, "-S", "-4", "-m", "-i", "e1",
                                              f"--uds_address={self.socket}"], stdout=log, stderr=subprocess.STDOUT)
-        end = time.monotonic() + MOST_STARTING
-        while len(self.read()) < len(NAMES):
-            if time.monotonic() > end:
-                raise OSError(f"ptp4l does not answer: {open(os.path.join(self.work, 'log')).read()}")
-            time.sleep(0.1)
         self.before = self.read()
 
     def end(self):
@@ -56,8 +50,16 @@ class AtPtp4l(Runs):
         return [os.path.join(HOME, "manage"), "-u", self.socket]
 
     def read(self):
-        said = run("pmc", "-u", "-b", "0", "-s", self.socket, "-i", os.path.join(self.work, "pmc"), "GET PRIORITY1", "GET PRIORITY2").stdout
-        return {name: int(value) for name, value in re.findall(r"(priority[12]) +(\d+)", said)}
+        """What it has. On a busy machine an answer may come too late for one `pmc`."""
+        words = ["pmc", "-u", "-b", "0", "-s", self.socket, "-i", os.path.join(self.work, "pmc"), "GET PRIORITY1", "GET PRIORITY2"]
+        end = time.monotonic() + PATIENCE
+        while time.monotonic() < end:
+            found = {name: int(value) for name, value in re.findall(r"(priority[12]) +(\d+)", run(*words).stdout)}
+            if len(found) == len(NAMES):
+                return found
+            time.sleep(0.1)
+        with open(os.path.join(self.work, "log")) as log:
+            raise OSError(f"ptp4l does not answer: {log.read()}")
 
     def plan(self):
         lines = ["[[clock]]", f'identity = "{IDENTITY}"', f"PRIORITY1 = {self.chance.randrange(256)}", f"PRIORITY2 = {self.chance.randrange(256)}"]

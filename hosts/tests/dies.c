@@ -2,8 +2,10 @@
    before the N-th call by which it writes, synchronizes, renames or sends. Calls are counted from the rename of a journal on, or from
    its start if DIES_FROM is `start`. Of a write that counts, half is written first: so a line is torn. With LOSES=1 the machine loses its
    power too. What was appended to a file and not synchronized is gone then. If a file was renamed and its folder not synchronized,
-   the file before it is there again. */
+   the file before it is there again. With FAILS=1 the call only fails, and nothing is killed: a write since the disk is full, and a
+   message since there is no way. */
 #define _GNU_SOURCE
+#include <errno.h>
 #include <fcntl.h>
 #include <limits.h>
 #include <signal.h>
@@ -21,14 +23,20 @@
 static struct { bool is_there; int file; off_t size; } appended;
 static struct { bool is_there, had_one; int folder; char name[NAME_MAX]; } renamed;
 
-static bool has_begun, loses;
+static bool has_begun, loses, fails;
 static long left;
 
+static bool is_set(const char *variable) {
+    const char *value = getenv(variable);
+    return value != NULL && strcmp(value, "1") == 0;
+}
+
 __attribute__((constructor)) static void begin(void) {
-    const char *at = getenv("DIES_AT"), *from = getenv("DIES_FROM"), *power = getenv("LOSES");
+    const char *at = getenv("DIES_AT"), *from = getenv("DIES_FROM");
     left = at == NULL ? 0 : atol(at);
     has_begun = from != NULL && strcmp(from, "start") == 0;
-    loses = power != NULL && strcmp(power, "1") == 0;
+    loses = is_set("LOSES");
+    fails = is_set("FAILS");
 }
 
 /* Whether this is the call. */
@@ -46,9 +54,12 @@ static void lose(void) {
     if (answer) abort();
 }
 
-static void die(void) {
-    if (loses) lose();
-    kill(getpid(), SIGKILL);
+/* What the call answers, if it is not the end. */
+static int die(int error) {
+    if (!fails && loses) lose();
+    if (!fails) kill(getpid(), SIGKILL);
+    errno = error;
+    return -1;
 }
 
 ssize_t write(int file, const void *octets, size_t size) {
@@ -60,8 +71,9 @@ ssize_t write(int file, const void *octets, size_t size) {
         appended.size = found.st_size;
     }
     if (is_file && is_last()) {
-        syscall(SYS_write, file, octets, size / 2);
-        die();
+        ssize_t written = syscall(SYS_write, file, octets, size / 2);
+        die(ENOSPC);
+        return written;
     }
     return syscall(SYS_write, file, octets, size);
 }
@@ -78,7 +90,7 @@ static void keep(int file) {
 }
 
 int fsync(int file) {
-    if (is_last()) die();
+    if (is_last()) return die(EIO);
     int answer = (int)syscall(SYS_fsync, file);
     if (answer == 0 && loses) keep(file);
     return answer;
@@ -86,7 +98,7 @@ int fsync(int file) {
 
 int renameat(int from, const char *old, int to, const char *new) {
     char before[NAME_MAX];
-    if (is_last()) die();
+    if (is_last()) return die(ENOSPC);
     before_of(before, new);
     if (loses) renamed.had_one = linkat(to, new, to, before, 0) == 0;
     int answer = (int)syscall(SYS_renameat2, from, old, to, new, 0);
@@ -101,6 +113,6 @@ int renameat(int from, const char *old, int to, const char *new) {
 }
 
 ssize_t sendmsg(int socket, const struct msghdr *head, int flags) {
-    if (is_last()) die();
+    if (is_last()) return die(ENETUNREACH);
     return syscall(SYS_sendmsg, socket, head, flags);
 }
