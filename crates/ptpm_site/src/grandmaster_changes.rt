@@ -1,6 +1,6 @@
 //! Clocks whose grandmaster changed from one look to the next.
 
-ghost use Rattle.std.specs.Prelude.{◌≡◌, IfOk};
+ghost use Rattle.std.specs.Prelude.{◌≡◌, IfOk, find};
 ghost use Rattle.std.specs.List.{count_by, filter_map};
 ghost use Rattle.std.specs.Option.{option_copied};
 ghost use Rattle.ptpm_site.specs.GrandmasterChanges.{all_shown, clocks_with, grandmaster_changes, handover_of, handover_to, is_first, is_of_itself, last_handover, named_before, same_handover, shown, shown_at};
@@ -130,10 +130,17 @@ impl Handover {
     fn is_first(&self, all: &[Handover]) -> bool
         ensures { result ≡ is_first all.now self.now }
     {
-        match all.iter().find(|other| self.is_with(other)) {
+        match self.first_with(all) {
             Some(first) => first.source == self.source,
             None => false,
         }
+    }
+
+    /// The first of those that went so.
+    fn first_with<'a>(&self, all: &'a [Handover]) -> Option<&'a Handover>
+        ensures { option_copied result ≡ find (same_handover self.now) all.now }
+    {
+        all.iter().find(|other| self.is_with(other))
     }
 
     /// What is shown of those that went so, by the first of them.
