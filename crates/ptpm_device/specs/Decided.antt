@@ -74,8 +74,8 @@ history_after c ports h (Delivered x say) = after_arrival c h (copy_of c ports x
 history_after c ports h (Observed o seen) = moved_history o seen h
 history_after c ports h (Changed q) = changed_history q h
 
--- of happenings in their order, each accepted request applied or refused once, in order of first acceptance, and each
--- observation and each change at the device in its place
+-- Of happenings in their order, each accepted request applied or refused once, in order of first acceptance. Each observation and
+-- each change at the device is in its place.
 abbrev pub decided_in_place : Clock → ℕ → History → List Happening → History
 decided_in_place c ports h [] = h
 decided_in_place c ports h (x ∷ xs) = decided_in_place c ports (history_after c ports h x) xs

@@ -18,10 +18,10 @@ ghost use Rattle.ptpm_device.specs.Decided.{ComeInTime, Delivered, Happening, af
 ghost use Rattle.ptpm_device.specs.Saying.{turn_said};
 
 /// At-most-once execution at a clock whose device may object. Let any list of datagrams come in at a fresh clock, with whatever
-/// the device says of each, and observations and changes at the device itself between them. Let each copy of a manager's request
-/// come in time. Then:
-/// - the data sets are those after the accepted requests, in order of first acceptance, with each observation and each change at
-///   the device in its place. Each request is applied once, or refused once by the device, and then it changes nothing;
+/// the device says of each. Between them the host may observe, and the owner may change something at the device itself. Let each
+/// copy of a manager's request come in time. Then:
+/// - the data sets are those after the accepted requests, in order of first acceptance. Each observation and each change at the
+///   device is in its place. Each request is applied once, or refused once by the device, and then it changes nothing;
 /// - each copy is sent the reply that is due to it, and nothing else is sent for it. That is the error of the device if it
 ///   refused the request, whatever it says of a later copy;
 /// - a copy of a request that is not newly accepted changes neither data sets nor entries.

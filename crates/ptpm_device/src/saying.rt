@@ -74,7 +74,9 @@ pub fn object<T: SureTable + Drop>(
     }
 }
 
-/// Keeps a request with the device's error as its reply. From then on a copy of it is a repeat, and is sent that reply.
+/// Keeps a request with the device's error as its reply. From then on a copy of it is a repeat, and is sent that reply. Never
+/// inlined: so the stack has no room for that reply while the clock takes its turn.
+#[inline(never)]
 fn refuse<T: SureTable + Drop>(agent: &mut Agent<T>, change: &Change<'_>, error: ErrorId)
     requires known { IsTrue (is_known change.now.manager (T.owner agent.old.table).managers) }
     requires action { IsRequestAction change.now.request.action }
