@@ -570,6 +570,16 @@ __extension__ enum PTPM_FOUR_OCTETS(ptpm_asking) {
     PTPM_ASKING_NO_PORT = PTPM_NO_PORT
 };
 
+/* ptpm_clock_set. */
+__extension__ enum PTPM_FOUR_OCTETS(ptpm_set_here) {
+    PTPM_SET_HERE = 0,
+    PTPM_SET_REFUSED = 26,              /* a manager with every right would be refused with *error */
+    PTPM_SET_NO_CLOCK = PTPM_NO_CLOCK,
+    PTPM_SET_NO_PORT = PTPM_NO_PORT,    /* it is neither a port of the clock nor 0xFFFF */
+    PTPM_SET_NOT_PERMITTED = 40,        /* the action is neither PTPM_SET nor PTPM_COMMAND */
+    PTPM_SET_BAD_VALUE = 41             /* the dataField has an odd number of octets, or over 1,418 */
+};
+
 /* ptpm_clock_observe. */
 __extension__ enum PTPM_FOUR_OCTETS(ptpm_observed) {
     PTPM_OBSERVED = 0,
@@ -900,6 +910,18 @@ void ptpm_limit_range(struct ptpm_limit *limit, int32_t least, int32_t most);
             PTPM_ERROR_WRONG_VALUE if such a limit lacks the value of a SET. Otherwise 0. The first octet is no value of
             NULL_PTP_MANAGEMENT, USER_DESCRIPTION and UTC_PROPERTIES, so a SET of these is not refused with PTPM_ERROR_WRONG_VALUE. */
 uint16_t ptpm_limits_say(const struct ptpm_limit *limits, size_t limit_count, const struct ptpm_question *asked);
+
+/* Carries out a SET or a COMMAND of the device's owner, as one of a manager with every right. It is for a command line of the device,
+   or for another protocol of management. What is kept of each manager stays: a copy of its latest request gets the answer of its
+   time. The device asks its own hardware before: it has no say here.
+   Takes:   the action, the id and the port of the target, counted from 1, or 0xFFFF for every port; size octets, the dataField.
+   Returns: PTPM_SET_HERE; or why not, and then nothing changes.
+   Writes:  *changed: the members that have another value after the call than before it; all zeros if the call is refused. *error:
+            the managementErrorId with PTPM_SET_REFUSED, and otherwise 0.
+   Caller:  acts on each change, and saves the clock. A clock that saves (ptpm_clock_saving) is unsaved after it, whether it was
+            before or not, and an earlier image is of another state. It says "done" to the owner once the clock is saved. */
+enum ptpm_set_here ptpm_clock_set(struct ptpm_clock *clock, uint8_t action, uint16_t id, uint16_t port, const uint8_t *octets,
+                                  size_t size, struct ptpm_changed *changed, uint16_t *error);
 
 /* Sets exactly what the host observed about its clock and its ports. Judges the data sets as they would be afterwards.
    Takes:   port_count places, from port 1 on: as many as the clock has ports, or fewer, or none.

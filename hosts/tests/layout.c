@@ -368,6 +368,11 @@ static void devices(void) {
     check(ptpm_limits_say(&limit, 1, &asked) == PTPM_ERROR_WRONG_VALUE, "a value that is lacking");
     check(ptpm_clock_handle_said(&clock_held, 1, octets, size, &say, sent, PTPM_MOST_SENT, &count, &changed) == PTPM_ANSWERED_NEW
           && count == 1 && is_text(sent[0].octets + 48, 12, "0002" "0008" "fffe" "200b" "00000000"), "the error of a device");
+    uint16_t error = 0xeeee;
+    check(ptpm_clock_set(&clock_held, PTPM_SET, 0x200b, 2, (const uint8_t[]){ 0xfe, 0 }, 2, &changed, &error) == PTPM_SET_HERE && error == 0
+          && changed.clock == 0 && changed.ports[0] == 0 && changed.ports[1] == PTPM_CHANGED_LOG_SYNC, "a change at the device itself");
+    check(ptpm_clock_set(&clock_held, PTPM_SET, 0x200b, 2, (const uint8_t[]){ 2, 0 }, 2, &changed, &error) == PTPM_SET_REFUSED
+          && error == PTPM_ERROR_WRONG_VALUE && changed.ports[1] == 0, "and the error of one");
 }
 
 /* The longest message fills its place, and its size counts no octet past the place. */

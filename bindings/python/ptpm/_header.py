@@ -269,6 +269,14 @@ PTPM_ASKED_CHANGE = 29
 PTPM_ASKING_NO_CLOCK = 32
 PTPM_ASKING_NO_PORT = 33
 
+# enum ptpm_set_here.
+PTPM_SET_HERE = 0
+PTPM_SET_REFUSED = 26
+PTPM_SET_NO_CLOCK = 32
+PTPM_SET_NO_PORT = 33
+PTPM_SET_NOT_PERMITTED = 40
+PTPM_SET_BAD_VALUE = 41
+
 # enum ptpm_observed.
 PTPM_OBSERVED = 0
 PTPM_OBSERVE_NO_CLOCK = 32
@@ -772,6 +780,10 @@ CALLS: Dict[str, Tuple[Any, List[Any]]] = {
     ),
     "ptpm_limit_range": (None, [POINTER(ptpm_limit), c_int32, c_int32]),
     "ptpm_limits_say": (c_uint16, [POINTER(ptpm_limit), c_size_t, POINTER(ptpm_question)]),
+    "ptpm_clock_set": (
+        c_uint32,
+        [POINTER(ptpm_clock), c_uint8, c_uint16, c_uint16, c_char_p, c_size_t, POINTER(ptpm_changed), POINTER(c_uint16)],
+    ),
     "ptpm_clock_observe": (
         c_uint32,
         [POINTER(ptpm_clock), POINTER(ptpm_observed_clock), POINTER(ptpm_observed_port), c_size_t, POINTER(c_uint8)],

@@ -10,9 +10,9 @@ from . import _header as header
 from ._library import Handle, library
 from .answers import HandleAnswer, done, judged, written
 from .changed import Changed
-from .device import Asked, Objection, say_of
+from .device import Asked, ChangeRefused, Objection, say_of
 from .identity import Identity, IdentityLike
-from .ids import IdLike, id_of
+from .ids import Action, IdLike, id_of
 from .observation import ObservedClock, ObservedPort
 from .settings import ClockSettings, Manager, PortSettings
 
@@ -118,6 +118,18 @@ class Clock(Handle):
                 answer = judged(library.ptpm_clock_handle_said(self._at, *came_in, ctypes.byref(say_of(say)), *room))
             messages = self._messages(count.value)
         return Handled(HandleAnswer(answer), messages, Changed.of_library(changed))
+
+    def set(self, action: Action, named: IdLike, port: int = 0xFFFF, octets: bytes = b"") -> Changed:
+        """Carries out a SET or a COMMAND of the device's owner, as one of a manager with every right. It is for a command line of
+        the device, or for another protocol of management. What is kept of each manager stays: a copy of its latest request gets the
+        answer of its time. The port 0xFFFF is every port. Returns the members that have another value since, or raises
+        ChangeRefused."""
+        changed, error = header.ptpm_changed(), ctypes.c_uint16()
+        field = bytes(octets)
+        words = (action, id_of(named), port_number(port), field, len(field), ctypes.byref(changed), ctypes.byref(error))
+        if judged(self._call(library.ptpm_clock_set, *words)) == header.PTPM_SET_REFUSED:
+            raise ChangeRefused(error.value)
+        return Changed.of_library(changed)
 
     def _messages(self, count: int) -> List[Tuple[int, bytes]]:
         """The messages in the first places."""

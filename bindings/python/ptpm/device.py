@@ -1,4 +1,4 @@
-"""What a clock's device is asked, and what it says."""
+"""What a clock's device is asked, what it says, and what its owner changes at the device itself."""
 
 from __future__ import annotations
 
@@ -9,8 +9,9 @@ from typing import Any, Optional, Sequence, Tuple
 
 from . import _header as header
 from ._library import library
+from .errors import PtpmError
 from .identity import Identity, PortIdentity
-from .ids import Action, IdLike, id_of
+from .ids import Action, IdLike, error_name, id_of
 
 
 class Objection(IntEnum):
@@ -20,6 +21,14 @@ class Objection(IntEnum):
     NOT_SETABLE = header.PTPM_ERROR_NOT_SETABLE
     NOT_SUPPORTED = header.PTPM_ERROR_NOT_SUPPORTED
     GENERAL_ERROR = header.PTPM_ERROR_GENERAL_ERROR
+
+
+class ChangeRefused(PtpmError):
+    """A change at the device itself is refused, as that of a manager with every right would be, and nothing changed."""
+
+    def __init__(self, error: int) -> None:
+        super().__init__(error_name(error))
+        self.error = error
 
 
 class Limit:

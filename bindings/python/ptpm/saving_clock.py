@@ -11,7 +11,7 @@ from ._library import library
 from .answers import HandleAnswer, done
 from .changed import Changed
 from .clock import Clock, Handled
-from .ids import IdLike
+from .ids import Action, IdLike
 from .observation import ObservedClock, ObservedPort
 
 
@@ -98,6 +98,15 @@ class SavingClock:
         turn = Turn(handled, image)
         yield turn
         turn._messages = self._clock._saved(token)
+
+    @contextmanager
+    def set(self, action: Action, named: IdLike, port: int = 0xFFFF, octets: bytes = b"") -> Iterator[Turn]:
+        """Does what Clock.set does. The body saves the image. The caller acts on what changed, and says "done" to the owner, once it
+        is saved."""
+        changed = self._clock.set(action, named, port, octets)
+        with self._saving(None) as turn:
+            turn.changed = changed
+            yield turn
 
     def observe(self, observed: ObservedClock, ports: Sequence[ObservedPort] = ()) -> Set[int]:
         """Does what Clock.observe does. Nothing is saved for it."""

@@ -1,9 +1,9 @@
-//! What a clock's device is asked, and what it says.
+//! What a clock's device is asked, what it says, and what its owner changes at the device itself.
 
 use crate::changed::Changed;
 use crate::clock::{Clock, Turn};
 use crate::error::{judged, Error};
-use crate::id::ManagementId;
+use crate::id::{ManagementErrorId, ManagementId};
 use crate::identity::{Identity, PortIdentity};
 use crate::outbox::Outbox;
 use crate::session::Action;
@@ -218,5 +218,33 @@ impl Clock {
         // SAFETY: the call has written the count, as many places, and what changed.
         let (messages, changed) = unsafe { (outbox.messages(count.assume_init()), changed.assume_init()) };
         Ok((Turn::of(number, messages), changed.into()))
+    }
+    /// Carries out a SET or a COMMAND of the device's owner, as one of a manager with every right. It is for a command line of the
+    /// device, or for another protocol of management. What is kept of each manager stays: a copy of its latest request gets the
+    /// answer of its time. The port 0xFFFF is every port. It returns the members that have another value since, or the error with
+    /// which that manager would be refused, and then nothing changes.
+    ///
+    /// # Errors
+    ///
+    /// [`Error::NoPort`], [`Error::NotPermitted`] of a GET, or [`Error::BadValue`].
+    pub fn set(
+        &mut self,
+        action: Action,
+        id: ManagementId,
+        port: u16,
+        octets: &[u8],
+    ) -> Result<Result<Changed, ManagementErrorId>, Error> {
+        let mut changed = MaybeUninit::uninit();
+        let mut error = 0;
+        let (field, size) = (octets.as_ptr(), octets.len());
+        // SAFETY: the dataField may be read, and what changed and the error may be written.
+        let number = judged(unsafe {
+            sys::ptpm_clock_set(self.handle_mut(), action as u8, id.0, port, field, size, changed.as_mut_ptr(), &mut error)
+        })?;
+        if number == sys::PTPM_SET_REFUSED {
+            return Ok(Err(ManagementErrorId(error)));
+        }
+        // SAFETY: the call has written what changed.
+        Ok(Ok(unsafe { changed.assume_init() }.into()))
     }
 }

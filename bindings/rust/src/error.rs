@@ -54,7 +54,7 @@ errors! {
     NoSession = PTPM_NO_SESSION, "the handle holds no session";
     Busy = PTPM_BUSY, "a request is not answered yet";
     NeedsPort = PTPM_NEEDS_PORT, "no port of the clock is named";
-    NotPermitted = PTPM_NOT_PERMITTED, "the action is none of GET, SET and COMMAND";
+    NotPermitted = PTPM_NOT_PERMITTED, "the action is none that the call takes";
     BadValue = PTPM_BAD_VALUE, "the dataField has an odd number of octets, or over 1,418";
     CountAtMaximum = PTPM_COUNT_AT_MAXIMUM, "the session has begun 1,000,000 requests";
     Idle = PTPM_IDLE, "no request is unanswered";

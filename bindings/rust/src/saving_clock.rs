@@ -4,11 +4,12 @@ use crate::answers::Handled;
 use crate::changed::Changed;
 use crate::clock::{Clock, Ports, Turn, CLOCK_IMAGE_OCTETS, MOST_READ};
 use crate::error::{done, Error};
-use crate::id::ManagementId;
+use crate::id::{ManagementErrorId, ManagementId};
 use crate::identity::Identity;
 use crate::memory::alone;
 use crate::observation::{ObservedClock, ObservedPort};
 use crate::outbox::{Messages, Outbox};
+use crate::session::Action;
 use crate::sys;
 use core::mem::MaybeUninit;
 
@@ -123,6 +124,26 @@ impl SavingClock {
             return Ok((SavingTurn::Sent(turn), changed));
         }
         Ok((SavingTurn::Unsaved(self.unsaved(room)?), changed))
+    }
+
+    /// Does what [`Clock::set`] does. What is changed is to be saved, and its image is in the room that it is given. The
+    /// caller acts on it, and says "done" to the owner, once it is saved.
+    ///
+    /// # Errors
+    ///
+    /// Those of [`Clock::set`].
+    pub fn set<'a>(
+        &'a mut self,
+        action: Action,
+        id: ManagementId,
+        port: u16,
+        octets: &[u8],
+        room: &'a mut [u8; CLOCK_IMAGE_OCTETS],
+    ) -> Result<Result<(Unsaved<'a>, Changed), ManagementErrorId>, Error> {
+        match self.clock.set(action, id, port, octets)? {
+            Ok(changed) => Ok(Ok((self.unsaved(room)?, changed))),
+            Err(error) => Ok(Err(error)),
+        }
     }
 
     /// Does what [`Clock::observe`] does. Nothing is saved for it.

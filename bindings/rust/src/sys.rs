@@ -30,6 +30,7 @@ pub type ptpm_parsed = u32;
 pub type ptpm_asker_restored = u32;
 pub type ptpm_asked = u32;
 pub type ptpm_asking = u32;
+pub type ptpm_set_here = u32;
 
 #[repr(C)]
 pub struct ptpm_clock {
@@ -345,6 +346,16 @@ extern "C" {
     ) -> ptpm_handled;
     pub fn ptpm_limit_range(limit: *mut ptpm_limit, least: i32, most: i32);
     pub fn ptpm_limits_say(limits: *const ptpm_limit, limit_count: usize, asked: *const ptpm_question) -> u16;
+    pub fn ptpm_clock_set(
+        clock: *mut ptpm_clock,
+        action: u8,
+        id: u16,
+        port: u16,
+        octets: *const u8,
+        size: usize,
+        changed: *mut ptpm_changed,
+        error: *mut u16,
+    ) -> ptpm_set_here;
     pub fn ptpm_clock_observe(
         clock: *mut ptpm_clock,
         observed: *const ptpm_observed_clock,

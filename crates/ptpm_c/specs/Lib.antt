@@ -10,3 +10,4 @@ pub mod LendingHandle
 pub mod Fields
 pub mod Withholding
 pub mod Said
+pub mod Changing

@@ -24,6 +24,7 @@ ghost use Rattle.ptpm_c.specs.Withholding.{Observes, RefusesCall, TakesCall};
 
 mod agreement;
 mod asker;
+mod changing;
 mod device;
 mod fields;
 mod handle;

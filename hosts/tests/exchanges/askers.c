@@ -115,8 +115,7 @@ static void run_ask(char *words) {
     asked.now = (uint64_t)next_number(&words, 0);
     asked.tag = (uint64_t)next_number(&words, 0);
     asked.domain = (uint8_t)next_number(&words, 0);
-    asked.action = takes_word(&words, "GET") ? PTPM_GET : takes_word(&words, "SET") ? PTPM_SET
-                   : takes_word(&words, "COMMAND") ? PTPM_COMMAND : (uint8_t)next_number(&words, 0);
+    asked.action = next_action(&words);
     asked.id = next_hex(&words);
     asked.port = (uint16_t)next_number(&words, 0);
     read_octets(&words, &asked.field);

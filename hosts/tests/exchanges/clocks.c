@@ -157,6 +157,20 @@ static void run_changed(char *words) {
     }
 }
 
+/* `set-here ACTION ID PORT OCTETS`. What changed is said at once. */
+static void run_set_here(char *words) {
+    static struct octets field;
+    uint16_t error = 0xeeee;
+    uint8_t action = next_action(&words);
+    uint16_t id = next_hex(&words), port = next_hex(&words);
+    read_octets(&words, &field);
+    memset(&changed, 0xee, sizeof changed);
+    uint32_t answer = ptpm_clock_set(&clock_of_page, action, id, port, field.at, field.size, &changed, &error);
+    if (answer == PTPM_SET_REFUSED) say("%s %04x\n", answer_name(answer, ""), error);
+    else say("%s\n%s", answer_name(answer, "SET_HERE"), error == 0 ? "" : "it has an error\n");
+    run_changed(words);
+}
+
 static void run_observe(char *words) {
     struct observation seen;
     uint8_t left = 0xee;
@@ -253,7 +267,6 @@ static void run_stop(char *words) {
 
 const struct command clock_commands[] = {
     { "clock", run_start }, { "in", run_in }, { "in-said", run_in_said }, { "changed", run_changed }, { "observe", run_observe },
-    { "read", run_read },
-    { "image", run_image }, { "restore", run_restore }, { "saving", run_saving }, { "image-of", run_image_of }, { "saved", run_saved },
-    { "stop", run_stop }, { NULL, NULL },
+    { "set-here", run_set_here }, { "read", run_read }, { "image", run_image }, { "restore", run_restore }, { "saving", run_saving }, { "image-of", run_image_of },
+    { "saved", run_saved }, { "stop", run_stop }, { NULL, NULL },
 };

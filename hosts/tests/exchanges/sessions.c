@@ -39,8 +39,7 @@ static uint32_t begin(void *given) {
 static void begin_request(char *words, bool is_at) {
     static struct request request;
     request.is_at = is_at;
-    request.action = takes_word(&words, "GET") ? PTPM_GET : takes_word(&words, "SET") ? PTPM_SET
-                     : takes_word(&words, "COMMAND") ? PTPM_COMMAND : (uint8_t)next_number(&words, 0);
+    request.action = next_action(&words);
     request.id = next_hex(&words);
     request.port = (uint16_t)next_number(&words, 0);
     read_octets(&words, &request.field);

@@ -62,6 +62,11 @@ uint16_t next_hex(char **words) {
     return (uint16_t)number;
 }
 
+uint8_t next_action(char **words) {
+    return takes_word(words, "GET") ? PTPM_GET : takes_word(words, "SET") ? PTPM_SET
+           : takes_word(words, "COMMAND") ? PTPM_COMMAND : (uint8_t)next_number(words, 0);
+}
+
 static const struct name *name_of(const char *word) {
     for (size_t i = 0; i < name_count; i++) {
         if (strcmp(names[i].name, word) == 0) return &names[i];

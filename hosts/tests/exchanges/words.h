@@ -23,6 +23,9 @@ long long next_number(char **words, long long without);
 /* The number of the next word, of hexadecimal digits. */
 uint16_t next_hex(char **words);
 
+/* The action of the next word: GET, SET, COMMAND, or its number. */
+uint8_t next_action(char **words);
+
 /* The octets of all words that are left: hexadecimal digits, or a name; N*WORD for N times these. A word @PLACE=WORD replaces
    those from a place on by others, and @..N leaves the first N. A single minus sign is none. */
 void read_octets(char **words, struct octets *octets);

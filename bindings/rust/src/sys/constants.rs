@@ -244,6 +244,14 @@ pub const PTPM_ASKED_CHANGE: u32 = 29;
 pub const PTPM_ASKING_NO_CLOCK: u32 = 32;
 pub const PTPM_ASKING_NO_PORT: u32 = 33;
 
+// `enum ptpm_set_here`.
+pub const PTPM_SET_HERE: u32 = 0;
+pub const PTPM_SET_REFUSED: u32 = 26;
+pub const PTPM_SET_NO_CLOCK: u32 = 32;
+pub const PTPM_SET_NO_PORT: u32 = 33;
+pub const PTPM_SET_NOT_PERMITTED: u32 = 40;
+pub const PTPM_SET_BAD_VALUE: u32 = 41;
+
 // `enum ptpm_observed`.
 pub const PTPM_OBSERVED: u32 = 0;
 pub const PTPM_OBSERVE_NO_CLOCK: u32 = 32;
