@@ -35,6 +35,7 @@ static int show_plan(const struct task *task) {
     int status = make_plan(&plan, task), probed = ANSWERED;
     if (task->plan.is_probed && !stopped) probed = probe_clocks(&plan, task);
     print_plan(&plan);
+    leave_plan(&plan);
     return probed == ANSWERED ? status : probed;
 }
 
@@ -97,7 +98,9 @@ static int apply(const struct task *task) {
     print_plan(&plan);
     if (fflush(stdout)) return NOT_WRITTEN;
     if (status == REFUSED || status == NOT_ANSWERED) complain("nothing was sent");
-    return status == ANSWERED ? apply_plan(task, &plan) : status;
+    if (status == ANSWERED) status = apply_plan(task, &plan);
+    leave_plan(&plan);
+    return status;
 }
 
 /* ---- resume */
@@ -178,13 +181,12 @@ static int close_apply(const struct task *task, struct journal *journal) {
     return status;
 }
 
-static int roll_back(const struct task *task, struct journal *journal) {
-    struct journal back = { 0 };
+static int roll_back_by(const struct task *task, struct journal *journal, struct journal *back) {
     bool is_open = journal->ending == IS_OPEN;
     int status = is_open ? close_apply(task, journal) : ANSWERED;
     if (status != ANSWERED) return status;
-    take_back(&back, journal);
-    status = find_changed(task, &back);
+    take_back(back, journal);
+    status = find_changed(task, back);
     if (status != ANSWERED) {
         complain("nothing was rolled back");
         return status;
@@ -194,13 +196,17 @@ static int roll_back(const struct task *task, struct journal *journal) {
     }
     if (is_open && !end_journal(journal, ROLLED_BACK, NO_STEP)) return NOT_WRITTEN;
     leave_sessions();
-    snprintf(back.rolls_back, sizeof back.rolls_back, "%s", journal->name);
-    name_journal(&back, "rollback");
-    if (back.count == 0) {
-        complain("%s: no step was done, so none is rolled back", journal->name);
-        return ANSWERED;
-    }
-    status = begin(task, &back);
+    snprintf(back->rolls_back, sizeof back->rolls_back, "%s", journal->name);
+    name_journal(back, "rollback");
+    if (back->count > 0) return begin(task, back);
+    complain("%s: no step was done, so none is rolled back", journal->name);
+    return ANSWERED;
+}
+
+static int roll_back(const struct task *task, struct journal *journal) {
+    struct journal back = { 0 };
+    int status = roll_back_by(task, journal, &back);
+    leave_sessions();
     leave_journal(&back);
     return status;
 }

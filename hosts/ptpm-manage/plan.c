@@ -52,8 +52,8 @@ static int find_asks(const struct task *task, struct collected *what, struct dom
     *what = (struct collected){ 0 };
     *domains = (struct domains){ 0 };
     int status = run_plan(task, "--asks", NULL, &asks);
-    if (status != 0 || asks.text == NULL) return status;
-    for (char *line = strtok_r(asks.text, "\n", &rest); line != NULL; line = strtok_r(NULL, "\n", &rest)) {
+    char *line = status == 0 && asks.text != NULL ? strtok_r(asks.text, "\n", &rest) : NULL;
+    for (; line != NULL; line = strtok_r(NULL, "\n", &rest)) {
         if (!take_ask(what, domains, line)) refuse("nothing was asked: ptpm plan --asks prints %s", line);
     }
     free(asks.text);
@@ -169,4 +169,10 @@ void add_warning(struct plan *plan, const char *text, bool is_json) {
 void print_plan(const struct plan *plan) {
     clear_progress();
     if (plan->text.text != NULL) fputs(plan->text.text, stdout);
+}
+
+void leave_plan(struct plan *plan) {
+    free(plan->text.text);
+    free(plan->steps);
+    *plan = (struct plan){ 0 };
 }

@@ -27,4 +27,7 @@ void add_warning(struct plan *plan, const char *text, bool is_json);
 /* Prints it. */
 void print_plan(const struct plan *plan);
 
+/* Frees what it holds. */
+void leave_plan(struct plan *plan);
+
 #endif

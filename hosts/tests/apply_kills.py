@@ -18,6 +18,7 @@ VALUES = {"PRIORITY1": (0, 255), "PRIORITY2": (0, 255), "CLOCK_ACCURACY": (0x17,
 PORT_VALUES = {"LOG_SYNC_INTERVAL": (-8, 1), "ANNOUNCE_RECEIPT_TIMEOUT": (2, 10)}
 REFUSED_ID, REFUSED_FIELD = 0x6001, "f700"          # LOG_MIN_PDELAY_REQ_INTERVAL, -9: below the profile's range
 TROUBLES = Troubles(loss=0.30, repeat=0.20, swap=0.10)
+CRASHES = 0.1                                       # of a clock after a run
 MOST_LIVES, PATIENT_AFTER, PATIENCE = 400, 60, 60
 KILLS, LOSES, FAILS = ENDS = ("KILLS", "LOSES", "FAILS")     # what may become of a run at a call (dies.c)
 MOST_CALLS = 25                                      # of a step and what comes before it
@@ -86,6 +87,11 @@ class Changes(Runs):
                 lines += ["LOG_MIN_PDELAY_REQ_INTERVAL = -9"]
         return self.write_plan(lines)
 
+    def crash(self):
+        """One of the clocks crashes while nothing is on its way to it."""
+        self.network.crash(self.chance.choice(list(self.network.clocks.values())))
+        self.counts["crashes of a clock"] += 1
+
     def check(self, journal):
         """The steps that are told are the first ones. The clocks took these, each once and in order, or these and the one that is begun."""
         if sorted(journal.told) != list(range(len(journal.told))):
@@ -122,7 +128,7 @@ class Changes(Runs):
 
 
 class Kills:
-    """Plans of a site are applied, killed at random times, resumed and rolled back."""
+    """Plans of a site are applied, killed at random times, resumed and rolled back. Between two runs a clock may crash."""
 
     def __init__(self, site, longest_apply, longest_resume):
         self.site, self.chance, self.counts = site, site.chance, site.counts
@@ -160,6 +166,8 @@ class Kills:
                 self.site.check_report(journal)
                 if journal.end:
                     return journal
+                if self.chance.random() < CRASHES:
+                    self.site.crash()
                 words = ["resume"]
         raise Broken(f"{words} did not end in {MOST_LIVES} runs")
 

@@ -119,14 +119,25 @@ class Network:
             observed.writelines(f"port {port} state 9\n" for port in clock.slaves)
         managers = ["-m", OTHER] + (["-m", MANAGER] if clock.has_rights else [])
         with open(clock.log, "a") as log:
+            before = log.tell()
             clock.process = subprocess.Popen(
                 [*within(clock.namespace), os.path.join(HOME, "clock"), "-v", "--user", "root", "-s", lead + ".state", "-o",
                  lead + ".observed", *managers, clock.identity] + [f"e{port}" for port in range(1, clock.ports + 1)],
                 stdout=log, stderr=log)
-        while "managers" not in open(clock.log).read() and "1 manager" not in open(clock.log).read():
+        said = ""
+        while "managers" not in said and "1 manager" not in said:
             if clock.process.poll() is not None:
-                raise OSError(open(clock.log).read())
+                raise OSError(said)
             time.sleep(0.01)
+            with open(clock.log) as log:
+                log.seek(before)
+                said = log.read()
+
+    def crash(self, clock):
+        """It is killed, and started again on the state that it saved."""
+        clock.process.kill()
+        clock.process.wait()
+        self.start(clock)
 
     def stop(self, clock):
         clock.process.terminate()

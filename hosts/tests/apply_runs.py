@@ -73,6 +73,9 @@ class Runs:
             file.write("\n".join(["version = 1", *lines]) + "\n")
         return path
 
+    def crash(self):
+        """What is changed crashes, if it keeps what it has."""
+
     def check_report(self, journal):
         """What the latest run printed of steps, if it came to that, is what the journal has. It may know that a step which is begun there was
         not sent."""
