@@ -81,9 +81,9 @@ aloud() { sed -n 's/.*\(<title>.*<\/title><desc>.*<\/desc>\).*/\1/p'; }
 lines_in() { while IFS= read -r line; do grep -qF -- "$line" "$1" || echo "not in $1: $line"; done; }
 
 # Of what `ptpm site` prints: # in place of the first fourteen digits of a clockIdentity of bin/site; and the findings alone, without
-# the description that bin/site gives a clock.
+# what is open and the description that bin/site gives a clock.
 short() { sed 's/020000fffe0000/#/g'; }
-findings() { sed -n '/^"\{0,1\}findings/,$p' | sed 's/ "clock"$//' | short; }
+findings() { sed -n '/^"\{0,1\}findings/,$p' | sed '/^open: /,$d; s/ "clock"$//' | short; }
 
 # play NETWORK: runs the events on standard input in a network of data/ and prints what each did. Its trace is then in the file
 # trace.

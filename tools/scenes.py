@@ -41,11 +41,13 @@ SITE = [("receiver", ["eth0"], "020000.fffe.000010", "time server", 100),
         ("left", ["eth0"], "020000.fffe.000031", "camera 7", 128), ("right", ["eth0"], "020000.fffe.000032", "camera 8", 128)]
 NEIGHBOUR = [("neighbour", ["eth0"], "020000.fffe.000020", "", 128)]
 
-# The clocks of a page that begins none itself: at the device, with the manager.
+# The clocks that a page does not begin itself: at the device, with the manager.
 AGENT = "ptpm-clock -m 020000fffe000010/1"
 AGENTS = {"docs/ptpm-manage.md": [f"{AGENT} aabbccfffeddee01 eth0 eth1", f"{AGENT} -d 4 aabbccfffeddee01 eth0",
                                   f"{AGENT} -2 aabbccfffeddee01 eth0"],
-          "docs/bindings.md": [f"{AGENT} aabbccfffeddee01 eth0"]}
+          "docs/bindings.md": [f"{AGENT} aabbccfffeddee01 eth0"],
+          "docs/changing-a-site.md": [f"{AGENT} aabbccfffeddee01 eth0", f"{AGENT} aabbccfffeddee02 eth0"],
+          "README.md": [f"{AGENT} aabbccfffeddee02 eth0"]}
 
 
 def shell(text, host=None, **words):
@@ -156,6 +158,11 @@ class Scene:
 
     def run(self, text):
         return shell(text, host=self.place, cwd=self.home, env=self.environment, stdin=subprocess.DEVNULL, timeout=300)
+
+    def latest_apply(self):
+        """Its name."""
+        names = [name for name in os.listdir("/var/lib/ptpm/apply") if name.endswith(".journal")]
+        return max(names, key=lambda name: os.path.getmtime(f"/var/lib/ptpm/apply/{name}"), default="none")[:-len(".journal")]
 
     def leave_pending(self, text):
         """Ends a run of `set PRIORITY1 100` before its answer, so that the next run finds its request."""

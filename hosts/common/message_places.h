@@ -8,6 +8,7 @@ enum {
     VERSION_AT = 1,             /* versionPTP, in the lower half */
     LENGTH_AT = 2,              /* messageLength */
     DOMAIN_AT = 4,              /* domainNumber */
+    SDO_AT = 5,                 /* minorSdoId; majorSdoId is the upper half of the first octet */
     SOURCE_AT = 20,             /* sourcePortIdentity, a clockIdentity */
     SOURCE_PORT_AT = 28,        /* and its portNumber */
     SEQUENCE_AT = 30,           /* sequenceId */

@@ -10,19 +10,22 @@
 #include <string.h>
 #include <unistd.h>
 
-socklen_t group(struct sockaddr_storage *to, bool is_six) {
+/* The group at a port. */
+static socklen_t group_at(struct sockaddr_storage *to, bool is_six, uint16_t port) {
     if (is_six) {
         static const struct in6_addr address = { .s6_addr = { 0xff, 0x0e, [14] = 0x01, 0x81 } };        /* ff0e::181 */
         struct sockaddr_in6 *six = (struct sockaddr_in6 *)to;
-        *six = (struct sockaddr_in6){ .sin6_family = AF_INET6, .sin6_port = htons(GENERAL_PORT), .sin6_addr = address };
+        *six = (struct sockaddr_in6){ .sin6_family = AF_INET6, .sin6_port = htons(port), .sin6_addr = address };
         return sizeof *six;
     }
     struct sockaddr_in *four = (struct sockaddr_in *)to;
     *four = (struct sockaddr_in){
-        .sin_family = AF_INET, .sin_port = htons(GENERAL_PORT), .sin_addr.s_addr = htonl(0xe0000181),      /* 224.0.1.129 */
+        .sin_family = AF_INET, .sin_port = htons(port), .sin_addr.s_addr = htonl(0xe0000181),              /* 224.0.1.129 */
     };
     return sizeof *four;
 }
+
+socklen_t group(struct sockaddr_storage *to, bool is_six) { return group_at(to, is_six, GENERAL_PORT); }
 
 enum { UDP_HEAD = 8 };
 
@@ -71,8 +74,9 @@ static bool stay_at(int socket, const char *interface, bool is_six, const char *
    may need it. */
 static bool bind_to_group(int socket, const struct sockaddr_storage *to, socklen_t size, const char **what) {
     int one = 1;
+    const char *port = *what;
     if (!set_option(socket, SOL_SOCKET, SO_REUSEADDR, &one, sizeof one, what, "SO_REUSEADDR")) return false;
-    *what = "UDP port 320";
+    *what = port;
     return bind(socket, (const struct sockaddr *)to, size) == 0;
 }
 
@@ -85,12 +89,22 @@ static bool join(int socket, const struct sockaddr_storage *to, unsigned interfa
     return setsockopt(socket, IPPROTO_IP, IP_ADD_MEMBERSHIP, &four, sizeof four) == 0;
 }
 
-static bool join_group(int socket, const char *interface, bool is_six, const char **what) {
+static bool join_group_at(int socket, const char *interface, bool is_six, uint16_t port, const char **what) {
     struct sockaddr_storage to;
-    socklen_t size = group(&to, is_six);
-    if (!stay_at(socket, interface, is_six, what) || !bind_to_group(socket, &to, size, what)) return false;
+    socklen_t size = group_at(&to, is_six, port);
+    if (!stay_at(socket, interface, is_six, what)) return false;
+    *what = port == EVENT_PORT ? "UDP port 319" : "UDP port 320";
+    if (!bind_to_group(socket, &to, size, what)) return false;
     *what = is_six ? "IPV6_ADD_MEMBERSHIP" : "IP_ADD_MEMBERSHIP";
     return join(socket, &to, if_nametoindex(interface));
+}
+
+static bool join_group(int socket, const char *interface, bool is_six, const char **what) {
+    return join_group_at(socket, interface, is_six, GENERAL_PORT, what);
+}
+
+static bool join_for_events(int socket, const char *interface, bool is_six, const char **what) {
+    return join_group_at(socket, interface, is_six, EVENT_PORT, what) && filter_udp(socket, false);
 }
 
 /* At a port of its own, which the kernel chooses. */
@@ -113,6 +127,10 @@ static int opened_by(bool (*step)(int, const char *, bool, const char **), const
 }
 
 int open_udp(const char *interface, bool is_six, const char **what) { return opened_by(join_group, interface, is_six, what); }
+
+int open_event_udp(const char *interface, bool is_six, const char **what) {
+    return opened_by(join_for_events, interface, is_six, what);
+}
 
 int open_asking_udp(const char *interface, bool is_six, const char **what) {
     return opened_by(bind_alone, interface, is_six, what);

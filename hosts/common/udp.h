@@ -5,13 +5,17 @@
 #include <stdbool.h>
 #include <sys/socket.h>
 
-/* The UDP port for all messages except event messages. */
-enum { GENERAL_PORT = 320 };
+/* The UDP ports for event messages, and for all others. */
+enum { EVENT_PORT = 319, GENERAL_PORT = 320 };
 
 /* A socket at UDP port 320 of an interface, in the group of PTP there (IEEE 1588-2019, annexes C and D). Only management messages
    to the group come in there, and nothing of what this host sends. It takes nothing that is sent to this host by unicast. -1 if it
    can't be made: errno says why, and *what at which step. */
 int open_udp(const char *interface, bool is_six, const char **what);
+
+/* A socket at UDP port 319 of an interface, in the same group. A copy of each event message to the group comes in there: Sync and
+   Delay_Req. -1 as above. */
+int open_event_udp(const char *interface, bool is_six, const char **what);
 
 /* A socket of an interface at a port of its own, to ask from. A unicast answer comes back to it, since that goes to the port of the
    request (annexes C and D). -1 as above. */

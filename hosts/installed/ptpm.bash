@@ -46,6 +46,7 @@ _ptpm() {
     *,*,-*) _ptpm_offer_lines < <(_ptpm_options ptpm "$command") ;;
     make,make,*) _ptpm_offer get set command ;;
     site,--max-offset,*) _ptpm_offer none ;;
+    site,--profile,*) _ptpm_offer default st2059-2 aes67 gptp ;;
     make,get,* | make,set,* | make,command,*) _ptpm_offer_lines < <(_ptpm_ids) ;;
     esac
 }

@@ -85,13 +85,9 @@ void print_members(FILE *to, const char *lead, uint16_t id, const uint8_t *octet
     }
 }
 
-/* The standard's name of a state or a delayMechanism: the value, if it is a word. Else that of a mechanism that no clock of this
-   project has, or `reserved`. */
+/* The standard's name of a state or a delayMechanism: the value, if it is a word, and else `reserved`. */
 static const char *word_of(const struct member *member) {
-    bool is_number = *member->value >= '0' && *member->value <= '9', is_mechanism = is_named(member, "delayMechanism");
-    if (!is_number) return member->value;
-    if (is_mechanism && strcmp(member->value, "3") == 0) return "COMMON_P2P";
-    return is_mechanism && strcmp(member->value, "4") == 0 ? "SPECIAL" : "reserved";
+    return *member->value >= '0' && *member->value <= '9' ? "reserved" : member->value;
 }
 
 /* A clockIdentity, or a portIdentity, whose portNumber is in `rest` after a slash. */

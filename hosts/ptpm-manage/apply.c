@@ -7,8 +7,10 @@
 #include "marks.h"
 #include "notices.h"
 #include "plan.h"
+#include "probe.h"
 #include "program.h"
 #include "steps.h"
+#include "stopping.h"
 #include "transport.h"
 #include <errno.h>
 #include <stdlib.h>
@@ -30,9 +32,11 @@ static int status_of(enum ending ending) {
 
 static int show_plan(const struct task *task) {
     struct plan plan;
-    int status = make_plan(&plan, task);
+    int status = make_plan(&plan, task), probed = ANSWERED;
+    if (task->plan.is_probed && !stopped) probed = probe_clocks(&plan, task);
     print_plan(&plan);
-    return status;
+    leave_plan(&plan);
+    return probed == ANSWERED ? status : probed;
 }
 
 /* ---- a journal is carried out */
@@ -49,7 +53,7 @@ static void judge_ports(const struct step *steps, size_t count) {
 static int carry_out(const struct task *task, struct journal *journal) {
     int status = carry_out_steps(task, journal);
     if (status == ANSWERED) status = status_of(journal->ending);
-    print_apply(journal, task->is_json);
+    print_apply(journal, status == NOT_ANSWERED, task->is_json);
     leave_sessions();
     return status;
 }
@@ -74,7 +78,7 @@ static int begin(const struct task *task, struct journal *journal) {
 static int apply_plan(const struct task *task, const struct plan *plan) {
     struct journal journal = { 0 };
     if (task->plan.expected != NULL && strcmp(task->plan.expected, plan->id) != 0) {
-        complain("nothing was sent: the plan is %s by now, and not %s", plan->id, task->plan.expected);
+        complain("nothing was sent: the plan is another one by now");
         return NOT_AS_ASKED;
     }
     if (plan->count == 0) return ANSWERED;
@@ -92,9 +96,11 @@ static int apply(const struct task *task) {
     if (find_open_journal(&open)) refuse("nothing was sent: %s is open: ptpm-manage resume or rollback comes first", open.name);
     int status = make_plan(&plan, task);
     print_plan(&plan);
-    if (status == ANSWERED && fflush(stdout)) return NOT_WRITTEN;
+    if (fflush(stdout)) return NOT_WRITTEN;
     if (status == REFUSED || status == NOT_ANSWERED) complain("nothing was sent");
-    return status == ANSWERED ? apply_plan(task, &plan) : status;
+    if (status == ANSWERED) status = apply_plan(task, &plan);
+    leave_plan(&plan);
+    return status;
 }
 
 /* ---- resume */
@@ -122,7 +128,7 @@ static void take_up(const struct task *task, struct journal *journal) {
 static int give_up_apply(const struct task *task, struct journal *journal) {
     if (!note_begun_step(journal) || !end_journal(journal, GIVEN_UP, journal->begun)) return NOT_WRITTEN;
     if (journal->begun != NO_STEP) complain("step %ld may have been carried out", journal->begun + 1);
-    print_apply(journal, task->is_json);
+    print_apply(journal, true, task->is_json);
     return NOT_ANSWERED;
 }
 
@@ -175,13 +181,12 @@ static int close_apply(const struct task *task, struct journal *journal) {
     return status;
 }
 
-static int roll_back(const struct task *task, struct journal *journal) {
-    struct journal back = { 0 };
+static int roll_back_by(const struct task *task, struct journal *journal, struct journal *back) {
     bool is_open = journal->ending == IS_OPEN;
     int status = is_open ? close_apply(task, journal) : ANSWERED;
     if (status != ANSWERED) return status;
-    take_back(&back, journal);
-    status = find_changed(task, &back);
+    take_back(back, journal);
+    status = find_changed(task, back);
     if (status != ANSWERED) {
         complain("nothing was rolled back");
         return status;
@@ -191,13 +196,17 @@ static int roll_back(const struct task *task, struct journal *journal) {
     }
     if (is_open && !end_journal(journal, ROLLED_BACK, NO_STEP)) return NOT_WRITTEN;
     leave_sessions();
-    snprintf(back.rolls_back, sizeof back.rolls_back, "%s", journal->name);
-    name_journal(&back, "rollback");
-    if (back.count == 0) {
-        complain("%s: no step was done, so none is rolled back", journal->name);
-        return ANSWERED;
-    }
-    status = begin(task, &back);
+    snprintf(back->rolls_back, sizeof back->rolls_back, "%s", journal->name);
+    name_journal(back, "rollback");
+    if (back->count > 0) return begin(task, back);
+    complain("%s: no step was done, so none is rolled back", journal->name);
+    return ANSWERED;
+}
+
+static int roll_back(const struct task *task, struct journal *journal) {
+    struct journal back = { 0 };
+    int status = roll_back_by(task, journal, &back);
+    leave_sessions();
     leave_journal(&back);
     return status;
 }

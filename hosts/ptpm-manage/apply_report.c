@@ -62,6 +62,11 @@ static void write_change(FILE *to, const struct step *step) {
 
 /* ---- text */
 
+/* Whether the step may have been carried out, and has no answer. */
+static bool is_uncertain(const struct journal *journal, size_t place) {
+    return journal->told[place].outcome == NOT_TOLD && journal->begun == (long)place && !journal->is_unsent;
+}
+
 static void print_state(const struct journal *journal, size_t place) {
     const struct told *told = &journal->told[place];
     const char *error = error_name(told->error);
@@ -75,7 +80,7 @@ static void print_state(const struct journal *journal, size_t place) {
         fputs("answered ", stdout);
         write_value(stdout, journal->steps[place].id, told->answer.octets, told->answer.size);
         break;
-    case NOT_TOLD: fputs(journal->begun == (long)place ? "may be: it was sent, and has no answer" : "not asked", stdout); break;
+    case NOT_TOLD: fputs(is_uncertain(journal, place) ? "may be: it was sent, and has no answer" : "not asked", stdout); break;
     }
 }
 
@@ -85,9 +90,9 @@ static size_t count_done(const struct journal *journal) {
     return count;
 }
 
-static void print_text_of(const struct journal *journal) {
+static void print_text_of(const struct journal *journal, const char *end) {
     const char *what = *journal->rolls_back != '\0' ? "rollback" : "apply";
-    printf("%s %s: %s: %zu of %zu done\n", what, journal->name, ending_name(journal->ending), count_done(journal), journal->count);
+    printf("%s %s: %s: %zu of %zu done\n", what, journal->name, end, count_done(journal), journal->count);
     for (size_t i = 0; i < journal->count; i++) {
         printf("  %zu ", i + 1);
         print_state(journal, i);
@@ -104,7 +109,7 @@ static void print_state_as_json(const struct journal *journal, size_t place) {
     static const char *const names[] = { "notAsked", "done", "refused", "answered" };
     const struct told *told = &journal->told[place];
     const char *error = error_name(told->error);
-    printf(",\"state\":\"%s\"", told->outcome == NOT_TOLD && journal->begun == (long)place ? "mayBe" : names[told->outcome]);
+    printf(",\"state\":\"%s\"", is_uncertain(journal, place) ? "mayBe" : names[told->outcome]);
     if (told->outcome != IS_REFUSED) return;
     if (error != NULL) printf(",\"managementErrorId\":\"%s\"", error);
     else printf(",\"managementErrorId\":\"0x%04x\"", told->error);
@@ -130,10 +135,10 @@ static void print_step_as_json(const struct journal *journal, size_t place) {
     putchar('}');
 }
 
-static void print_json_of(const struct journal *journal) {
+static void print_json_of(const struct journal *journal, const char *end) {
     printf("{\"apply\":\"%s\"", journal->name);
     if (*journal->rolls_back != '\0') printf(",\"rollsBack\":\"%s\"", journal->rolls_back);
-    printf(",\"end\":\"%s\",\"steps\":[", ending_name(journal->ending));
+    printf(",\"end\":\"%s\",\"steps\":[", end);
     for (size_t i = 0; i < journal->count; i++) {
         if (i > 0) putchar(',');
         print_step_as_json(journal, i);
@@ -141,8 +146,9 @@ static void print_json_of(const struct journal *journal) {
     puts("]}");
 }
 
-void print_apply(const struct journal *journal, bool is_json) {
+void print_apply(const struct journal *journal, bool is_silent, bool is_json) {
+    const char *end = journal->ending == IS_OPEN && is_silent ? "silent" : ending_name(journal->ending);
     clear_progress();
-    if (is_json) print_json_of(journal);
-    else print_text_of(journal);
+    if (is_json) print_json_of(journal, end);
+    else print_text_of(journal, end);
 }

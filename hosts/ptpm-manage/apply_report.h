@@ -6,8 +6,8 @@
 #include <stdbool.h>
 #include <stdio.h>
 
-/* Prints it on standard output. */
-void print_apply(const struct journal *journal, bool is_json);
+/* Prints it on standard output. An apply without an end is `silent` if an answer is missing, and otherwise `open`. */
+void print_apply(const struct journal *journal, bool is_silent, bool is_json);
 
 /* Writes whose member a step sets: `aabbccfffeddee01/1 LOG_SYNC_INTERVAL`. */
 void write_member_name(FILE *to, const struct step *step);

@@ -1,5 +1,7 @@
 #include "collect.h"
 #include "asking.h"
+#include "heard.h"
+#include "lines.h"
 #include "message_places.h"
 #include "monotonic.h"
 #include "names.h"
@@ -14,10 +16,11 @@
 #include <stdlib.h>
 #include <string.h>
 
-/* One request each 50 ms: all at once lose answers in the buffers of the clocks, which hear each other's answers too. A burst of
-   requests to only one clock has fewer answers than such a buffer holds. There are no more, however many clocks are asked: one host
-   may answer as thousands. If more clocks than MOST_SILENT give no answer when they are asked by themselves, they are such. */
-enum { STEP = 50, BURST = 128, MOST_SILENT = 128, DOMAINS_AT_ONCE = 32 };
+/* One request each 50 ms: all at once lose answers in the buffers of the clocks, which hear each other's answers too. If each domain
+   gets one, there is one each 4 ms. A burst of requests to only one clock has fewer answers than such a buffer holds. There are no more,
+   however many clocks are asked: one host may answer as thousands. If more clocks than MOST_SILENT give no answer when they are asked by
+   themselves, they are such. */
+enum { STEP = 50, DOMAIN_STEP = 4, BURST = 128, MOST_SILENT = 128, DOMAINS_AT_ONCE = 32 };
 
 /* A socket without room is tried again this often, this many milliseconds apart. A silence that never comes is waited for this
    many time-outs at most. */
@@ -55,6 +58,11 @@ static long sent;                       /* messages that went out */
 static int64_t latest;                  /* when an answer came that is no copy */
 static size_t let_go;                   /* clocks that are asked no more */
 static bool has_no_transport;
+static const struct seen_clock *expected;
+static size_t expected_count;
+
+/* What is asked for a plan is read by nobody who wants to know what else was heard. */
+static bool is_site(void) { return collected == &of_site; }
 
 static bool is_of_port(unsigned id) {
     for (size_t i = 0; i < sizeof of_ports / sizeof *of_ports; i++) {
@@ -96,11 +104,17 @@ static void stop_requests(void) {
     request_count = 0;
 }
 
-/* The sum of what copies of an answer have in common: the action and the TLV. */
-static uint64_t sum_of(const uint8_t *message, size_t size) {
-    uint64_t sum = 0xcbf29ce484222325;                  /* FNV-1a */
-    for (size_t i = ACTION_AT; i < size; i++) sum = (sum ^ message[i]) * 0x100000001b3;
+/* FNV-1a. */
+static uint64_t sum_of(uint64_t sum, const void *octets, size_t size) {
+    for (size_t i = 0; i < size; i++) sum = (sum ^ ((const uint8_t *)octets)[i]) * 0x100000001b3;
     return sum;
+}
+
+/* The sum of what copies of an answer have in common: who sent it, the interface, the action and the TLV. */
+static uint64_t sum_of_answer(const uint8_t *message, size_t size) {
+    const char *sender = sender_text(), *interface = came_in_at() == NULL ? "" : came_in_at();
+    uint64_t sum = sum_of(0xcbf29ce484222325, sender, strlen(sender) + 1);
+    return sum_of(sum_of(sum, interface, strlen(interface) + 1), message + ACTION_AT, size - ACTION_AT);
 }
 
 /* Records an answer that the library accepted, and prints it unless it is a copy. Octets may follow the message. */
@@ -109,7 +123,7 @@ static void take_answer(const struct request *request, const uint8_t *message) {
     struct seen_answer answer = {
         .clock = message + SOURCE_AT, .domain = request->domain, .id = request->id, .is_of_port = is_of_port(request->id),
         .port = (uint16_t)two_octets(message + SOURCE_PORT_AT),
-        .is_refusal = two_octets(message + TLV_AT) == ERROR_TLV, .sum = sum_of(message, size),
+        .is_refusal = two_octets(message + TLV_AT) == ERROR_TLV, .sum = sum_of_answer(message, size),
     };
     bool has_field = !answer.is_refusal && size >= FIELD_AT;
     uint16_t id = collected->ids[request->id];
@@ -123,14 +137,14 @@ static void take_answer(const struct request *request, const uint8_t *message) {
     enum seen seen = see_answer(&answer);
     if (seen == SEEN_BEFORE || seen == NO_PLACE) return;
     latest = milliseconds();
+    if (output == NULL) return;
     clear_progress();
-    for (size_t i = 0; i < size; i++) fprintf(output, "%02x", message[i]);
-    fputc('\n', output);
+    write_line(output, &(struct line){ .at = time_now(), .from = sender_text(), .on = came_in_at(), .message = message, .size = size });
 }
 
 /* The request that a datagram would answer by its number. The library judges whether it does. */
 static struct request *asked_under(const uint8_t *datagram, size_t size) {
-    if (size < LEAST_MESSAGE) return NULL;
+    if (size < LEAST_MESSAGE || (datagram[TYPE_AT] & LOWER_HALF) != MANAGEMENT_TYPE) return NULL;
     for (size_t i = 0; i < request_count; i++) {
         if (requests[i].number == two_octets(datagram + SEQUENCE_AT)) return &requests[i];
     }
@@ -141,6 +155,7 @@ static void hear_until(int64_t end) {
     size_t size;
     for (const uint8_t *datagram; (datagram = receive_message(&size, end)) != NULL;) {
         struct request *request = asked_under(datagram, size);
+        if (request == NULL) keep_heard(datagram, size);
         if (request == NULL) continue;
         switch ((uint32_t)ptpm_survey_receive(&request->survey, datagram, size)) {
         case PTPM_TAKEN:
@@ -160,12 +175,13 @@ static void hear_until_quiet(const struct task *task) {
     }
 }
 
-/* Sends a message, which waits for room; whether it went out. */
-static bool send_when_room(const uint8_t *message, size_t size) {
+/* Sends a message, which waits for room; whether it went out. That is a line, if it is to be written. */
+static bool send_when_room(const uint8_t *message, size_t size, bool is_written) {
     for (int tries = 0; tries < TRIES && !stopped && !has_no_transport; tries++) {
         enum sending sending = send_message(message, size);
         sent += sending == OUT;
         has_no_transport = sending == NO_TRANSPORT && sent == 0;
+        if (sending == OUT && is_written && is_site()) write_sent(output, message, size);
         if (sending == OUT) return true;
         if (!has_no_transport) hear_until(milliseconds() + TRY);
     }
@@ -177,7 +193,7 @@ static void ask_every(void) {
     for (unsigned id = 0; id < collected->count && !stopped && !has_no_transport; id++) {
         int64_t end = milliseconds() + STEP;
         for (size_t i = 0; i < request_count; i++) {
-            if (requests[i].id == id) send_when_room(requests[i].message, requests[i].size);
+            if (requests[i].id == id) send_when_room(requests[i].message, requests[i].size, true);
         }
         if (id + 1 < collected->count) hear_until(end);
     }
@@ -204,22 +220,22 @@ static size_t count_lacking(void) {
 }
 
 /* Asks one clock, and all its ports: the message of the request with its identity as the target's. Whether that went out. */
-static bool ask_alone(const struct request *request, const struct seen_clock *clock) {
+static bool ask_alone(const struct request *request, const uint8_t clock[8], bool is_written) {
     static uint8_t message[PTPM_MOST_OCTETS];
     memcpy(message, request->message, request->size);
-    memcpy(message + TARGET_AT, clock->identity, sizeof clock->identity);
-    return send_when_room(message, request->size);
+    memcpy(message + TARGET_AT, clock, 8);
+    return send_when_room(message, request->size, is_written);
 }
 
 /* Asks each clock of these domains for what it lacks, until there is no room for more. */
-static void ask_lacking(void) {
+static void ask_lacking(bool is_written) {
     size_t asked = 0;
     int64_t end = milliseconds() + STEP;
     for (size_t place = 0; place < seen_count(); place++) {
         for (unsigned id = 0; id < collected->count; id++) {
             const struct request *request = lacking(seen_clock(place), id);
             if (request == NULL) continue;
-            if (!ask_alone(request, seen_clock(place))) return;
+            if (!ask_alone(request, seen_clock(place)->identity, is_written)) return;
             note_asked(place);
             if (++asked % BURST != 0) continue;
             hear_until(end);
@@ -227,6 +243,49 @@ static void ask_lacking(void) {
             if (stopped) return;
         }
     }
+}
+
+/* Whether this host has it. */
+static bool is_own(const uint8_t clock[8]) {
+    uint8_t own[8];
+    for (size_t i = 0; own_identity(i, own); i++) {
+        if (memcmp(own, clock, sizeof own) == 0) return true;
+    }
+    return false;
+}
+
+/* The request for a clock that was heard and has not answered; NULL for any other one. */
+static const struct request *unanswered_by(uint8_t domain, const uint8_t clock[8]) {
+    return is_seen(domain, clock) || is_own(clock) ? NULL : request_of(domain, 0);
+}
+
+void expect_clocks(const struct seen_clock *clocks, size_t count) {
+    expected = clocks;
+    expected_count = count;
+}
+
+/* Asks a clock for the first id, if it has not answered; whether it was asked. If it answers, it lacks the others. */
+static bool ask_silent(uint8_t domain, const uint8_t clock[8], bool is_written) {
+    const struct request *request = unanswered_by(domain, clock);
+    return request != NULL && ask_alone(request, clock, is_written);
+}
+
+/* Asks each clock of these domains that was heard or is expected and has not answered; how many these are. */
+static size_t ask_absent(bool is_written) {
+    size_t count = 0;
+    uint8_t domain;
+    const uint8_t *before = NULL;
+    size_t place = 0;
+    for (const uint8_t *clock; !stopped && (clock = heard_clock(place, &domain)) != NULL; place++) {
+        bool is_again = before != NULL && memcmp(before, clock, 8) == 0;
+        count += !is_again && ask_silent(domain, clock, is_written);
+        before = clock;
+    }
+    for (size_t i = 0; i < expected_count && !stopped; i++) {
+        count += ask_silent(expected[i].domain, expected[i].identity, is_written);
+        if (count % BURST == BURST - 1) hear_until(milliseconds() + STEP);
+    }
+    return count;
 }
 
 /* Asks in this many domains; whether the library would ask at all. */
@@ -242,10 +301,10 @@ static bool ask_in(const struct task *task, const uint8_t *domains, size_t count
     ask_every();
     hear_until_quiet(task);
     for (int round = 1; round <= task->settings.attempts && !stopped && !has_no_transport; round++) {
-        size_t lacks = count_lacking();
+        size_t lacks = count_lacking() + ask_absent(round == 1);
         if (lacks == 0) break;
         show_progress("%zu clocks so far; attempt %d for %zu answers that are missing", seen_count(), round, lacks);
-        ask_lacking();
+        ask_lacking(round == 1);
         hear_until_quiet(task);
         let_go += let_go_of_silent(MOST_SILENT);
     }
@@ -272,22 +331,57 @@ static int end_of_collection(const struct task *task, const struct domains *doma
     return NOT_ANSWERED;
 }
 
-int collect_answers(const struct task *task, const struct collected *what, const struct domains *domains, FILE *to) {
+/* Asks in these domains; whether the library would ask at all. */
+static bool ask_in_all(const struct task *task, const struct domains *domains) {
     uint8_t together[DOMAINS_AT_ONCE];
     size_t count = 0;
+    for (int domain = 0; domain < DOMAINS && !stopped && !has_no_transport; domain++) {
+        if (domains->is_in[domain]) together[count++] = (uint8_t)domain;
+        if (count < DOMAINS_AT_ONCE && (domain + 1 < DOMAINS || count == 0)) continue;
+        if (!ask_in(task, together, count)) return false;
+        count = 0;
+    }
+    return true;
+}
+
+/* Asks, and hears what clocks send by themselves meanwhile. What was heard since the last time counts too. */
+static bool ask_and_hear(const struct task *task, const struct domains *domains) {
+    write_host_note(output);
+    receive_every_type(true);
+    bool is_asked = ask_in_all(task, domains);
+    receive_every_type(false);
+    write_heard(output);
+    hear_none();
+    return is_asked;
+}
+
+/* From now on these ids are asked for, and this is where lines go; NULL if nowhere. */
+static void begin(const struct collected *what, FILE *to) {
     see_none();
     collected = what;
     output = to;
     sent = 0;
     let_go = 0;
     has_no_transport = false;
+}
+
+void add_answering_domains(struct domains *domains, const struct task *task) {
+    static const struct collected first_alone = { 1, { PTPM_ID_DEFAULT_DATA_SET } };
+    begin(&first_alone, NULL);
     for (int domain = 0; domain < DOMAINS && !stopped && !has_no_transport; domain++) {
-        if (domains->is_in[domain]) together[count++] = (uint8_t)domain;
-        if (count < DOMAINS_AT_ONCE && (domain + 1 < DOMAINS || count == 0)) continue;
-        if (!ask_in(task, together, count)) return NOT_ASKED;
-        count = 0;
+        if (!start_request(task, (uint8_t)domain, 0)) break;
+        send_when_room(requests[domain].message, requests[domain].size, false);
+        hear_until(milliseconds() + DOMAIN_STEP);
     }
-    return end_of_collection(task, domains);
+    hear_until_quiet(task);
+    for (size_t i = 0; i < seen_count(); i++) domains->is_in[seen_clock(i)->domain] = true;
+    stop_requests();
+}
+
+int collect_answers(const struct task *task, const struct collected *what, const struct domains *domains, FILE *to) {
+    begin(what, to);
+    bool is_asked = is_site() ? ask_and_hear(task, domains) : ask_in_all(task, domains);
+    return is_asked ? end_of_collection(task, domains) : NOT_ASKED;
 }
 
 int collect(const struct task *task) {

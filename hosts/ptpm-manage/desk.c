@@ -83,10 +83,11 @@ static int not_saved(const struct desk *desk) {
 
 /* Drives the asker until it rests. `step` is what it asks, or NO_STEP. */
 static int carry_out(struct desk *desk, struct journal *journal, long step, bool is_anothers) {
-    for (;;) {
+    for (bool is_begun = false;;) {
         switch (drive(&desk->driver)) {
         case PTPM_NOTE_BEGUN:
             if (!note_begun(journal, step, desk->driver.handed.number)) return not_noted(journal);
+            is_begun = true;
             begin_driving(&desk->driver);
             say_noted(&desk->driver);
             break;
@@ -95,7 +96,10 @@ static int carry_out(struct desk *desk, struct journal *journal, long step, bool
             say_noted(&desk->driver);
             break;
         case PTPM_SAVE_IT:
-            if (!save_session(&desk->session)) return not_saved(desk);
+            if (!save_session(&desk->session)) {
+                journal->is_unsent = is_begun && desk->driver.sent == 0;
+                return not_saved(desk);
+            }
             if (say_saved(&desk->driver)) return ANSWERED;
             break;
         default: return no_answer_to(desk, journal, step);
@@ -196,15 +200,11 @@ int see_to_desk(struct desk *desk, struct journal *journal) {
 int read_member(const struct task *task, const struct step *step, uint8_t domain, struct answer *answer) {
     static struct task reading;
     char clock[IDENTITY_TEXT];
-    struct ptpm_session session = { 0 };
     reading = *task;
     memcpy(reading.settings.target, step->clock, 8);
     reading.settings.domain = domain;
     reading.port = step->port;
-    bool is_answered = begin_reading(&session, &reading, step->id, task->settings.attempts) && finish_reading(&session, &reading);
-    if (is_answered) take_report(&session, answer);
-    ptpm_session_stop(&session);
-    if (is_answered) return ANSWERED;
+    if (read_by_nobody(&reading, step->id, task->settings.attempts, answer)) return ANSWERED;
     if (stopped) return BY_SIGNAL + stopped;
     write_identity(clock, step->clock);
     complain("no answer of %s at %s in domain %u to a read of %s", clock, transport_name(), domain, id_name(step->id));

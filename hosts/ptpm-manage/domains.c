@@ -1,4 +1,6 @@
 #include "domains.h"
+#include "collect.h"
+#include "heard.h"
 #include "message_places.h"
 #include "monotonic.h"
 #include "notices.h"
@@ -28,13 +30,13 @@ static int count_of(const struct domains *domains) {
 
 void listen_for_domains(struct domains *domains, const struct task *task, int64_t wanted) {
     int64_t end = milliseconds() + wanted;
-    bool is_every = task->site.is_every_domain && task->path == NULL;
-    if (is_every) receive_every_type(true);
     size_t size;
+    receive_every_type(true);
     for (const uint8_t *datagram; (datagram = receive_message(&size, end)) != NULL;) {
-        if (is_every && is_announce(datagram, size)) domains->is_in[datagram[DOMAIN_AT]] = true;
+        if (task->site.is_every_domain && is_announce(datagram, size)) domains->is_in[datagram[DOMAIN_AT]] = true;
+        keep_heard(datagram, size);
     }
-    if (is_every) receive_every_type(false);
+    receive_every_type(false);
 }
 
 void find_domains(struct domains *domains, const struct task *task) {
@@ -44,6 +46,8 @@ void find_domains(struct domains *domains, const struct task *task) {
         show_progress("listening for Announce messages");
         listen_for_domains(domains, task, site->listen);
         domains->is_in[USUAL] = domains->is_in[USUAL_IN_STUDIOS] = true;
+        show_progress("asking in each of the 256 domains once");
+        add_answering_domains(domains, task);
         return;
     }
     int first = site->is_every_domain ? 0 : site->first_domain, last = site->is_every_domain ? DOMAINS - 1 : site->last_domain;

@@ -8,7 +8,8 @@
 
 struct domains { bool is_in[DOMAINS]; };
 
-/* Finds them. With `all` it listens for Announce messages as long as the task says, and adds 0 and 127. On a Unix socket none
+/* Finds them. With `all` it listens for Announce messages as long as the task says, and adds 0 and 127. Then it asks once in each
+   domain, and adds those in which a clock answers. On a Unix socket none
    comes in: there it takes each of the 256. */
 void find_domains(struct domains *domains, const struct task *task);
 

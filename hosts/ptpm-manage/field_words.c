@@ -63,10 +63,26 @@ size_t most_words(uint16_t id, const char *first) {
     return is_one_word ? 1 : 2 * members;
 }
 
+/* The names of the delay mechanisms, as the library has them, and what else a SET of one takes. */
+static const char *wanted_mechanism(void) {
+    static char text[128];
+    size_t size = 0;
+    for (unsigned number = 0; number <= UINT8_MAX; number++) {
+        const uint8_t octets[2] = { (uint8_t)number };
+        struct field_lines lines;
+        start_lines(&lines, PTPM_ID_DELAY_MECHANISM, octets, sizeof octets);
+        const char *name = value_of(&lines, "delayMechanism");
+        bool is_name = name != NULL && (*name < '0' || *name > '9');
+        if (is_name) size += (size_t)snprintf(text + size, sizeof text - size, size == 0 ? "%s" : ", %s", name);
+    }
+    snprintf(text + size, sizeof text - size, " or a number from 0 to 255");
+    return text;
+}
+
 /* What a SET of a member takes, by its name and its value without a bit set. */
 static const char *wanted(const struct member *member) {
     if (is_named(member, "userDescription")) return "a text of at most 128 octets in UTF-8";
-    if (is_named(member, "delayMechanism")) return "E2E, P2P, NO_MECHANISM or a number from 0 to 255";
+    if (is_named(member, "delayMechanism")) return wanted_mechanism();
     if (is_named(member, "currentUtcOffset")) return "a number from -32768 to 32767";
     if (is_named(member, "versionNumber")) return "a number from 0 to 15, or 0x and two hexadecimal digits";
     if (strncmp(member->name, "log", 3) == 0) return "a number from -128 to 127";

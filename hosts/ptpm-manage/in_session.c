@@ -1,5 +1,4 @@
 #include "in_session.h"
-#include "answer.h"
 #include "asking.h"
 #include "driving.h"
 #include "names.h"
@@ -24,6 +23,7 @@ struct run {
     struct kept_session session;
     struct driver driver;
     const struct task *task;
+    reporting *report;
     enum unanswered what;           /* what is sent: the request LEFT or OWN, or a question before it */
     bool is_reported;               /* its answer is */
     int status;
@@ -63,7 +63,7 @@ static int note_answer(struct run *run) {
     static struct answer answer;
     bool is_own = run->driver.handed.tag == OWN;
     answer.outcome = ptpm_asker_report(&run->session.asker, answer.octets, sizeof answer.octets, &answer.size, &answer.error);
-    run->status = is_own ? print_report(run->task, &answer) : say_settled(&run->session.earlier, run->task, &answer);
+    run->status = is_own ? run->report(run->task, &answer) : say_settled(&run->session.earlier, run->task, &answer);
     if (run->status == NOT_WRITTEN) return NOT_WRITTEN;
     run->is_reported = is_own;
     say_noted(&run->driver);
@@ -132,15 +132,28 @@ static int ask_clock(struct run *run) {
     return status;
 }
 
+static void open_run(struct run *run, const struct task *task, reporting *report) {
+    *run = (struct run){ .task = task, .report = report, .driver = { .asker = &run->session.asker, .task = task } };
+    open_session(&run->session, task);
+}
+
+static int finish_run(struct run *run) {
+    int status = settle_earlier(run);
+    if (status == ANSWERED) status = ask_clock(run);
+    ptpm_asker_stop(&run->session.asker);
+    return status;
+}
+
 /* It has its turn before its socket, so nothing of another run comes in there. */
 int ask_in_session(const struct task *task) {
     static struct run run;
-    run.task = task;
-    run.driver = (struct driver){ .asker = &run.session.asker, .task = task };
-    open_session(&run.session, task);
+    open_run(&run, task, print_report);
     open_transport(task);
-    int status = settle_earlier(&run);
-    if (status == ANSWERED) status = ask_clock(&run);
-    ptpm_asker_stop(&run.session.asker);
-    return status;
+    return finish_run(&run);
+}
+
+int ask_and_report(const struct task *task, reporting *report) {
+    static struct run run;
+    open_run(&run, task, report);
+    return finish_run(&run);
 }

@@ -4,10 +4,17 @@
 #ifndef IN_SESSION_H
 #define IN_SESSION_H
 
+#include "answer.h"
 #include "task.h"
+
+/* What becomes of the answer to a request of this run; the program's status. */
+typedef int reporting(const struct task *task, const struct answer *answer);
 
 /* Settles what an earlier run left, or abandons it if the task says so. Then makes the task's request as many times as the task says, one
    after the other. Prints what each answer says; the program's status. */
 int ask_in_session(const struct task *task);
+
+/* The same, over a transport that is open, and the answers are given to `report`. */
+int ask_and_report(const struct task *task, reporting *report);
 
 #endif

@@ -11,7 +11,7 @@
 #include <sys/stat.h>
 #include <unistd.h>
 
-/* The CRC-32 of a text (IEEE 802.3). */
+/* The CRC-32 of a text (IEEE 802.3). The library has none of a text: that in its seal is of an image, a mark and a count. */
 static uint32_t crc_of(const char *text, size_t size) {
     uint32_t crc = UINT32_MAX;
     for (size_t place = 0; place < size; place++) {

@@ -37,7 +37,8 @@ struct journal {
     struct told *told;
     uint16_t *numbers;                      /* of each step that was begun, the latest sequenceId */
     size_t count;
-    long begun;                             /* the step that was begun and has no outcome, or NO_STEP */
+    long begun;                             /* the step that was begun and has no outcome, or NO_STEP, */
+    bool is_unsent;                         /* and this run knows that no message of it left */
     enum ending ending;
     long end_step;                          /* at which it ended, or NO_STEP */
     int file;

@@ -13,6 +13,8 @@ static const char *own;
 
 void own_marks(const char *journal) { own = journal; }
 
+bool has_own_marks(void) { return own != NULL; }
+
 /* Opens the folder of a mark; whether it could. */
 static bool find_mark(struct kept_file *mark, const char *session) {
     char path[PATH_MAX];

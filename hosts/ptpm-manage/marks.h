@@ -8,6 +8,9 @@
 /* From now on the marks of this journal are this run's own. The path stays. */
 void own_marks(const char *journal);
 
+/* Whether this run is of an apply. */
+bool has_own_marks(void);
+
 /* Ends the program, status 2, if the file is marked by an apply of another journal that is open. The mark of one that has an end, or whose
    journal is gone, is removed. The session's lock is this run's. */
 void refuse_mark(const char *session);

@@ -13,6 +13,9 @@ enum { NOT_DONE = 2, UNKNOWN = 3 };
 
 static bool is_quiet, is_shown, is_plugin;
 
+/* What lines of progress begin with. */
+static char heading[MOST_PROGRESS];
+
 static void say(const char *format, va_list values) {
     clear_progress();
     fputs("ptpm-manage: ", stderr);
@@ -51,17 +54,32 @@ static int room_for_progress(void) {
     return ioctl(STDERR_FILENO, TIOCGWINSZ, &size) == 0 && size.ws_col > 1 ? size.ws_col - 1 : MOST_PROGRESS;
 }
 
-void show_progress(const char *format, ...) {
-    char line[MOST_PROGRESS];
-    va_list values;
+/* Shows a line of two parts. */
+static void show(const char *first, const char *between, const char *second) {
+    char line[2 * MOST_PROGRESS + 2];
     if (is_quiet || !isatty(STDERR_FILENO)) return;
     clear_progress();
-    va_start(values, format);
-    vsnprintf(line, sizeof line, format, values);
-    va_end(values);
+    snprintf(line, sizeof line, "%s%s%s", first, between, second);
     fprintf(stderr, "%.*s", room_for_progress(), line);
     fflush(stderr);
     is_shown = true;
+}
+
+void show_progress(const char *format, ...) {
+    char line[MOST_PROGRESS];
+    va_list values;
+    va_start(values, format);
+    vsnprintf(line, sizeof line, format, values);
+    va_end(values);
+    show(heading, *heading == '\0' ? "" : ": ", line);
+}
+
+void head_progress(const char *format, ...) {
+    va_list values;
+    va_start(values, format);
+    vsnprintf(heading, sizeof heading, format, values);
+    va_end(values);
+    if (*heading != '\0') show(heading, "", "");
 }
 
 void clear_progress(void) {

@@ -17,6 +17,9 @@ void be_quiet(void);
 /* Shows a line of progress instead of the one before it, if standard error is a terminal. What has no room there is cut off. */
 __attribute__((format(printf, 1, 2))) void show_progress(const char *format, ...);
 
+/* Shows a line too, and each line of progress after it begins with this one, until another one is shown so. An empty text ends that. */
+__attribute__((format(printf, 1, 2))) void head_progress(const char *format, ...);
+
 /* Takes that line away. It comes before what is printed otherwise. */
 void clear_progress(void);
 

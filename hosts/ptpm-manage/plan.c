@@ -52,8 +52,8 @@ static int find_asks(const struct task *task, struct collected *what, struct dom
     *what = (struct collected){ 0 };
     *domains = (struct domains){ 0 };
     int status = run_plan(task, "--asks", NULL, &asks);
-    if (status != 0 || asks.text == NULL) return status;
-    for (char *line = strtok_r(asks.text, "\n", &rest); line != NULL; line = strtok_r(NULL, "\n", &rest)) {
+    char *line = status == 0 && asks.text != NULL ? strtok_r(asks.text, "\n", &rest) : NULL;
+    for (; line != NULL; line = strtok_r(NULL, "\n", &rest)) {
         if (!take_ask(what, domains, line)) refuse("nothing was asked: ptpm plan --asks prints %s", line);
     }
     free(asks.text);
@@ -155,7 +155,24 @@ int make_plan(struct plan *plan, const struct task *task) {
     return stopped ? BY_SIGNAL + stopped : status;
 }
 
+/* Of an object of JSON, the warnings are the last member: they end with a bracket. */
+void add_warning(struct plan *plan, const char *text, bool is_json) {
+    char *more = NULL;
+    const char *old = plan->text.text, *end = is_json ? strrchr(old, ']') : old + plan->text.size;
+    int size = end == NULL ? -1 : is_json ? asprintf(&more, "%.*s%s\"%s\"%s", (int)(end - old), old, end[-1] == '[' ? "" : ",", text, end)
+                                          : asprintf(&more, "%swarning: %s\n", old, text);
+    if (size < 0) give_up("a warning");
+    free(plan->text.text);
+    plan->text = (struct printed){ more, (size_t)size };
+}
+
 void print_plan(const struct plan *plan) {
     clear_progress();
     if (plan->text.text != NULL) fputs(plan->text.text, stdout);
+}
+
+void leave_plan(struct plan *plan) {
+    free(plan->text.text);
+    free(plan->steps);
+    *plan = (struct plan){ 0 };
 }

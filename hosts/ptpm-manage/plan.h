@@ -5,6 +5,7 @@
 #include "journal.h"
 #include "ptpm_program.h"
 #include "task.h"
+#include <stdbool.h>
 
 enum { PLAN_ID = 8 };
 
@@ -20,7 +21,13 @@ struct plan {
    could not be asked. */
 int make_plan(struct plan *plan, const struct task *task);
 
+/* Adds a warning to what is printed. Its text needs no escape in JSON. */
+void add_warning(struct plan *plan, const char *text, bool is_json);
+
 /* Prints it. */
 void print_plan(const struct plan *plan);
+
+/* Frees what it holds. */
+void leave_plan(struct plan *plan);
 
 #endif

@@ -1,6 +1,7 @@
 #include "reading.h"
 #include "exchange.h"
 #include "monotonic.h"
+#include "notices.h"
 #include "random.h"
 #include "stopping.h"
 #include <stdbool.h>
@@ -12,7 +13,8 @@ uint16_t port_of_nobody(uint8_t action) {
     return (uint16_t)(FIRST_OF_NOBODY + getpid() % PROCESSES * 2 + (action != PTPM_GET));
 }
 
-bool begin_reading(struct ptpm_session *session, const struct task *task, uint16_t id, uint8_t attempts) {
+/* Begins a GET; whether it is begun. */
+static bool begin_reading(struct ptpm_session *session, const struct task *task, uint16_t id, uint8_t attempts) {
     static struct task reading;
     static uint16_t number;
     static bool is_drawn;
@@ -28,11 +30,21 @@ bool begin_reading(struct ptpm_session *session, const struct task *task, uint16
     return ptpm_session_start(session, &reading.settings) == PTPM_STARTED && begin_of_task(session, &reading) == PTPM_BEGUN;
 }
 
-bool finish_reading(struct ptpm_session *session, const struct task *task) {
-    while (!stopped) {
+/* Sends it until it is answered; whether it is. */
+static bool finish_reading(struct ptpm_session *session, const struct task *task) {
+    for (int attempt = 1; !stopped; attempt++) {
         enum sending sending = send_again(session);
         if (sending == NONE_LEFT) return false;
+        if (attempt > 1) show_progress("no answer yet: attempt %d", attempt);
         if (sending != NO_TRANSPORT && is_answered_before(session, milliseconds() + task->timeout)) return true;
     }
     return false;
+}
+
+bool read_by_nobody(const struct task *task, uint16_t id, uint8_t attempts, struct answer *answer) {
+    struct ptpm_session session = { 0 };
+    bool is_answered = begin_reading(&session, task, id, attempts) && finish_reading(&session, task);
+    if (is_answered) take_report(&session, answer);
+    ptpm_session_stop(&session);
+    return is_answered;
 }

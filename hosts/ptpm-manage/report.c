@@ -10,14 +10,17 @@
 /* Findings that a change may make for a moment. The answers of a clock are not of one time, and a change goes from clock to
    clock. */
 static const char *const passing[] = {
-    "mute", "two_grandmasters", "no_master", "grandmaster_not_seen", "parent_not_seen", "parent_not_master", "steps",
+    "gone", "mute", "two_grandmasters", "no_master", "grandmaster_not_seen", "parent_not_seen", "parent_not_master", "steps",
     "grandmaster_differs", "loop", "off_by_utc", "offset", "delay", "utc", "gm_holdover", "gm_degraded", "gm_free_running", "not_traceable", "utc_invalid",
     "utc_offset", "better_clock", "identity_twice",
 };
 
-/* A finding that reports a change, and so goes by itself; and those whose values are other ones each time. */
-static const char changed[] = "changed";
-static const char *const moving[] = { "not_locked", "off_by_utc", "offset", "delay" };
+/* Findings that report a change, and so are there once; and those whose values are other ones each time. */
+static const char *const changes[] = { "changed", "grandmaster_changed" };
+static const char *const moving[] = { "not_locked", "port_state", "off_by_utc", "offset", "delay" };
+
+/* What is open and stays so, whatever the time. */
+static const char *const lasting[] = { "not_asked", "mute" };
 
 static const char red[] = "\033[31m", green[] = "\033[32m", plain[] = "\033[0m";
 
@@ -31,6 +34,10 @@ static bool is_one_of(const struct finding *finding, const char *const *names, s
     }
     return false;
 }
+
+static bool is_change(const struct finding *finding) { return is_one_of(finding, changes, sizeof changes / sizeof *changes); }
+
+static bool is_lasting(const struct finding *finding) { return is_one_of(finding, lasting, sizeof lasting / sizeof *lasting); }
 
 static bool is_passing(const struct finding *finding) { return is_one_of(finding, passing, sizeof passing / sizeof *passing); }
 
@@ -185,6 +192,13 @@ void free_report(struct report *report) {
     *report = (struct report){ 0 };
 }
 
+bool has_finding_named(const struct report *report, const char *name) {
+    for (size_t i = 0; i < report->count; i++) {
+        if (is_piece(&report->findings[i].key[NAME_PART], name)) return true;
+    }
+    return false;
+}
+
 bool has_passing_finding(const struct report *report) {
     for (size_t i = 0; i < report->count; i++) {
         if (is_passing(&report->findings[i])) return true;
@@ -232,6 +246,42 @@ static bool has_finding(const struct sorted *sorted, const struct finding *findi
     return sorted->count > 0 && bsearch(&finding, sorted->at, sorted->count, sizeof *sorted->at, sorted->order) != NULL;
 }
 
+/* In a text what is open comes after the findings, with a heading. */
+static bool has_open_line(const char *at, const char *end) {
+    static const char heading[] = "open: ";
+    struct finding open;
+    while (at < end && strncmp(at, heading, sizeof heading - 1) != 0) at = end_of_line(at, end);
+    for (at = end_of_line(at, end); at < end; at = end_of_line(at, end)) {
+        if (read_line(&open, at, end_of_line(at, end)) && !is_lasting(&open)) return true;
+    }
+    return false;
+}
+
+/* In JSON it is a list of the object. */
+static bool has_open_object(const char *text, const char *end) {
+    struct piece list;
+    struct finding open;
+    if (!find_member(&list, text, end, "open") || list.size < 2 || *list.at != '[') return false;
+    for (const char *at = after_spaces(list.at + 1, end), *next; at < end && *at == '{'; at = next) {
+        next = after_value(at, end);
+        if (read_object(&open, at, next) && !is_lasting(&open)) return true;
+        if (next < end && *next == ',') next = after_spaces(next + 1, end);
+    }
+    return false;
+}
+
+bool has_open(const struct report *report) {
+    const char *end = report->text + report->size;
+    if (!report->has_findings) return false;
+    return report->is_json ? has_open_object(report->text, end) : has_open_line(report->tail.at, end);
+}
+
+void leave_out_changes(struct report *report) {
+    for (size_t i = 0; i < report->count; i++) {
+        if (is_change(&report->findings[i])) report->findings[i].is_left_out = true;
+    }
+}
+
 void leave_out_passing(struct report *report, const struct report *earlier) {
     struct sorted keys = sort_findings(earlier, by_key);
     for (size_t i = 0; i < report->count && keys.at != NULL; i++) {
@@ -273,7 +323,20 @@ void print_report_text(FILE *to, const struct report *report, bool is_coloured) 
     print_piece(to, report, &report->tail);
 }
 
+/* A new grandmaster is a line of its own: the domain, `grandmaster`, and the words after the finding's name. */
+static void print_grandmaster(FILE *to, const char *lead, const struct finding *finding, const char *colour) {
+    const struct piece *name = &finding->key[NAME_PART], *domain = &finding->key[DOMAIN_PART];
+    const char *words = name->at + name->size;
+    fprintf(to, "%s%s= %.*s grandmaster", lead, colour == NULL ? "" : colour, (int)domain->size, domain->at);
+    print_lines(to, words, (size_t)(finding->whole.at + finding->whole.size - words));
+    fprintf(to, "%s\n", colour == NULL ? "" : plain);
+}
+
 static void print_change(FILE *to, const char *lead, char sign, const struct finding *finding, const char *colour) {
+    if (is_piece(&finding->key[NAME_PART], "grandmaster_changed")) {
+        print_grandmaster(to, lead, finding, colour);
+        return;
+    }
     fprintf(to, "%s%s%c ", lead, colour == NULL ? "" : colour, sign);
     print_lines(to, finding->whole.at, finding->whole.size);
     fprintf(to, "%s\n", colour == NULL ? "" : plain);
@@ -287,7 +350,7 @@ static void print_lacking(FILE *to, const char *lead, char sign, const struct re
     for (size_t i = 0; i < report->count; i++) {
         const struct finding *finding = &report->findings[i];
         const struct sorted *same = is_moving(finding) ? &kinds : &texts;
-        bool is_in_other = is_piece(&finding->key[NAME_PART], changed) ? sign == '-' : has_finding(same, finding);
+        bool is_in_other = is_change(finding) ? sign == '-' : has_finding(same, finding);
         if (!finding->is_left_out && !is_in_other) print_change(to, lead, sign, finding, colour);
     }
     free(kinds.at);

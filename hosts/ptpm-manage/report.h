@@ -29,8 +29,17 @@ void read_report(struct report *report);
 /* Frees what a report holds, which then holds nothing. */
 void free_report(struct report *report);
 
+/* Whether a report has a finding of this name. */
+bool has_finding_named(const struct report *report, const char *name);
+
 /* Whether a report has a finding that may be only momentary: while a change goes through a site its clocks do not agree. */
 bool has_passing_finding(const struct report *report);
+
+/* Whether something is open that only time decides. */
+bool has_open(const struct report *report);
+
+/* Leaves out of a report what differs from the look before. */
+void leave_out_changes(struct report *report);
 
 /* Leaves out of a report each such finding whose key is not in an earlier one. */
 void leave_out_passing(struct report *report, const struct report *earlier);

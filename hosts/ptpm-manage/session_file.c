@@ -32,6 +32,7 @@ _Noreturn void refuse_session_file(const struct session_file *file, const char *
 _Noreturn void refuse_place(const struct session_file *file) {
     const char *fault = kept_fault();
     if (file->is_named) refuse("the request was not sent: --numbers %s%s: %s", file->path, fault, strerror(errno));
+    if (has_own_marks()) refuse("nothing was sent: %s%s: %s", file->path, fault, strerror(errno));
     refuse("the request was not sent: %s%s: %s; --numbers FILE keeps the session elsewhere", file->path, fault, strerror(errno));
 }
 

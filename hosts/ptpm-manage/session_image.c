@@ -6,7 +6,7 @@
 
 /* The places of the members, from the mark at the head on. Numbers of two octets are big-endian. */
 enum {
-    MANAGER = 12, MANAGER_PORT = 20, TARGET = 22, PORTS = 30, FIRST = 31, HOPS = 33, DOMAIN = 35, LOW_ISSUED = 42, IS_UNDER_WAY = 52,
+    MANAGER = 12, MANAGER_PORT = 20, TARGET = 22, PORTS = 30, FIRST = 31, LOW_ISSUED = 42, IS_UNDER_WAY = 52,
     ACTION = 53, ID = 54, PORT = 56, SIZE = 58, OCTETS = 60,
 };
 
@@ -34,8 +34,6 @@ struct session_image read_image(const uint8_t *octets, size_t size) {
     image.ports = octets[PORTS];
     image.first = number_at(octets, FIRST);
     image.number = (uint16_t)(image.first + number_at(octets, LOW_ISSUED) - 1);
-    image.hops = octets[HOPS];
-    image.domain = octets[DOMAIN];
     if (octets[IS_UNDER_WAY] == 1) read_request(&image, octets, size);
     return image;
 }

@@ -14,7 +14,6 @@ struct session_image {
     uint16_t manager_port, ports;               /* the manager's portNumber, and how many ports the clock has */
     uint16_t first;                             /* the sequenceId of the session's first request */
     uint16_t number;                            /* and of its latest */
-    uint8_t hops, domain;
     bool is_under_way;                          /* the latest request has no answer yet, and is what follows */
     uint8_t action;
     uint16_t id, port;                          /* the clock's, of an id of a port; else 0 */

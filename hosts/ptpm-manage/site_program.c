@@ -5,7 +5,7 @@
 #include <stdlib.h>
 
 /* The words of its command line, without those of names. */
-enum { MOST_ARGUMENTS = 10 };
+enum { MOST_ARGUMENTS = 12 };
 
 /* Adds an option with its value, if it was given; how many arguments there are then. */
 static size_t add_option(char **arguments, size_t count, const char *name, const char *value) {
@@ -23,6 +23,7 @@ static void name_arguments(char **arguments, const struct site_options *options,
     count = add_option(arguments, count, "--max-offset", options->max_offset);
     count = add_option(arguments, count, "--max-delay", options->max_delay);
     count = add_option(arguments, count, "--tai-utc", options->tai_utc);
+    count = add_option(arguments, count, "--settle", options->settle);
     for (size_t i = 0; i < clock_name_count(); i++) count = add_option(arguments, count, "--name", clock_name(i));
     arguments[count] = NULL;
 }

@@ -1,8 +1,10 @@
 #define _GNU_SOURCE
+#define _GNU_SOURCE
 #include "status.h"
 #include "asking.h"
 #include "collect.h"
 #include "message_places.h"
+#include "monotonic.h"
 #include "notices.h"
 #include "output_file.h"
 #include "ptpm_program.h"
@@ -13,6 +15,8 @@
 #include "transport.h"
 #include "words.h"
 #include <errno.h>
+#include <libgen.h>
+#include <limits.h>
 #include <poll.h>
 #include <stdbool.h>
 #include <stdlib.h>
@@ -20,14 +24,23 @@
 #include <time.h>
 #include <unistd.h>
 
-/* A change has gone through a site by then. */
-enum { BEFORE_SECOND_LOOK = 2000, TIME_TEXT = 32 };
+/* The socket of a ptp4l whose configuration names no other. */
+#define OWN_CLOCK "/var/run/ptp4l"
+
+/* A change has gone through a site by then. What is open is looked at again as often, and as long as this. */
+enum { BEFORE_SECOND_LOOK = 2000, MOST_OPEN = 30000, TIME_TEXT = 32 };
+
+/* So much is kept of looks while something is open. */
+enum { MOST_KEPT_LINES = 64 << 20 };
 
 /* `ptpm site` found something, or failed, or it lacks the answers. */
 enum { FINDINGS = 1 };
 
-/* The places of the domain and of the clock in a line of hexadecimal. */
-enum { DOMAIN_IN_LINE = 2 * DOMAIN_AT, CLOCK_IN_LINE = 2 * SOURCE_AT, LEAST_LINE = 2 * SOURCE_PORT_AT };
+/* Places in a line of hexadecimal. */
+enum {
+    DOMAIN_IN_LINE = 2 * DOMAIN_AT, CLOCK_IN_LINE = 2 * SOURCE_AT, LEAST_LINE = 2 * TLV_AT,
+    TYPE_IN_LINE = 2 * TYPE_AT + 1, ACTION_IN_LINE = 2 * ACTION_AT + 1,
+};
 
 /* A look at the site: the answers as lines, and what they show. */
 struct look {
@@ -47,45 +60,88 @@ static void free_look(struct look *look) {
     *look = (struct look){ 0 };
 }
 
-/* Whether the clock that gave a line answered this time too. */
-static bool is_of_seen_clock(const char *line, size_t size) {
-    uint8_t domain, clock[8];
-    const char *domain_text = line + DOMAIN_IN_LINE, *clock_text = line + CLOCK_IN_LINE;
-    if (size < LEAST_LINE) return false;
-    return read_octets(&domain_text, &domain, 1) == 1 && read_octets(&clock_text, clock, 8) == 8 && is_seen(domain, clock);
+/* The message of a line, after its words, and in *size how much of the line it has. */
+static const char *message_in_line(const char *line, size_t *size) {
+    const char *space = memrchr(line, ' ', *size);
+    if (space == NULL) return line;
+    *size -= (size_t)(space + 1 - line);
+    return space + 1;
 }
 
-/* Keeps only those lines of a look whose clocks answered this time. */
-static void leave_seen(struct look *look) {
+/* Whether a line is the answer of a clock that did not answer in the latest look. */
+static bool is_of_absent_clock(const char *line, size_t size) {
+    uint8_t domain, clock[8];
+    line = message_in_line(line, &size);
+    const char *domain_text = line + DOMAIN_IN_LINE, *clock_text = line + CLOCK_IN_LINE;
+    if (size < LEAST_LINE || line[TYPE_IN_LINE] != 'd' || line[ACTION_IN_LINE] == '0') return false;
+    return read_octets(&domain_text, &domain, 1) == 1 && read_octets(&clock_text, clock, 8) == 8 && !is_seen(domain, clock);
+}
+
+/* Keeps only those answers of an earlier look whose clocks did not answer in the latest one. So they stay gone until they do. */
+static void leave_absent(struct look *look) {
     size_t left = 0;
     for (size_t at = 0, next; at < look->size; at = next) {
         const char *end = memchr(look->lines + at, '\n', look->size - at);
         next = end == NULL ? look->size : (size_t)(end - look->lines) + 1;
-        if (!is_of_seen_clock(look->lines + at, next - at)) continue;
+        if (!is_of_absent_clock(look->lines + at, next - at)) continue;
         memmove(look->lines + left, look->lines + at, next - at);
         left += next - at;
     }
     look->size = left;
 }
 
+/* Whether a socket may be made beside it. */
+static bool may_write_beside(const char *path) {
+    char folder[PATH_MAX];
+    snprintf(folder, sizeof folder, "%s", path);
+    return access(dirname(folder), W_OK) == 0;
+}
+
+/* How many boundary clocks pass the requests on, at most, if it is more than the task says. */
+static uint8_t hops;
+
+/* Collects the lines of a look; the status. */
+static int collect_lines(FILE *lines, const struct task *task, const struct domains *domains) {
+    struct task as_far = *task;
+    if (hops > as_far.settings.hops) as_far.settings.hops = hops;
+    return collect_answers(&as_far, &of_site, domains, lines);
+}
+
 /* Collects, and has it shown after the lines of an earlier look, if there is one; the status. */
-static int look_at_site(struct look *look, const struct task *task, const struct domains *domains, struct look *earlier) {
+static int look_once(struct look *look, const struct task *task, const struct domains *domains, struct look *earlier) {
     *look = (struct look){ 0 };
     FILE *lines = open_memstream(&look->lines, &look->size);
     if (lines == NULL) refuse("nothing was asked: %s", strerror(errno));
-    look->status = collect_answers(task, &of_site, domains, lines);
+    look->status = collect_lines(lines, task, domains);
     bool is_whole = !ferror(lines);
     if (fclose(lines) != 0 || !is_whole || look->lines == NULL) {
         complain("there is no memory for the answers");
         return look->status = FINDINGS;
     }
     if (look->status != ANSWERED && look->status != NOT_ANSWERED) return look->status;
-    if (earlier != NULL && earlier->size > 0) leave_seen(earlier);
     struct piece parts[2] = {
         { earlier == NULL ? NULL : earlier->lines, earlier == NULL ? 0 : earlier->size }, { look->lines, look->size },
     };
     enum shown_as as = task->is_json ? AS_JSON : AS_TEXT;
     look->status = run_site_program(&task->site, as, parts, 2, &look->report);
+    return look->status;
+}
+
+/* Looks at the site. If others name a clock of this host, it looks again, also at the socket of the ptp4l here. As long as a clock may have
+   others after it that a request did not come to, it looks again, further. From then on each look goes as far. */
+static int look_at_site(struct look *look, const struct task *task, const struct domains *domains, struct look *earlier) {
+    look_once(look, task, domains, earlier);
+    if (hops < task->settings.hops) hops = task->settings.hops;
+    if (!stopped && has_finding_named(&look->report, "own_host") && may_write_beside(OWN_CLOCK) && ask_own_clock(OWN_CLOCK)) {
+        free_look(look);
+        look_once(look, task, domains, earlier);
+    }
+    while (!stopped && !task->site.is_as_far_as_named && hops < UINT8_MAX && has_finding_named(&look->report, "out_of_reach")) {
+        hops = (uint8_t)(hops < UINT8_MAX / 2 ? 2 * hops + 1 : UINT8_MAX);
+        show_progress("a clock is at the last of the boundary hops; a look with %d", hops);
+        free_look(look);
+        look_once(look, task, domains, earlier);
+    }
     return look->status;
 }
 
@@ -103,6 +159,37 @@ static void look_twice(struct look *look, const struct task *task, struct domain
     if (second.status == FINDINGS && second.report.has_findings && findings_left(&second.report) == 0) second.status = 0;
     free_look(look);
     *look = second;
+}
+
+/* Puts the lines of an earlier look before those of this one, if there is room for both. */
+static void join_lines(struct look *look, const struct look *earlier) {
+    size_t size = earlier->size + look->size;
+    char *lines = size <= MOST_KEPT_LINES ? malloc(size + 1) : NULL;
+    if (lines == NULL) return;
+    memcpy(lines, earlier->lines, earlier->size);
+    memcpy(lines + earlier->size, look->lines, look->size);
+    free(look->lines);
+    look->lines = lines;
+    look->size = size;
+}
+
+/* Looks at the site, and then again and again while something is open that time decides, over the lines of all these looks. */
+static void look_until_decided(struct look *look, const struct task *task, struct domains *domains) {
+    int64_t end = milliseconds() + MOST_OPEN;
+    look_twice(look, task, domains, NULL);
+    while (!stopped && !task->site.is_once && has_open(&look->report) && milliseconds() < end) {
+        struct look next;
+        show_progress("something is open; another look in %d s", BEFORE_SECOND_LOOK / 1000);
+        listen_for_domains(domains, task, BEFORE_SECOND_LOOK);
+        if (stopped) return;
+        look_at_site(&next, task, domains, look);
+        leave_out_passing(&next.report, &look->report);
+        if (look->size > 0) join_lines(&next, look);
+        free_look(look);
+        *look = next;
+    }
+    leave_out_changes(&look->report);
+    if (look->status == FINDINGS && look->report.has_findings && findings_left(&look->report) == 0) look->status = 0;
 }
 
 /* Whether colour is wanted: on a terminal, unless the environment says that it is not. */
@@ -162,14 +249,9 @@ static bool was_seen(const struct seen_clock *clock) {
     return false;
 }
 
-/* Prints which clocks came and which went since the look before. */
+/* Prints which clocks came since the look before. Those that went have a finding. */
 static void print_clocks(const char *lead) {
     char clock[IDENTITY_TEXT];
-    for (size_t i = 0; i < count_before; i++) {
-        if (is_seen(clocks_before[i].domain, clocks_before[i].identity)) continue;
-        write_identity(clock, clocks_before[i].identity);
-        printf("%s- %u %s answers no more\n", lead, clocks_before[i].domain, clock);
-    }
     for (size_t i = 0; i < seen_count(); i++) {
         if (was_seen(seen_clock(i))) continue;
         write_identity(clock, seen_clock(i)->identity);
@@ -180,6 +262,7 @@ static void print_clocks(const char *lead) {
 static void keep_clocks(void) {
     count_before = seen_count();
     for (size_t i = 0; i < count_before; i++) clocks_before[i] = *seen_clock(i);
+    expect_clocks(clocks_before, count_before);
 }
 
 /* What differs from the look before, each line after the time. */
@@ -219,6 +302,8 @@ static int watch(struct look *earlier, const struct task *task, struct domains *
         }
         print_difference(&look, earlier, task);
         keep_clocks();
+        if (!has_open(&look.report) || earlier->size > MOST_KEPT_LINES / 2) leave_absent(earlier);
+        if (earlier->size > 0) join_lines(&look, earlier);
         free_look(earlier);
         *earlier = look;
     }
@@ -232,7 +317,7 @@ int show_status(const struct task *task) {
     if (task->site.output != NULL) find_output_file(task->site.output);
     widen_transport();
     find_domains(&domains, task);
-    look_twice(&look, task, &domains, NULL);
+    look_until_decided(&look, task, &domains);
     int status = stopped ? BY_SIGNAL + stopped : print_look(&look, task);
     if (!stopped && task->site.watch > 0 && status != NOT_ASKED) status = watch(&look, task, &domains);
     free_look(&look);

@@ -12,6 +12,7 @@
 #include <stdlib.h>
 #include <string.h>
 #include <sys/resource.h>
+#include <time.h>
 
 static struct desk **desks;
 static size_t desk_count;
@@ -55,7 +56,7 @@ void take_sessions(const struct task *task, const struct journal *journal) {
 bool mark_sessions(void) {
     for (size_t i = 0; i < desk_count; i++) {
         if (make_mark(desks[i]->session.file->path)) continue;
-        complain("nothing was sent: %s.apply: %s", desks[i]->session.file->path, strerror(errno));
+        complain("nothing was sent: %s.apply: %s: the apply stays open", desks[i]->session.file->path, strerror(errno));
         return false;
     }
     return true;
@@ -84,6 +85,23 @@ bool end_journal(struct journal *journal, enum ending ending, long step) {
 
 static int end_with(struct journal *journal, enum ending ending, long step) {
     return end_journal(journal, ending, step) ? ANSWERED : NOT_WRITTEN;
+}
+
+/* ---- progress */
+
+/* Shows which step is at work, whose member it is, and since when. */
+static void show_step(const char *what, const struct journal *journal, long place) {
+    char *member = NULL, since[16];
+    size_t size;
+    time_t now = time(NULL);
+    struct tm parts;
+    FILE *to = open_memstream(&member, &size);
+    if (to == NULL) give_up("the progress");
+    write_member_name(to, &journal->steps[place]);
+    if (fclose(to)) give_up("the progress");
+    strftime(since, sizeof since, "%H:%M:%S", gmtime_r(&now, &parts));
+    head_progress("%s %ld of %zu, %s, since %s UTC", what, place + 1, journal->count, member, since);
+    free(member);
 }
 
 /* ---- what members are */
@@ -124,6 +142,7 @@ static int verify(const struct task *task, struct journal *journal) {
     static struct answer answer;
     for (size_t i = 0; i < journal->count; i++) {
         const struct step *step = &journal->steps[i];
+        show_step("read", journal, (long)i);
         int status = read_member(task, step, domain_at_end(journal, step), &answer);
         if (status != ANSWERED) return status;
         if (has(&answer, step, &step->after)) continue;
@@ -148,6 +167,7 @@ int find_changed(const struct task *task, const struct journal *journal) {
     int found = ANSWERED;
     for (size_t i = 0; i < journal->count; i++) {
         const struct step *step = &journal->steps[i];
+        show_step("read", journal, (long)i);
         int status = read_member(task, step, domain_at_begin(journal, step), &answer);
         if (status != ANSWERED) return status;
         if (has(&answer, step, &step->before)) continue;
@@ -159,22 +179,22 @@ int find_changed(const struct task *task, const struct journal *journal) {
 
 /* ---- the steps */
 
+int settle_begun_step(struct journal *journal) {
+    if (journal->begun == NO_STEP) return ANSWERED;
+    show_step("step", journal, journal->begun);
+    return see_to_desk(desk_of(&journal->steps[journal->begun]), journal);
+}
+
 /* Sees to the sessions in which this journal has begun steps before any other. */
 static int see_to_begun(struct journal *journal) {
-    if (journal->begun != NO_STEP) {
-        int status = see_to_desk(desk_of(&journal->steps[journal->begun]), journal);
-        if (status != ANSWERED) return status;
-    }
+    int status = settle_begun_step(journal);
+    if (status != ANSWERED) return status;
     for (size_t i = 0; i < journal->count; i++) {
         if (journal->told[i].outcome == NOT_TOLD) continue;
-        int status = see_to_desk(desk_of(&journal->steps[i]), journal);
+        status = see_to_desk(desk_of(&journal->steps[i]), journal);
         if (status != ANSWERED) return status;
     }
     return ANSWERED;
-}
-
-int settle_begun_step(struct journal *journal) {
-    return journal->begun == NO_STEP ? ANSWERED : see_to_desk(desk_of(&journal->steps[journal->begun]), journal);
 }
 
 bool note_begun_step(struct journal *journal) {
@@ -186,7 +206,7 @@ static int take_step(const struct task *task, struct journal *journal, long plac
     static struct answer answer;
     const struct step *step = &journal->steps[place];
     struct desk *desk = desk_of(step);
-    show_progress("step %ld of %zu", place + 1, journal->count);
+    show_step("step", journal, place);
     int status = see_to_desk(desk, journal);
     if (status == ANSWERED) status = read_member(task, step, step->domain, &answer);
     if (status != ANSWERED) return status;

@@ -67,8 +67,11 @@ static const char help_text[] =
     "  -x, --hexadecimal       VALUE and answers are octets of the dataField in hexadecimal\n"
     "      --text              VALUE is a text, for USER_DESCRIPTION\n"
     "      --json              each answer as a line, an object of JSON; status as one object\n"
-    "\n"
+    "\n";
+
+static const char site_text[] =
     "Several clocks from one file:\n"
+    "      --probe             plan also asks each clock a SET that changes nothing: does it take any?\n"
     "      --expect PLAN       apply sends nothing if its plan is another one than this, of eight digits\n"
     "      --give-up           resume ends the apply, whose last step may have been carried out\n"
     "\n"
@@ -78,6 +81,7 @@ static const char help_text[] =
     "                          limit\n"
     "      --max-delay NS      delays above this limit too\n"
     "      --tai-utc S         how many seconds TAI is before UTC (37)\n"
+    "      --settle SECONDS    a port that is not locked, or in no lasting state, is a finding after this (10)\n"
     "      --draw              status as an SVG file\n"
     "      --html              status as a page in HTML\n"
     "      --openmetrics       status as numbers for Prometheus\n"
@@ -129,6 +133,7 @@ static void print_ids(void) {
 /* Prints the text of --help, and ends the program. */
 static _Noreturn void help(void) {
     fputs(help_text, stdout);
+    fputs(site_text, stdout);
     fputs(asking_text, stdout);
     printf("ID, in either case, or four hexadecimal digits:");
     print_ids();
@@ -143,10 +148,10 @@ static _Noreturn void version(void) {
 }
 
 /* Options without a letter of their own, and a word that is none: getopt's for a string that begins with a hyphen. */
-enum { WORD = 1, UDP = 256, TEXT, VERSION, GIVE_UP, JSON, ANY_SOURCE, NAMES, EXPECT };
+enum { WORD = 1, UDP = 256, TEXT, VERSION, GIVE_UP, JSON, ANY_SOURCE, NAMES, EXPECT, PROBE };
 
 /* The same, only for `collect` and `status`. */
-enum site_option { LISTEN = 512, DRAW, HTML, OPENMETRICS, NAGIOS, OUTPUT, MAX_OFFSET, MAX_DELAY, TAI_UTC, ONCE, WATCH };
+enum site_option { LISTEN = 512, DRAW, HTML, OPENMETRICS, NAGIOS, OUTPUT, MAX_OFFSET, MAX_DELAY, TAI_UTC, SETTLE, ONCE, WATCH };
 
 enum { MOST_WORDS = 2 + MOST_FIELD_WORDS, MOST_FIELD = 1418, NOT_NAMED = -1 };
 
@@ -166,11 +171,12 @@ static const struct option options[] = {
     { "wait", required_argument, NULL, 'w' }, { "attempts", required_argument, NULL, 'a' },
     { "timeout", required_argument, NULL, 't' }, { "times", required_argument, NULL, 'n' },
     { "give-up", no_argument, NULL, GIVE_UP }, { "listen", required_argument, NULL, LISTEN }, { "json", no_argument, NULL, JSON },
-    { "names", required_argument, NULL, NAMES }, { "expect", required_argument, NULL, EXPECT }, { "draw", no_argument, NULL, DRAW },
-    { "html", no_argument, NULL, HTML },
+    { "names", required_argument, NULL, NAMES }, { "expect", required_argument, NULL, EXPECT }, { "probe", no_argument, NULL, PROBE },
+    { "draw", no_argument, NULL, DRAW }, { "html", no_argument, NULL, HTML },
     { "openmetrics", no_argument, NULL, OPENMETRICS }, { "nagios", no_argument, NULL, NAGIOS },
     { "output", required_argument, NULL, OUTPUT }, { "max-offset", required_argument, NULL, MAX_OFFSET },
     { "max-delay", required_argument, NULL, MAX_DELAY }, { "tai-utc", required_argument, NULL, TAI_UTC },
+    { "settle", required_argument, NULL, SETTLE },
     { "once", no_argument, NULL, ONCE }, { "watch", required_argument, NULL, WATCH },
     { "hexadecimal", no_argument, NULL, 'x' }, { "text", no_argument, NULL, TEXT }, { "quiet", no_argument, NULL, 'q' },
     { "help", no_argument, NULL, 'h' }, { "version", no_argument, NULL, VERSION },
@@ -210,6 +216,12 @@ static const char *tai_utc(const char *option, const char *text) {
     return text;
 }
 
+/* How many seconds a port may take to lock, which goes there too. */
+static const char *settle(const char *option, const char *text) {
+    if (decimal(text, MOST_SECONDS) < 0) refuse("%s %s: it takes a number of seconds from 0 to %d", option, text, MOST_SECONDS);
+    return text;
+}
+
 /* A site is shown in one form. */
 static void take_form(struct site_options *site, enum shown_as form) {
     if (site->form != AS_TEXT && site->form != form) refuse("--draw, --html, --openmetrics and --nagios exclude each other");
@@ -219,7 +231,8 @@ static void take_form(struct site_options *site, enum shown_as form) {
 /* Takes an option of `collect` and `status`; whether it is one of these. */
 static bool take_site_option(struct site_options *site, int option, const char *value) {
     static const char *const names[] = {
-        "--listen", "--draw", "--html", "--openmetrics", "--nagios", "--output", "--max-offset", "--max-delay", "--tai-utc", "--once", "--watch",
+        "--listen", "--draw", "--html", "--openmetrics", "--nagios", "--output", "--max-offset", "--max-delay", "--tai-utc",
+        "--settle", "--once", "--watch",
     };
     if (option < LISTEN || option > WATCH) return false;
     const char *name = names[option - LISTEN];
@@ -229,6 +242,7 @@ static bool take_site_option(struct site_options *site, int option, const char *
     case MAX_OFFSET: site->max_offset = limit(name, value, true); break;
     case MAX_DELAY: site->max_delay = limit(name, value, false); break;
     case TAI_UTC: site->tai_utc = tai_utc(name, value); break;
+    case SETTLE: site->settle = settle(name, value); break;
     case DRAW: take_form(site, AS_DRAWING); break;
     case HTML: take_form(site, AS_PAGE); break;
     case OPENMETRICS: take_form(site, AS_NUMBERS); break;
@@ -311,6 +325,7 @@ static void take_option(struct task *task, struct words *words, int option, cons
     case 'T': words->target = value; break;
     case NAMES: read_clock_names(value); break;
     case EXPECT: take_expected(&task->plan, value); break;
+    case PROBE: task->plan.is_probed = true; break;
     case 'p': read_port(words, value); break;
     case 'd': words->domain = value; break;
     case 'b': words->hops = number("hops", value, 0, 255); break;
@@ -444,6 +459,13 @@ static void read_value(struct task *task, const struct words *words) {
     else read_octets_of(task, value[0]);
 }
 
+/* A site is asked at interfaces, and at the socket of this host's own clock, which isn't heard there. */
+static void part_own_socket(struct task *task) {
+    if (!task->site.is_collected || task->path == NULL || task->interface_count == 0) return;
+    task->own_socket = task->path;
+    task->path = NULL;
+}
+
 /* Whether what is said about the clock and the way to it is complete, and said once. */
 static void judge(const struct task *task, const struct words *words) {
     if (task->path == NULL && task->interface_count == 0 && task->address == NULL) {
@@ -521,6 +543,7 @@ static void read_reach(struct task *task, const struct words *words) {
     if (words->domain != NULL && is_site) read_domains(&task->site, words->domain);
     else if (words->domain != NULL) settings->domain = (uint8_t)number("domain", words->domain, 0, 255);
     bool is_far = is_site || task->plan.verb != NO_PLAN;
+    task->site.is_as_far_as_named = words->hops >= 0;
     settings->hops = (uint8_t)(words->hops >= 0 ? words->hops : is_far ? SITE_HOPS : HOPS);
     settings->attempts = (uint8_t)(words->attempts >= 0 ? words->attempts : is_site ? SITE_ATTEMPTS : ATTEMPTS);
     if (is_site || task->interface_count < 2) return;
@@ -545,10 +568,12 @@ void read_task(struct task *task, int argc, char **argv) {
     read_every_port(task, &words);
     read_asked(task, &words);
     read_reach(task, &words);
+    part_own_socket(task);
     judge(task, &words);
     judge_site_options(&task->site);
     judge_json(task);
     if (task->plan.expected != NULL && task->plan.verb != APPLY) refuse("--expect: it is of apply alone");
+    if (task->plan.is_probed && task->plan.verb != PLAN) refuse("--probe: it is of plan alone");
     if (task->site.listen < 0) task->site.listen = LISTENED;
     long port = words.port >= 0 ? words.port : words.target_port;
     task->port = port < 0 ? 0 : (uint16_t)port;

@@ -18,9 +18,9 @@ struct site_options {
     bool is_every_domain;                       /* those in which Announce messages are heard, and 0 and 127 */
     long listen, watch;                         /* in milliseconds: for such messages, or -1 by default; between two looks, or 0 */
     enum shown_as form;                         /* how it is shown, except by `--json` */
-    bool is_once;
+    bool is_once, is_as_far_as_named;           /* it does not look a second time; nor any further than by the hops that were named */
     const char *output;                         /* the file that gets what is printed, or NULL */
-    const char *max_offset, *max_delay, *tai_utc;   /* as they are written, or NULL */
+    const char *max_offset, *max_delay, *tai_utc, *settle;   /* as they are written, or NULL */
     const char *given;                          /* an option only of `status` that was given, or NULL */
 };
 
@@ -30,6 +30,7 @@ struct plan_options {
     enum plan_verb verb;
     const char *word;                           /* the file, or the apply that is rolled back */
     const char *expected;                       /* the id of the plan that was approved, or NULL */
+    bool is_probed;                             /* each clock is asked whether it takes SETs of this manager */
 };
 
 struct task {
@@ -49,6 +50,7 @@ struct task {
     const char *interfaces[MOST_INTERFACES];    /* the way: interfaces; only `collect` and `status` may have several, */
     int interface_count;
     const char *address, *path;                 /* an address, with one of these or none, or a Unix socket */
+    const char *own_socket;                     /* the Unix socket of a clock on this host, asked beside the interfaces of a site, or NULL */
     bool is_six, is_ethernet;                   /* at an interface IPv6, or IEEE 802.3, instead of IPv4 */
     bool is_any_source;                         /* over UDP also what comes from addresses that are not on the link */
     const char *numbers;                        /* the file that keeps the session, or NULL */

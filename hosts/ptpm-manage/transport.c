@@ -2,6 +2,7 @@
 #include "transport.h"
 #include "ethernet.h"
 #include "general_port.h"
+#include "message_places.h"
 #include "monotonic.h"
 #include "netlink.h"
 #include "notices.h"
@@ -13,6 +14,7 @@
 #include <arpa/inet.h>
 #include <errno.h>
 #include <ifaddrs.h>
+#include <linux/if_packet.h>
 #include <net/if.h>
 #include <netdb.h>
 #include <stdbool.h>
@@ -23,20 +25,23 @@
 #include <unistd.h>
 
 /* A socket, and over UDP or Ethernet its interface, with the index of that one, and its address on Ethernet. Over UDP the socket
-   hears what comes to the group, and another one, -1 elsewhere, asks, and hears what is answered by unicast. */
-struct end { int socket, asking; const char *interface; unsigned index; uint8_t station[STATION]; };
+   hears what comes to the group, and another one, -1 elsewhere, asks, and hears what is answered by unicast. A third one hears event
+   messages, as long as they are wanted, and is -1 otherwise. */
+struct end { int socket, asking, events; bool has_sent; const char *interface; unsigned index; uint8_t station[STATION]; };
 
 static struct sockaddr_storage clock_address;
 static socklen_t clock_size;
 static struct end ends[MOST_INTERFACES];
 static size_t end_count;
+static struct end own_clock = { .socket = -1, .asking = -1, .events = -1 };        /* a Unix socket to ask the one on this host */
+static struct sockaddr_un own_clock_address = { .sun_family = AF_UNIX };
 static int copies = -1;         /* of what comes by unicast to UDP port 320 of this host; -1 if the program may hear none */
 /* What the transport is called in a notice. */
 static char name[MOST_INTERFACES * (IFNAMSIZ + 2) + sizeof ((struct sockaddr_un *)0)->sun_path];
 static bool is_six, is_ethernet, is_any_source;
 static bool is_to_one;          /* messages go to one address, and not to a group */
 
-enum { MOST_DATAGRAM = 65536, ROOM_FOR_MANY = 4 << 20, SOCKETS_OF_END = 2, MOST_WAITS = SOCKETS_OF_END * MOST_INTERFACES + 1 };
+enum { MOST_DATAGRAM = 65536, ROOM_FOR_MANY = 4 << 20, SOCKETS_OF_END = 3, MOST_WAITS = SOCKETS_OF_END * MOST_INTERFACES + 2 };
 
 const char *transport_name(void) { return name; }
 
@@ -89,15 +94,20 @@ static const char *interface_to(const char *address) {
     return found;
 }
 
-/* The identity of the interface: its hardware address with ff and fe in the middle, as an EUI-64. */
-static void write_own_identity(uint8_t identity[8], const char *interface) {
+/* The identity of the interface: its hardware address with ff and fe in the middle, as an EUI-64; whether it has one. */
+static bool write_own_identity(uint8_t identity[8], const char *interface) {
     struct ifreq request = { 0 };
     snprintf(request.ifr_name, sizeof request.ifr_name, "%s", interface);
     int probe = socket(AF_INET, SOCK_DGRAM | SOCK_CLOEXEC, 0);
-    if (probe < 0 || ioctl(probe, SIOCGIFHWADDR, &request)) give_up(interface);
-    close(probe);
+    bool is_read = probe >= 0 && ioctl(probe, SIOCGIFHWADDR, &request) == 0;
+    if (probe >= 0) close(probe);
     const uint8_t *a = (const uint8_t *)request.ifr_hwaddr.sa_data;
     memcpy(identity, (const uint8_t[]){ a[0], a[1], a[2], 0xff, 0xfe, a[3], a[4], a[5] }, 8);
+    return is_read;
+}
+
+bool own_identity(size_t place, uint8_t identity[8]) {
+    return place < end_count && ends[place].interface != NULL && write_own_identity(identity, ends[place].interface);
 }
 
 static void find_udp(const struct task *task) {
@@ -129,7 +139,7 @@ static void find_at_interfaces(struct task *task) {
         size = strlen(name);
         snprintf(name + size, sizeof name - size, ", %s", ends[i].interface);
     }
-    if (!task->has_manager) write_own_identity(task->settings.clock, ends[0].interface);
+    if (!task->has_manager && !write_own_identity(task->settings.clock, ends[0].interface)) give_up(ends[0].interface);
 }
 
 static void find_unix(const struct task *task) {
@@ -152,7 +162,7 @@ void find_transport(struct task *task) {
 /* Whether it can be opened; otherwise errno says why not, and `what` of what. */
 static bool open_end(struct end *end, const char **what) {
     end->index = if_nametoindex(end->interface);
-    end->asking = -1;
+    end->asking = end->events = -1;
     end->socket = is_ethernet ? open_ethernet(end->interface, end->station, what) : open_udp(end->interface, is_six, what);
     if (end->socket < 0 || is_ethernet) return end->socket >= 0;
     end->asking = open_asking_udp(end->interface, is_six, what);
@@ -181,18 +191,34 @@ void tell_missing_addresses(void) {
     }
 }
 
-static void open_beside(const char *path) {
+/* A socket beside the one at a path, from which that one is asked. */
+static int open_beside(const char *path) {
     char own_path[sizeof ((struct sockaddr_un *)0)->sun_path + 32];
     int size = snprintf(own_path, sizeof own_path, "%s.%ld", path, (long)getpid());
     if ((size_t)size >= sizeof ((struct sockaddr_un *)0)->sun_path) refuse("--unix %s: the path is too long", path);
-    ends[0].socket = open_unix(own_path);
-    ends[0].asking = -1;
+    return open_unix(own_path);
+}
+
+static bool is_answered_at(const struct sockaddr_un *address) {
+    int probe = socket(AF_UNIX, SOCK_DGRAM | SOCK_CLOEXEC, 0);
+    bool is_there = probe >= 0 && connect(probe, (const struct sockaddr *)address, sizeof *address) == 0;
+    if (probe >= 0) close(probe);
+    return is_there;
+}
+
+bool ask_own_clock(const char *path) {
+    if (own_clock.socket >= 0 || strlen(path) >= sizeof own_clock_address.sun_path) return false;
+    strcpy(own_clock_address.sun_path, path);
+    if (!is_answered_at(&own_clock_address)) return false;
+    own_clock.socket = open_beside(path);
+    return true;
 }
 
 void open_transport(const struct task *task) {
-    if (task->path != NULL) open_beside(task->path);
+    if (task->path != NULL) ends[0] = (struct end){ .socket = open_beside(task->path), .asking = -1, .events = -1 };
     for (size_t i = 0; i < end_count && task->path == NULL; i++) open_at_interface(&ends[i]);
     if (task->path == NULL && !is_ethernet) copies = open_copies(is_six);
+    if (task->own_socket != NULL && !ask_own_clock(task->own_socket)) refuse("nothing was sent: %s: no clock is there", task->own_socket);
 }
 
 static void widen(int socket) {
@@ -214,6 +240,11 @@ void tell_deaf_port(void) {
     complain("a clock that answers to UDP port 320 of this host alone isn't heard: it takes root, or the capability CAP_NET_RAW");
 }
 
+static void close_events(struct end *end) {
+    if (end->events >= 0) close(end->events);
+    end->events = -1;
+}
+
 /* An address of a link has the index of its interface in it. */
 static void renew_scope(unsigned before, unsigned now) {
     struct sockaddr_in6 *six = (struct sockaddr_in6 *)&clock_address;
@@ -230,14 +261,23 @@ void renew_transport(void) {
         renew_scope(ends[i].index, other.index);
         close(ends[i].socket);
         if (ends[i].asking >= 0) close(ends[i].asking);
+        close_events(&ends[i]);
         ends[i] = other;
         complain("%s: the interface was made anew", other.interface);
     }
     widen_transport();
 }
 
+/* Over Ethernet they come in at the one socket that there is. */
+static void open_events(struct end *end) {
+    const char *what;
+    if (!is_ethernet && end->events < 0) end->events = open_event_udp(end->interface, is_six, &what);
+}
+
 void receive_every_type(bool is_every) {
-    for (size_t i = 0; i < end_count; i++) {
+    for (size_t i = 0; i < end_count && ends[i].interface != NULL; i++) {
+        if (is_every) open_events(&ends[i]);
+        else close_events(&ends[i]);
         if ((is_ethernet ? filter_ethernet : filter_udp)(ends[i].socket, !is_every)) continue;
         complain("%s: the filter of messages: %s", ends[i].interface, strerror(errno));
     }
@@ -258,13 +298,41 @@ static ssize_t send_datagram(const struct end *end, const uint8_t *octets, size_
     return sendmsg(end->asking >= 0 ? end->asking : end->socket, &head, MSG_DONTWAIT);
 }
 
+/* A clock of this host may have the identity of the one who asks, and heeds no message of its own. So clock 0 asks it. */
+static const uint8_t nobody[8];
+static uint8_t asker[8];
+
+static void send_to_own_clock(const uint8_t *octets, size_t size) {
+    static uint8_t message[MOST_DATAGRAM];
+    if (size < SOURCE_PORT_AT || size > sizeof message) return;
+    memcpy(asker, octets + SOURCE_AT, sizeof asker);
+    memcpy(message, octets, size);
+    memcpy(message + SOURCE_AT, nobody, sizeof nobody);
+    sendto(own_clock.socket, message, size, MSG_DONTWAIT, (struct sockaddr *)&own_clock_address, sizeof own_clock_address);
+}
+
+/* Its answer goes to the one who asks. */
+static void address_to_asker(uint8_t *message, size_t size) {
+    bool is_to_nobody = size >= STARTING_HOPS_AT && memcmp(message + TARGET_AT, nobody, sizeof nobody) == 0;
+    if (is_to_nobody) memcpy(message + TARGET_AT, asker, sizeof asker);
+}
+
 enum sending send_message(const uint8_t *octets, size_t size) {
     enum sending sending = NO_TRANSPORT;
     for (size_t i = 0; i < end_count; i++) {
-        if ((is_ethernet ? send_frame(&ends[i], octets, size) : send_datagram(&ends[i], octets, size)) >= 0) sending = OUT;
+        ends[i].has_sent = (is_ethernet ? send_frame(&ends[i], octets, size) : send_datagram(&ends[i], octets, size)) >= 0;
+        if (ends[i].has_sent) sending = OUT;
         else if (sending == NO_TRANSPORT && (errno == EAGAIN || errno == EWOULDBLOCK || errno == ENOBUFS)) sending = NO_ROOM;
     }
+    if (own_clock.socket >= 0 && sending == OUT) send_to_own_clock(octets, size);
     return sending;
+}
+
+const char *sent_at(size_t place) {
+    for (size_t i = 0; i < end_count; i++) {
+        if (ends[i].has_sent && ends[i].interface != NULL && place-- == 0) return ends[i].interface;
+    }
+    return NULL;
 }
 
 /* A socket that something has come in at: that of an end, or the one that hears copies, which is of none. */
@@ -274,16 +342,19 @@ struct arrival { int socket; const struct end *end; };
 static bool next_arrival(struct arrival *arrival, int64_t wait) {
     static size_t latest;
     struct pollfd waits[MOST_WAITS];
-    size_t count = SOCKETS_OF_END * end_count + 1;
+    size_t count = SOCKETS_OF_END * end_count + 2;
     for (size_t i = 0; i < end_count; i++) {
         waits[SOCKETS_OF_END * i] = (struct pollfd){ ends[i].socket, POLLIN, 0 };
         waits[SOCKETS_OF_END * i + 1] = (struct pollfd){ ends[i].asking, POLLIN, 0 };
+        waits[SOCKETS_OF_END * i + 2] = (struct pollfd){ ends[i].events, POLLIN, 0 };
     }
+    waits[count - 2] = (struct pollfd){ own_clock.socket, POLLIN, 0 };
     waits[count - 1] = (struct pollfd){ copies, POLLIN, 0 };
     if (wait_for(waits, count, wait) <= 0) return false;
     do latest = (latest + 1) % count;
     while (waits[latest].revents == 0);
-    *arrival = (struct arrival){ waits[latest].fd, latest == count - 1 ? NULL : &ends[latest / SOCKETS_OF_END] };
+    const struct end *end = latest == count - 1 ? NULL : latest == count - 2 ? &own_clock : &ends[latest / SOCKETS_OF_END];
+    *arrival = (struct arrival){ waits[latest].fd, end };
     return true;
 }
 
@@ -351,6 +422,43 @@ static bool is_from_here(const struct end *end, const struct sockaddr *sender) {
     return false;
 }
 
+/* The sender of the message that came in last, and the end that it came in at. */
+static struct place latest_place;
+static const struct end *latest_end;
+
+const char *came_in_at(void) { return latest_end == NULL ? NULL : latest_end->interface; }
+
+static const char *station_text(const struct sockaddr_ll *sender) {
+    static char text[3 * STATION];
+    const uint8_t *a = sender->sll_addr;
+    snprintf(text, sizeof text, "%02x:%02x:%02x:%02x:%02x:%02x", a[0], a[1], a[2], a[3], a[4], a[5]);
+    return text;
+}
+
+/* A path with a space or a control character is left out. */
+static const char *path_text(const struct sockaddr_un *sender) {
+    static char text[sizeof sender->sun_path + 1];
+    memcpy(text, sender->sun_path, sizeof sender->sun_path);
+    for (const char *c = text; *c != '\0'; c++) {
+        if ((unsigned char)*c <= ' ') return "";
+    }
+    return text;
+}
+
+const char *sender_text(void) {
+    static char text[INET6_ADDRSTRLEN];
+    const struct sockaddr_storage *sender = &latest_place.sender;
+    *text = '\0';
+    switch (sender->ss_family) {
+    case AF_INET: inet_ntop(AF_INET, &((const struct sockaddr_in *)sender)->sin_addr, text, sizeof text); break;
+    case AF_INET6: inet_ntop(AF_INET6, &((const struct sockaddr_in6 *)sender)->sin6_addr, text, sizeof text); break;
+    case AF_PACKET: return station_text((const struct sockaddr_ll *)sender);
+    case AF_UNIX: return path_text((const struct sockaddr_un *)sender);
+    default: break;
+    }
+    return text;
+}
+
 /* The message in what an arrival is, of `found` octets; NULL if it is none for this program. */
 static const uint8_t *message_of(const struct arrival *arrival, const uint8_t *octets, size_t found, struct place *from,
                                  size_t *size) {
@@ -358,13 +466,16 @@ static const uint8_t *message_of(const struct arrival *arrival, const uint8_t *o
     const struct end *end = arrival->end != NULL ? arrival->end : end_at(from->index);
     *size = found;
     if (end == NULL || !is_from_here(end, sender)) return NULL;
+    latest_place = *from;
+    latest_end = end;
     if (arrival->end == NULL) {
         size_t place = message_in_copy(octets, size, sender);
         return place == 0 ? NULL : octets + place;
     }
-    size_t place = is_ethernet ? message_in(octets, found, arrival->end->station) : 0;
+    bool is_frame = is_ethernet && end->interface != NULL;
+    size_t place = is_frame ? message_in(octets, found, end->station) : 0;
     *size -= place;
-    return is_ethernet && place == 0 ? NULL : octets + place;
+    return is_frame && place == 0 ? NULL : octets + place;
 }
 
 const uint8_t *receive_message(size_t *size, int64_t end) {
@@ -373,6 +484,7 @@ const uint8_t *receive_message(size_t *size, int64_t end) {
         struct arrival arrival;
         struct place from;
         ssize_t found = next_arrival(&arrival, left) ? receive_from(arrival.socket, datagram, sizeof datagram, &from) : -1;
+        if (found > 0 && arrival.end == &own_clock) address_to_asker(datagram, (size_t)found);
         const uint8_t *message = found < 0 ? NULL : message_of(&arrival, datagram, (size_t)found, &from, size);
         if (message != NULL) return message;
     }

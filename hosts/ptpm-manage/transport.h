@@ -17,13 +17,17 @@ void find_transport(struct task *task);
 /* Opens it. Ends the program with status 2 if it can't be opened. */
 void open_transport(const struct task *task);
 
+/* Asks a clock of this host too, from now on, on its Unix socket. Whether it can. */
+bool ask_own_clock(const char *path);
+
 /* Gives its socket room for the answers of many clocks, 4 MiB as far as the system allows. */
 void widen_transport(void);
 
 /* Opens it again at each interface that was removed and made again under its name. What is sent at one that is gone says so. */
 void renew_transport(void);
 
-/* Over UDP and Ethernet, has messages of every type come in, or, as at first, only management messages. */
+/* Over UDP and Ethernet, has messages of every type come in, or, as at first, only management messages. Of those to UDP port 319 it has
+   come in what the program may hear. */
 void receive_every_type(bool is_every);
 
 /* Says what clock isn't heard, if the program may hear no copies of what comes by unicast to UDP port 320 of this host. */
@@ -41,8 +45,21 @@ enum sending { OUT, NO_ROOM, NO_TRANSPORT, NONE_LEFT };
 /* Passes a message to the socket, and does not wait for room there. If it answers NO_TRANSPORT, errno says why. */
 enum sending send_message(const uint8_t *octets, size_t size);
 
+/* At which interface the latest message went out: the first, the second and so on, as they were named; NULL after the last. On a
+   Unix socket there is none. */
+const char *sent_at(size_t place);
+
 /* The next message that comes in before a time. It stays until the next call, and octets may follow it. NULL if none does, or a
    signal asks the program to end. */
 const uint8_t *receive_message(size_t *size, int64_t end);
+
+/* The sender of the message that came in last, as a text without spaces: an address of IPv4 or IPv6, a MAC, or a path. "" if it is
+   not known. And the interface that it came in at; NULL on a Unix socket. */
+const char *sender_text(void);
+const char *came_in_at(void);
+
+/* The identity that this host has at an interface by its hardware address: at the first, the second and so on. Whether there is
+   one. */
+bool own_identity(size_t place, uint8_t identity[8]);
 
 #endif

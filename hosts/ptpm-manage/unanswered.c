@@ -15,16 +15,13 @@ enum { READINGS = 10 };
 /* Whether the clock answers nobody's GET, if it did not answer the manager; then what it has is said. */
 static bool say_value(const struct task *task) {
     static struct answer answer;
-    struct ptpm_session session = { 0 };
-    bool is_answered = begin_reading(&session, task, task->id, READINGS) && finish_reading(&session, task);
+    bool is_answered = read_by_nobody(task, task->id, READINGS, &answer);
     if (is_answered) {
-        take_report(&session, &answer);
         complain("the clock answers reads%s", answer.outcome == PTPM_VALUE ? ", and has by now" : "");
         if (answer.outcome == PTPM_VALUE) print_answer(stderr, task, "ptpm-manage: ", &answer);
     } else if (!stopped) {
         complain("it answers no read either");
     }
-    ptpm_session_stop(&session);
     return is_answered;
 }
 

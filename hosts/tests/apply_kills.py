@@ -1,69 +1,40 @@
-"""Runs of ptpm-manage that are killed while they change three clocks, for hosts/tests/apply: at random times, over a link that loses 30 and
-repeats 20 of a hundred frames each way, or at each call by which they save and send. `resume` ends each apply. After each kill what the
-clocks took as new is set beside the journal."""
+"""Runs of ptpm-manage that are killed while they change three clocks, for hosts/tests/apply. They are killed at random times, over a link that
+loses 30, repeats 20 and swaps 10 of a hundred frames each way, or at each call by which they save and send. `resume` ends each apply.
+After each kill what the clocks took as new is set beside the journal, and what was reported too."""
 import glob
 import json
 import os
-import random
 import signal
 import subprocess
 import time
 import zlib
-from collections import Counter
 
-from apply_network import ANSWERED_NEW, HOME, MANAGER, SET, Clock, Network, within
+from apply_link import SET, Troubles
+from apply_network import ANSWERED_NEW, HOME, MANAGER, Clock, Network, within
+from apply_runs import Broken, Journal, Runs
 
 IDENTITIES = [f"02c0fffffe00010{number}" for number in (1, 2, 3)]
 VALUES = {"PRIORITY1": (0, 255), "PRIORITY2": (0, 255), "CLOCK_ACCURACY": (0x17, 0x31)}
 PORT_VALUES = {"LOG_SYNC_INTERVAL": (-8, 1), "ANNOUNCE_RECEIPT_TIMEOUT": (2, 10)}
 REFUSED_ID, REFUSED_FIELD = 0x6001, "f700"          # LOG_MIN_PDELAY_REQ_INTERVAL, -9: below the profile's range
-LOSS, REPEAT = 0.30, 0.20
+TROUBLES = Troubles(loss=0.30, repeat=0.20, swap=0.10)
+CRASHES = 0.1                                       # of a clock after a run
 MOST_LIVES, PATIENT_AFTER, PATIENCE = 400, 60, 60
+KILLS, LOSES, FAILS = ENDS = ("KILLS", "LOSES", "FAILS")     # what may become of a run at a call (dies.c)
 MOST_CALLS = 25                                      # of a step and what comes before it
 SETTLED = 0.1                                       # by then what was on its way has come in,
 MOST_SAVING = 10                                    # and a clock has saved, and judged it
 
 
-class Broken(Exception):
-    """What was promised does not hold."""
-
-
-class Journal:
-    """What a journal's whole lines say."""
-
-    def __init__(self, path):
-        with open(path, "rb") as file:
-            lines = file.read().split(b"\n")[:-1]
-        notes = [json.loads(line[9:]) for line in lines if f"{zlib.crc32(line[9:]):08x} ".encode() == line[:9]]
-        if len(notes) != len(lines):
-            raise Broken(f"{path} has a wrong line")
-        self.steps, self.told, self.begun, self.end = notes[0]["steps"], {}, None, None
-        for note in notes[1:]:
-            self.take(note)
-
-    def take(self, note):
-        if "begun" in note:
-            self.begun = note["begun"]
-        elif "not_begun" in note:
-            self.begun = None
-        elif "told" in note:
-            self.told[note["told"]], self.begun = note, None
-        else:
-            self.end = note["end"]
-
-    def place(self):
-        return "ended" if self.end else "a step is begun" if self.begun is not None else "between steps"
-
-
 class Observed:
-    """What a clock took as new: each answer that it logged beside the request that passed on to it."""
+    """What a clock took as new: each answer that it logged beside the request that came in there."""
 
     def __init__(self, network, clock):
         self.network, self.clock, self.counted = network, clock, 0
 
     def asked(self):
-        passed = list(self.network.middle.passed)
-        return [request for request in passed if (request.source, request.target) == (MANAGER, self.clock.identity)]
+        seen = list(self.network.observer.seen[self.clock.name])
+        return [request for request in seen if (request.source, request.target) == (MANAGER, self.clock.identity)]
 
     def sets(self):
         """The SETs that it took as new since the last `count`: the id and the dataField."""
@@ -73,7 +44,7 @@ class Observed:
             time.sleep(0.05)
             asked, answers = self.asked(), self.clock.answers()
         if len(asked) != len(answers):
-            raise Broken(f"{self.clock.name}: {len(asked)} requests passed, and {len(answers)} were judged")
+            raise Broken(f"{self.clock.name}: {len(asked)} requests came in, and {len(answers)} were judged")
         found = []
         for request, (answer, size) in zip(asked, answers):
             if request.whole != size:
@@ -89,18 +60,22 @@ class Observed:
         self.counted = len(self.sets())
 
 
-class Changes:
+class Changes(Runs):
     """Plans for three clocks, and what is checked of what became of them."""
 
-    def __init__(self, work, seed, loss=0.0, repeat=0.0):
-        self.work, self.chance = work, random.Random(seed)
-        self.network = Network(work, [Clock(f"c{place}", identity) for place, identity in enumerate(IDENTITIES)], None, loss, repeat, seed)
+    def __init__(self, work, seed, troubles=None):
+        super().__init__(work, seed)
+        self.network = Network(work, [Clock(f"c{place}", identity) for place, identity in enumerate(IDENTITIES)], None, troubles, seed)
         self.observed = [Observed(self.network, clock) for clock in self.network.clocks.values()]
-        self.counts, self.places = Counter(), Counter()
+
+    def words(self):
+        return [*within(self.network.near), os.path.join(HOME, "manage"), "-i", "e1"]
+
+    def end(self):
+        self.network.end()
 
     def plan(self):
-        path, is_refused = os.path.join(self.work, "plan.toml"), self.chance.random() < 0.25
-        lines = ["version = 1"]
+        lines, is_refused = [], self.chance.random() < 0.25
         for place, identity in enumerate(IDENTITIES):
             lines += ["[[clock]]", f'identity = "{identity}"']
             lines += [f"{name} = {self.chance.randint(*VALUES[name])}" for name in VALUES if self.chance.random() < 0.6]
@@ -110,22 +85,24 @@ class Changes:
             lines += [f"{name} = {self.chance.randint(*PORT_VALUES[name])}" for name in PORT_VALUES if self.chance.random() < 0.5]
             if is_refused and place == 1:
                 lines += ["LOG_MIN_PDELAY_REQ_INTERVAL = -9"]
-        with open(path, "w") as file:
-            file.write("\n".join(lines) + "\n")
-        return path
+        return self.write_plan(lines)
 
-    def journals(self):
-        return set(glob.glob(os.path.join(self.work, "state/ptpm/apply/*.journal")))
+    def crash(self):
+        """One of the clocks crashes while nothing is on its way to it."""
+        self.network.crash(self.chance.choice(list(self.network.clocks.values())))
+        self.counts["crashes of a clock"] += 1
 
     def check(self, journal):
         """The steps that are told are the first ones. The clocks took these, each once and in order, or these and the one that is begun."""
         if sorted(journal.told) != list(range(len(journal.told))):
             raise Broken(f"told {sorted(journal.told)} of {len(journal.steps)}")
+        self.is_taken = False
         for clock in self.observed:
             own = [place for place, step in enumerate(journal.steps) if step["clock"] == clock.clock.identity]
             told = [self.change(journal, place) for place in own if place in journal.told]
             also = [self.change(journal, place) for place in own if place == journal.begun]
             new = clock.new()
+            self.is_taken |= new != told
             if new != told and new != told + also:
                 raise Broken(f"{clock.clock.name} took {new}; told {told}, begun {also}, journal {journal.place()}")
         for place, note in journal.told.items():
@@ -144,40 +121,24 @@ class Changes:
         is_refused = any(note["outcome"] != "done" for note in journal.told.values())
         if journal.begun is not None or journal.end != ("refused" if is_refused else "complete") or (not is_refused and not is_whole):
             raise Broken(f"it ended as {journal.end}, with {len(journal.told)} of {len(journal.steps)} told")
-        for path in glob.glob(os.path.join(self.work, "state/ptpm/*.apply")):
-            with open(path) as mark:
-                if not Journal(mark.read().strip()).end:        # one that ended may have been killed before it removed its marks
-                    raise Broken(f"{path} names an apply that is open")
-        self.counts[f"{journal.end}"] += 1
-        self.counts["steps told"] += len(journal.told)
+        self.check_marks()
+        self.count_end(journal)
         for clock in self.observed:
             clock.count()
 
-    def start(self, words, **environment):
-        """A run of the program."""
-        environment = {**os.environ, "XDG_STATE_HOME": os.path.join(self.work, "state"), **environment}
-        with open(os.path.join(self.work, "said"), "a") as said:
-            return subprocess.Popen(
-                [*within(self.network.near), os.path.join(HOME, "manage"), "-i", "e1", "-w", "100", "-t", "40", *words],
-                stdout=said, stderr=said, env=environment)
 
-    def end(self, began):
-        counted = ", ".join(f"{what} {count}" for what, count in sorted(self.counts.items()))
-        killed = ", ".join(f"{place} {count}" for place, count in sorted(self.places.items()))
-        print(f"{counted}; killed at: {killed}; {time.monotonic() - began:.0f} s")
+class Kills:
+    """Plans of a site are applied, killed at random times, resumed and rolled back. Between two runs a clock may crash."""
 
-
-class Kills(Changes):
-    """They are applied, killed at random times, resumed and rolled back."""
-
-    def __init__(self, work, seed):
-        super().__init__(work, seed, LOSS, REPEAT)
+    def __init__(self, site, longest_apply, longest_resume):
+        self.site, self.chance, self.counts = site, site.chance, site.counts
+        self.longest = {"apply": longest_apply, "rollback": longest_apply, "resume": longest_resume}
 
     def life(self, words, seconds, before):
         """A run, killed this long after its journal is there; its status, or None if it was killed."""
-        process = self.start(words)
+        process = self.site.start(words)
         end = time.monotonic() + PATIENCE
-        while process.poll() is None and time.monotonic() < end and (words[0] != "resume" and self.journals() == before):
+        while process.poll() is None and time.monotonic() < end and (words[0] != "resume" and self.site.journals() == before):
             time.sleep(0.002)
         try:
             return process.wait(seconds)
@@ -188,38 +149,41 @@ class Kills(Changes):
 
     def until_end(self, words):
         """Runs and kills until there is a journal that has an end; the journal, or None if there was nothing to do."""
-        before, journal = self.journals(), None
+        before, journal = self.site.journals(), None
         for life in range(MOST_LIVES):
-            seconds = PATIENCE if life > PATIENT_AFTER else self.chance.uniform(0, 0.4) if words[0] != "resume" else self.chance.uniform(0.02, 1.0)
+            seconds = PATIENCE if life > PATIENT_AFTER else self.chance.uniform(0, self.longest[words[0]])
             status = self.life(words, seconds, before)
             self.counts["kills"] += status is None
             time.sleep(SETTLED)
-            made = self.journals() - before
+            made = self.site.journals() - before
             journal = Journal(made.pop()) if made else None
             if status is None:
-                self.places["no journal" if journal is None else journal.place()] += 1
+                self.site.places["no journal" if journal is None else journal.place()] += 1
             if journal is None and status in (0, 2, 5):
                 return None
             if journal is not None:
-                self.check(journal)
+                self.site.check(journal)
+                self.site.check_report(journal)
                 if journal.end:
                     return journal
+                if self.chance.random() < CRASHES:
+                    self.site.crash()
                 words = ["resume"]
         raise Broken(f"{words} did not end in {MOST_LIVES} runs")
 
     def round(self):
-        before = self.journals()
-        journal = self.until_end(["apply", self.plan()])
+        before = self.site.journals()
+        journal = self.until_end(["apply", self.site.plan()])
         self.counts["plans"] += 1
         if journal is None:
             return
-        self.check_end(journal)
+        self.site.check_end(journal)
         if self.chance.random() < 1 / 3 and journal.told:
-            name = os.path.basename((self.journals() - before).pop())[:-len(".journal")]
+            name = os.path.basename((self.site.journals() - before).pop())[:-len(".journal")]
             back = self.until_end(["rollback", name])
             self.counts["rollbacks"] += 1
             if back is not None:
-                self.check_end(back)
+                self.site.check_end(back)
 
     def run(self, kills):
         began = time.monotonic()
@@ -227,14 +191,19 @@ class Kills(Changes):
             while self.counts["kills"] < kills:
                 self.round()
         finally:
-            self.network.end()
-        self.end(began)
+            self.site.end()
+        self.site.tell(began)
+
+
+def kill_at_clocks(work, kills, seed):
+    Kills(Changes(work, seed, TROUBLES), 0.4, 1.0).run(kills)
 
 
 class Points(Changes):
     """An apply of three steps, or four with one that is refused, whose journal is made here. Its first `resume` is killed at one of the calls
-    by which it saves and sends: at the first, in the next apply at the second, and so on. The next three are killed at others, and the
-    last is not."""
+    by which it saves and sends: at the first, in the next apply at the second, and so on. At the next three such calls it is
+    killed again, or the call fails; the last run is left alone. At some kills the machine loses its power too (dies.c). Every second apply
+    begins without files of sessions."""
 
     def __init__(self, work, seed):
         super().__init__(work, seed)
@@ -250,6 +219,8 @@ class Points(Changes):
 
     def make(self, call):
         """The path of a new journal."""
+        for path in glob.glob(os.path.join(self.work, "state/ptpm/*-1.*")) if call % 2 == 0 else []:
+            os.remove(path)
         value = f"{call % 100:02x}00"
         steps = [self.step(0, 0, 0x2005, value), self.step(1, 0, 0x2006, value), self.step(1, 1, 0x200B, f"{254 + call % 2:02x}00")]
         if call % 4 == 0:
@@ -261,33 +232,36 @@ class Points(Changes):
             file.write(f"{zlib.crc32(text.encode()):08x} {text}\n")
         return path
 
-    def is_killed_at(self, call):
+    def is_killed_at(self, call, by):
         """Whether a `resume` was killed at this call; 0 is none."""
-        process = self.start(["resume"], LD_PRELOAD=os.path.join(HOME, "dies.so"), DIES_AT=str(call), DIES_FROM="start")
-        is_killed = process.wait(PATIENCE) in (-signal.SIGKILL, 128 + signal.SIGKILL)
+        environment = {"LD_PRELOAD": os.path.join(HOME, "dies.so"), "DIES_AT": str(call), "DIES_FROM": "start", by: "1"}
+        is_killed = self.start(["resume"], **environment).wait(PATIENCE) in (-signal.SIGKILL, 128 + signal.SIGKILL)
         self.counts["kills"] += is_killed
+        self.counts["power cuts"] += is_killed and by == LOSES
         return is_killed
 
     def point(self, call):
         """Whether the apply was killed at this call, and so goes on beyond it."""
         path = self.make(call)
-        is_killed = self.is_killed_at(call)
+        is_killed = self.is_killed_at(call, self.chance.choice(ENDS[:2]))
         for at in (None, *(self.chance.randrange(1, MOST_CALLS) for _ in range(3)), 0):
             if at is not None:
-                self.is_killed_at(at)
+                self.is_killed_at(at, self.chance.choice(ENDS))
             time.sleep(SETTLED)
             journal = Journal(path)
             self.places[journal.place()] += 1
             self.check(journal)
+            self.check_report(journal)
         self.check_end(journal)
         return is_killed
 
-    def run(self):
+    def run(self, kills=None):
+        """Kills at each call, or as many kills as are asked."""
         began, call = time.monotonic(), 1
         try:
-            while self.point(call):
+            while self.point(call) and (kills is None or self.counts["kills"] < kills):
                 call += 1
         finally:
-            self.network.end()
+            self.end()
         self.counts["calls"] = call - 1
-        self.end(began)
+        self.tell(began)

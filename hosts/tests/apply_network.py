@@ -1,21 +1,20 @@
-"""A network for hosts/tests/apply: clock.c in namespaces, on links that are bridges, and a manager's end whose frames this process moves. It
-may lose and repeat them, hold one until something else is done, and keep what passed on to the clocks. It needs root and /dev/net/tun."""
+"""A network for hosts/tests/apply: clock.c in namespaces, on links that are bridges, a manager's end whose frames this process moves
+(apply_link.py), and an observer beside each clock (apply_observer.py). It needs root and /dev/net/tun."""
 import fcntl
 import os
-import random
+import pty
 import re
-import select
 import struct
 import subprocess
-import threading
 import time
+
+from apply_link import Middle
+from apply_observer import Observer
 
 HOME = os.path.dirname(os.path.dirname(os.path.abspath(__file__)))
 MANAGER, OTHER = "020000fffe000010/1", "0a0000fffe000099/1"
 MANAGERS_STATION = "02:00:00:00:00:10"
-GET, SET = 0, 1
 TUNSETIFF, IFF_TAP, IFF_NO_PI = 0x400454CA, 2, 0x1000
-HEADERS = 42                        # of Ethernet, IPv4 and UDP
 ANSWERED_NEW = "5"
 NUMBERED = "5678"                   # answers of a clock to what a manager of it asks it by itself
 
@@ -42,64 +41,6 @@ def tap(name, namespace):
     return device
 
 
-class Request:
-    """A management message for the clocks, of the frame that has it."""
-
-    def __init__(self, frame):
-        message = frame[HEADERS:]
-        self.whole = len(frame) - HEADERS
-        self.source = f"{message[20:28].hex()}/{int.from_bytes(message[28:30], 'big')}"
-        self.number = int.from_bytes(message[30:32], "big")
-        self.target = message[34:42].hex()
-        self.action = message[46] & 15
-        self.id = int.from_bytes(message[52:54], "big")
-        self.field = message[54:]
-
-
-def request_of(frame):
-    """The request in a frame, or None."""
-    is_udp = frame[12:14] == b"\x08\x00" and frame[23] == 17 and frame[36:38] == b"\x01\x40"
-    is_request = is_udp and len(frame) >= HEADERS + 54 and frame[HEADERS] & 15 == 13 and frame[HEADERS + 46] & 15 in (0, 1, 3)
-    return Request(frame) if is_request else None
-
-
-class Middle(threading.Thread):
-    """Moves frames between the manager's end and the first link."""
-
-    def __init__(self, near, far, loss, repeat, seed):
-        super().__init__(daemon=True)
-        self.near, self.far, self.loss, self.repeat = near, far, loss, repeat
-        self.chance = random.Random(seed)
-        self.is_mute = False                # answers are lost
-        self.before = None                  # called with each request before it passes on
-        self.passed = []                    # requests that passed on, in order
-        self.is_over = False
-
-    def copies(self):
-        if self.chance.random() < self.loss:
-            return 0
-        return 2 if self.chance.random() < self.repeat else 1
-
-    def to_clocks(self, frame):
-        request = request_of(frame)
-        if request is not None and self.before is not None:
-            self.before(request)
-        for _ in range(self.copies()):
-            os.write(self.far, frame)
-            if request is not None:
-                self.passed.append(request)
-
-    def run(self):
-        while not self.is_over:
-            for end in select.select([self.near, self.far], [], [], 0.1)[0]:
-                frame = os.read(end, 2048)
-                if end == self.near:
-                    self.to_clocks(frame)
-                elif not self.is_mute:
-                    for _ in range(self.copies()):
-                        os.write(self.near, frame)
-
-
 class Clock:
     """A clock as a case describes it, and its process."""
 
@@ -117,19 +58,20 @@ class Clock:
 class Network:
     """These clocks. A link is a list of ends, `a.1` for a port and `m` for the manager; without links all are on one."""
 
-    def __init__(self, work, clocks, links=None, loss=0.0, repeat=0.0, seed=0):
+    def __init__(self, work, clocks, links=None, troubles=None, seed=0):
         self.work, self.clocks = work, {clock.name: clock for clock in clocks}
         self.links = links or [["m"] + [f"{clock.name}.1" for clock in clocks]]
         self.lead = f"ptpm-apply-{os.getpid()}"
+        self.middle = self.observer = None
         self.hub, self.near, self.beside = (f"{self.lead}-{end}" for end in ("hub", "m", "o"))
         os.makedirs(work, exist_ok=True)
         try:
-            self.build(loss, repeat, seed)
+            self.build(troubles, seed)
         except BaseException:
             self.end()
             raise
 
-    def build(self, loss, repeat, seed):
+    def build(self, troubles, seed):
         for clock in self.clocks.values():
             clock.namespace = f"{self.lead}-{clock.name}"
         for name in [self.hub, self.near, self.beside] + [clock.namespace for clock in self.clocks.values()]:
@@ -138,22 +80,23 @@ class Network:
         for number in range(len(self.links)):
             must("ip", "-n", self.hub, "link", "add", f"link{number}", "type", "bridge", "mcast_snooping", "0")
             must("ip", "-n", self.hub, "link", "set", f"link{number}", "up")
-        self.connect_manager(loss, repeat, seed)
+        self.connect_manager(troubles, seed)
         self.connect(self.beside, "e1", "other", 0, 99)
         for number, clock in enumerate(self.clocks.values()):
             for port in range(1, clock.ports + 1):
                 self.connect_port(clock, port, number)
+        self.observer = Observer({clock.name: clock.namespace for clock in self.clocks.values()}, "e1")
         for clock in self.clocks.values():
             self.start(clock)
 
-    def connect_manager(self, loss, repeat, seed):
+    def connect_manager(self, troubles, seed):
         near, far = f"pn{os.getpid()}", f"pf{os.getpid()}"
         ends = tap(near, self.near), tap(far, self.hub)
         must("ip", "-n", self.near, "link", "set", near, "name", "e1", "address", MANAGERS_STATION, "up")
         must("ip", "-n", self.near, "addr", "add", "10.9.0.10/24", "dev", "e1")
         must("ip", "-n", self.near, "route", "add", "224.0.0.0/4", "dev", "e1")
         must("ip", "-n", self.hub, "link", "set", far, "master", "link0", "up")
-        self.middle = Middle(*ends, loss, repeat, seed)
+        self.middle = Middle(*ends, troubles, seed)
         self.middle.start()
 
     def connect(self, namespace, device, name, link, address):
@@ -176,14 +119,25 @@ class Network:
             observed.writelines(f"port {port} state 9\n" for port in clock.slaves)
         managers = ["-m", OTHER] + (["-m", MANAGER] if clock.has_rights else [])
         with open(clock.log, "a") as log:
+            before = log.tell()
             clock.process = subprocess.Popen(
                 [*within(clock.namespace), os.path.join(HOME, "clock"), "-v", "--user", "root", "-s", lead + ".state", "-o",
                  lead + ".observed", *managers, clock.identity] + [f"e{port}" for port in range(1, clock.ports + 1)],
                 stdout=log, stderr=log)
-        while "managers" not in open(clock.log).read() and "1 manager" not in open(clock.log).read():
+        said = ""
+        while "managers" not in said and "1 manager" not in said:
             if clock.process.poll() is not None:
-                raise OSError(open(clock.log).read())
+                raise OSError(said)
             time.sleep(0.01)
+            with open(clock.log) as log:
+                log.seek(before)
+                said = log.read()
+
+    def crash(self, clock):
+        """It is killed, and started again on the state that it saved."""
+        clock.process.kill()
+        clock.process.wait()
+        self.start(clock)
 
     def stop(self, clock):
         clock.process.terminate()
@@ -192,9 +146,25 @@ class Network:
     def manage(self, *words, state="state", namespace=None, **more):
         """A run of the manager's program."""
         where = self.near if namespace is None else namespace
-        top = os.path.dirname(HOME)
-        environment = {**os.environ, "XDG_STATE_HOME": os.path.join(self.work, state), "PATH": os.environ["PATH"] + ":" + top}
-        return run(*within(where), os.path.join(HOME, "manage"), "-i", "e1", *words, env=environment, **more)
+        return run(*within(where), os.path.join(HOME, "manage"), "-i", "e1", *words, env=self.environment(state), **more)
+
+    def environment(self, state):
+        return {**os.environ, "XDG_STATE_HOME": os.path.join(self.work, state), "PATH": os.environ["PATH"] + ":" + os.path.dirname(HOME)}
+
+    def manage_at_terminal(self, *words):
+        """Such a run whose standard error is a terminal: its status, and what is shown there."""
+        ours, theirs = pty.openpty()
+        process = subprocess.Popen([*within(self.near), os.path.join(HOME, "manage"), "-i", "e1", *words], stdout=subprocess.DEVNULL,
+                                   stderr=theirs, env=self.environment("state"))
+        os.close(theirs)
+        shown = b""
+        try:
+            while octets := os.read(ours, 65536):
+                shown += octets
+        except OSError:                     # its end has no reader any more
+            pass
+        os.close(ours)
+        return process.wait(60), shown.decode()
 
     def set(self, name, number, *words):
         """Another manager has the clock carry a SET out. `number` is the port, 0 if it is none."""
@@ -210,11 +180,9 @@ class Network:
         return ", ".join(done.stdout.splitlines()) if done.returncode == 0 else None
 
     def end(self):
-        if hasattr(self, "middle"):
-            self.middle.is_over = True
-            self.middle.join()
-            os.close(self.middle.near)
-            os.close(self.middle.far)
+        for thread in (self.middle, self.observer):
+            if thread is not None:
+                thread.end()
         for clock in self.clocks.values():
             if clock.process is not None:
                 clock.process.kill()

@@ -73,6 +73,11 @@ class Site:
     def lines(self):
         return self.read(0).splitlines()
 
+    def answers(self):
+        """The answers among the lines of a collection, each without the words before it."""
+        datagrams = [line.split()[-1] for line in self.lines() if not line.startswith("#")]
+        return [datagram for datagram in datagrams if datagram[1] == "d" and datagram[93] == "2"]
+
     def said(self):
         return self.read(1)
 
@@ -85,8 +90,8 @@ def strangers_without_end():
     """5,000 clocks answer the first request, where 4,096 have room. No other is read."""
     many = [identity(number) for number in range(5000)]
     site = Site(lambda request: [answer(request, clock) for clock in many], "-t", "4000", "-a", "1", "collect", most=1)
-    clocks = {line[40:56] for line in site.lines()}
-    check("of 5,000 clocks 4,096 are collected", site.status == 0 and len(clocks) == 4096 and len(site.lines()) == 4096)
+    clocks = {line[40:56] for line in site.answers()}
+    check("of 5,000 clocks 4,096 are collected", site.status == 0 and len(clocks) == 4096 and len(site.answers()) == 4096)
     check("the others are counted", "there is room for 4096 clocks and 65536 answers: 904 more answers are left out" in site.said())
     check("where there is no room for requests it ends all the same", site.took < 60 * SLOW)
 
@@ -118,7 +123,7 @@ def strangers_that_never_end():
         return []
 
     site = Site(reply, "-t", "50", "-a", "3", "collect", idle=lambda: [answer(asked[0], identity(next(count)))])
-    check("a silence that never comes is not waited for", site.status == 0 and site.lines() and site.took < 10 * SLOW)
+    check("a silence that never comes is not waited for", site.status == 0 and site.answers() and site.took < 10 * SLOW)
 
 
 def junk():
@@ -140,15 +145,15 @@ def junk():
         yield good + b"what follows is passed over"
 
     site = Site(reply, "-t", "1000", "collect")
-    check("junk is no answer", site.status == 0 and len(site.lines()) == 6 and {line[40:56] for line in site.lines()} == {ME})
-    check("what follows a message is not printed", all(len(line) == 2 * int(line[4:8], 16) for line in site.lines()))
+    check("junk is no answer", site.status == 0 and len(site.answers()) == 6 and {line[40:56] for line in site.answers()} == {ME})
+    check("what follows a message is not printed", all(len(line) == 2 * int(line[4:8], 16) for line in site.answers()))
 
 
 def one_identity():
     """Two clocks with one identity, each answer twice; then what differs is printed once more, and no copy."""
     me = bytes.fromhex(ME)
     site = Site(lambda request: 2 * [answer(request, me), answer(request, me, priority=7)], "-t", "1000", "collect")
-    check("the answers of two clocks with one identity are printed", site.status == 0 and len(site.lines()) == 8)
+    check("the answers of two clocks with one identity are printed", site.status == 0 and len(site.answers()) == 8)
 
 
 def ids_that_lack():
@@ -187,7 +192,7 @@ def signals_to_collect():
             super().__init__(reply, *words)
 
     held = Held("-t", "5000", "collect")
-    check("SIGINT ends a collection, and what came is printed", held.status == 130 and len(held.lines()) == 5
+    check("SIGINT ends a collection, and what came is printed", held.status == 130 and len(held.answers()) == 5
           and "ended by a signal" in held.said() and held.took < 5 * SLOW and not has_own_socket())
 
 

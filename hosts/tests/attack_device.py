@@ -301,7 +301,7 @@ def changes_that_are_not_saved():
     disk = Disk(clock, SLOWLY)
     peer.ask(set_of(7, 100))
     check("it runs", wait_until(lambda: len(runs()) == 1))
-    check("nothing is answered before it is saved", answer_at(peer, 0.1) is None)
+    check("nothing is answered before it is saved", answer_at(peer, 0.1 / SLOW) is None)     # the disk is no slower for a slow clock
     clock.end(signal.SIGKILL)
     disk.mend()
     clock = Clock(*words, env=TRACED)

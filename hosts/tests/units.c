@@ -1,6 +1,6 @@
 /* Tests of what the hosts decide without a socket. They try the library's token buckets, and its table of messages that were
-   passed on. They try where a message is in a frame, and what the image of a session says. They try the seal of a file, and
-   TimeIntervals and JSON as texts. Prints what does not hold, and `units: N passed, M failed`. */
+   passed on. They try where a message is in a frame, and what the image of a session says. They try the seal of a file, TimeIntervals
+   and JSON as texts, and that a wait takes its time. Prints what does not hold, and `units: N passed, M failed`. */
 #define _GNU_SOURCE
 #include "checking.h"
 #include "ethernet.h"
@@ -8,10 +8,12 @@
 #include "ptpm.h"
 #include "seal.h"
 #include "session_image.h"
+#include "stopping.h"
 #include "text.h"
 #include <stdbool.h>
 #include <stdlib.h>
 #include <string.h>
+#include <time.h>
 
 enum { NOW = 5000, TIME = 1000, MESSAGE = 54, ERROR_STATUS = 60, PLACES = 4096 };
 
@@ -160,8 +162,7 @@ static void images(void) {
     size_t size = sizeof octets - 2;
     struct session_image image = read_image(octets, size);
     check(memcmp(image.manager, octets + 12, 8) == 0 && memcmp(image.target, octets + 22, 8) == 0, "the clocks of an image");
-    check(image.manager_port == 1 && image.ports == 2 && image.first == 7 && image.hops == 1, "the other members of a session");
-    check(image.domain == 4, "and its domain");
+    check(image.manager_port == 1 && image.ports == 2 && image.first == 7, "the other members of a session");
     check(image.is_under_way && image.action == 0 && image.id == 0x2005 && image.size == 0, "what is under way");
     check(image.port == 0, "an id of the clock names no port");
     memcpy(octets + 52, (const uint8_t[]){ 1, 3, 0x20, 0x0e, 0, 2, 0, 2 }, 8);
@@ -266,6 +267,20 @@ static void json(void) {
           "characters that control in lines of JSON");
 }
 
+/* How many milliseconds a wait for nothing takes. */
+static int64_t waited(int64_t most) {
+    struct timespec began, ended;
+    clock_gettime(CLOCK_MONOTONIC, &began);
+    int found = wait_for(NULL, 0, most);
+    clock_gettime(CLOCK_MONOTONIC, &ended);
+    return found != 0 ? -1 : (int64_t)(ended.tv_sec - began.tv_sec) * 1000 + (ended.tv_nsec - began.tv_nsec) / 1000000;
+}
+
+static void waits(void) {
+    check(waited(30) >= 30, "a wait of 30 milliseconds");
+    check(waited(1020) >= 1020, "a wait of more than a second");
+}
+
 int main(void) {
     buckets();
     passing_on();
@@ -275,6 +290,7 @@ int main(void) {
     seals();
     intervals();
     json();
+    waits();
     free(printed);
     return print_checks("units");
 }

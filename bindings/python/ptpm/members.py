@@ -37,7 +37,7 @@ def _has_members(pairs: Sequence[Tuple[str, str]]) -> bool:
 
 def _named(kind: Union[Type[PortState], Type[DelayMechanism]]) -> Callable[[str], Member]:
     """What reads a word as one that has a name, or as its number if it has none."""
-    return lambda text: int(text) if text.isdigit() else kind[text]
+    return lambda text: int(text, 0) if text[0].isdigit() else kind[text]
 
 
 # How the value of a member of this name is read.
@@ -108,7 +108,7 @@ def _zeros(number: int) -> List[Tuple[str, str]]:
 # What a SET takes for a member of this name that is no flag, and for any other.
 _WANTED = {
     "userDescription": f"a text of at most {MOST_TEXT} octets in UTF-8",
-    "delayMechanism": "E2E, P2P, NO_MECHANISM or a number from 0 to 255",
+    "delayMechanism": f"{', '.join(DelayMechanism.__members__)} or a number from 0 to 255",
     "currentUtcOffset": "a number from -32768 to 32767",
     "versionNumber": "a number from 0 to 15, or 0x and two hexadecimal digits",
 }

@@ -17,6 +17,7 @@ from . import seal
 from .answers import Error
 from .errors import PtpmError
 from .identity import Identity, IdentityLike, PortIdentity, PortIdentityLike
+from .journal import may_be_open
 
 _TURN = 60.0
 _TRY_AGAIN = 0.01
@@ -150,7 +151,8 @@ class SessionFile:
         return os.path.samestat(found, os.fstat(lock))
 
     def _refuse_mark(self) -> None:
-        """Refuses a session that is marked by an apply. The mark beside its file has the journal's path, and stays."""
+        """Refuses a session that is marked by an apply that is open. The mark beside its file has the journal's path. If that apply has
+        an end, or its journal is gone, the mark is removed."""
         mark = f"{self.path}.apply"
         try:
             opened = os.open(mark, os.O_RDONLY | os.O_NOFOLLOW | os.O_NONBLOCK | os.O_CLOEXEC)
@@ -164,7 +166,9 @@ class SessionFile:
             raise OpenApplyError(mark, None) from None
         finally:
             os.close(opened)
-        raise OpenApplyError(mark, journal)
+        if may_be_open(journal):
+            raise OpenApplyError(mark, journal)
+        os.unlink(mark)
 
     def _read(self) -> Optional[bytes]:
         try:

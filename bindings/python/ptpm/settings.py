@@ -32,10 +32,12 @@ class PortState(IntEnum):
 
 
 class DelayMechanism(IntEnum):
-    """A delayMechanism (table 21)."""
+    """A delayMechanism (table 21). No clock of ptpm has COMMON_P2P or SPECIAL."""
 
     E2E = header.PTPM_DELAY_E2E
     P2P = header.PTPM_DELAY_P2P
+    COMMON_P2P = 3
+    SPECIAL = 4
     NO_MECHANISM = header.PTPM_DELAY_NONE
 
 

@@ -61,9 +61,9 @@ def _run(words: Sequence[str], given: str, allowed: Sequence[int], limit: Option
 
 
 def _collected(words: Sequence[str], limit: Optional[float]) -> Tuple[List[str], List[str]]:
-    """The answers of all clocks to six GETs, each a line, and what the program says beside them."""
+    """The lines of a collection: what was asked, what clocks answered, and what they send by themselves. And what the program says."""
     printed, _, said = _run([_program("ptpm-manage", "hosts/manage"), *words, "collect"], "", (0,), limit)
-    return printed.split(), said
+    return printed.splitlines(), said
 
 
 def _shown(lines: Iterable[str], notes: Sequence[str], limits: Sequence[str]) -> Site:

@@ -22,6 +22,14 @@ from ptpm.__main__ import _parser as command_line
 from . import CLOCK, MANAGER, TOP, Folder
 
 
+HEAD = '{"version":1,"name":"n","manager":"020000fffe000010/1","steps":[]}'
+
+
+def journal_line(text: str) -> str:
+    """A line of the journal of an apply."""
+    return f"{zlib.crc32(text.encode()):08x} {text}\n"
+
+
 class Both(ptpm.Transport):
     """A way to two clocks of one identity."""
 
@@ -319,8 +327,8 @@ class Asking(Folder):
         ):
             with open(path, "wb") as file:
                 file.write(octets)
-            with ptpm.SessionFile(MANAGER, CLOCK, path) as held:
-                self.assertRaisesRegex(ptpm.Error, why, ptpm.Session, ptpm.SessionSettings(MANAGER, CLOCK), held)
+            with self.assertRaisesRegex(ptpm.Error, why), ptpm.SessionFile(MANAGER, CLOCK, path) as held:
+                ptpm.Session(ptpm.SessionSettings(MANAGER, CLOCK), held)
             with open(path, "rb") as file:
                 self.assertEqual(file.read(), octets)
         os.unlink(path)
@@ -395,6 +403,9 @@ class Asking(Folder):
 
     def test_a_file_that_an_apply_has_marked_is_refused(self) -> None:
         path, journal = f"{self.folder}/session", f"{self.folder}/apply/20261127T170000.journal"
+        os.mkdir(f"{self.folder}/apply")
+        with open(journal, "w", encoding="utf-8") as file:
+            file.write(journal_line(HEAD))
         with open(f"{path}.apply", "w", encoding="utf-8") as mark:
             mark.write(f"{journal}\n")
         for _ in range(2):
@@ -416,6 +427,21 @@ class Asking(Folder):
         with ptpm.SessionFile(MANAGER, CLOCK, path) as file:
             self.assertIsNone(file.octets)
         self.assertEqual(ptpm.get(self.way, CLOCK, "PRIORITY1").members, {"priority1": 128})
+
+    def test_the_mark_of_an_apply_that_has_ended_is_removed(self) -> None:
+        path, journal, mark = (f"{self.folder}/{name}" for name in ("session", "the.journal", "session.apply"))
+        head, begun, end = (journal_line(text) for text in (HEAD, '{"begun":0,"number":7}', '{"end":"complete","step":null}'))
+        cases = [(None, False), (head, True), (head + begun + end, False), (head + end[:-1], True), (head + "00" + end, True)]
+        for lines, is_open in cases:
+            for name, text in ((journal, lines), (mark, f"{journal}\n")):
+                if text is not None:
+                    with open(name, "w", encoding="utf-8") as file:
+                        file.write(text)
+            if is_open:
+                self.assertRaises(ptpm.OpenApplyError, ptpm.SessionFile, MANAGER, CLOCK, path)
+            else:
+                ptpm.SessionFile(MANAGER, CLOCK, path).close()
+            self.assertEqual(os.path.exists(mark), is_open)
 
     def test_a_file_keeps_one_session_at_a_time(self) -> None:
         settings = ptpm.SessionSettings(MANAGER, CLOCK)

@@ -134,9 +134,9 @@ impl<T: ReplyTable + Drop> Agent<T> {
         self.sets.observe(clock, ports)
     }
 
-    /// Carries out a request of the clock's owner, as one of a manager with every right: by a command line, or by another
-    /// protocol. The answer has what that manager would be told. What is kept of each manager stays. So a copy of its latest
-    /// request still gets the reply of its time. Takes no memory.
+    /// Carries out a request of the clock's owner, as one of a manager with every right. It may come by a command line, or by
+    /// another protocol. The reply is the one that this manager would get. What is kept of each manager stays. So a copy of
+    /// its latest request still gets the reply of its time. Takes no memory.
     pub fn carry_out_here(&mut self, request: &Request<'_>) -> Reply
         requires action { IsRequestAction request.now.action }
         requires port { IsTargetPort request.now.port self.old.sets }

@@ -1,6 +1,7 @@
 //! The command line.
 
 use crate::plan::{PlanShown, PlanWords, plan};
+use crate::site::{Shown, SiteWords, show_site};
 use clap::error::ErrorKind;
 use clap::{Arg, ArgAction, ArgGroup, ArgMatches, Command, value_parser};
 use ptpm_commands::answer::{answer, answer_lines};
@@ -9,12 +10,13 @@ use ptpm_commands::make::{RequestWords, make, make_with_members};
 use ptpm_commands::show::{Values, show_as, show_good_lines_as, show_lines_as};
 use ptpm_commands::{Fault, tell};
 use ptpm_draw::{Chosen, draw};
+use ptpm_expected::profile::Profile;
 use ptpm_findings::check_script;
 use ptpm_plan::Form as PlanForm;
 use ptpm_schedule::{Chances, schedule};
 use ptpm_site::limits::Limits;
 use ptpm_site_report::names::Names;
-use ptpm_site_report::{Form, Options, report_named, report_standing};
+use ptpm_site_report::{Form, Options};
 use ptpm_world::{ScriptError, run_script};
 use std::alloc::{AllocError, Global};
 use std::fmt;
@@ -30,6 +32,9 @@ const MILLISECOND: u64 = 1_000_000;
 
 /// How many seconds TAI is before UTC, since 2017.
 const TAI_UTC: i16 = 37;
+
+/// How many seconds a port may take to settle without `--settle` (this project's profile).
+const SETTLE: u32 = 10;
 
 /// Does what the words say, and answers the exit status. The first word is the program's name. 0: it was done.
 /// 1: a fault, with the line `ptpm: FAULT` on `err`, or `check` wrote faults on `out`. 2: the words were refused,
@@ -165,31 +170,9 @@ fn carry_out<F: Files, R: Read, O: Write, E: Write>(
         Task::Run => played(run_script(alloc, reader, out)),
         Task::Schedule(chances) => played(schedule(alloc, chances, reader, out, err)),
         Task::Draw(chosen) => played(draw(alloc, chosen, reader, out)),
-        Task::Site(shown, names) => show_site(alloc, shown, &names, reader, out),
+        Task::Site(words) => Ok(show_site(alloc, files, &words, reader, out, err)?),
         Task::Plan(words) => Ok(plan(alloc, files, words, reader, out, err)?),
         Task::Check => check(alloc, reader, out),
-    }
-}
-
-/// Shows a site, and answers the exit status.
-fn show_site<R: Read, O: Write>(
-    alloc: Global,
-    shown: Shown,
-    names: &Names,
-    reader: &mut R,
-    out: &mut O,
-) -> Result<u8, Failure> {
-    match shown {
-        Shown::ByPlugin(limits) => {
-            Ok(report_standing(alloc, limits, names, reader, out)?.status())
-        }
-        Shown::InForm(options) => {
-            let came = report_named(alloc, options, names, reader, out)?;
-            Ok(match options.form {
-                Form::OpenMetrics => came.status_of_numbers(),
-                _ => came.status(),
-            })
-        }
     }
 }
 
@@ -231,16 +214,8 @@ enum Task<'a> {
     Draw(Chosen),
     /// `plan`, with answers on standard input.
     Plan(PlanWords<'a>),
-    /// `site`, with answers on standard input, and the names of clocks.
-    Site(Shown, Names),
-}
-
-/// How a site is shown.
-#[derive(Clone, Copy)]
-enum Shown {
-    InForm(Options),
-    /// As a plugin of Nagios does.
-    ByPlugin(Limits),
+    /// `site`, with answers on standard input.
+    Site(SiteWords<'a>),
 }
 
 /// What `answer` or `show` takes.
@@ -267,6 +242,10 @@ fn parse<'a>(alloc: Global, words: &'a [&'a str]) -> Result<Task<'a>, clap::Erro
             ErrorKind::InvalidValue,
             "invalid value for '--name <ID=NAME>': not sixteen hexadecimal digits, '=' and a name",
         )?),
+        Err(WithoutTask::BadProfile) => Err(ptpm.error(
+            ErrorKind::InvalidValue,
+            "invalid value for '--profile <NAME>': none of default, st2059-2, aes67 and gptp",
+        )?),
     }
 }
 
@@ -278,6 +257,8 @@ enum WithoutTask {
     BadLimit,
     /// `--name` has no identity, or no name.
     BadName,
+    /// `--profile` has no name of a profile.
+    BadProfile,
 }
 
 /// The task of the words, or why there is none.
@@ -433,7 +414,19 @@ fn site_task<'a>(
             }
         }
     }
-    Ok(Ok(Task::Site(how_shown(values), names)))
+    let profile = match values.get_str("profile") {
+        Some(name) => match Profile::of_name(name) {
+            Some(profile) => Some(profile),
+            None => return Ok(Err(WithoutTask::BadProfile)),
+        },
+        None => None,
+    };
+    Ok(Ok(Task::Site(SiteWords {
+        shown: how_shown(values),
+        names,
+        profile,
+        expect: values.get_str("expect"),
+    })))
 }
 
 /// How `site` shows a site.
@@ -441,6 +434,8 @@ fn how_shown(values: &ArgMatches<'_>) -> Shown {
     let limits = site_limits(values);
     if values.get_flag("nagios") {
         Shown::ByPlugin(limits)
+    } else if values.get_flag("write-expect") {
+        Shown::Inventory
     } else {
         let form = site_form(values);
         Shown::InForm(Options { form, limits })
@@ -468,6 +463,7 @@ fn site_limits(values: &ArgMatches<'_>) -> Limits {
         offset: most_offset(values),
         delay: values.get_one("max-delay"),
         tai_utc: values.get_one("tai-utc").unwrap_or(TAI_UTC),
+        settle: values.get_one("settle").unwrap_or(SETTLE),
     }
 }
 
@@ -704,7 +700,28 @@ fn site_command<'a>(alloc: Global) -> Result<Command<'a>, AllocError> {
         "ID=NAME",
         "A person calls the clock with this identity NAME; may be given more than once",
     );
-    with(site, name.action(ArgAction::Append))
+    with_expectations(alloc, with(site, name.action(ArgAction::Append)))
+}
+
+/// The command, with what a site is held to.
+fn with_expectations<'a>(
+    alloc: Global,
+    site: Result<Command<'a>, AllocError>,
+) -> Result<Command<'a>, AllocError> {
+    let profile = option(
+        alloc,
+        "profile",
+        "NAME",
+        "A member that the profile does not allow is a finding: default, st2059-2, aes67 or gptp",
+    );
+    let site = with(site?, profile)?;
+    let expect = option(
+        alloc,
+        "expect",
+        "FILE",
+        "What is not as the inventory in FILE says is a finding",
+    );
+    with(site, expect)
 }
 
 fn plan_command<'a>(alloc: Global) -> Result<Command<'a>, AllocError> {
@@ -754,7 +771,13 @@ fn with_forms<'a>(alloc: Global, site: Command<'a>) -> Result<Command<'a>, Alloc
         "nagios",
         "Prints a line for Nagios or Icinga, and ends with the status of a plugin",
     );
-    with_one_form(alloc, with(site, plugin)?)
+    let site = with(site, plugin)?;
+    let write = flag(
+        alloc,
+        "write-expect",
+        "Prints the inventory of the site as it is, for --expect",
+    );
+    with_one_form(alloc, with(site, write)?)
 }
 
 /// The command, of whose forms one is taken at most.
@@ -764,7 +787,8 @@ fn with_one_form<'a>(alloc: Global, site: Command<'a>) -> Result<Command<'a>, Al
         .arg("draw")?
         .arg("html")?
         .arg("openmetrics")?
-        .arg("nagios")?;
+        .arg("nagios")?
+        .arg("write-expect")?;
     site.group(forms)
 }
 
@@ -790,7 +814,15 @@ fn with_limits<'a>(alloc: Global, site: Command<'a>) -> Result<Command<'a>, Allo
         "TAI is S seconds before UTC, 37 if it is not given",
     )
     .value_parser(value_parser!(i16));
-    with(site, tai_utc)
+    let site = with(site, tai_utc)?;
+    let settle = option(
+        alloc,
+        "settle",
+        "SECONDS",
+        "A port may take SECONDS to lock or to settle in a state, 10 if it is not given",
+    )
+    .value_parser(value_parser!(u32));
+    with(site, settle)
 }
 
 /// An option `--NAME N` that is an event line's number.

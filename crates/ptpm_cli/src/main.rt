@@ -2,7 +2,9 @@
 #![tactic(auto)]
 
 mod command;
+mod files;
 mod plan;
+mod site;
 
 use std::io;
 use std::io::BufWriter;

@@ -1,11 +1,12 @@
 //! `ptpm plan` at the command line.
 
+use crate::files::{MOST_PLAN, read_file};
 use ptpm_commands::Fault;
 use ptpm_plan::{Form, PlanFault, print_plan, print_questions};
 use std::alloc::Global;
+use std::io;
 use std::io::{Read, Write};
 use std::rt::Files;
-use std::{fs, io};
 
 /// What `plan` is asked for.
 #[derive(Clone, Copy)]
@@ -24,9 +25,6 @@ pub(crate) enum PlanShown {
     Questions,
 }
 
-/// No more is read of a plan file: one octet more than it may have, so that a longer one is refused.
-const MOST_OCTETS: u64 = 262_145;
-
 /// Prints what is asked for, and answers the exit status. That is the plan's, or 2 if the file is refused, with a line on `err`.
 pub(crate) fn plan<F: Files, R: Read, O: Write, E: Write>(
     alloc: Global,
@@ -36,7 +34,7 @@ pub(crate) fn plan<F: Files, R: Read, O: Write, E: Write>(
     out: &mut O,
     err: &mut E,
 ) -> Result<u8, Fault> {
-    let text = match read_file(alloc, files, words.file) {
+    let text = match read_file(alloc, files, words.file, MOST_PLAN) {
         Ok(text) => text,
         Err(error) if error.kind() == io::ErrorKind::OutOfMemory => return Err(Fault::OutOfMemory),
         Err(error) => {
@@ -61,11 +59,4 @@ pub(crate) fn plan<F: Files, R: Read, O: Write, E: Write>(
 fn questions<O: Write>(alloc: Global, text: &[u8], out: &mut O) -> Result<u8, PlanFault> {
     print_questions(alloc, text, out)?;
     Ok(0)
-}
-
-fn read_file<F: Files>(alloc: Global, files: &F, path: &str) -> io::Result<Vec<u8>> {
-    let file = fs::open(files, path)?;
-    let mut text = Vec::new(alloc);
-    file.take(MOST_OCTETS).read_to_end(&mut text)?;
-    Ok(text)
 }

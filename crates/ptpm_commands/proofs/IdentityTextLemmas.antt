@@ -1,9 +1,9 @@
--- Reading an identity: a text without a slash names none.
+-- Reading an identity: a text without the mark names none.
 use Rattle.std.proofs.Common.{arith, ◌≡◌, ℕ, List, [], length, Option, Some, None, refl}
 use Rattle.std.proofs.Math.ListN.{drop_of_length-le}
 use Rattle.std.specs.List.{position_or_len}
 use Rattle.ptpm_script.specs.Numbers.{decimal, decimal_up_to}
-use Rattle.ptpm_commands.specs.IdentityText.{identity, identity_of, is_slash}
+use Rattle.ptpm_commands.specs.IdentityText.{identity, identity_around, is_mark}
 
 no_port : (octets : Option (List ℕ)) (text : List ℕ)
     → text ≡ []
@@ -12,8 +12,8 @@ unfolding decimal
 no_port None text e = refl
 no_port (Some octets) text e = rw e refl
 
-pub no_slash : (text : List ℕ)
-    → position_or_len is_slash text ≡ length text
-    → identity_of text ≡ None
-unfolding identity_of
-no_slash text e = no_port _ _ (drop_of_length-le text (omega (arith, e)))
+pub no_mark : (mark : ℕ) (text : List ℕ)
+    → position_or_len (is_mark mark) text ≡ length text
+    → identity_around mark text ≡ None
+unfolding identity_around
+no_mark mark text e = no_port _ _ (drop_of_length-le text (omega (arith, e)))

@@ -14,10 +14,11 @@ use Rattle.ptpm_commands.specs.declared.faults.Fault.{Fault}
 use Rattle.ptpm_commands.specs.declared.faults.Fault.TheVariants as faults
 use Rattle.ptpm_commands.specs.declared.make.RequestWords.{RequestWords}
 use Rattle.ptpm_commands.specs.IdentityText.{identity_of}
+use Rattle.ptpm_commands.specs.IdText.{id_of}
 use Rattle.ptpm_members.specs.declared.parsing.ParseFault.{ParseFault}
 use Rattle.ptpm_members.specs.Parsed.{parsed}
 use Rattle.ptpm_script.specs.OctetText.{text_of_octets}
-use Rattle.ptpm_script.specs.RequestNames.{action_named, id_named}
+use Rattle.ptpm_script.specs.RequestNames.{action_named}
 
 -- the request; both hop fields are the hops that were asked for
 abbrev pub request_between : RequestWords
@@ -63,7 +64,7 @@ both (Some action) None = Err faults.BadId
 both (Some action) (Some id) = Ok (action, id)
 
 abbrev pub action_and_id : RequestWords → Result (Action × ℕ) Fault
-action_and_id words = both (action_named words.action.now) (id_named words.id.now)
+action_and_id words = both (action_named words.action.now) (id_of words.id.now)
 
 abbrev pub with_value : RequestWords → Action → ℕ → Result (List ℕ) FromHexError → Result Message Fault
 with_value words action id (Ok octets) = request_of words action id octets

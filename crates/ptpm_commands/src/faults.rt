@@ -18,7 +18,7 @@ pub enum Fault {
     /// An action is none of `get`, `set` and `command`.
     #[error("BadAction")]
     BadAction,
-    /// A management id is neither a name of the table nor four hexadecimal digits.
+    /// A management id is neither a name of the table nor four hexadecimal digits, also after `0x`.
     #[error("BadId")]
     BadId,
     /// A datagram's or dataField's text has an odd number of characters, or one that is no hexadecimal digit.
@@ -30,7 +30,8 @@ pub enum Fault {
     /// Members are no dataField of the id.
     #[error("BadMembers {0}")]
     BadMembers(ParseFault),
-    /// An identity is not sixteen hexadecimal digits, a slash and a decimal port from 0 to 65535.
+    /// An identity is not a clockIdentity, a slash or a hyphen, and a decimal port from 0 to 65535. A clockIdentity is sixteen
+    /// hexadecimal digits, also with dots as pmc has them.
     #[error("BadIdentity")]
     BadIdentity,
     /// A datagram holds no management message.

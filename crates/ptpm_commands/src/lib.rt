@@ -6,6 +6,7 @@ mod clock;
 mod columns;
 mod datagram_line;
 mod faults;
+mod id_text;
 mod identity_text;
 pub mod ids;
 pub mod lines;

@@ -261,7 +261,7 @@ impl<R: Read + Drop> Lines<R> {
     }
 
     /// The text of the line that was read last, which has this number.
-    fn text(&self, number: u64) -> Result<&str, Fault>
+    pub fn text(&self, number: u64) -> Result<&str, Fault>
         ensures text { IfOk result (λ text. text.now ≡ latest_line self.now) }
         ensures utf8 { OnOk result (is_utf8 (latest_line self.now) ≡ true) }
         ensures none { OnErr result (is_utf8 (latest_line self.now) ≡ false) }

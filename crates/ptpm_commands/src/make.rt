@@ -6,11 +6,12 @@ ghost use Rattle.ptpm_commands.specs.RequestWords.{IsMade, IsMadeOf, action_and_
 ghost use Rattle.ptpm_codec.specs.Message.{IsRequestAction, IsValid};
 
 use crate::faults::Fault;
+use crate::id_text::id_of;
 use crate::identity_text::identity_of;
 use arrayvec::ArrayVec;
 use ptpm_codec::{Action, Draft, DraftBody, encode, is_data_field};
 use ptpm_members::parse;
-use ptpm_script::{Hexadecimal, action_named, id_named};
+use ptpm_script::{Hexadecimal, action_named};
 use std::alloc::{AllocError, Global};
 use std::io::Write;
 
@@ -19,13 +20,13 @@ use std::io::Write;
 pub struct RequestWords<'a> {
     /// `get`, `set` or `command`.
     pub action: &'a str,
-    /// A name of the table of management ids, or four hexadecimal digits.
+    /// A name of the table of management ids, or four hexadecimal digits, also after `0x`.
     pub id: &'a str,
     /// The dataField in hexadecimal.
     pub value: &'a str,
-    /// sourcePortIdentity.
+    /// sourcePortIdentity: a clockIdentity as ptpm or as pmc prints it, a slash or a hyphen, and a port number.
     pub from: &'a str,
-    /// targetPortIdentity.
+    /// targetPortIdentity, written likewise.
     pub to: &'a str,
     /// sequenceId.
     pub number: u16,
@@ -76,7 +77,7 @@ fn action_and_id(words: &RequestWords<'_>) -> Result<(Action, u16), Fault>
     ensures action { IfOk result (λ r. IsRequestAction r.0) }
 {
     let action = action_named(words.action).ok_or(Fault::BadAction)?;
-    let id = id_named(words.id).ok_or(Fault::BadId)?;
+    let id = id_of(words.id).ok_or(Fault::BadId)?;
     Ok((action, id))
 }
 

@@ -1,8 +1,10 @@
 //! The members that an event changed, as texts: each by its name, with its new value.
 
+ghost use Rattle.ptpm_members.specs.FieldText.{IsPlaced};
+
 use crate::changes::Change;
 use ptpm_data::{DataSets, Layout, Member as DataSetMember, Value};
-use ptpm_members::{Field, Form, Member, fields};
+use ptpm_members::{Field, Member, MemberValue, fields, members_in, value_in};
 use ptpm_script::Hexadecimal;
 use std::alloc::{AllocError, Global};
 use std::fmt;
@@ -30,13 +32,11 @@ const OF_CLOCK: [DataSet; 5] = [
 /// That which has a port's members.
 const OF_PORT: [DataSet; 1] = [DataSet::Port];
 
-/// A member, and the place of its value: in which dataField, from which octet on, and how.
+/// A member, and the data set whose dataField has its value.
 #[derive(Clone, Copy)]
 struct Place {
     member: DataSetMember,
     data_set: DataSet,
-    start: u8,
-    form: Form,
 }
 
 /// The members that an event changed, one a text: those of the clock, and then those of each port, after its number.
@@ -80,14 +80,12 @@ fn push_texts(
 /// The place of the member of this bit.
 fn place_of(bit: u32, data_sets: &[DataSet]) -> Option<Place> {
     for data_set in data_sets {
-        for Field(name, start, form) in fields(layout_of(*data_set)) {
+        for Field(name, _, _) in fields(layout_of(*data_set)) {
             if let Member::DataSet(member) = name {
                 if bit_of(*member) == bit {
                     return Some(Place {
                         member: *member,
                         data_set: *data_set,
-                        start: *start,
-                        form: *form,
                     });
                 }
             }
@@ -127,12 +125,12 @@ fn member_text(
 ) -> Result<String, AllocError> {
     let mut octets = Value::new();
     lay(sets, place.data_set, port, &mut octets);
-    let value = value_at(place.start, place.form, octets.as_slice());
+    let value = value_of(place.member, id_of(place.data_set), octets.as_slice());
     let mut text = String::new(alloc);
     if port != 0 {
         write!(text, "port {port} ")?;
     }
-    write!(text, "{} {value}", place.member)?;
+    write!(text, "{} {}", place.member, ValueText(value))?;
     Ok(text)
 }
 
@@ -150,54 +148,55 @@ fn lay(sets: &DataSets, data_set: DataSet, port: u16, octets: &mut Value) {
     }
 }
 
-/// The value that begins here in a dataField.
-fn value_at(start: u8, form: Form, octets: &[u8]) -> ValueText<'_> {
-    let behind = octets.get(usize::from(start)..).unwrap_or(&[]);
-    let octets = match (form, behind) {
-        (Form::Text, [length, text @ ..]) => first_of(text, usize::from(*length)),
-        _ => first_of(behind, form.size()),
-    };
-    ValueText { form, octets }
-}
-
-/// The first octets, as many as there are up to this number.
-fn first_of(octets: &[u8], count: usize) -> &[u8] {
-    &octets[..octets.len().min(count)]
-}
-
-/// A member's value, of these octets, as a network file has it.
-#[derive(Clone, Copy)]
-struct ValueText<'a> {
-    form: Form,
-    octets: &'a [u8],
-}
-
-impl fmt::Display for ValueText<'_> {
-    fn fmt<W: fmt::Write>(&self, f: &mut fmt::Formatter<W>) -> fmt::Result {
-        match self.form {
-            Form::Signed(_) | Form::TimeInterval => {
-                write!(f, "{}", number_of(sign_of(self.octets), self.octets))
-            }
-            Form::Flag(mask) => write_flag(mask, self.octets, f),
-            Form::EitherFlag => write_flag(3, self.octets, f),
-            Form::ClockIdentity => write!(f, "{}", Hexadecimal(self.octets)),
-            Form::PortIdentity => {
-                let (clock, port) = self.octets.split_at(self.octets.len().min(8));
-                write!(f, "{}/{}", Hexadecimal(clock), number_of(0, port))
-            }
-            Form::Text => write_text(self.octets, f),
-            Form::LowNibble => write!(f, "{}", number_of(0, self.octets) % 16),
-            Form::Unsigned(_) | Form::Hexadecimal(_) | Form::PortState | Form::DelayMechanism => {
-                write!(f, "{}", number_of(0, self.octets))
-            }
-        }
+/// The managementId whose dataField is a data set.
+fn id_of(data_set: DataSet) -> u16 {
+    match data_set {
+        DataSet::UserDescription => 0x0002,
+        DataSet::Default => 0x2000,
+        DataSet::Current => 0x2001,
+        DataSet::Parent => 0x2002,
+        DataSet::TimeProperties => 0x2003,
+        DataSet::Port => 0x2004,
     }
 }
 
-/// Whether one of these bits is set in the first octet.
-fn write_flag<W: fmt::Write>(mask: u8, octets: &[u8], f: &mut fmt::Formatter<W>) -> fmt::Result {
-    let is_set = octets.first().copied().unwrap_or(0) & mask != 0;
-    write!(f, "{is_set}")
+/// The value of a member in an id's dataField, if it is there.
+fn value_of(member: DataSetMember, id: u16, octets: &[u8]) -> Option<MemberValue<'_>> {
+    for field in members_in(id, octets) {
+        if field.0 == Member::DataSet(member) {
+            return Some(value_of_field(*field, octets));
+        }
+    }
+    None
+}
+
+/// The value of a member at its place.
+fn value_of_field(field: Field, octets: &[u8]) -> MemberValue<'_>
+    requires { IsPlaced octets.now field }
+{
+    let (_, behind) = octets.split_at(usize::from(field.1));
+    value_in(field.2, behind)
+}
+
+/// A member's value as a network file has it; nothing if there is none.
+#[derive(Clone, Copy)]
+struct ValueText<'a>(Option<MemberValue<'a>>);
+
+impl fmt::Display for ValueText<'_> {
+    fn fmt<W: fmt::Write>(&self, f: &mut fmt::Formatter<W>) -> fmt::Result {
+        let Some(value) = self.0 else {
+            return Ok(());
+        };
+        match value {
+            MemberValue::Unsigned(number) => write!(f, "{number}"),
+            MemberValue::Signed(number) | MemberValue::Interval(number) => write!(f, "{number}"),
+            MemberValue::Flag(flag) => write!(f, "{flag}"),
+            MemberValue::Clock(clock) => write!(f, "{clock}"),
+            MemberValue::Port(port) => write!(f, "{port}"),
+            MemberValue::State(number) | MemberValue::Mechanism(number) => write!(f, "{number}"),
+            MemberValue::Text(octets) => write_text(octets, f),
+        }
+    }
 }
 
 /// A text in quotation marks, or its octets if one is not printed.
@@ -211,21 +210,4 @@ fn write_text<W: fmt::Write>(octets: &[u8], f: &mut fmt::Formatter<W>) -> fmt::R
 /// Whether an octet is a character of ASCII that is printed.
 fn is_plain(octet: u8) -> bool {
     0x20 <= octet && octet <= 0x7e
-}
-
-/// -1 if the first bit of two's complement is set, else 0.
-fn sign_of(octets: &[u8]) -> i64 {
-    match octets.first() {
-        Some(first) if 128 <= *first => -1,
-        _ => 0,
-    }
-}
-
-/// The number of these octets after this one, the highest first.
-fn number_of(start: i64, octets: &[u8]) -> i64 {
-    let mut number = start;
-    for octet in octets {
-        number = number.wrapping_mul(256).wrapping_add(i64::from(*octet));
-    }
-    number
 }

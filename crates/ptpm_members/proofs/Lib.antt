@@ -6,6 +6,7 @@ pub mod LineLemmas
 pub mod Numerals
 pub mod ParsingLemmas
 pub mod Meant
+pub mod Naming
 pub mod OneOctet
 pub mod TextBack
 pub mod SetBack

@@ -11,8 +11,9 @@ use Rattle.hex.proofs.OnLiterals.{hex_on_literals}
 use Rattle.ptpm_data.specs.DataField.{i8_octet}
 use Rattle.ptpm_members.specs.declared.forms.Form.{Form}
 use Rattle.ptpm_members.specs.declared.forms.Form.TheVariants as forms
-use Rattle.ptpm_members.specs.Typed.{flag_of, mechanism_named, mechanism_octet, number_up_to, octet_of, signed_number, typed}
-use Rattle.ptpm_members.specs.ValueText.{flag_name, hexadecimal, mechanism_text, value_text}
+use Rattle.ptpm_members.specs.NumberNames.{mechanism_named, mechanism_text}
+use Rattle.ptpm_members.specs.Typed.{flag_of, mechanism_octet, number_up_to, octet_of, signed_number, typed}
+use Rattle.ptpm_members.specs.ValueText.{flag_name, hexadecimal, value_text}
 
 abbrev is_one : ℕ → Option (List ℕ) → Bool
 is_one a None = false
@@ -53,7 +54,7 @@ unfolding typed signed_number number_up_to digits i8_octet
 all_signed = refl
 
 all_mechanisms : list_all (comes_back forms.DelayMechanism) (range_with_len 0 256) ≡ true
-unfolding typed mechanism_octet mechanism_named octet_of number_up_to digits mechanism_text
+unfolding typed mechanism_octet mechanism_named octet_of number_up_to digits hex_on_literals mechanism_text
 all_mechanisms = refl
 
 back : (form : Form) (a : ℕ) → list_all (comes_back form) (range_with_len 0 256) ≡ true → a < 256

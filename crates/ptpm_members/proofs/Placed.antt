@@ -12,7 +12,7 @@ use Rattle.ptpm_members.specs.declared.forms.Form.{Form}
 use Rattle.ptpm_members.specs.declared.forms.Form.TheVariants as forms
 use Rattle.ptpm_members.specs.FieldText.{IsPlaced}
 use Rattle.ptpm_members.specs.Tables.{field_size, fields_of, form_size, is_whole}
-use Rattle.ptpm_members.specs.ValueText.{HasNumber, HasValue}
+use Rattle.ptpm_members.specs.Values.{HasNumber, HasValue}
 
 -- whether a form's octets from a place on end within this many
 abbrev number_fits : ℕ → ℕ → ℕ → Bool

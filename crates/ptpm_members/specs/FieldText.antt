@@ -3,7 +3,8 @@ use Rattle.std.specs.Prelude.{ℕ, ◌≤◌, if◌then◌else◌, List, [], ◌
 use Rattle.ptpm_members.specs.declared.forms.Field.{Field}
 use Rattle.ptpm_members.specs.Names.{member_name}
 use Rattle.ptpm_members.specs.Tables.{fields_of_id, is_whole_of_id}
-use Rattle.ptpm_members.specs.ValueText.{HasValue, hexadecimal, value_text}
+use Rattle.ptpm_members.specs.Values.{HasValue}
+use Rattle.ptpm_members.specs.ValueText.{hexadecimal, value_text}
 
 -- a dataField of the right length has its members at their places
 pub record IsPlaced (octets : List ℕ) (f : Field) : Type 0 where

@@ -1,5 +1,7 @@
 pub mod Names
 pub mod Tables
+pub mod NumberNames
+pub mod Values
 pub mod ValueText
 pub mod FieldText
 pub mod Typed

@@ -1,19 +1,18 @@
 -- What a person types for a member's value, and the octets that it means (this project's profile). Names are those of the
 -- standard, in either case.
 use Rattle.std.specs.Prelude.{ℕ, ◌+◌, ◌-◌, ◌==◌, nat_le, nat_lt, Bool, true, false, ◌&&◌, ◌||◌, if◌then◌else◌, ℤ, pos, neg_ℤ, List, [], ◌∷◌, length, drop, take, Option, Some, None, option_and_then, option_map}
+use Rattle.std.specs.Option.{option_or}
 use Rattle.std.specs.Result.{result_ok}
 use Rattle.std.specs.Str.{all_ascii_digits, str_eq_ignore_ascii_case}
 use Rattle.std.specs.Str.Parse.{digits_value}
 use Rattle.hex.specs.Hex.{decode_sized}
 use Rattle.ptpm_codec.specs.Layout.{octet}
-use Rattle.ptpm_data.specs.declared.port_state.DelayMechanism.{DelayMechanism}
-use Rattle.ptpm_data.specs.declared.port_state.DelayMechanism.TheVariants as mechanisms
 use Rattle.ptpm_data.specs.DataField.{i16_octets, i8_octet}
-use Rattle.ptpm_data.specs.PortState.{mechanism_number}
 use Rattle.ptpm_data.specs.Ranges.{is_description}
 use Rattle.ptpm_members.specs.declared.forms.Form.{Form}
 use Rattle.ptpm_members.specs.declared.forms.Form.TheVariants as forms
-use Rattle.ptpm_members.specs.ValueText.{flag_name, mechanism_name}
+use Rattle.ptpm_members.specs.NumberNames.{mechanism_named}
+use Rattle.ptpm_members.specs.ValueText.{flag_name}
 
 -- ---- numbers
 
@@ -65,21 +64,9 @@ flag_of text =
     else if str_eq_ignore_ascii_case text (flag_name false) then Some false
     else option_map one_is (number_up_to 1 text)
 
--- the mechanism of a name
-unfoldable pub mechanism_named : List ℕ → Option DelayMechanism
-mechanism_named text =
-    if str_eq_ignore_ascii_case text (mechanism_name mechanisms.EndToEnd) then Some mechanisms.EndToEnd
-    else if str_eq_ignore_ascii_case text (mechanism_name mechanisms.PeerToPeer) then Some mechanisms.PeerToPeer
-    else if str_eq_ignore_ascii_case text (mechanism_name mechanisms.NoMechanism) then Some mechanisms.NoMechanism
-    else None
-
-abbrev pub number_or : Option DelayMechanism → Option ℕ → Option ℕ
-number_or None other = other
-number_or (Some mechanism) other = Some (mechanism_number mechanism)
-
 -- the number of a delay mechanism: by its name, or a number of one octet
 unfoldable pub mechanism_octet : List ℕ → Option ℕ
-mechanism_octet text = number_or (mechanism_named text) (octet_of text)
+mechanism_octet text = option_or (mechanism_named text) (octet_of text)
 
 -- ---- a text
 

@@ -5,13 +5,13 @@ ghost use Rattle.std.specs.Result.{result_ok};
 ghost use Rattle.hex.specs.Hex.{decode_sized};
 ghost use Rattle.ptpm_codec.specs.Layout.{octet};
 ghost use Rattle.ptpm_data.specs.DataField.{i16_octets};
-ghost use Rattle.ptpm_members.specs.Typed.{flag_of, mechanism_named, mechanism_octet, nibble_of, number_up_to, octet_of, signed_number, typed, without_minus};
+ghost use Rattle.ptpm_members.specs.Typed.{flag_of, mechanism_octet, nibble_of, number_up_to, octet_of, signed_number, typed, without_minus};
 
 use crate::forms::Form;
+use crate::number_names::mechanism_named;
 use arrayvec::ArrayVec;
 use hex::FromHex;
 use ptpm_codec::{put, put_u16};
-use ptpm_data::DelayMechanism;
 
 /// The octets of a value that is typed.
 pub(crate) type Octets = ArrayVec<u8, 2>;
@@ -152,22 +152,7 @@ fn mechanism_octet(text: &str) -> Option<u8>
     ensures { result ≡ mechanism_octet text.now }
 {
     match mechanism_named(text) {
-        Some(mechanism) => Some(mechanism.number()),
+        Some(number) => Some(number),
         None => octet_of(text),
-    }
-}
-
-#[tactic(auto, unfolding(crate::specs::Typed::mechanism_named))]
-fn mechanism_named(text: &str) -> Option<DelayMechanism>
-    ensures { result ≡ mechanism_named text.now }
-{
-    if text.eq_ignore_ascii_case("E2E") {
-        Some(DelayMechanism::EndToEnd)
-    } else if text.eq_ignore_ascii_case("P2P") {
-        Some(DelayMechanism::PeerToPeer)
-    } else if text.eq_ignore_ascii_case("NO_MECHANISM") {
-        Some(DelayMechanism::NoMechanism)
-    } else {
-        None
     }
 }

@@ -1,19 +1,19 @@
 //! The text of a member's value.
 
-ghost use Rattle.std.specs.Prelude.{◌≡◌, ◌<◌, [], ◌∷◌, ◌++◌, codes, decimal, false};
+ghost use Rattle.std.specs.Prelude.{◌≡◌, ◌<◌, [], ◌∷◌, ◌++◌, codes, decimal, false, option_map};
 ghost use Rattle.std.specs.Fmt.{digit_glyph, sign_text, signed_decimal};
 ghost use Rattle.std.specs.Int.{is_negative};
-ghost use Rattle.ptpm_members.specs.ValueText.{HasValue, escape, flag_name, fraction_digits, hexadecimal, interval_text, mechanism_name, mechanism_text, shown_octet, shown_text, state_name, state_text, value_text};
+ghost use Rattle.ptpm_members.specs.NumberNames.{mechanism_text, name_or_number, state_text};
+ghost use Rattle.ptpm_members.specs.Values.{HasValue, said};
+ghost use Rattle.ptpm_members.specs.ValueText.{escape, flag_name, fraction_digits, hexadecimal, interval_text, said_text, shown_octet, shown_text, value_text};
 ghost use Rattle.ptpm_codec.specs.Identity.{clock_identity_text, octet_text, port_identity_text};
 
 use crate::forms::Form;
+use crate::number_names::{mechanism_name_of, state_name_of};
 use crate::text_sink::TextSink;
-use byteorder::{BigEndian, ByteOrder};
+use crate::values::{MemberValue, value_in};
 use itoa::Buffer;
-use ptpm_codec::{
-    ClockIdentity, PortIdentity, clock_identity_at, port_identity_at, text_of_ptp_text,
-};
-use ptpm_data::{DelayMechanism, PortState};
+use ptpm_codec::{ClockIdentity, PortIdentity};
 
 /// Puts the value of a member whose octets come first.
 pub(crate) fn push_value<T: TextSink>(form: Form, octets: &[u8], sink: &mut T)
@@ -21,21 +21,25 @@ pub(crate) fn push_value<T: TextSink>(form: Form, octets: &[u8], sink: &mut T)
     ensures { T.pushed sink.old (value_text form octets.now) sink.new }
 {
     match form {
-        Form::Unsigned(size) => push_unsigned(
-            BigEndian::read_uint(octets, usize::from(size)),
-            sink,
-        ),
         Form::Hexadecimal(size) => push_hexadecimal_number(&octets[..usize::from(size)], sink),
-        Form::Signed(size) => push_signed(BigEndian::read_int(octets, usize::from(size)), sink),
-        Form::Flag(mask) => sink.push_str(flag_name(octets[0] & mask != 0)),
-        Form::EitherFlag => sink.push_str(flag_name(octets[0] % 4 != 0)),
-        Form::LowNibble => push_unsigned(u64::from(octets[0] % 16), sink),
-        Form::TimeInterval => push_interval(BigEndian::read_int(octets, 8), sink),
-        Form::ClockIdentity => push_clock_identity(&clock_identity_at(octets, 0), sink),
-        Form::PortIdentity => push_port_identity(&port_identity_at(octets, 0), sink),
-        Form::PortState => push_state(octets[0], sink),
-        Form::DelayMechanism => push_mechanism(octets[0], sink),
-        Form::Text => push_text(text_of_ptp_text(octets), sink),
+        _ => push_said(value_in(form, octets), sink),
+    }
+}
+
+/// Puts a value; a number without a sign in decimal.
+fn push_said<T: TextSink>(value: MemberValue<'_>, sink: &mut T)
+    ensures { T.pushed sink.old (said_text (said value.entry)) sink.new }
+{
+    match value {
+        MemberValue::Unsigned(number) => push_unsigned(number, sink),
+        MemberValue::Signed(number) => push_signed(number, sink),
+        MemberValue::Flag(flag) => sink.push_str(flag_name(flag)),
+        MemberValue::Interval(interval) => push_interval(interval, sink),
+        MemberValue::Clock(clock) => push_clock_identity(&clock, sink),
+        MemberValue::Port(port) => push_port_identity(&port, sink),
+        MemberValue::State(number) => push_state(number, sink),
+        MemberValue::Mechanism(number) => push_mechanism(number, sink),
+        MemberValue::Text(octets) => push_text(octets, sink),
     }
 }
 
@@ -144,25 +148,37 @@ fn push_fraction<T: TextSink>(digits: u8, number: u32, sink: &mut T)
 }
 
 /// The name of a port's state, or the number if it has none.
-#[tactic(auto, unfolding(crate::specs::ValueText::state_text))]
+#[tactic(auto, unfolding(crate::specs::NumberNames::state_text))]
 fn push_state<T: TextSink>(number: u8, sink: &mut T)
     ensures { T.pushed sink.old (state_text number) sink.new }
 {
-    match PortState::from_number(number) {
-        Some(state) => sink.push_str(state_name(state)),
-        None => push_unsigned(u64::from(number), sink),
-    }
+    push_name_or_number(state_name_of(number), number, sink);
 }
 
 /// The name of a delay mechanism, or the number if it has none.
-#[tactic(auto, unfolding(crate::specs::ValueText::mechanism_text))]
+#[tactic(auto, unfolding(crate::specs::NumberNames::mechanism_text))]
 fn push_mechanism<T: TextSink>(number: u8, sink: &mut T)
     ensures { T.pushed sink.old (mechanism_text number) sink.new }
 {
-    match DelayMechanism::from_number(number) {
-        Some(mechanism) => sink.push_str(mechanism_name(mechanism)),
-        None => push_unsigned(u64::from(number), sink),
+    push_name_or_number(mechanism_name_of(number), number, sink);
+}
+
+/// The name of a number, or the number in hexadecimal if it has none.
+fn push_name_or_number<T: TextSink>(name: Option<&str>, number: u8, sink: &mut T)
+    ensures { T.pushed sink.old (name_or_number (option_map (λ name. name.now) name.entry) number) sink.new }
+{
+    match name {
+        Some(name) => sink.push_str(name),
+        None => push_hexadecimal_octet(number, sink),
     }
+}
+
+/// An octet in hexadecimal, after `0x`.
+fn push_hexadecimal_octet<T: TextSink>(number: u8, sink: &mut T)
+    ensures { T.pushed sink.old (codes "0x" ++ octet_text number) sink.new }
+{
+    sink.push_str("0x");
+    push_digits(number, sink);
 }
 
 /// A text, in which an octet that is no printable character of ASCII, and a backslash, is `\x` and two hexadecimal digits.
@@ -197,32 +213,4 @@ fn flag_name(flag: bool) -> &'static str
     ensures { result.now ≡ flag_name flag }
 {
     if flag { "true" } else { "false" }
-}
-
-/// The standard's name of a port's state (9.2.5, table 10).
-pub fn state_name(state: PortState) -> &'static str
-    ensures { result.now ≡ state_name state }
-{
-    match state {
-        PortState::Initializing => "INITIALIZING",
-        PortState::Faulty => "FAULTY",
-        PortState::Disabled => "DISABLED",
-        PortState::Listening => "LISTENING",
-        PortState::PreMaster => "PRE_MASTER",
-        PortState::Master => "MASTER",
-        PortState::Passive => "PASSIVE",
-        PortState::Uncalibrated => "UNCALIBRATED",
-        PortState::Slave => "SLAVE",
-    }
-}
-
-/// The standard's name of a delay mechanism (8.2.15.4.4, table 21).
-pub fn mechanism_name(mechanism: DelayMechanism) -> &'static str
-    ensures { result.now ≡ mechanism_name mechanism }
-{
-    match mechanism {
-        DelayMechanism::EndToEnd => "E2E",
-        DelayMechanism::PeerToPeer => "P2P",
-        DelayMechanism::NoMechanism => "NO_MECHANISM",
-    }
 }

@@ -8,18 +8,18 @@ use Rattle.serde_json.specs.Data.{Data, array, string, object, Members, no_membe
 use Rattle.serde_json.specs.Find.{is_float, of_integer}
 use Rattle.serde_json.specs.View.{items_of}
 use Rattle.serde_json.specs.Written.{compact_text, has_float, items_have_float, members_have_float}
-use Rattle.byteorder.specs.Endian.{big_number, twos_complement}
 use Rattle.ptpm_codec.specs.declared.message.Body.{Body}
 use Rattle.ptpm_codec.specs.declared.message.Message.{Message}
 use Rattle.ptpm_codec.specs.Message.{error_of, text_of}
 use Rattle.ptpm_members.specs.declared.forms.Field.{Field}
 use Rattle.ptpm_members.specs.declared.forms.Form.{Form}
-use Rattle.ptpm_members.specs.declared.forms.Form.TheVariants as forms
 use Rattle.ptpm_members.specs.FieldText.{members_in}
+use Rattle.ptpm_members.specs.Values as values
+use Rattle.ptpm_members.specs.Values.{Said, said_in}
 use Rattle.ptpm_message_json.specs.DataField.{members_data, put_by, put_data, put_data_field, put_field}
 use Rattle.ptpm_message_json.specs.MessageJson.{head, message_data, message_text, put_body, put_columns, put_head, put_rest, put_content, refusal, rest, with_members}
 use Rattle.ptpm_message_json.specs.Names.{is_in_quality, quality_name}
-use Rattle.ptpm_message_json.specs.Values.{value_data}
+use Rattle.ptpm_message_json.specs.Values.{said_data, value_data}
 
 -- ---- an object with one member more
 
@@ -52,19 +52,19 @@ integer_plain : (z : ℤ) → is_float (of_integer z) ≡ false
 integer_plain (pos n) = refl
 integer_plain (negsuc n) = refl
 
+said_plain : (s : Said) → has_float (said_data s) ≡ false
+said_plain (values.Unsigned n) = refl
+said_plain (values.Signed z) = integer_plain z
+said_plain (values.Flag flag) = refl
+said_plain (values.Interval z) = integer_plain z
+said_plain (values.Clock clock) = refl
+said_plain (values.Port port) = refl
+said_plain (values.State n) = refl
+said_plain (values.Mechanism n) = refl
+said_plain (values.Text octets) = refl
+
 value_plain : (form : Form) (octets : List ℕ) → has_float (value_data form octets) ≡ false
-value_plain (forms.Unsigned n) octets = refl
-value_plain (forms.Hexadecimal n) octets = refl
-value_plain (forms.Signed n) octets = integer_plain (twos_complement n (big_number n octets))
-value_plain (forms.Flag mask) octets = refl
-value_plain forms.EitherFlag octets = refl
-value_plain forms.LowNibble octets = refl
-value_plain forms.TimeInterval octets = integer_plain (twos_complement 8 (big_number 8 octets))
-value_plain forms.ClockIdentity octets = refl
-value_plain forms.PortIdentity octets = refl
-value_plain forms.PortState octets = refl
-value_plain forms.DelayMechanism octets = refl
-value_plain forms.Text octets = refl
+value_plain form octets = said_plain (said_in form octets)
 
 either : (b : Bool) (x y : Members) → members_have_float x ≡ false → members_have_float y ≡ false
     → members_have_float (if b then x else y) ≡ false

@@ -7,7 +7,7 @@ ghost use Rattle.ptpm_message_json.specs.DataField.{IsTellable, members_data, pu
 
 use crate::names::{is_in_quality, quality_name};
 use crate::values::{member_value, quality_value};
-use ptpm_members::{Field, members_in};
+use ptpm_members::{Field, members_in, value_in};
 use serde_json::{Map, Value, put};
 use std::alloc::{AllocError, Global};
 
@@ -76,6 +76,6 @@ fn put_member(
         map,
         alloc,
         field.0.name(),
-        member_value(alloc, field.2, behind)?,
+        member_value(alloc, value_in(field.2, behind))?,
     )
 }

@@ -1,39 +1,18 @@
-//! The names of what a number stands for. `reserved` is that of a number without one.
+//! The names of structures, and the word for a number without a name.
 
 ghost use Rattle.std.specs.Prelude.{◌≡◌, option_map};
-ghost use Rattle.ptpm_message_json.specs.Names.{is_in_quality, mechanism_said, other_mechanism, quality_name, state_said};
+ghost use Rattle.ptpm_message_json.specs.Names.{is_in_quality, name_or_reserved, quality_name};
 
-use ptpm_data::{DelayMechanism, Member as DataSetMember, PortState};
-use ptpm_members::{Member, mechanism_name, state_name};
+use ptpm_data::Member as DataSetMember;
+use ptpm_members::Member;
 
-/// The standard's name of a port's state (8.2.15.3.1, table 20).
-pub(crate) fn state_of_number(number: u8) -> &'static str
-    ensures { result.now ≡ state_said number }
+/// A name, or `reserved` if there is none.
+pub(crate) fn named_or_reserved(name: Option<&'static str>) -> &'static str
+    ensures { result.now ≡ name_or_reserved (option_map (λ name. name.now) name.entry) }
 {
-    match PortState::from_number(number) {
-        Some(state) => state_name(state),
+    match name {
+        Some(name) => name,
         None => "reserved",
-    }
-}
-
-/// The standard's name of a delay mechanism (8.2.15.4.4, table 21).
-pub(crate) fn mechanism_of_number(number: u8) -> &'static str
-    ensures { result.now ≡ mechanism_said number }
-{
-    match DelayMechanism::from_number(number) {
-        Some(mechanism) => mechanism_name(mechanism),
-        None => other_mechanism(number),
-    }
-}
-
-/// The standard's name of a delay mechanism that no clock of this project has.
-fn other_mechanism(number: u8) -> &'static str
-    ensures { result.now ≡ other_mechanism number }
-{
-    match number {
-        3 => "COMMON_P2P",
-        4 => "SPECIAL",
-        _ => "reserved",
     }
 }
 

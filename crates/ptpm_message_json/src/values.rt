@@ -2,37 +2,34 @@
 
 ghost use Rattle.std.specs.Prelude.{◌≡◌, ◌≤◌, IfOk, length};
 ghost use Rattle.serde_json.specs.View.{view};
-ghost use Rattle.ptpm_members.specs.ValueText.{HasValue};
-ghost use Rattle.ptpm_message_json.specs.Values.{clock_data, port_data, quality_data, text_data, value_data};
+ghost use Rattle.ptpm_members.specs.Values.{said};
+ghost use Rattle.ptpm_message_json.specs.Values.{clock_data, port_data, quality_data, said_data, text_data};
 
-use crate::names::{mechanism_of_number, state_of_number};
+use crate::names::named_or_reserved;
 use byteorder::{BigEndian, ByteOrder};
-use ptpm_codec::{
-    ClockIdentity, PortIdentity, clock_identity_at, port_identity_at, text_of_ptp_text,
-};
-use ptpm_members::Form;
+use ptpm_codec::{ClockIdentity, PortIdentity};
+use ptpm_members::{MemberValue, mechanism_name_of, state_name_of};
 use serde_json::{Value, json};
 use std::alloc::{AllocError, Global};
 
-/// The value of a member whose octets come first.
-pub(crate) fn member_value(alloc: Global, form: Form, octets: &[u8]) -> Result<Value, AllocError>
-    requires { HasValue form octets.now }
-    ensures { IfOk result (λ v. view v ≡ value_data form octets.now) }
+/// The value of a member.
+pub(crate) fn member_value(alloc: Global, value: MemberValue<'_>) -> Result<Value, AllocError>
+    ensures { IfOk result (λ v. view v ≡ said_data (said value.entry)) }
 {
-    match form {
-        Form::Unsigned(size) | Form::Hexadecimal(size) => {
-            Ok(Value::from(BigEndian::read_uint(octets, usize::from(size))))
+    match value {
+        MemberValue::Unsigned(number) => Ok(Value::from(number)),
+        MemberValue::Signed(number) => Ok(Value::from(number)),
+        MemberValue::Flag(flag) => Ok(Value::from(flag)),
+        MemberValue::Interval(interval) => Ok(Value::from(interval)),
+        MemberValue::Clock(clock) => clock_value(alloc, clock),
+        MemberValue::Port(port) => port_value(alloc, port),
+        MemberValue::State(number) => {
+            Value::try_from_str(alloc, named_or_reserved(state_name_of(number)))
         }
-        Form::Signed(size) => Ok(Value::from(BigEndian::read_int(octets, usize::from(size)))),
-        Form::Flag(mask) => Ok(Value::from(octets[0] & mask != 0)),
-        Form::EitherFlag => Ok(Value::from(octets[0] % 4 != 0)),
-        Form::LowNibble => Ok(Value::from(octets[0] % 16)),
-        Form::TimeInterval => Ok(Value::from(BigEndian::read_int(octets, 8))),
-        Form::ClockIdentity => clock_value(alloc, clock_identity_at(octets, 0)),
-        Form::PortIdentity => port_value(alloc, port_identity_at(octets, 0)),
-        Form::PortState => Value::try_from_str(alloc, state_of_number(octets[0])),
-        Form::DelayMechanism => Value::try_from_str(alloc, mechanism_of_number(octets[0])),
-        Form::Text => text_value(alloc, text_of_ptp_text(octets)),
+        MemberValue::Mechanism(number) => {
+            Value::try_from_str(alloc, named_or_reserved(mechanism_name_of(number)))
+        }
+        MemberValue::Text(octets) => text_value(alloc, octets),
     }
 }
 

@@ -165,7 +165,7 @@ received_here : {A : Type 0} → (says : AnswerContent → Option A) (a b : Answ
     ≡ filter_map (received_in says) (cond q (b ∷ cond p (a ∷ others) others) (cond p (a ∷ others) others))
 received_here {A = A} says a b others true true h =
     let rest = filter_map (received_in says) others in
-    let nothing = λ (x : Answer) (e : says x.content ≡ None). ap (option_map {U = Received A} (λ set. record { request = x.request; set = set })) e in
+    let nothing = λ (x : Answer) (e : says x.content ≡ None). ap (option_map {U = Received A} (λ set. record { request = x.request; at = x.at; set = set })) e in
     ⊎_elim (λ e. ap (λ o. cons_option o (cons_option (received_in says b) rest)) (nothing a e) ∙ sym (ap (λ o. cons_option (received_in says b) (cons_option o rest)) (nothing a e)))
     (λ e. ap (λ o. cons_option (received_in says a) (cons_option o rest)) (nothing b e) ∙ sym (ap (λ o. cons_option o (cons_option (received_in says a) rest)) (nothing b e)))
     (h refl refl)

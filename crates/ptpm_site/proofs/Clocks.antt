@@ -130,13 +130,13 @@ known heard old source there is_there = record {
 }
 
 -- an answer of a clock that has its place was added
-pub content_added : (heard : Vec Heard Global) (old new : BTreeMap Source Clock) (source : Source) (request : Request) (t : AnswerContent) (before after : Clock)
+pub content_added : (heard : Vec Heard Global) (old new : BTreeMap Source Clock) (source : Source) (request : Request) (at : Option ℕ) (t : AnswerContent) (before after : Clock)
     → get source_cmp old source ≡ Some before
     → ((q : Source) → get source_cmp new q ≡ cond (is_at (source_cmp source) q) (Some after) (get source_cmp old q))
     → keys new ≡ keys old
-    → Grows before after request t
-    → AddsContent (record { clocks = old; heard = heard }) (record { clocks = new; heard = heard }) source request t
-content_added heard old new source request t before after was updates same grows =
+    → Grows before after request at t
+    → AddsContent (record { clocks = old; heard = heard }) (record { clocks = new; heard = heard }) source request at t
+content_added heard old new source request at t before after was updates same grows =
     let at : Source → Bool = λ s. is_at (source_cmp source) s in
     let there : (s : Source) → at s ≡ true → get source_cmp old s ≡ Some before =
     λ s h. moved (λ q. get source_cmp old q) source s (Some before) was h in

@@ -39,10 +39,11 @@ pub shown_by_one : (d : List ℕ) (m : Message) → reading d ≡ Ok m → heard
 unfolding heard_in message_of
 shown_by_one d m h = ap (λ o. heard_or o d) (read (refusal d) (message_at (message_octets d)) m h)
 
-pub takes-none : (site : Site) (o : Option Answered) → o ≡ None → TakesAny site site o
-takes-none site o h = let P : Option Answered → Type 0 = λ x. TakesAny site site x in subst P (sym h) refl
+pub takes-none : (site : Site) (at : Option ℕ) (o : Option Answered) → o ≡ None → TakesAny site site at o
+takes-none site at o h = let P : Option Answered → Type 0 = λ x. TakesAny site site at x in subst P (sym h) refl
 
-pub takes-some : (old new : Site) (a : Answer) (o : Option Answered) → o ≡ Some (answered a) → Takes old new a → TakesAny old new o
-takes-some old new a o h t =
-    let P : Option Answered → Type 0 = λ x. TakesAny old new x in
-    subst P (sym h) (record { answer = a; said = refl; taken = t })
+pub takes-some : (old new : Site) (at : Option ℕ) (a : Answer) (o : Option Answered)
+    → o ≡ Some (answered a) → a.at ≡ at → Takes old new a → TakesAny old new at o
+takes-some old new at a o h came t =
+    let P : Option Answered → Type 0 = λ x. TakesAny old new at x in
+    subst P (sym h) (record { answer = a; said = refl; came = came; taken = t })

@@ -26,7 +26,7 @@ tied_clocks a b = grind (arith, is_eq-slice_cmp)
 tied_senders : (a b : Sender) → eq_by_cmp sender_cmp a b ≡ same_sender a b
 tied_senders a b = grind (arith, is_eq-slice_cmp)
 
-tied_numbers : (a b : ℕ) → eq_by_cmp nat_cmp a b ≡ (a == b)
+pub tied_numbers : (a b : ℕ) → eq_by_cmp nat_cmp a b ≡ (a == b)
 tied_numbers a b = grind arith
 
 pub any_tied : {K : Type 0} (e f : K → K → Bool) → ((a b : K) → e a b ≡ f a b) → (xs : List K) (q : K) → list_any (e q) xs ≡ list_any (f q) xs

@@ -27,7 +27,7 @@ one_or_none None = refl
 one_or_none (Some x) = refl
 
 here : {A : Type 0} → (says : AnswerContent → Option A) (s : Source) (a : Answer) (b : Bool)
-    → filter_map (received_in says) (cond b (a ∷ []) []) ≡ cond b (newly_received says a.request a.content) []
+    → filter_map (received_in says) (cond b (a ∷ []) []) ≡ cond b (newly_received says a.request a.at a.content) []
 here says s a true = one_or_none (received_in says a)
 here says s a false = refl
 
@@ -114,15 +114,15 @@ port_of_clock n None = refl
 port_of_clock n (Some c) = port_counting c n
 
 -- what is refused is among the refusals that were received
-among_one : (id : Asked) (request : Request) (t : AnswerContent) (others : List (Received Asked)) (b : Bool)
+among_one : (id : Asked) (request : Request) (at : Option ℕ) (t : AnswerContent) (others : List (Received Asked)) (b : Bool)
     → is_among id others ≡ b
-    → is_among id (cons_option (option_map (λ set. record { request = request; set = set }) (refusal_in t)) others) ≡ (refuses id t || b)
-among_one id request (contents.Refused asked) others b h = ap (λ x. same_id asked id || x) h
-among_one id request _ others b h = h
+    → is_among id (cons_option (option_map (λ set. record { request = request; at = at; set = set }) (refusal_in t)) others) ≡ (refuses id t || b)
+among_one id request at (contents.Refused asked) others b h = ap (λ x. same_id asked id || x) h
+among_one id request at _ others b h = h
 
 among_received : (id : Asked) (answers : List Answer) → is_among id (filter_map (received_in refusal_in) answers) ≡ list_any (λ a. refuses id a.content) answers
 among_received id [] = refl
-among_received id (a ∷ answers) = among_one id a.request a.content (filter_map (received_in refusal_in) answers) (list_any (λ x. refuses id x.content) answers) (among_received id answers)
+among_received id (a ∷ answers) = among_one id a.request a.at a.content (filter_map (received_in refusal_in) answers) (list_any (λ x. refuses id x.content) answers) (among_received id answers)
 
 refused_of_clock : (id : Asked) (o : Option Clock)
     → option_map_or (λ c. is_among id c.refused.items) o false ≡ is_among id (option_map_or (λ c. c.refused.items) o [])

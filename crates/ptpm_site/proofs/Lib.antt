@@ -4,6 +4,7 @@ pub mod AnswerOrder
 pub mod Below
 pub mod Circles
 pub mod Clocks
+pub mod Counting
 pub mod DatagramLemmas
 pub mod Dropped
 pub mod Followed
@@ -12,6 +13,7 @@ pub mod Hearing
 pub mod KeptAnswers
 pub mod KeptStatements
 pub mod Links
+pub mod Looking
 pub mod Marking
 pub mod Pairs
 pub mod Parts

@@ -32,7 +32,7 @@ exact_identities a b h = ap identity_from (exact_pairs (slice_cmp nat_cmp) nat_c
   identity_from : List ℕ × ℕ → PortIdentity
   identity_from p = record { clock = record { 0 = p.0 }; port = p.1 }
 
-exact_requests : CmpEqualImpliesEq request_cmp
+pub exact_requests : CmpEqualImpliesEq request_cmp
 exact_requests a b h = ap request_from (exact_pairs identity_cmp nat_cmp exact_identities exact_unsigned (a.target, a.number) (b.target, b.number) h) where
   request_from : PortIdentity × ℕ → Request
   request_from p = record { target = p.0; number = p.1 }

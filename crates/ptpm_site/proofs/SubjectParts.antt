@@ -5,17 +5,21 @@ use Rattle.std.specs.BTreeSet.{insert_key}
 use Rattle.std.specs.List.{flat_map, fold}
 use Rattle.ptpm_site.specs.declared.source.Source.{Source}
 use Rattle.ptpm_site.specs.Answers.{source_cmp}
+use Rattle.ptpm_site.specs.Gone.{gone_clocks}
 use Rattle.ptpm_site.specs.SiteAnswers.{SiteAnswers}
 use Rattle.ptpm_site.specs.Unseen.{named_by, senders, subjects}
 
-pub subjects_parts : (t : SiteAnswers) (seen named all : List Source)
+pub subjects_parts : (t : SiteAnswers) (seen named sending all : List Source)
     → seen ≡ fold (insert_key source_cmp) [] t.clocks
     → named ≡ fold (insert_key source_cmp) seen (flat_map (named_by t) t.clocks)
-    → all ≡ fold (insert_key source_cmp) named (senders t)
+    → sending ≡ fold (insert_key source_cmp) named (senders t)
+    → all ≡ fold (insert_key source_cmp) sending (gone_clocks t.heard)
     → all ≡ subjects t
 unfolding subjects
-subjects_parts t seen named all s n a =
+subjects_parts t seen named sending all s n h a =
     let f : List Source → Source → List Source = insert_key source_cmp in
-    a ∙ ap (λ l. fold f l (senders t)) (n ∙ ap (λ l. fold f l (flat_map (named_by t) t.clocks)) s)
-    ∙ ap (λ l. fold f l (senders t)) (sym (fold-append f [] t.clocks (flat_map (named_by t) t.clocks)))
-    ∙ sym (fold-append f [] (t.clocks ++ flat_map (named_by t) t.clocks) (senders t))
+    let names : List Source = flat_map (named_by t) t.clocks in
+    let first : sending ≡ fold f [] (t.clocks ++ names ++ senders t) =
+    h ∙ ap (λ l. fold f l (senders t)) (n ∙ ap (λ l. fold f l names) s ∙ sym (fold-append f [] t.clocks names))
+    ∙ sym (fold-append f [] (t.clocks ++ names) (senders t)) in
+    a ∙ ap (λ l. fold f l (gone_clocks t.heard)) first ∙ sym (fold-append f [] (t.clocks ++ names ++ senders t) (gone_clocks t.heard))

@@ -94,11 +94,11 @@ port_number (contents.Port m set) = Some m
 port_number _ = None
 
 abbrev pub received_in : {A : Type 0} → (AnswerContent → Option A) → Answer → Option (Received A)
-received_in says a = option_map (λ set. record { request = a.request; set = set }) (says a.content)
+received_in says a = option_map (λ set. record { request = a.request; at = a.at; set = set }) (says a.content)
 
--- the same of a request and what came to it
-abbrev pub newly_received : {A : Type 0} → (AnswerContent → Option A) → Request → AnswerContent → List (Received A)
-newly_received says request t = option_to_list (option_map (λ set. record { request = request; set = set }) (says t))
+-- the same of a request, when its answer came, and what that says
+abbrev pub newly_received : {A : Type 0} → (AnswerContent → Option A) → Request → Option ℕ → AnswerContent → List (Received A)
+newly_received says request at t = option_to_list (option_map (λ set. record { request = request; at = at; set = set }) (says t))
 
 -- of all answers of a clock, those that say this, in the order of their lines
 abbrev pub all_received : {A : Type 0} → (AnswerContent → Option A) → Source → List Answer → List (Received A)

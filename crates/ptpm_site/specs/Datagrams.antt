@@ -12,20 +12,21 @@ use Rattle.ptpm_site.specs.Messages.{Answered, answer_of, answered}
 unfoldable pub answer_in : List ℕ → Option Answered
 answer_in datagram = option_and_then answer_of (message_of datagram)
 
--- the answer that is taken says this
-pub record TakesAnswer (old new : Site) (says : Answered) : Type 0 where
+-- the answer that is taken says this, and came at this time
+pub record TakesAnswer (old new : Site) (at : Option ℕ) (says : Answered) : Type 0 where
   pub answer : Answer
   pub said : answered answer ≡ says
+  pub came : answer.at ≡ at
   pub taken : Takes old new answer
 
 -- if there is no answer, all stays as it was
-abbrev pub TakesAny : Site → Site → Option Answered → Type 0
-TakesAny old new None = new ≡ old
-TakesAny old new (Some says) = TakesAnswer old new says
+abbrev pub TakesAny : Site → Site → Option ℕ → Option Answered → Type 0
+TakesAny old new at None = new ≡ old
+TakesAny old new at (Some says) = TakesAnswer old new at says
 
 -- its answer is taken, and what it shows beside is kept after all that was shown before
-pub record TakesDatagram (old new : Site) (datagram : List ℕ) : Type 0 where
+pub record TakesDatagram (old new : Site) (at : Option ℕ) (datagram : List ℕ) : Type 0 where
   pub between : Site
-  pub answer : TakesAny old between (answer_in datagram)
+  pub answer : TakesAny old between at (answer_in datagram)
   pub clocks : new.clocks ≡ between.clocks
   pub heard : new.heard.items ≡ old.heard.items ++ option_to_list (heard_in datagram)

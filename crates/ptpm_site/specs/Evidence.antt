@@ -1,4 +1,4 @@
--- What all lines show beside what the answers say: the host that asks, the domains that were asked, and who sends by itself.
+-- What all lines show beside the answers: the host that asks, the domains that were asked, who sends by itself, and who is gone.
 use Rattle.std.specs.Prelude.{◌≡◌, ℕ, ◌==◌, ◌&&◌, Bool, List, Option, Some, None}
 use Rattle.std.specs.BTreeSet.{contains}
 use Rattle.std.specs.Cmp.Lexicographic.{slice_cmp}
@@ -11,7 +11,9 @@ use Rattle.ptpm_site.specs.declared.heard.Heard.{Heard}
 use Rattle.ptpm_site.specs.declared.heard.Heard.TheVariants as heard
 use Rattle.ptpm_site.specs.declared.heard.Sender.{Sender}
 use Rattle.ptpm_site.specs.declared.evidence.Evidence.{Evidence}
+use Rattle.ptpm_site.specs.declared.source.Source.{Source}
 use Rattle.ptpm_site.specs.Answers.{same_source, source_cmp}
+use Rattle.ptpm_site.specs.Gone.{is_gone}
 
 -- the clock to which an answer goes is that of the host that asks
 abbrev pub host_in : Heard → Option ClockIdentity
@@ -52,3 +54,4 @@ pub record IsOf (all : List Heard) (e : Evidence) : Type 0 where
   pub hosts : (c : ClockIdentity) → contains clock_cmp e.hosts c ≡ is_host_of all c
   pub domains : (d : ℕ) → contains nat_cmp e.domains d ≡ is_asked all d
   pub senders : (s : Sender) → contains sender_cmp e.senders s ≡ is_sent all s
+  pub gone : (s : Source) → contains source_cmp e.gone s ≡ is_gone all s

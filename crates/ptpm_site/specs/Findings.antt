@@ -17,16 +17,20 @@ use Rattle.ptpm_site.specs.declared.differences.Differs.{Differs}
 use Rattle.ptpm_site.specs.declared.finding.Finding.{Finding}
 use Rattle.ptpm_site.specs.declared.finding.What.{What}
 use Rattle.ptpm_site.specs.declared.finding.What.TheVariants as what
+use Rattle.ptpm_site.specs.declared.grandmaster_changes.GrandmasterChange.{GrandmasterChange}
 use Rattle.ptpm_site.specs.declared.limits.Limits.{Limits}
 use Rattle.ptpm_site.specs.declared.member.Member.{Member}
 use Rattle.ptpm_site.specs.declared.source.Source.{Source}
 use Rattle.ptpm_site.specs.declared.tai_and_utc.OffByUtc.TheVariants as shows
 use Rattle.ptpm_site.specs.Amounts.{large_delay, large_link_delay, large_offset}
 use Rattle.ptpm_site.specs.Announcing.{seldom_announced, takes_time}
+use Rattle.ptpm_site.specs.Answers.{same_source}
 use Rattle.ptpm_site.specs.Changes.{MemberChange, contradiction, member_change}
 use Rattle.ptpm_site.specs.Completeness.{lacking}
 use Rattle.ptpm_site.specs.Differences.{grandmaster_differs, mechanism_differs, other_grandmaster, utc_differs, what_differs}
 use Rattle.ptpm_site.specs.Following.{beside, followed, is_own_grandmaster}
+use Rattle.ptpm_site.specs.Gone.{is_gone}
+use Rattle.ptpm_site.specs.GrandmasterChanges.{grandmaster_changes}
 use Rattle.ptpm_site.specs.Grandmasters.{is_one_of_two, leads, masterless_reason, unseen_grandmaster}
 use Rattle.ptpm_site.specs.Leading.{better_clock, without_source, invalid_offset, announced_leap, not_traceable, wrong_offset}
 use Rattle.ptpm_site.specs.Loops.{loop_of}
@@ -74,11 +78,11 @@ utc_said site s = option_map_or (λ p.
 
 -- ---- of its ports, in their order
 
-unfoldable pub state_found : SiteAnswers → Source → ℕ → List Finding
-state_found site s n = found (what.PortState n) s (staying_state site s n)
+unfoldable pub state_found : SiteAnswers → Limits → Source → ℕ → List Finding
+state_found site limits s n = found (what.PortState n) s (staying_state site limits s n)
 
-unfoldable pub lock_found : SiteAnswers → Source → ℕ → List Finding
-lock_found site s n = found (what.NotLocked n) s (unlocked_port site s n)
+unfoldable pub lock_found : SiteAnswers → Limits → Source → ℕ → List Finding
+lock_found site limits s n = found (what.NotLocked n) s (unlocked_port site limits s n)
 
 unfoldable pub link_delay_found : SiteAnswers → Limits → Source → ℕ → List Finding
 link_delay_found site limits s n = found (what.LinkDelay n) s (option_and_then (λ set. large_link_delay set limits.delay) (site.port s n))
@@ -165,8 +169,8 @@ found_above site s = grandmaster_found site s ++ parent_found site s
 
 unfoldable pub found_here : SiteAnswers → Limits → Source → List Finding
 found_here site limits s =
-    flat_map (state_found site s) (site.ports s)
-    ++ flat_map (lock_found site s) (site.ports s)
+    flat_map (state_found site limits s) (site.ports s)
+    ++ flat_map (lock_found site limits s) (site.ports s)
     ++ amounts_found site limits s
     ++ found_each compared.Time s (utc_said site s)
     ++ flat_map (interval_found site s) (site.ports s)
@@ -255,9 +259,18 @@ offsets_reported site s = option_to_list (option_map (λ o. said s (says (what.T
 unfoldable pub reach_reported : SiteAnswers → Source → List Said
 reach_reported site s = option_to_list (option_map (λ hops. said s (says (what.OutOfReach hops))) (out_of_reach site s))
 
+-- the changes of a grandmaster that are shown at a clock
+abbrev pub change_reported : Source → GrandmasterChange → List Said
+change_reported s change = if same_source change.source s then said s (says (what.GrandmasterChanged change)) ∷ [] else []
+
+abbrev pub changes_reported : SiteAnswers → Source → List Said
+changes_reported site s = flat_map (change_reported s) (grandmaster_changes site)
+
 -- what its answers lack, how far it is, and where they differ
 unfoldable pub answers_reported : SiteAnswers → Source → List Said
-answers_reported site s = incomplete_reported site s ++ reach_reported site s ++ contradictions_reported sort.Changed site s ++ twice_reported site s ++ offsets_reported site s
+answers_reported site s =
+    incomplete_reported site s ++ reach_reported site s ++ changes_reported site s ++ contradictions_reported sort.Changed site s ++ twice_reported site s
+    ++ offsets_reported site s
 
 -- ---- all findings
 
@@ -270,8 +283,15 @@ found_of site limits s =
 unfoldable pub unseen_reported : SiteAnswers → Source → List Said
 unseen_reported site s = option_to_list (option_map (λ why. said s (says (what.Unseen why))) (unseen site s))
 
+-- it answered before
+unfoldable pub gone_reported : SiteAnswers → Source → List Said
+gone_reported site s = if is_gone site.heard s then said s (says what.Gone) ∷ [] else []
+
+abbrev pub absent_reported : SiteAnswers → Source → List Said
+absent_reported site s = gone_reported site s ++ unseen_reported site s ++ changes_reported site s
+
 abbrev pub found_at : SiteAnswers → Limits → Source → List Said
-found_at site limits s = if site.seen s then found_of site limits s else unseen_reported site s
+found_at site limits s = if site.seen s then found_of site limits s else absent_reported site s
 
 -- the findings of all clocks
 abbrev pub findings_of : SiteAnswers → Limits → List Said

@@ -1,12 +1,15 @@
 -- What datagrams show beside what the answers say (IEEE 1588-2019, 13.3 and 15.4.1).
 use Rattle.std.specs.Prelude.{ℕ, ◌==◌, ◌&&◌, ◌||◌, Bool, nat_le, List, length, Option, Some, None, if◌then◌else◌, option_and_then}
 use Rattle.std.specs.Option.{option_map}
+use Rattle.ptpm_codec.specs.Identity.{every_clock, every_port, same_clock}
 use Rattle.ptpm_codec.specs.Layout as layout
 use Rattle.ptpm_codec.specs.Message.{action_of, id_of}
 use Rattle.ptpm_codec.specs.Reading.{message_of}
 use Rattle.ptpm_codec.specs.declared.message.Action.{Action}
 use Rattle.ptpm_codec.specs.declared.message.Action.TheVariants as action
+use Rattle.ptpm_codec.specs.declared.identity.PortIdentity.{PortIdentity}
 use Rattle.ptpm_codec.specs.declared.message.Message.{Message}
+use Rattle.ptpm_site.specs.declared.asked.Asked.{Asked}
 use Rattle.ptpm_site.specs.declared.heard.Heard.{Heard}
 use Rattle.ptpm_site.specs.declared.heard.Heard.TheVariants as heard
 use Rattle.ptpm_site.specs.declared.heard.Query.{Query}
@@ -14,21 +17,31 @@ use Rattle.ptpm_site.specs.declared.heard.Sender.{Sender}
 use Rattle.ptpm_site.specs.declared.heard.Travel.{Travel}
 use Rattle.ptpm_site.specs.Messages.{asked_of, request_of, source_of}
 
+-- every port of every clock is meant (15.3.1)
+abbrev pub is_to_all : PortIdentity → Bool
+is_to_all target = same_clock target.clock every_clock && target.port == every_port
+
 -- who asks is the sourcePortIdentity of a GET, and the targetPortIdentity of each answer to it (15.4.1.3)
-abbrev pub get_in : Message → Query
-get_in m = record { domain = m.domain; request = record { target = m.source; number = m.number }; hops = m.starting_hops }
+abbrev pub get_in : Asked → Message → Query
+get_in asked m = record {
+  domain = m.domain;
+  asked = asked;
+  is_to_all = is_to_all m.target;
+  request = record { target = m.source; number = m.number };
+  hops = m.starting_hops;
+}
 
-abbrev pub travel_in : Message → Travel
-travel_in m = record { source = source_of m; request = request_of m; starting_hops = m.starting_hops; hops = m.hops }
+abbrev pub travel_in : Asked → Message → Travel
+travel_in asked m = record { source = source_of m; asked = asked; request = request_of m; starting_hops = m.starting_hops; hops = m.hops }
 
-abbrev pub heard_by : Action → Message → Option Heard
-heard_by action.Get m = Some (heard.Asked (get_in m))
-heard_by action.Response m = Some (heard.Answered (travel_in m))
-heard_by _ m = None
+abbrev pub heard_by : Action → Asked → Message → Option Heard
+heard_by action.Get asked m = Some (heard.Asked (get_in asked m))
+heard_by action.Response asked m = Some (heard.Answered (travel_in asked m))
+heard_by _ asked m = None
 
 -- a GET of one of the six ids, or a RESPONSE to one
 abbrev pub heard_of : Message → Option Heard
-heard_of m = option_and_then (λ a. heard_by (action_of m.body) m) (asked_of (id_of m.body))
+heard_of m = option_and_then (λ a. heard_by (action_of m.body) a m) (asked_of (id_of m.body))
 
 -- Announce, Sync and Follow_Up (table 36)
 abbrev pub is_of_sender : ℕ → Bool

@@ -60,12 +60,12 @@ pub record Keeps (site : Site) (answers : List Answer) : Type 0 where
   pub ports : (s : Source) (n : ℕ) → ports_at site s n ≡ all_received (port_in n) s answers
 
 -- what one clock answered to a request; at another clock nothing
-abbrev pub newly_received_at : {A : Type 0} → (AnswerContent → Option A) → Source → Source → Request → AnswerContent → List (Received A)
-newly_received_at says source s request t = if same_source source s then newly_received says request t else []
+abbrev pub newly_received_at : {A : Type 0} → (AnswerContent → Option A) → Source → Source → Request → Option ℕ → AnswerContent → List (Received A)
+newly_received_at says source s request at t = if same_source source s then newly_received says request at t else []
 
 -- what an answer adds at a clock: what it says if it is of that clock, otherwise nothing
 abbrev pub added : {A : Type 0} → (AnswerContent → Option A) → Source → Answer → List (Received A)
-added says s a = newly_received_at says a.source s a.request a.content
+added says s a = newly_received_at says a.source s a.request a.at a.content
 
 -- a clock without answers
 pub record HasNoAnswers (c : Clock) : Type 0 where
@@ -79,15 +79,15 @@ pub record HasNoAnswers (c : Clock) : Type 0 where
   pub ports : (n : ℕ) → answers_of_port c n ≡ []
 
 -- a clock said something more, which is added after all that it said before
-pub record Grows (before after : Clock) (request : Request) (t : AnswerContent) : Type 0 where
-  pub defaults : after.defaults.items ≡ before.defaults.items ++ newly_received default_in request t
-  pub currents : after.currents.items ≡ before.currents.items ++ newly_received current_in request t
-  pub parents : after.parents.items ≡ before.parents.items ++ newly_received parent_in request t
-  pub times : after.times.items ≡ before.times.items ++ newly_received time_in request t
-  pub descriptions : after.descriptions.items ≡ before.descriptions.items ++ newly_received description_in request t
-  pub refused : after.refused.items ≡ before.refused.items ++ newly_received refusal_in request t
+pub record Grows (before after : Clock) (request : Request) (at : Option ℕ) (t : AnswerContent) : Type 0 where
+  pub defaults : after.defaults.items ≡ before.defaults.items ++ newly_received default_in request at t
+  pub currents : after.currents.items ≡ before.currents.items ++ newly_received current_in request at t
+  pub parents : after.parents.items ≡ before.parents.items ++ newly_received parent_in request at t
+  pub times : after.times.items ≡ before.times.items ++ newly_received time_in request at t
+  pub descriptions : after.descriptions.items ≡ before.descriptions.items ++ newly_received description_in request at t
+  pub refused : after.refused.items ≡ before.refused.items ++ newly_received refusal_in request at t
   pub numbers : keys after.ports ≡ place_number (keys before.ports) (port_number t)
-  pub ports : (n : ℕ) → answers_of_port after n ≡ answers_of_port before n ++ newly_received (port_in n) request t
+  pub ports : (n : ℕ) → answers_of_port after n ≡ answers_of_port before n ++ newly_received (port_in n) request at t
 
 -- a clock gets its place, and nothing else changes
 pub record Places (old new : Site) (source : Source) : Type 0 where
@@ -104,17 +104,17 @@ pub record Places (old new : Site) (source : Source) : Type 0 where
   pub ports : (s : Source) (n : ℕ) → ports_at new s n ≡ ports_at old s n
 
 -- what is said by a clock that has its place is kept
-pub record AddsContent (old new : Site) (source : Source) (request : Request) (t : AnswerContent) : Type 0 where
+pub record AddsContent (old new : Site) (source : Source) (request : Request) (at : Option ℕ) (t : AnswerContent) : Type 0 where
   pub clocks : keys new.clocks ≡ keys old.clocks
   pub seen : (s : Source) → is_some (clock_at new s) ≡ is_some (clock_at old s)
-  pub defaults : (s : Source) → defaults_at new s ≡ defaults_at old s ++ newly_received_at default_in source s request t
-  pub currents : (s : Source) → currents_at new s ≡ currents_at old s ++ newly_received_at current_in source s request t
-  pub parents : (s : Source) → parents_at new s ≡ parents_at old s ++ newly_received_at parent_in source s request t
-  pub times : (s : Source) → times_at new s ≡ times_at old s ++ newly_received_at time_in source s request t
-  pub descriptions : (s : Source) → descriptions_at new s ≡ descriptions_at old s ++ newly_received_at description_in source s request t
-  pub refused : (s : Source) → refused_at new s ≡ refused_at old s ++ newly_received_at refusal_in source s request t
+  pub defaults : (s : Source) → defaults_at new s ≡ defaults_at old s ++ newly_received_at default_in source s request at t
+  pub currents : (s : Source) → currents_at new s ≡ currents_at old s ++ newly_received_at current_in source s request at t
+  pub parents : (s : Source) → parents_at new s ≡ parents_at old s ++ newly_received_at parent_in source s request at t
+  pub times : (s : Source) → times_at new s ≡ times_at old s ++ newly_received_at time_in source s request at t
+  pub descriptions : (s : Source) → descriptions_at new s ≡ descriptions_at old s ++ newly_received_at description_in source s request at t
+  pub refused : (s : Source) → refused_at new s ≡ refused_at old s ++ newly_received_at refusal_in source s request at t
   pub numbers : (s : Source) → numbers_at new s ≡ (if same_source source s then place_number (numbers_at old s) (port_number t) else numbers_at old s)
-  pub ports : (s : Source) (n : ℕ) → ports_at new s n ≡ ports_at old s n ++ newly_received_at (port_in n) source s request t
+  pub ports : (s : Source) (n : ℕ) → ports_at new s n ≡ ports_at old s n ++ newly_received_at (port_in n) source s request at t
 
 -- one more answer is taken
 pub record Takes (old new : Site) (a : Answer) : Type 0 where

@@ -1,4 +1,4 @@
--- The states of ports (IEEE 1588-2019, 9.2.5), how they measure delay (8.2.15.4.4), and those that stay on their way to another state.
+-- The states of ports (IEEE 1588-2019, 9.2.5), and how they measure delay (8.2.15.4.4).
 use Rattle.std.specs.Prelude.{ℕ, zero, suc, ◌==◌, ◌&&◌, ◌-◌, Bool, true, false, not, List, length, slice_get, take, reverse, Option, Some, None, if◌then◌else◌, option_and_then, find}
 use Rattle.std.specs.Option.{option_map_or}
 use Rattle.ptpm_codec.specs.Identity.{same_identity}
@@ -81,19 +81,3 @@ measures_end_to_end _ = false
 -- two requests of one requester: the same targetPortIdentity of the answers, and another sequenceId
 abbrev pub is_another : Request → Request → Bool
 is_another a b = same_identity a.target b.target && not (a.number == b.number)
-
--- whether the state is on the way in the latest answer that came to another request of the same requester
-abbrev pub was_on_the_way : Request → List (Received PortDataSet) → Bool
-was_on_the_way request earlier =
-    option_map_or (λ h. option_map_or is_on_the_way h.set.state false) (find (λ h. is_another h.request request) (reverse earlier)) false
-
--- A port is FAULTY in the answer that counts, or on its way in two answers. The two are that one, and the latest earlier one to
--- another request of the same requester.
-abbrev pub is_bad : Received PortDataSet → List (Received PortDataSet) → PortState → Bool
-is_bad last earlier states.Faulty = true
-is_bad last earlier state = is_on_the_way state && was_on_the_way last.request earlier
-
-abbrev pub bad_state : List (Received PortDataSet) → Option PortState
-bad_state received = option_and_then (λ last. option_and_then
-    (λ state. if is_bad last (take (length received - 1) received) state then Some state else None) last.set.state)
-    (slice_get received (length received - 1))

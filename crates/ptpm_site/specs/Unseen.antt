@@ -10,6 +10,7 @@ use Rattle.ptpm_site.specs.declared.unseen.Absence.TheVariants as why
 use Rattle.ptpm_site.specs.Answers.{source_cmp}
 use Rattle.ptpm_site.specs.Evidence.{is_asked, is_host_of, is_sent, sent_in}
 use Rattle.ptpm_site.specs.Following.{beside}
+use Rattle.ptpm_site.specs.Gone.{gone_clocks}
 use Rattle.ptpm_site.specs.Grandmasters.{in_domain}
 use Rattle.ptpm_site.specs.SiteAnswers.{SiteAnswers}
 
@@ -53,6 +54,6 @@ named_by site s = option_map_or (λ p. beside s p.grandmaster ∷ beside s p.par
 abbrev pub senders : SiteAnswers → List Source
 senders site = map (λ x. x.source) (filter_map sent_in site.heard)
 
--- the clocks that are seen, those that they name, and those that send, each once, by domain and then by identity
+-- the clocks that are seen, those that they name, those that send, and those that are gone, each once, by domain and then by identity
 unfoldable pub subjects : SiteAnswers → List Source
-subjects site = fold (insert_key source_cmp) [] (site.clocks ++ flat_map (named_by site) site.clocks ++ senders site)
+subjects site = fold (insert_key source_cmp) [] (site.clocks ++ flat_map (named_by site) site.clocks ++ senders site ++ gone_clocks site.heard)

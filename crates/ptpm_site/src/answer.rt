@@ -1,6 +1,6 @@
 //! Answers to management GETs of the six ids.
 
-ghost use Rattle.std.specs.Prelude.{◌≡◌, IfOk};
+ghost use Rattle.std.specs.Prelude.{◌≡◌, IfOk, IfSome};
 ghost use Rattle.std.specs.Option.{option_map};
 ghost use Rattle.ptpm_site.specs.Messages.{content, content_of, data_content, port_content, request_of, source_of};
 ghost use Rattle.ptpm_site.specs.Octets.{port_read};
@@ -29,18 +29,25 @@ pub struct Request {
 pub struct Answer {
     pub source: Source,
     pub request: Request,
+    /// When it came, in nanoseconds since 1970. `None` if that is not known.
+    pub at: Option<u64>,
     pub content: AnswerContent,
 }
 
 impl Answer {
     ghost use Rattle.ptpm_site.specs.Messages.{answer_of, answered};
 
-    /// The answer that a message is. It is `None` if the message is no RESPONSE to one of the six ids, or its
+    /// The answer that a message is, which came at a time. It is `None` if the message is no RESPONSE to one of the six ids, or its
     /// dataField has another length. It is also `None` if PORT_DATA_SET names another clock than the one that sent
     /// it.
     #[tactic(auto, unfolding(crate::specs::Messages::answer_of))]
-    pub fn of(alloc: Global, message: &View<'_>) -> Result<Option<Answer>, AllocError>
-        ensures { IfOk result (λ found. option_map answered found ≡ answer_of message.now) }
+    pub fn of(
+        alloc: Global,
+        at: Option<u64>,
+        message: &View<'_>,
+    ) -> Result<Option<Answer>, AllocError>
+        ensures answer { IfOk result (λ found. option_map answered found ≡ answer_of message.now) }
+        ensures time { IfOk result (λ found. IfSome found (λ answer. answer.at ≡ at)) }
     {
         match message.action() {
             Action::Response => {}
@@ -55,6 +62,7 @@ impl Answer {
         Ok(Some(Answer {
             source: source_of(message),
             request: request_of(message),
+            at,
             content,
         }))
     }

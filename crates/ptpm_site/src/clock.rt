@@ -20,10 +20,12 @@ use crate::port_groups::PortGroup;
 use std::alloc::{AllocError, Global};
 use std::collections::BTreeMap;
 
-/// A data set that an answer had, and the request that the answer came to.
+/// A data set that an answer had, the request that the answer came to, and when it came.
 #[derive(Drop)]
 pub struct Received<T> {
     pub request: Request,
+    /// When it came, in nanoseconds since 1970. `None` if that is not known.
+    pub at: Option<u64>,
     pub set: T,
 }
 
@@ -63,34 +65,42 @@ impl Clock {
         &mut self,
         alloc: Global,
         request: Request,
+        at: Option<u64>,
         content: AnswerContent,
     ) -> Result<(), AllocError>
         ensures defaults { OnOk result (self.new.defaults.items
-            ≡ self.old.defaults.items ++ newly_received default_in request content) }
+            ≡ self.old.defaults.items ++ newly_received default_in request at content) }
         ensures currents { OnOk result (self.new.currents.items
-            ≡ self.old.currents.items ++ newly_received current_in request content) }
+            ≡ self.old.currents.items ++ newly_received current_in request at content) }
         ensures parents { OnOk result (self.new.parents.items
-            ≡ self.old.parents.items ++ newly_received parent_in request content) }
+            ≡ self.old.parents.items ++ newly_received parent_in request at content) }
         ensures times { OnOk result (self.new.times.items
-            ≡ self.old.times.items ++ newly_received time_in request content) }
+            ≡ self.old.times.items ++ newly_received time_in request at content) }
         ensures descriptions { OnOk result (self.new.descriptions.items
-            ≡ self.old.descriptions.items ++ newly_received description_in request content) }
+            ≡ self.old.descriptions.items ++ newly_received description_in request at content) }
         ensures refused { OnOk result (self.new.refused.items
-            ≡ self.old.refused.items ++ newly_received refusal_in request content) }
+            ≡ self.old.refused.items ++ newly_received refusal_in request at content) }
         ensures numbers { OnOk result (keys self.new.ports ≡ place_number (keys self.old.ports) (port_number content)) }
         ensures ports { OnOk result ((n : ℕ) → answers_of_port self.new n
-            ≡ answers_of_port self.old n ++ newly_received (port_in n) request content) }
+            ≡ answers_of_port self.old n ++ newly_received (port_in n) request at content) }
     {
         match content {
-            AnswerContent::Default(set) => self.defaults.push(Received { request, set })?,
-            AnswerContent::Current(set) => self.currents.push(Received { request, set })?,
-            AnswerContent::Parent(set) => self.parents.push(Received { request, set })?,
-            AnswerContent::Time(set) => self.times.push(Received { request, set })?,
-            AnswerContent::Description(set) => self.descriptions.push(Received { request, set })?,
+            AnswerContent::Default(set) => self.defaults.push(Received { request, at, set })?,
+            AnswerContent::Current(set) => self.currents.push(Received { request, at, set })?,
+            AnswerContent::Parent(set) => self.parents.push(Received { request, at, set })?,
+            AnswerContent::Time(set) => self.times.push(Received { request, at, set })?,
+            AnswerContent::Description(set) => self
+                .descriptions
+                .push(Received { request, at, set })?,
             AnswerContent::Port(number, set) => {
-                put_port(alloc, &mut self.ports, number, Received { request, set })?;
+                put_port(
+                    alloc,
+                    &mut self.ports,
+                    number,
+                    Received { request, at, set },
+                )?;
             }
-            AnswerContent::Refused(set) => self.refused.push(Received { request, set })?,
+            AnswerContent::Refused(set) => self.refused.push(Received { request, at, set })?,
         }
         Ok(())
     }

@@ -1,6 +1,6 @@
 //! What is taken of datagrams.
 
-ghost use Rattle.std.specs.Prelude.{◌≡◌, ◌++◌, OnOk};
+ghost use Rattle.std.specs.Prelude.{◌≡◌, ◌++◌, None, OnOk};
 ghost use Rattle.std.specs.Option.{option_to_list};
 ghost use Rattle.ptpm_site.specs.Datagrams.{TakesAny, TakesDatagram, answer_in};
 ghost use Rattle.ptpm_site.specs.Heard.{heard_in};
@@ -12,11 +12,24 @@ use ptpm_codec::view;
 use std::alloc::{AllocError, Global};
 
 impl Site {
-    /// Takes the answer that a datagram has, and what it shows beside. A datagram that shows nothing is passed over.
+    /// Takes a datagram whose time of arrival is unknown.
     pub fn take_datagram(&mut self, alloc: Global, datagram: &[u8]) -> Result<(), AllocError>
-        ensures { OnOk result (TakesDatagram self.old self.new datagram.now) }
+        ensures { OnOk result (TakesDatagram self.old self.new None datagram.now) }
     {
-        self.take_answer(alloc, datagram)?;
+        self.take_datagram_at(alloc, None, datagram)
+    }
+
+    /// Takes the answer that a datagram has, and what it shows beside. It came at a time, in nanoseconds since 1970. A datagram
+    /// that shows nothing is passed over.
+    pub fn take_datagram_at(
+        &mut self,
+        alloc: Global,
+        at: Option<u64>,
+        datagram: &[u8],
+    ) -> Result<(), AllocError>
+        ensures { OnOk result (TakesDatagram self.old self.new at datagram.now) }
+    {
+        self.take_answer(alloc, at, datagram)?;
         self.hear(datagram)
     }
 
@@ -32,14 +45,19 @@ impl Site {
     }
 
     /// Takes the answer that a datagram has. A datagram that is no answer to one of the six ids is passed over.
-    fn take_answer(&mut self, alloc: Global, datagram: &[u8]) -> Result<(), AllocError>
-        ensures answer { OnOk result (TakesAny self.old self.new (answer_in datagram.now)) }
+    fn take_answer(
+        &mut self,
+        alloc: Global,
+        at: Option<u64>,
+        datagram: &[u8],
+    ) -> Result<(), AllocError>
+        ensures answer { OnOk result (TakesAny self.old self.new at (answer_in datagram.now)) }
         ensures heard { OnOk result (self.new.heard ≡ self.old.heard) }
     {
         let Ok(message) = view(datagram) else {
             return Ok(());
         };
-        match Answer::of(alloc, &message)? {
+        match Answer::of(alloc, at, &message)? {
             Some(answer) => self.take(alloc, answer),
             None => Ok(()),
         }

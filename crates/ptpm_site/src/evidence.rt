@@ -1,4 +1,4 @@
-//! What all lines show beside what the answers say: the host that asks, the domains that were asked, and who sends by itself.
+//! What all lines show beside the answers: the host that asks, the domains that were asked, who sends by itself, and who is gone.
 
 ghost use Rattle.std.specs.Prelude.{◌≡◌, ℕ, IfOk};
 ghost use Rattle.std.specs.BTreeSet.{contains};
@@ -8,8 +8,11 @@ ghost use Rattle.ptpm_codec.specs.declared.identity.ClockIdentity.{ClockIdentity
 ghost use Rattle.ptpm_site.specs.declared.heard.Sender.{Sender};
 ghost use Rattle.ptpm_site.specs.Evidence.{IsOf, clock_cmp, domain_in, host_in, is_asked, is_host_of, is_sent, sender_cmp, sent_in};
 
+use crate::gone::gone_set;
 use crate::heard::{Heard, Sender};
+use crate::looks::LastLooks;
 use crate::sets::add_keys;
+use crate::source::Source;
 use ptpm_codec::ClockIdentity;
 use std::alloc::{AllocError, Global};
 use std::collections::BTreeSet;
@@ -23,16 +26,20 @@ pub struct Evidence {
     pub domains: BTreeSet<u8>,
     /// The senders, each with the type of what it sends.
     pub senders: BTreeSet<Sender>,
+    /// The clocks that are gone.
+    pub gone: BTreeSet<Source>,
 }
 
 impl Evidence {
     pub fn of(alloc: Global, heard: &[Heard]) -> Result<Evidence, AllocError>
         ensures { IfOk result (IsOf heard.now) }
     {
+        let last = LastLooks::of(alloc, heard)?;
         Ok(Evidence {
             hosts: host_set(alloc, heard)?,
             domains: domain_set(alloc, heard)?,
             senders: sender_set(alloc, heard)?,
+            gone: gone_set(alloc, heard, &last)?,
         })
     }
 }

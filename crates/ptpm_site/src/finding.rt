@@ -7,16 +7,18 @@ use crate::announcing::Seldom;
 use crate::changes::Change;
 use crate::completeness::Missing;
 use crate::differences::Differs;
+use crate::expected::{OtherLeaders, Outside, Unmet};
+use crate::grandmaster_changes::GrandmasterChange;
 use crate::grandmasters::Masterless;
 use crate::leading::{Better, Degradation, Degraded, Leap, Untraceable, WrongOffset};
 use crate::parents::{NoMaster, Steps};
 use crate::source::Source;
+use crate::stay::Stay;
 use crate::staying::Unlocked;
 use crate::tai_and_utc::OffByUtc;
 use crate::two_offsets::TwoOffsets;
 use crate::unseen::Absence;
 use ptpm_codec::{ClockIdentity, PortIdentity};
-use ptpm_data::PortState;
 use std::alloc::AllocError;
 
 /// Something that is wrong with a clock.
@@ -29,6 +31,16 @@ pub struct Finding<'a> {
 /// What is wrong, in the order in which the findings of a clock are reported.
 #[derive(Drop)]
 pub enum What<'a> {
+    /// The inventory names it, and it is not seen. The description that it has there, if it has one.
+    Absent(Option<&'a str>),
+    /// The inventory of its domain does not name it.
+    Unexpected,
+    /// A member is not as the inventory wants it.
+    NotAsExpected(Unmet<'a>),
+    /// Other clocks lead than those that the inventory wants. It is the first of them.
+    OtherLeaders(OtherLeaders<'a>),
+    /// It answered, and not to the last request to all clocks.
+    Gone,
     /// It is not seen, and a clock names it or it sends by itself.
     Unseen(Absence),
     /// It is one of two or more clocks of the domain that are their own grandmasters and have a port in MASTER.
@@ -48,9 +60,9 @@ pub enum What<'a> {
     /// It is the least of the clocks of a loop. The list has all of them: each is followed by the one that it
     /// follows.
     Loop(Vec<ClockIdentity>),
-    /// A port is FAULTY, or stays on its way to another state.
-    PortState(u16, PortState),
-    /// A port stays in UNCALIBRATED.
+    /// A port is FAULTY, or stays on its way to another state for too long.
+    PortState(u16, Stay),
+    /// A port stays in UNCALIBRATED for too long.
     NotLocked(u16, Unlocked),
     /// It takes TAI and UTC for each other, or all clocks that follow it do.
     OffByUtc(OffByUtc),
@@ -78,10 +90,14 @@ pub enum What<'a> {
     Leap(Leap),
     /// It leads, and there is a clock of a better class that does not.
     BetterClock(Better),
+    /// A member is not what the profile allows.
+    Profile(Outside),
     /// Not all that it was asked for was answered.
     Incomplete(Missing),
     /// It was reached by the last of this many boundary hops, and has two ports or more.
     OutOfReach(u8),
+    /// Clocks went from one grandmaster to another.
+    GrandmasterChanged(GrandmasterChange),
     /// Answers to two requests differ.
     Changed(Option<u16>, Change<'a>),
     /// Answers to one request differ.
@@ -94,6 +110,10 @@ impl What<'_> {
     /// Its name, which scripts read.
     pub fn name(&self) -> &'static str {
         match self {
+            What::Absent(_) => "absent",
+            What::Unexpected => "unexpected",
+            What::NotAsExpected(_) | What::OtherLeaders(_) => "not_as_expected",
+            What::Gone => "gone",
             What::Unseen(unseen) => unseen.name(),
             What::TwoGrandmasters => "two_grandmasters",
             What::NoMaster(_) => "no_master",
@@ -117,8 +137,10 @@ impl What<'_> {
             What::UtcOffset(_) => "utc_offset",
             What::Leap(_) => "leap",
             What::BetterClock(_) => "better_clock",
+            What::Profile(_) => "profile",
             What::Incomplete(_) => "incomplete",
             What::OutOfReach(_) => "out_of_reach",
+            What::GrandmasterChanged(_) => "grandmaster_changed",
             What::Changed(..) => "changed",
             What::IdentityTwice(..) | What::TwoOffsets(_) => "identity_twice",
         }
@@ -129,7 +151,9 @@ impl What<'_> {
     /// Whether time is wrong or missing by it, or two clocks look like one. Any other finding is a warning.
     pub fn is_critical(&self) -> bool {
         match self {
-            What::TwoGrandmasters
+            What::Absent(_)
+            | What::Gone
+            | What::TwoGrandmasters
             | What::NoMaster(_)
             | What::GrandmasterNotSeen(_)
             | What::ParentNotSeen(_)

@@ -2,17 +2,20 @@
 
 ghost use Rattle.std.specs.Prelude.{◌≡◌};
 ghost use Rattle.std.specs.Option.{option_map};
-ghost use Rattle.ptpm_site.specs.Heard.{get_in, heard_in, heard_of, is_of_sender, sender_in, travel_in};
+ghost use Rattle.ptpm_site.specs.Heard.{get_in, heard_in, heard_of, is_of_sender, is_to_all, sender_in, travel_in};
 
 use crate::answer::{Request, request_of, source_of};
 use crate::asked::Asked;
 use crate::source::Source;
-use ptpm_codec::{Action, View, port_identity_at, view};
+use ptpm_codec::{Action, ClockIdentity, PortIdentity, View, port_identity_at, view};
 
 /// A GET of one of the six ids.
 #[derive(Clone, Copy)]
 pub struct Query {
     pub domain: u8,
+    pub asked: Asked,
+    /// Whether all ports of all clocks are asked.
+    pub is_to_all: bool,
     /// Who asks, and with which sequenceId.
     pub request: Request,
     /// startingBoundaryHops.
@@ -31,6 +34,7 @@ pub struct Allowed {
 #[derive(Clone, Copy)]
 pub struct Travel {
     pub source: Source,
+    pub asked: Asked,
     pub request: Request,
     /// startingBoundaryHops.
     pub starting_hops: u8,
@@ -80,19 +84,28 @@ fn sent_in(datagram: &[u8]) -> Option<Heard>
 fn heard_of(message: &View<'_>) -> Option<Heard>
     ensures { result ≡ heard_of message.now }
 {
-    let _ = Asked::of_id(message.id())?;
+    let asked = Asked::of_id(message.id())?;
     match message.action() {
-        Action::Get => Some(Heard::Asked(get_in(message))),
-        Action::Response => Some(Heard::Answered(travel_in(message))),
+        Action::Get => Some(Heard::Asked(get_in(asked, message))),
+        Action::Response => Some(Heard::Answered(travel_in(asked, message))),
         _ => None,
     }
 }
 
-fn get_in(message: &View<'_>) -> Query
-    ensures { result ≡ get_in message.now }
+/// Whether all ports of all clocks are meant.
+fn is_to_all(target: PortIdentity) -> bool
+    ensures { result ≡ is_to_all target }
+{
+    target.clock == ClockIdentity::EVERY && target.port == PortIdentity::EVERY_PORT
+}
+
+fn get_in(asked: Asked, message: &View<'_>) -> Query
+    ensures { result ≡ get_in asked message.now }
 {
     Query {
         domain: message.domain(),
+        asked,
+        is_to_all: is_to_all(message.target()),
         request: Request {
             target: message.source(),
             number: message.number(),
@@ -101,11 +114,12 @@ fn get_in(message: &View<'_>) -> Query
     }
 }
 
-fn travel_in(message: &View<'_>) -> Travel
-    ensures { result ≡ travel_in message.now }
+fn travel_in(asked: Asked, message: &View<'_>) -> Travel
+    ensures { result ≡ travel_in asked message.now }
 {
     Travel {
         source: source_of(message),
+        asked,
         request: request_of(message),
         starting_hops: message.starting_hops(),
         hops: message.hops(),

@@ -6,7 +6,8 @@ ghost use Rattle.std.specs.List.{flat_map};
 ghost use Rattle.std.specs.List.Sorted.{IsStrictlySortedBy};
 ghost use Rattle.ptpm_site.specs.Answers.{source_cmp};
 ghost use Rattle.ptpm_site.specs.Evidence.{IsOf};
-ghost use Rattle.ptpm_site.specs.Findings.{findings_of, found_above, found_at, found_here, found_of, leader_found, reported};
+ghost use Rattle.ptpm_site.specs.Findings.{absent_reported, findings_of, found_above, found_at, found_here, found_of, leader_found, reported};
+ghost use Rattle.ptpm_site.specs.GrandmasterChanges.{grandmaster_changes};
 ghost use Rattle.ptpm_site.specs.Grandmasters.{leading_clocks};
 ghost use Rattle.ptpm_site.specs.Loops.{AreLeast, loop_of};
 ghost use Rattle.ptpm_site.specs.Reach.{IsReach};
@@ -15,14 +16,15 @@ ghost use Rattle.ptpm_site.specs.Site.{site_answers};
 use crate::evidence::Evidence;
 use crate::finding::Finding;
 use crate::forest::place_among;
+use crate::grandmaster_changes::{GrandmasterChange, grandmaster_changes};
 use crate::grandmasters::leading;
 use crate::judging_amounts::{judge_amounts, judge_utc};
-use crate::judging_answers::judge_answers;
+use crate::judging_answers::{judge_answers, judge_changes};
 use crate::judging_grandmasters::{judge_grandmaster, judge_parent};
 use crate::judging_leading::judge_leader;
 use crate::judging_loops::judge_loop;
 use crate::judging_ports::{judge_intervals, judge_locks, judge_ports};
-use crate::judging_unseen::judge_unseen;
+use crate::judging_unseen::{judge_gone, judge_unseen};
 use crate::limits::Limits;
 use crate::marks::is_marked;
 use crate::reach::Reach;
@@ -46,12 +48,14 @@ pub fn findings_of<'a>(
     let subjects = subjects_of(alloc, site, sources.as_slice())?;
     let evidence = Evidence::of(alloc, site.all_heard())?;
     let reach = Reach::of(alloc, site.all_heard())?;
+    let changes = grandmaster_changes(alloc, site, sources.as_slice())?;
     let leading = leading(alloc, site, sources.as_slice())?;
     let given = Given {
         alloc,
         sources: sources.as_slice(),
         evidence: &evidence,
         reach: &reach,
+        changes: changes.as_slice(),
         leading: leading.as_slice(),
         least,
         limits,
@@ -71,6 +75,8 @@ struct Given<'a> {
     evidence: &'a Evidence,
     /// How far the GETs went.
     reach: &'a Reach,
+    /// Which grandmasters changed.
+    changes: &'a [GrandmasterChange],
     /// The clocks that lead.
     leading: &'a [Source],
     /// For each clock whether it is the least of a loop.
@@ -90,6 +96,7 @@ fn judge_all<'a>(
     requires least { AreLeast (site_answers site.now) given.now.least.now }
     requires of { IsOf (site_answers site.now).heard given.now.evidence.now }
     requires reach { IsReach (site_answers site.now).heard given.now.reach.now }
+    requires changes { given.now.changes.now ≡ grandmaster_changes (site_answers site.now) }
     requires ordered { IsStrictlySortedBy source_cmp given.now.sources.now }
     ensures { OnOk result (reported findings.new.items
         ≡ reported findings.old.items ++ flat_map (found_at (site_answers site.now) given.now.limits) subjects.now) }
@@ -112,6 +119,7 @@ fn judge_one<'a>(
     requires least { AreLeast (site_answers site.now) given.now.least.now }
     requires of { IsOf (site_answers site.now).heard given.now.evidence.now }
     requires reach { IsReach (site_answers site.now).heard given.now.reach.now }
+    requires changes { given.now.changes.now ≡ grandmaster_changes (site_answers site.now) }
     requires ordered { IsStrictlySortedBy source_cmp given.now.sources.now }
     ensures { OnOk result (reported findings.new.items
         ≡ reported findings.old.items ++ found_at (site_answers site.now) given.now.limits subject) }
@@ -120,8 +128,26 @@ fn judge_one<'a>(
         let is_least = is_least(site, subject, given);
         judge(site, subject, is_least, given, findings)
     } else {
-        judge_unseen(site, given.evidence, subject, given.sources, findings)
+        judge_absent(site, subject, given, findings)
     }
+}
+
+/// What is wrong with one clock that is not seen.
+fn judge_absent(
+    site: &Site,
+    subject: Source,
+    given: &Given<'_>,
+    findings: &mut Vec<Finding<'_>>,
+) -> Result<(), AllocError>
+    requires sources { given.now.sources.now ≡ (site_answers site.now).clocks }
+    requires of { IsOf (site_answers site.now).heard given.now.evidence.now }
+    requires changes { given.now.changes.now ≡ grandmaster_changes (site_answers site.now) }
+    ensures { OnOk result (reported findings.new.items
+        ≡ reported findings.old.items ++ absent_reported (site_answers site.now) subject) }
+{
+    judge_gone(site, given.evidence, subject, findings)?;
+    judge_unseen(site, given.evidence, subject, given.sources, findings)?;
+    judge_changes(given.changes, subject, findings)
 }
 
 /// Whether a clock that is seen is the least of a loop.
@@ -149,6 +175,7 @@ fn judge<'a>(
     requires least { is_least ≡ is_some (loop_of (site_answers site.now) source) }
     requires sources { given.now.sources.now ≡ (site_answers site.now).clocks }
     requires reach { IsReach (site_answers site.now).heard given.now.reach.now }
+    requires changes { given.now.changes.now ≡ grandmaster_changes (site_answers site.now) }
     ensures { OnOk result (reported findings.new.items
         ≡ reported findings.old.items ++ found_of (site_answers site.now) given.now.limits source) }
 {
@@ -162,6 +189,7 @@ fn judge<'a>(
         given.alloc,
         site,
         given.reach,
+        given.changes,
         source,
         ports.as_slice(),
         findings,
@@ -199,8 +227,8 @@ fn judge_here(
     ensures { OnOk result (findings.new.items ≡ findings.old.items ++ found_here (site_answers site.now) given.now.limits source) }
 {
     let (sources, limits) = (given.sources, given.limits);
-    judge_ports(site, source, ports, findings)?;
-    judge_locks(site, source, ports, findings)?;
+    judge_ports(site, source, ports, limits, findings)?;
+    judge_locks(site, source, ports, limits, findings)?;
     judge_amounts(site, source, ports, sources, limits, findings)?;
     judge_utc(site, source, findings)?;
     judge_intervals(site, source, ports, findings)

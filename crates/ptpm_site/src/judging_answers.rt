@@ -4,8 +4,9 @@ ghost use Rattle.std.specs.Prelude.{◌≡◌, ◌++◌, [], ◌∷◌, IfOk, On
 ghost use Rattle.std.specs.List.{flat_map, list_all};
 ghost use Rattle.std.specs.Option.{option_map};
 ghost use Rattle.ptpm_site.specs.Changes.{contradiction, member_change};
-ghost use Rattle.ptpm_site.specs.Findings.{Otherwise, answers_reported, clock_sets_reported, contradictions_reported, incomplete_reported, is_of_state, member_reported, offsets_reported, port_set_reported, reach_reported, reported, said, says, set_reported, twice_reported};
+ghost use Rattle.ptpm_site.specs.Findings.{Otherwise, answers_reported, change_reported, clock_sets_reported, contradictions_reported, incomplete_reported, is_of_state, member_reported, offsets_reported, port_set_reported, reach_reported, reported, said, says, set_reported, twice_reported};
 ghost use Rattle.ptpm_site.specs.Following.{is_own_grandmaster};
+ghost use Rattle.ptpm_site.specs.GrandmasterChanges.{grandmaster_changes};
 ghost use Rattle.ptpm_site.specs.Reach.{IsReach};
 ghost use Rattle.ptpm_site.specs.Site.{site_answers};
 
@@ -13,6 +14,7 @@ use crate::changes::{Change, Contradiction, first_change, first_contradiction, i
 use crate::clock::Received;
 use crate::completeness::missing_answers;
 use crate::finding::{Finding, What, report};
+use crate::grandmaster_changes::GrandmasterChange;
 use crate::member::{DataSet, Member, Value};
 use crate::reach::{Reach, out_of_reach};
 use crate::site::Site;
@@ -20,22 +22,26 @@ use crate::source::Source;
 use crate::two_offsets::two_offsets;
 use std::alloc::{AllocError, Global};
 
-/// `incomplete`, `out_of_reach`, `changed` and `identity_twice`. `ports` are the clock's ports that answered.
+/// `incomplete`, `out_of_reach`, `grandmaster_changed`, `changed` and `identity_twice`. `ports` are the clock's ports that answered, and
+/// `changes` all changes of a grandmaster.
 #[tactic(auto, unfolding(crate::specs::Findings::answers_reported))]
 pub fn judge_answers<'a>(
     alloc: Global,
     site: &'a Site,
     reach: &Reach,
+    changes: &[GrandmasterChange],
     source: Source,
     ports: &[u16],
     findings: &mut Vec<Finding<'a>>,
 ) -> Result<(), AllocError>
     requires ports { ports.now ≡ (site_answers site.now).ports source }
     requires reach { IsReach (site_answers site.now).heard reach.now }
+    requires changes { changes.now ≡ grandmaster_changes (site_answers site.now) }
     ensures { OnOk result (reported findings.new.items ≡ reported findings.old.items ++ answers_reported (site_answers site.now) source) }
 {
     judge_missing(alloc, site, source, ports, findings)?;
     judge_reach(site, reach, source, findings)?;
+    judge_changes(changes, source, findings)?;
     judge_contradictions(alloc, site, source, ports, Contradiction::Changed, findings)?;
     judge_twice(alloc, site, source, ports, findings)?;
     judge_offsets(site, source, findings)
@@ -71,6 +77,33 @@ fn judge_reach(
         Some(hops) => report(findings, source, What::OutOfReach(hops)),
         None => Ok(()),
     }
+}
+
+/// `grandmaster_changed`: those of these changes that are shown at a clock.
+pub fn judge_changes(
+    changes: &[GrandmasterChange],
+    source: Source,
+    findings: &mut Vec<Finding<'_>>,
+) -> Result<(), AllocError>
+    ensures { OnOk result (reported findings.new.items ≡ reported findings.old.items ++ flat_map (change_reported source) changes.now) }
+{
+    for change in changes {
+        judge_change(change, source, findings)?;
+    }
+    Ok(())
+}
+
+fn judge_change(
+    change: &GrandmasterChange,
+    source: Source,
+    findings: &mut Vec<Finding<'_>>,
+) -> Result<(), AllocError>
+    ensures { OnOk result (reported findings.new.items ≡ reported findings.old.items ++ change_reported source change.now) }
+{
+    if change.source != source {
+        return Ok(());
+    }
+    report(findings, source, What::GrandmasterChanged(*change))
 }
 
 /// `identity_twice`. States of ports may differ by themselves while they change: these alone are no finding.

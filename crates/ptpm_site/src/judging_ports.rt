@@ -21,12 +21,13 @@ pub fn judge_ports(
     site: &Site,
     source: Source,
     ports: &[u16],
+    limits: Limits,
     findings: &mut Vec<Finding<'_>>,
 ) -> Result<(), AllocError>
-    ensures { OnOk result (findings.new.items ≡ findings.old.items ++ flat_map (state_found (site_answers site.now) source) ports.now) }
+    ensures { OnOk result (findings.new.items ≡ findings.old.items ++ flat_map (state_found (site_answers site.now) limits source) ports.now) }
 {
     for port in ports {
-        judge_state(site, source, *port, findings)?;
+        judge_state(site, source, *port, limits, findings)?;
     }
     Ok(())
 }
@@ -36,12 +37,13 @@ fn judge_state(
     site: &Site,
     source: Source,
     port: u16,
+    limits: Limits,
     findings: &mut Vec<Finding<'_>>,
 ) -> Result<(), AllocError>
-    ensures { OnOk result (findings.new.items ≡ findings.old.items ++ state_found (site_answers site.now) source port) }
+    ensures { OnOk result (findings.new.items ≡ findings.old.items ++ state_found (site_answers site.now) limits source port) }
 {
-    match staying_state(site, source, port) {
-        Some(state) => add_finding(findings, source, What::PortState(port, state)),
+    match staying_state(site, limits, source, port) {
+        Some(stay) => add_finding(findings, source, What::PortState(port, stay)),
         None => Ok(()),
     }
 }
@@ -51,12 +53,13 @@ pub fn judge_locks(
     site: &Site,
     source: Source,
     ports: &[u16],
+    limits: Limits,
     findings: &mut Vec<Finding<'_>>,
 ) -> Result<(), AllocError>
-    ensures { OnOk result (findings.new.items ≡ findings.old.items ++ flat_map (lock_found (site_answers site.now) source) ports.now) }
+    ensures { OnOk result (findings.new.items ≡ findings.old.items ++ flat_map (lock_found (site_answers site.now) limits source) ports.now) }
 {
     for port in ports {
-        judge_lock(site, source, *port, findings)?;
+        judge_lock(site, source, *port, limits, findings)?;
     }
     Ok(())
 }
@@ -66,11 +69,12 @@ fn judge_lock(
     site: &Site,
     source: Source,
     port: u16,
+    limits: Limits,
     findings: &mut Vec<Finding<'_>>,
 ) -> Result<(), AllocError>
-    ensures { OnOk result (findings.new.items ≡ findings.old.items ++ lock_found (site_answers site.now) source port) }
+    ensures { OnOk result (findings.new.items ≡ findings.old.items ++ lock_found (site_answers site.now) limits source port) }
 {
-    match unlocked_port(site, source, port) {
+    match unlocked_port(site, limits, source, port) {
         Some(unlocked) => add_finding(findings, source, What::NotLocked(port, unlocked)),
         None => Ok(()),
     }

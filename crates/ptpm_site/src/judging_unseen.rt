@@ -2,7 +2,7 @@
 
 ghost use Rattle.std.specs.Prelude.{◌≡◌, ◌++◌, OnOk};
 ghost use Rattle.ptpm_site.specs.Evidence.{IsOf};
-ghost use Rattle.ptpm_site.specs.Findings.{reported, unseen_reported};
+ghost use Rattle.ptpm_site.specs.Findings.{gone_reported, reported, unseen_reported};
 ghost use Rattle.ptpm_site.specs.Site.{site_answers};
 
 use crate::evidence::Evidence;
@@ -28,5 +28,23 @@ pub fn judge_unseen(
     match unseen(site, evidence, source, sources) {
         Some(why) => report(findings, source, What::Unseen(why)),
         None => Ok(()),
+    }
+}
+
+/// `gone`.
+#[tactic(auto, unfolding(crate::specs::Findings::gone_reported))]
+pub fn judge_gone(
+    site: &Site,
+    evidence: &Evidence,
+    source: Source,
+    findings: &mut Vec<Finding<'_>>,
+) -> Result<(), AllocError>
+    requires { IsOf (site_answers site.now).heard evidence.now }
+    ensures { OnOk result (reported findings.new.items ≡ reported findings.old.items ++ gone_reported (site_answers site.now) source) }
+{
+    if evidence.gone.contains(&source) {
+        report(findings, source, What::Gone)
+    } else {
+        Ok(())
     }
 }

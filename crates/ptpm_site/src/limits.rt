@@ -8,4 +8,6 @@ pub struct Limits {
     pub delay: Option<u64>,
     /// How many seconds TAI is before UTC today.
     pub tai_utc: i16,
+    /// How many seconds a port may take to come to a state in which it stays.
+    pub settle: u32,
 }

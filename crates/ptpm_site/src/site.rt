@@ -47,10 +47,11 @@ impl Site {
         let Answer {
             source,
             request,
+            at,
             content,
         } = answer;
         self.place(alloc, source)?;
-        self.add_content(alloc, source, request, content)?;
+        self.add_content(alloc, source, request, at, content)?;
         Ok(())
     }
 
@@ -72,14 +73,15 @@ impl Site {
         alloc: Global,
         source: Source,
         request: Request,
+        at: Option<u64>,
         content: AnswerContent,
     ) -> Result<(), AllocError>
         requires { IsSome (clock_at self.old source) }
-        ensures content { OnOk result (AddsContent self.old self.new source request content) }
+        ensures content { OnOk result (AddsContent self.old self.new source request at content) }
         ensures heard { OnOk result (self.new.heard ≡ self.old.heard) }
     {
         if let Some(clock) = self.clocks.get_mut(&source) {
-            clock.take(alloc, request, content)?;
+            clock.take(alloc, request, at, content)?;
         }
         Ok(())
     }

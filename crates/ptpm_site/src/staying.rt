@@ -1,18 +1,22 @@
-//! Ports that stay on their way to another state, and are wrong to.
+//! Ports that are FAULTY, or stay on their way to another state for too long.
 
 ghost use Rattle.std.specs.Prelude.{◌≡◌};
 ghost use Rattle.ptpm_site.specs.Site.{site_answers};
-ghost use Rattle.ptpm_site.specs.Staying.{may_listen, staying_state, unlocked_port, unlocked_in, wrong_state};
+ghost use Rattle.ptpm_site.specs.Staying.{is_too_long, is_unlocked, is_wrong, long_stay, may_listen, open_lock, open_state, open_stay, staying_state, unlocked_port, unlocked_stay, wrong_stay};
 
 use crate::grandmasters::masterless_reason;
-use crate::port_states::bad_state;
+use crate::limits::Limits;
 use crate::site::Site;
 use crate::source::Source;
+use crate::stay::{Stay, is_faulty, stay_of};
+use crate::stay_limits::wait;
 use ptpm_data::PortState;
 
 /// A port that stays in UNCALIBRATED.
 #[derive(Clone, Copy)]
 pub struct Unlocked {
+    /// For how many nanoseconds. `None` if that is not known.
+    pub time: Option<u64>,
     /// offsetFromMaster of its clock, a TimeInterval. `None` if CURRENT_DATA_SET was not answered.
     pub offset: Option<i64>,
 }
@@ -28,43 +32,103 @@ fn may_listen(site: &Site, source: Source) -> bool
     }
 }
 
-/// The state, if it isn't UNCALIBRATED and a port of this clock may not stay in it.
-fn wrong_state(site: &Site, source: Source, state: PortState) -> Option<PortState>
-    ensures { result ≡ wrong_state (site_answers site.now) source state }
+/// Whether a port of this clock may not stay in a state. UNCALIBRATED is left out.
+fn is_wrong(site: &Site, source: Source, state: PortState) -> bool
+    ensures { result ≡ is_wrong (site_answers site.now) source state }
 {
     match state {
-        PortState::Uncalibrated => None,
-        PortState::Listening if may_listen(site, source) => None,
-        state => Some(state),
+        PortState::Uncalibrated => false,
+        PortState::Listening => !may_listen(site, source),
+        _ => true,
     }
 }
 
-/// The state in which a port is FAULTY, or stays though it may not. UNCALIBRATED is left out.
-pub fn staying_state(site: &Site, source: Source, port: u16) -> Option<PortState>
-    ensures { result ≡ staying_state (site_answers site.now) source port }
+fn wrong_stay(site: &Site, source: Source, stay: Stay) -> Option<Stay>
+    ensures { result ≡ wrong_stay (site_answers site.now) source stay }
 {
-    let state = bad_state(site.port_answers(source, port))?;
-    wrong_state(site, source, state)
-}
-
-fn unlocked_in(site: &Site, source: Source, state: PortState) -> Option<Unlocked>
-    ensures { result ≡ unlocked_in (site_answers site.now) source state }
-{
-    match state {
-        PortState::Uncalibrated => Some(Unlocked {
-            offset: match site.current(source) {
-                Some(current) => Some(current.offset_from_master),
-                None => None,
-            },
-        }),
-        _ => None,
+    if is_wrong(site, source, stay.state) {
+        Some(stay)
+    } else {
+        None
     }
 }
 
-/// What is said of a port that stays in UNCALIBRATED.
-pub fn unlocked_port(site: &Site, source: Source, port: u16) -> Option<Unlocked>
-    ensures { result ≡ unlocked_port (site_answers site.now) source port }
+fn is_unlocked(state: PortState) -> bool
+    ensures { result ≡ is_unlocked state }
 {
-    let state = bad_state(site.port_answers(source, port))?;
-    unlocked_in(site, source, state)
+    matches!(state, PortState::Uncalibrated)
+}
+
+fn unlocked_stay(site: &Site, source: Source, stay: Stay) -> Option<Unlocked>
+    ensures { result ≡ unlocked_stay (site_answers site.now) source stay }
+{
+    if !is_unlocked(stay.state) {
+        return None;
+    }
+    Some(Unlocked {
+        time: stay.time,
+        offset: match site.current(source) {
+            Some(current) => Some(current.offset_from_master),
+            None => None,
+        },
+    })
+}
+
+/// Whether a stay is one in FAULTY, or in another state for too long.
+fn is_too_long(site: &Site, limits: Limits, source: Source, port: u16, stay: &Stay) -> bool
+    ensures { result ≡ is_too_long (site_answers site.now) limits source port stay.now }
+{
+    is_faulty(stay.state) || stay.is_lasting(wait(site, limits, source, port, stay.state))
+}
+
+/// The stay of a port, if it is too long.
+fn long_stay(site: &Site, limits: Limits, source: Source, port: u16) -> Option<Stay>
+    ensures { result ≡ long_stay (site_answers site.now) limits source port }
+{
+    let stay = stay_of(site.port_answers(source, port))?;
+    if is_too_long(site, limits, source, port, &stay) {
+        Some(stay)
+    } else {
+        None
+    }
+}
+
+/// The stay of a port, if it is not too long yet.
+fn open_stay(site: &Site, limits: Limits, source: Source, port: u16) -> Option<Stay>
+    ensures { result ≡ open_stay (site_answers site.now) limits source port }
+{
+    let stay = stay_of(site.port_answers(source, port))?;
+    if is_too_long(site, limits, source, port, &stay) {
+        None
+    } else {
+        Some(stay)
+    }
+}
+
+/// How a port is that is FAULTY, or stays too long in a state that it may not stay in. UNCALIBRATED is left out.
+pub fn staying_state(site: &Site, limits: Limits, source: Source, port: u16) -> Option<Stay>
+    ensures { result ≡ staying_state (site_answers site.now) limits source port }
+{
+    wrong_stay(site, source, long_stay(site, limits, source, port)?)
+}
+
+/// What is said of a port that stays too long in UNCALIBRATED.
+pub fn unlocked_port(site: &Site, limits: Limits, source: Source, port: u16) -> Option<Unlocked>
+    ensures { result ≡ unlocked_port (site_answers site.now) limits source port }
+{
+    unlocked_stay(site, source, long_stay(site, limits, source, port)?)
+}
+
+/// How a port is that may stay too long in a state that it may not stay in. UNCALIBRATED is left out.
+pub fn open_state(site: &Site, limits: Limits, source: Source, port: u16) -> Option<Stay>
+    ensures { result ≡ open_state (site_answers site.now) limits source port }
+{
+    wrong_stay(site, source, open_stay(site, limits, source, port)?)
+}
+
+/// What is said of a port that may stay too long in UNCALIBRATED.
+pub fn open_lock(site: &Site, limits: Limits, source: Source, port: u16) -> Option<Unlocked>
+    ensures { result ≡ open_lock (site_answers site.now) limits source port }
+{
+    unlocked_stay(site, source, open_stay(site, limits, source, port)?)
 }

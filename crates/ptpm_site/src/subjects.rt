@@ -9,15 +9,17 @@ ghost use Rattle.ptpm_site.specs.Site.{site_answers};
 ghost use Rattle.ptpm_site.specs.Unseen.{named_by, subjects};
 
 use crate::evidence::senders;
+use crate::gone::gone_clocks;
 use crate::heard::Sender;
+use crate::looks::LastLooks;
 use crate::sets::add_keys;
 use crate::site::Site;
 use crate::source::Source;
 use std::alloc::{AllocError, Global};
 use std::collections::BTreeSet;
 
-/// The clocks that are seen, those that they name, and those that send by themselves, by domain and identity. `sources` has all
-/// clocks that are seen.
+/// The clocks that are seen, those that they name, those that send by themselves, and those that are gone, by domain and identity.
+/// `sources` has all clocks that are seen.
 pub fn subjects_of(
     alloc: Global,
     site: &Site,
@@ -41,9 +43,13 @@ fn subject_set(
     let mut found = BTreeSet::new(alloc);
     add_keys(&mut found, sources)?;
     add_named(site, sources, &mut found)?;
-    let heard = senders(alloc, site.all_heard())?;
+    let all = site.all_heard();
+    let heard = senders(alloc, all)?;
     let sending = sources_of(alloc, heard.as_slice())?;
     add_keys(&mut found, sending.as_slice())?;
+    let last = LastLooks::of(alloc, all)?;
+    let gone = gone_clocks(alloc, all, &last)?;
+    add_keys(&mut found, gone.as_slice())?;
     Ok(found)
 }
 

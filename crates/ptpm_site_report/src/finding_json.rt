@@ -1,12 +1,16 @@
 //! A finding as a JSON object.
 
+use crate::expected_json::{put_other_leaders, put_outside, put_unmet};
+use crate::expected_text::clock_of;
 use crate::json::{identity_value, member_value, port_value, quality_value, text_value};
+use crate::seconds::whole_seconds;
 use ptpm_data::PortState;
 use ptpm_site::announcing::Seldom;
 use ptpm_site::changes::Change;
 use ptpm_site::completeness::Missing;
 use ptpm_site::differences::Differs;
 use ptpm_site::finding::{Finding, What};
+use ptpm_site::grandmaster_changes::GrandmasterChange;
 use ptpm_site::grandmasters::Masterless;
 use ptpm_site::heard::kind_name;
 use ptpm_site::leading::{Better, Leap, Untraceable, WrongOffset};
@@ -26,7 +30,10 @@ pub(crate) fn finding_value(alloc: Global, finding: &Finding<'_>) -> Result<Valu
         &mut map,
         alloc,
         "clockIdentity",
-        identity_value(alloc, source.clock)?,
+        match clock_of(finding) {
+            Some(clock) => identity_value(alloc, clock)?,
+            None => text_value(alloc, "-")?,
+        },
     )?;
     put(
         &mut map,
@@ -50,7 +57,14 @@ fn put_values(
     what: &What<'_>,
 ) -> Result<(), AllocError> {
     match what {
-        What::Unseen(Absence::OwnHost) | What::TwoGrandmasters => Ok(()),
+        What::Absent(_)
+        | What::Unexpected
+        | What::Gone
+        | What::Unseen(Absence::OwnHost)
+        | What::TwoGrandmasters => Ok(()),
+        What::NotAsExpected(unmet) => put_unmet(alloc, map, unmet),
+        What::OtherLeaders(other) => put_other_leaders(alloc, map, other),
+        What::Profile(outside) => put_outside(alloc, map, *outside),
         What::Unseen(Absence::Mute(kind)) => put(
             map,
             alloc,
@@ -92,23 +106,9 @@ fn put_values(
             }
             put(map, alloc, "clocks", Value::Array(values))
         }
-        What::PortState(port, state) => {
-            put(map, alloc, "portNumber", Value::from(*port))?;
-            put(
-                map,
-                alloc,
-                "portState",
-                text_value(alloc, state_name(Some(*state)))?,
-            )
-        }
+        What::PortState(port, stay) => put_state(alloc, map, *port, stay.state, stay.time),
         What::NotLocked(port, unlocked) => {
-            put(map, alloc, "portNumber", Value::from(*port))?;
-            put(
-                map,
-                alloc,
-                "portState",
-                text_value(alloc, state_name(Some(PortState::Uncalibrated)))?,
-            )?;
+            put_state(alloc, map, *port, PortState::Uncalibrated, unlocked.time)?;
             let offset = match unlocked.offset {
                 Some(offset) => Value::from(offset),
                 None => Value::Null,
@@ -143,6 +143,7 @@ fn put_values(
         What::BetterClock(better) => put_better(alloc, map, better),
         What::Incomplete(missing) => put_missing(alloc, map, missing),
         What::OutOfReach(hops) => put(map, alloc, "boundaryHops", Value::from(*hops)),
+        What::GrandmasterChanged(change) => put_grandmaster_change(alloc, map, change),
         What::Changed(port, change) | What::IdentityTwice(port, change) => {
             put_change(alloc, map, *port, change)
         }
@@ -151,6 +152,28 @@ fn put_values(
             put(map, alloc, "offsets", both)
         }
     }
+}
+
+/// Puts the state of a port, and for how many whole seconds it is known to be in it or in another on its way.
+fn put_state(
+    alloc: Global,
+    map: &mut Map<String, Value>,
+    port: u16,
+    state: PortState,
+    time: Option<u64>,
+) -> Result<(), AllocError> {
+    put(map, alloc, "portNumber", Value::from(port))?;
+    put(
+        map,
+        alloc,
+        "portState",
+        text_value(alloc, state_name(Some(state)))?,
+    )?;
+    let seconds = match time {
+        Some(time) => Value::from(whole_seconds(time)),
+        None => Value::Null,
+    };
+    put(map, alloc, "seconds", seconds)
 }
 
 fn put_masterless(
@@ -295,6 +318,16 @@ fn put_better(
         quality_value(alloc, better.quality)?,
     )?;
     put(map, alloc, "priority1", Value::from(better.priority1))
+}
+
+fn put_grandmaster_change(
+    alloc: Global,
+    map: &mut Map<String, Value>,
+    change: &GrandmasterChange,
+) -> Result<(), AllocError> {
+    put(map, alloc, "before", identity_value(alloc, change.before)?)?;
+    put(map, alloc, "after", identity_value(alloc, change.after)?)?;
+    put(map, alloc, "clocks", Value::from(change.clocks))
 }
 
 /// What the port says of its intervals, and the interval of the port that it follows, in seconds.

@@ -13,7 +13,27 @@ pub(crate) struct FindingName {
 }
 
 /// All names, in the order in which the findings of a clock are reported.
-pub(crate) const ALL: [FindingName; 29] = [
+pub(crate) const ALL: [FindingName; 35] = [
+    FindingName {
+        name: "absent",
+        meaning: "The inventory names the clock, and it did not answer.",
+        is_critical: true,
+    },
+    FindingName {
+        name: "unexpected",
+        meaning: "The inventory does not name the clock.",
+        is_critical: false,
+    },
+    FindingName {
+        name: "not_as_expected",
+        meaning: "It is not as the inventory says.",
+        is_critical: false,
+    },
+    FindingName {
+        name: "gone",
+        meaning: "The clock answered before, and answers no more.",
+        is_critical: true,
+    },
     FindingName {
         name: "own_host",
         meaning: "The clock is the host that asks, which does not hear itself at an interface.",
@@ -140,6 +160,11 @@ pub(crate) const ALL: [FindingName; 29] = [
         is_critical: false,
     },
     FindingName {
+        name: "profile",
+        meaning: "It is set to what the profile does not allow.",
+        is_critical: false,
+    },
+    FindingName {
         name: "incomplete",
         meaning: "The clock did not answer all that it was asked for.",
         is_critical: false,
@@ -147,6 +172,11 @@ pub(crate) const ALL: [FindingName; 29] = [
     FindingName {
         name: "out_of_reach",
         meaning: "The last boundary hop reached the clock: clocks behind it are not asked.",
+        is_critical: false,
+    },
+    FindingName {
+        name: "grandmaster_changed",
+        meaning: "Clocks have another grandmaster than before.",
         is_critical: false,
     },
     FindingName {

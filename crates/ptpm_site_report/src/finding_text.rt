@@ -1,18 +1,25 @@
 //! A finding as a line of text.
 
+use crate::expected_text::{
+    ChoicesText, ClocksText, OutsideText, UnmetMember, WantedText, clock_of, unmet_value,
+};
 use crate::intervals::{Exact, Seconds, Whole};
+use crate::seconds::whole_seconds;
 use ptpm_codec::PortIdentity;
 use ptpm_site::announcing::Seldom;
 use ptpm_site::changes::Change;
 use ptpm_site::completeness::Missing;
 use ptpm_site::data_sets::ClockQuality;
 use ptpm_site::differences::Differs;
+use ptpm_site::expected::{OtherLeaders, Unmet};
 use ptpm_site::finding::{Finding, What};
+use ptpm_site::grandmaster_changes::GrandmasterChange;
 use ptpm_site::grandmasters::Masterless;
 use ptpm_site::heard::kind_name;
 use ptpm_site::leading::{Better, Leap, Untraceable, WrongOffset};
 use ptpm_site::member::state_name;
 use ptpm_site::parents::{NoMaster, Steps};
+use ptpm_site::stay::Stay;
 use ptpm_site::staying::Unlocked;
 use ptpm_site::tai_and_utc::OffByUtc;
 use ptpm_site::two_offsets::TwoOffsets;
@@ -26,7 +33,11 @@ pub(crate) struct Words<'a>(pub(crate) &'a Finding<'a>);
 impl fmt::Display for Words<'_> {
     fn fmt<W: fmt::Write>(&self, f: &mut fmt::Formatter<W>) -> fmt::Result {
         let source = self.0.source;
-        write!(f, "{} {} ", source.domain, source.clock)?;
+        write!(f, "{} ", source.domain)?;
+        match clock_of(self.0) {
+            Some(clock) => write!(f, "{clock} ")?,
+            None => f.write_str("- ")?,
+        }
         write!(f, "{}", Said(&self.0.what))
     }
 }
@@ -39,8 +50,13 @@ impl fmt::Display for Said<'_> {
     fn fmt<W: fmt::Write>(&self, f: &mut fmt::Formatter<W>) -> fmt::Result {
         f.write_str(self.0.name())?;
         match self.0 {
+            What::Absent(Some(description)) => write!(f, " {description:?}"),
+            What::NotAsExpected(unmet) => write_unmet(unmet, f),
+            What::OtherLeaders(other) => write_other_leaders(other, f),
+            What::Profile(outside) => write!(f, " {}", OutsideText(*outside)),
+            What::Gone => f.write_str(" answers no more"),
             What::Unseen(unseen) => write_unseen(unseen, f),
-            What::TwoGrandmasters => Ok(()),
+            What::Absent(None) | What::Unexpected | What::TwoGrandmasters => Ok(()),
             What::NoMaster(why) => write_masterless(why, f),
             What::GrandmasterNotSeen(clock) => write!(f, " {clock}"),
             What::ParentNotSeen(parent) => write!(f, " {parent}"),
@@ -53,7 +69,7 @@ impl fmt::Display for Said<'_> {
                 }
                 Ok(())
             }
-            What::PortState(port, state) => write!(f, " port {port} {}", state_name(Some(*state))),
+            What::PortState(port, stay) => write_stay(*port, stay, f),
             What::NotLocked(port, unlocked) => write_unlocked(*port, unlocked, f),
             What::OffByUtc(how) => write_off_by_utc(how, f),
             What::Offset(offset) => write!(f, " offsetFromMaster {} ns", Exact(*offset)),
@@ -77,11 +93,34 @@ impl fmt::Display for Said<'_> {
                 write!(f, " the last of {hops} boundary hops: ")?;
                 f.write_str("clocks behind it are not asked")
             }
+            What::GrandmasterChanged(change) => write_grandmaster_change(change, f),
             What::Changed(port, change) => write_change(*port, change, "then", f),
             What::IdentityTwice(port, change) => write_change(*port, change, "and", f),
             What::TwoOffsets(offsets) => write_two_offsets(offsets, f),
         }
     }
+}
+
+fn write_unmet<W: fmt::Write>(unmet: &Unmet<'_>, f: &mut fmt::Formatter<W>) -> fmt::Result {
+    write!(f, " {} ", UnmetMember(unmet))?;
+    match unmet_value(unmet) {
+        Some(value) => write!(f, "{value}")?,
+        None => f.write_str("not said")?,
+    }
+    let Unmet { member, wanted, .. } = *unmet;
+    write!(f, ", not {}", WantedText { member, wanted })
+}
+
+fn write_other_leaders<W: fmt::Write>(
+    other: &OtherLeaders<'_>,
+    f: &mut fmt::Formatter<W>,
+) -> fmt::Result {
+    write!(
+        f,
+        " grandmaster {}, not {}",
+        ClocksText(other.leading.as_slice()),
+        ChoicesText(other.wanted)
+    )
 }
 
 fn write_unseen<W: fmt::Write>(unseen: &Absence, f: &mut fmt::Formatter<W>) -> fmt::Result {
@@ -168,6 +207,15 @@ fn write_change<W: fmt::Write>(
     write!(f, " {} {before}, {word} {after}", member.name())
 }
 
+fn write_grandmaster_change<W: fmt::Write>(
+    change: &GrandmasterChange,
+    f: &mut fmt::Formatter<W>,
+) -> fmt::Result {
+    let (before, after, clocks) = (change.before, change.after, change.clocks);
+    let noun = if clocks == 1 { "clock" } else { "clocks" };
+    write!(f, " {before}, then {after}; {clocks} {noun}")
+}
+
 fn write_two_offsets<W: fmt::Write>(
     offsets: &TwoOffsets,
     f: &mut fmt::Formatter<W>,
@@ -177,12 +225,26 @@ fn write_two_offsets<W: fmt::Write>(
     write!(f, " two offsets in one look: {first} ns and {second} ns")
 }
 
+fn write_stay<W: fmt::Write>(port: u16, stay: &Stay, f: &mut fmt::Formatter<W>) -> fmt::Result {
+    write!(f, " port {port} {}", state_name(Some(stay.state)))?;
+    write_time(stay.time, f)
+}
+
+/// How long a port was in a state, in whole seconds, if that is known.
+fn write_time<W: fmt::Write>(time: Option<u64>, f: &mut fmt::Formatter<W>) -> fmt::Result {
+    match time {
+        Some(time) => write!(f, " for {} s", whole_seconds(time)),
+        None => Ok(()),
+    }
+}
+
 fn write_unlocked<W: fmt::Write>(
     port: u16,
     unlocked: &Unlocked,
     f: &mut fmt::Formatter<W>,
 ) -> fmt::Result {
     write!(f, " port {port} UNCALIBRATED")?;
+    write_time(unlocked.time, f)?;
     match unlocked.offset {
         Some(offset) => write!(f, ", offset {} ns", Whole(offset)),
         None => Ok(()),

@@ -1,5 +1,6 @@
 //! What a clock that leads says of its time, in a line.
 
+use ptpm_expected::time_sources::source_name;
 use ptpm_site::clock::Clock;
 use ptpm_site::data_sets::{DefaultDataSet, TimePropertiesDataSet};
 use ptpm_site::source::Source;
@@ -73,20 +74,4 @@ fn write_time<W: fmt::Write>(
         "{timescale} timescale, UTC offset {} {valid}, {leap}, {traceable}",
         set.utc_offset
     )
-}
-
-/// The standard's name of a timeSource (7.6.2.8, table 6); none if it has none.
-pub(crate) fn source_name(number: u8) -> Option<&'static str> {
-    match number {
-        0x10 => Some("ATOMIC_CLOCK"),
-        0x20 => Some("GNSS"),
-        0x30 => Some("TERRESTRIAL_RADIO"),
-        0x39 => Some("SERIAL_TIME_CODE"),
-        0x40 => Some("PTP"),
-        0x50 => Some("NTP"),
-        0x60 => Some("HAND_SET"),
-        0x90 => Some("OTHER"),
-        0xa0 => Some("INTERNAL_OSCILLATOR"),
-        _ => None,
-    }
 }

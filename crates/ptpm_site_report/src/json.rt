@@ -6,6 +6,7 @@ use ptpm_codec::{ClockIdentity, PortIdentity};
 use ptpm_commands::Fault;
 use ptpm_site::clock::{Clock, Received};
 use ptpm_site::data_sets::ClockQuality;
+use ptpm_site::finding::Finding;
 use ptpm_site::member::{DataSet, Member, Value as MemberValue, mechanism_name, state_name};
 use ptpm_site::picture::Picture;
 use ptpm_site::source::Source;
@@ -18,7 +19,7 @@ use std::io::Write;
 pub(crate) struct Object<'a, 'b>(pub(crate) &'a Picture<'a>, pub(crate) &'b Names);
 
 impl Object<'_, '_> {
-    /// Prints one object: the domains with their clocks, the findings, and how much was left out.
+    /// Prints one object: the domains with their clocks, what is open, the findings, and how much was left out.
     pub(crate) fn print<O: Write>(&self, alloc: Global, out: &mut O) -> Result<(), Fault> {
         write!(out, "{{\"domains\":[")?;
         let mut domain = None;
@@ -34,20 +35,33 @@ impl Object<'_, '_> {
             print_value(alloc, clock_value(alloc, *source, clock, self.1), out)?;
         }
         writeln!(out, "{}],", if domain.is_some() { "]}" } else { "" })?;
-        write!(out, "\"findings\":[")?;
-        let mut between = "\n";
-        for finding in self.0.findings.as_slice() {
-            write!(out, "{between}")?;
-            print_value(alloc, finding_value(alloc, finding), out)?;
-            between = ",\n";
-        }
+        print_findings(alloc, "open", self.0.open_findings.as_slice(), out)?;
+        print_findings(alloc, "findings", self.0.findings.as_slice(), out)?;
         let (clocks, ports) = (self.0.left_out.clocks, self.0.left_out.ports);
         writeln!(
             out,
-            "],\n\"leftOut\":{{\"clocks\":{clocks},\"ports\":{ports}}}}}"
+            "\"leftOut\":{{\"clocks\":{clocks},\"ports\":{ports}}}}}"
         )?;
         Ok(())
     }
+}
+
+/// Prints a member with a list of findings, and what comes before the next member.
+fn print_findings<O: Write>(
+    alloc: Global,
+    name: &str,
+    findings: &[Finding<'_>],
+    out: &mut O,
+) -> Result<(), Fault> {
+    write!(out, "\"{name}\":[")?;
+    let mut between = "\n";
+    for finding in findings {
+        write!(out, "{between}")?;
+        print_value(alloc, finding_value(alloc, finding), out)?;
+        between = ",\n";
+    }
+    writeln!(out, "],")?;
+    Ok(())
 }
 
 /// Prints a value, if there was memory for it.

@@ -5,13 +5,17 @@
 mod columns;
 mod drawing;
 mod escaped;
+mod expected_json;
+mod expected_text;
 mod finding_json;
 mod finding_names;
 mod finding_text;
 mod grandmaster_line;
 mod intervals;
+mod inventory_text;
 mod json;
 mod label;
+mod line_words;
 mod lines;
 mod metric_families;
 mod nagios;
@@ -28,6 +32,7 @@ mod seconds;
 mod site_lines;
 mod text;
 
+pub use inventory_text::write_inventory;
 pub use nagios::Standing;
-pub use plugin_report::report_standing;
-pub use reporting::{Conclusion, Form, Options, report, report_named};
+pub use plugin_report::{report_standing, report_standing_expected};
+pub use reporting::{Conclusion, Form, Options, report, report_expected, report_named};

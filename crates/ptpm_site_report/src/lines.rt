@@ -1,6 +1,7 @@
 //! What a drawing of a site has in its rows.
 
 use crate::columns::Columns;
+use crate::expected_text::clock_of;
 use crate::finding_text::Said;
 use crate::names::Names;
 use crate::ports_text::PortsText;
@@ -65,7 +66,7 @@ pub(crate) fn lines_of(
     }
     for finding in picture.findings.as_slice() {
         if !picture.site.is_seen(finding.source) {
-            lines.push(unseen_line(alloc, finding)?)?;
+            lines.push(unseen_line(alloc, finding, names)?)?;
         }
     }
     for note in notes_of(alloc, picture)? {
@@ -74,18 +75,25 @@ pub(crate) fn lines_of(
     Ok(lines)
 }
 
-/// A row of a clock that is not seen, with what is wrong with it.
-fn unseen_line(alloc: Global, finding: &Finding<'_>) -> Result<Line, AllocError> {
-    let mut findings = Vec::new(alloc);
-    findings.push(format!(in alloc; "{}", Said(&finding.what))?)?;
-    Ok(Line {
-        frame: Frame::Dashed,
-        depth: 0,
-        name: format!(in alloc; "not seen: {}", finding.source.clock)?,
-        follows: String::new(alloc),
-        facts: String::from_str(alloc, "did not answer")?,
-        findings,
-    })
+/// A row of a clock that is not seen, or of a domain without a grandmaster, with what is wrong with it.
+fn unseen_line(alloc: Global, finding: &Finding<'_>, names: &Names) -> Result<Line, AllocError> {
+    let mut line = match clock_of(finding) {
+        Some(clock) => Line {
+            frame: Frame::Dashed,
+            depth: 0,
+            name: format!(in alloc; "not seen: {clock}{}", names.quoted(clock))?,
+            follows: String::new(alloc),
+            facts: String::from_str(alloc, "did not answer")?,
+            findings: Vec::new(alloc),
+        },
+        None => said(
+            alloc,
+            format!(in alloc; "domain {}", finding.source.domain)?,
+        ),
+    };
+    let words = format!(in alloc; "{}", Said(&finding.what))?;
+    line.findings.push(words)?;
+    Ok(line)
 }
 
 /// A row that is said of the whole.

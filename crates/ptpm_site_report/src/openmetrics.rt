@@ -1,11 +1,11 @@
 //! A site as numbers for a monitoring system, in OpenMetrics 1.0. Programs that read the older text format of Prometheus read it too.
 
 use crate::finding_names::ALL;
-use crate::grandmaster_line::source_name;
 use crate::label::Label;
 use crate::metric_families::{Family, OfClock, OfGrandmaster, OfPort};
 use crate::names::Names;
 use ptpm_commands::Fault;
+use ptpm_expected::time_sources::source_name;
 use ptpm_site::clock::{Clock, last_of};
 use ptpm_site::finding::Finding;
 use ptpm_site::picture::Picture;

@@ -1,6 +1,7 @@
 //! A site as a page in HTML that needs nothing else: its tree as a table, and below each clock what is wrong with it.
 
 use crate::escaped::Escaped;
+use crate::expected_text::clock_of;
 use crate::finding_names::meaning_of;
 use crate::finding_text::Said;
 use crate::grandmaster_line::GrandmasterLine;
@@ -141,17 +142,20 @@ fn print_found_row<O: Write>(
     words: &str,
     out: &mut O,
 ) -> io::Result<()> {
-    let Source { domain, clock } = finding.source;
+    let domain = finding.source.domain;
     let severity = severity_of(finding);
     write!(
         out,
         "<tr><td class=\"{severity}\">{severity}</td><td>{domain}</td>"
     )?;
-    write!(
-        out,
-        "<td><a href=\"#d{domain}-{clock}\">{}</a> <span class=\"id faint\">{clock}</span></td>",
-        Escaped(name)
-    )?;
+    match clock_of(finding) {
+        Some(clock) => write!(
+            out,
+            "<td><a href=\"#d{domain}-{clock}\">{}</a> <span class=\"id faint\">{clock}</span></td>",
+            Escaped(name)
+        )?,
+        None => write!(out, "<td>-</td>")?,
+    }
     let meaning = meaning_of(finding.what.name());
     writeln!(
         out,

@@ -2,8 +2,9 @@
 
 use crate::nagios::{Plugin, Standing};
 use crate::names::Names;
-use crate::site_lines::read_site;
+use crate::site_lines::read_shown;
 use ptpm_commands::Fault;
+use ptpm_expected::expectations::{Expectations, picture_of};
 use ptpm_site::left_out::LeftOut;
 use ptpm_site::limits::Limits;
 use ptpm_site::picture::Picture;
@@ -19,21 +20,33 @@ pub fn report_standing<R: Read + Drop, O: Write>(
     reader: R,
     out: &mut O,
 ) -> Result<Standing, Fault> {
-    let mut site = read_site(alloc, reader)?;
-    let left_out = site.keep_first();
-    standing_of(alloc, limits, names, &site, left_out, out)
+    report_standing_expected(alloc, limits, Expectations::none(), names, reader, out)
+}
+
+/// The same, of a site that is held to what is expected of it.
+pub fn report_standing_expected<R: Read + Drop, O: Write>(
+    alloc: Global,
+    limits: Limits,
+    expectations: Expectations<'_>,
+    names: &Names,
+    reader: R,
+    out: &mut O,
+) -> Result<Standing, Fault> {
+    let (site, left_out) = read_shown(alloc, reader)?;
+    standing_of(alloc, limits, expectations, names, &site, left_out, out)
 }
 
 /// Prints a site as a plugin does.
-fn standing_of<O: Write>(
+fn standing_of<'a, O: Write>(
     alloc: Global,
     limits: Limits,
+    expectations: Expectations<'a>,
     names: &Names,
-    site: &Site,
+    site: &'a Site,
     left_out: LeftOut,
     out: &mut O,
 ) -> Result<Standing, Fault> {
-    match Picture::of(alloc, site, left_out, limits) {
+    match picture_of(alloc, site, left_out, limits, expectations) {
         Ok(picture) => {
             print_plugin(alloc, &picture, names, limits, out)?;
             Ok(Standing::of(&picture))

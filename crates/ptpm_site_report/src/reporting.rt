@@ -10,9 +10,10 @@ use crate::json::Object;
 use crate::names::Names;
 use crate::openmetrics::Metrics;
 use crate::page::print_page;
-use crate::site_lines::read_site;
+use crate::site_lines::read_shown;
 use crate::text::Sheet;
 use ptpm_commands::Fault;
+use ptpm_expected::expectations::{Expectations, picture_of};
 use ptpm_site::left_out::LeftOut;
 use ptpm_site::limits::Limits;
 use ptpm_site::picture::Picture;
@@ -92,9 +93,40 @@ pub fn report_named<R: Read + Drop, O: Write>(
     reader: R,
     out: &mut O,
 ) -> Result<Conclusion, Fault> {
-    let mut site = read_site(alloc, reader)?;
-    let left_out = site.keep_first();
+    let (site, left_out) = read_shown(alloc, reader)?;
     report_of(alloc, options, names, &site, left_out, out)
+}
+
+/// The same, of a site that is held to what is expected of it.
+pub fn report_expected<R: Read + Drop, O: Write>(
+    alloc: Global,
+    options: Options,
+    expectations: Expectations<'_>,
+    names: &Names,
+    reader: R,
+    out: &mut O,
+) -> Result<Conclusion, Fault> {
+    let (site, left_out) = read_shown(alloc, reader)?;
+    report_held(alloc, options, expectations, names, &site, left_out, out)
+}
+
+/// Prints a site that is held to what is expected of it.
+fn report_held<'a, O: Write>(
+    alloc: Global,
+    options: Options,
+    expectations: Expectations<'a>,
+    names: &Names,
+    site: &'a Site,
+    left_out: LeftOut,
+    out: &mut O,
+) -> Result<Conclusion, Fault> {
+    match picture_of(alloc, site, left_out, options.limits, expectations) {
+        Ok(picture) => {
+            print_picture(alloc, options.form, &picture, names, out)?;
+            Ok(outcome_of(&picture))
+        }
+        Err(_) => Err(Fault::OutOfMemory),
+    }
 }
 
 /// Prints a site. `left_out` says how much of it is not shown.

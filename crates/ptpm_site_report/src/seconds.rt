@@ -13,6 +13,11 @@ pub(crate) struct IntervalSeconds(pub(crate) i64);
 #[derive(Clone, Copy)]
 pub(crate) struct NanosecondSeconds(pub(crate) u64);
 
+/// The whole seconds in N nanoseconds.
+pub(crate) fn whole_seconds(nanoseconds: u64) -> u64 {
+    nanoseconds / SECOND
+}
+
 impl fmt::Display for NanosecondSeconds {
     fn fmt<W: fmt::Write>(&self, f: &mut fmt::Formatter<W>) -> fmt::Result {
         write!(f, "{}.{:09}", self.0 / SECOND, self.0 % SECOND)

@@ -52,7 +52,7 @@ impl Sheet<'_, '_> {
         Ok(())
     }
 
-    /// The findings, one a line. Each grandmaster that is not seen has one line, which says how many
+    /// The findings, one a line, and what is open. Each grandmaster that is not seen has one line, which says how many
     /// clocks name it.
     fn print_findings<O: Write>(&self, alloc: Global, out: &mut O) -> Result<(), Fault> {
         let unseen = self.unseen(alloc).map_err(|_| Fault::OutOfMemory)?;
@@ -62,7 +62,22 @@ impl Sheet<'_, '_> {
         } else {
             writeln!(out, "findings: {lines}")?;
         }
-        self.print_finding_lines(unseen.as_slice(), out)
+        self.print_finding_lines(unseen.as_slice(), out)?;
+        self.print_open(out)
+    }
+
+    /// What is open, one a line, if there is any.
+    fn print_open<O: Write>(&self, out: &mut O) -> Result<(), Fault> {
+        let unsettled = self.0.open_findings.as_slice();
+        if unsettled.is_empty() {
+            return Ok(());
+        }
+        writeln!(out, "open: {}", unsettled.len())?;
+        for finding in unsettled {
+            write!(out, "{}", Words(finding))?;
+            self.print_description(finding.source, out)?;
+        }
+        Ok(())
     }
 
     /// A line for each finding. `unseen` has the grandmasters that are not seen.

@@ -6,4 +6,4 @@ use Rattle.ptpm_site.specs.Site.{site_answers}
 use Rattle.ptpm_site.proofs.judging_ports.judge_ports.Given as goal
 
 abbrev pub invariant-loop-port : goal.invariant-loop-port
-invariant-loop-port l = l.findings.items ≡ l.fn.findings.items ++ flat_map (state_found (site_answers l.site) l.source) (take l.port-index l.ports)
+invariant-loop-port l = l.findings.items ≡ l.fn.findings.items ++ flat_map (state_found (site_answers l.site) l.limits l.source) (take l.port-index l.ports)

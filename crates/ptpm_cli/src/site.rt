@@ -1,0 +1,117 @@
+//! `ptpm site` at the command line.
+
+use crate::files::{MOST_INVENTORY, read_file};
+use ptpm_commands::Fault;
+use ptpm_expected::expectations::Expectations;
+use ptpm_expected::inventory::Inventory;
+use ptpm_expected::inventory_fault::InventoryFault;
+use ptpm_expected::inventory_file::read_inventory;
+use ptpm_expected::profile::Profile;
+use ptpm_site::limits::Limits;
+use ptpm_site_report::names::Names;
+use ptpm_site_report::{Form, Options, report_expected, report_standing_expected, write_inventory};
+use std::alloc::Global;
+use std::io;
+use std::io::{Read, Write};
+use std::rt::Files;
+
+/// What `site` is asked for.
+#[derive(Drop)]
+pub(crate) struct SiteWords<'a> {
+    pub(crate) shown: Shown,
+    pub(crate) names: Names,
+    pub(crate) profile: Option<Profile>,
+    /// The path of an inventory.
+    pub(crate) expect: Option<&'a str>,
+}
+
+/// How a site is shown.
+#[derive(Clone, Copy)]
+pub(crate) enum Shown {
+    InForm(Options),
+    /// As a plugin of Nagios does.
+    ByPlugin(Limits),
+    /// As an inventory.
+    Inventory,
+}
+
+/// Shows a site, and answers the exit status. If the inventory is refused that is 2, or 3 of a plugin, with a line on `err`.
+pub(crate) fn show_site<F: Files, R: Read, O: Write, E: Write>(
+    alloc: Global,
+    files: &F,
+    words: &SiteWords<'_>,
+    reader: &mut R,
+    out: &mut O,
+    err: &mut E,
+) -> Result<u8, Fault> {
+    let Some(path) = words.expect else {
+        return show(alloc, words, None, reader, out);
+    };
+    match inventory_at(alloc, files, path, err)? {
+        Some(inventory) => show(alloc, words, Some(&inventory), reader, out),
+        None => end_refused(words.shown, out),
+    }
+}
+
+/// The inventory at a path. If there is none, `err` has a line that says why.
+fn inventory_at<F: Files, E: Write>(
+    alloc: Global,
+    files: &F,
+    path: &str,
+    err: &mut E,
+) -> Result<Option<Inventory>, Fault> {
+    let text = match read_file(alloc, files, path, MOST_INVENTORY) {
+        Ok(text) => text,
+        Err(error) if error.kind() == io::ErrorKind::OutOfMemory => return Err(Fault::OutOfMemory),
+        Err(error) => {
+            let _ = writeln!(err, "{path}: {error}");
+            return Ok(None);
+        }
+    };
+    match read_inventory(alloc, text.as_slice()) {
+        Ok(inventory) => Ok(Some(inventory)),
+        Err(InventoryFault::OutOfMemory) => Err(Fault::OutOfMemory),
+        Err(fault) => {
+            let _ = writeln!(err, "{path}: {fault}");
+            Ok(None)
+        }
+    }
+}
+
+/// Ends without a site. A plugin says so in its line.
+fn end_refused<O: Write>(shown: Shown, out: &mut O) -> Result<u8, Fault> {
+    match shown {
+        Shown::ByPlugin(_) => {
+            writeln!(out, "PTP UNKNOWN - the inventory was refused")?;
+            Ok(3)
+        }
+        _ => Ok(2),
+    }
+}
+
+fn show<R: Read, O: Write>(
+    alloc: Global,
+    words: &SiteWords<'_>,
+    inventory: Option<&Inventory>,
+    reader: &mut R,
+    out: &mut O,
+) -> Result<u8, Fault> {
+    let expectations = Expectations {
+        profile: words.profile,
+        inventory,
+    };
+    let names = &words.names;
+    match words.shown {
+        Shown::ByPlugin(limits) => {
+            Ok(report_standing_expected(alloc, limits, expectations, names, reader, out)?.status())
+        }
+        Shown::InForm(options) => {
+            let came = report_expected(alloc, options, expectations, names, reader, out)?;
+            Ok(match options.form {
+                Form::OpenMetrics => came.status_of_numbers(),
+                _ => came.status(),
+            })
+        }
+        Shown::Inventory => Ok(write_inventory(alloc, reader, out)?.status()),
+    }
+}

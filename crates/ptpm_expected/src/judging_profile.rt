@@ -1,0 +1,154 @@
+//! How the clocks of a site are not as a profile wants them.
+
+ghost use Rattle.std.specs.Prelude.{◌≡◌, ◌++◌, OnOk};
+ghost use Rattle.std.specs.List.{flat_map};
+ghost use Rattle.ptpm_site.specs.Findings.{found};
+ghost use Rattle.ptpm_site.specs.Site.{site_answers};
+ghost use Rattle.ptpm_site.specs.declared.finding.What.TheVariants as what;
+ghost use Rattle.ptpm_expected.specs.ProfileFindings.{clock_found, default_found, each_outside, port_found, port_set_found, profile_found};
+
+use crate::outside::{clock_outside, is_idle, parent_outside, port_outside, timescale_outside};
+use crate::profile::Profile;
+use ptpm_site::data_sets::PortDataSet;
+use ptpm_site::expected::Outside;
+use ptpm_site::finding::{Finding, What, add_finding};
+use ptpm_site::site::Site;
+use ptpm_site::source::Source;
+use std::alloc::{AllocError, Global};
+
+/// Adds what a profile does not allow at these clocks, after all earlier findings. For each clock its own members come first, and
+/// then its ports.
+pub fn judge_profile(
+    alloc: Global,
+    site: &Site,
+    profile: Profile,
+    sources: &[Source],
+    findings: &mut Vec<Finding<'_>>,
+) -> Result<(), AllocError>
+    ensures { OnOk result (findings.new.items ≡ findings.old.items ++ flat_map (profile_found (site_answers site.now) profile) sources.now) }
+{
+    for source in sources {
+        judge_clock(alloc, site, profile, *source, findings)?;
+    }
+    Ok(())
+}
+
+#[tactic(auto, unfolding(crate::specs::ProfileFindings::profile_found))]
+fn judge_clock(
+    alloc: Global,
+    site: &Site,
+    profile: Profile,
+    source: Source,
+    findings: &mut Vec<Finding<'_>>,
+) -> Result<(), AllocError>
+    ensures { OnOk result (findings.new.items ≡ findings.old.items ++ profile_found (site_answers site.now) profile source) }
+{
+    judge_members(site, profile, source, findings)?;
+    let ports = site.ports(alloc, source)?;
+    judge_ports(site, profile, source, ports.as_slice(), findings)
+}
+
+/// The members of the clock.
+#[tactic(auto, unfolding(crate::specs::ProfileFindings::clock_found))]
+fn judge_members(
+    site: &Site,
+    profile: Profile,
+    source: Source,
+    findings: &mut Vec<Finding<'_>>,
+) -> Result<(), AllocError>
+    ensures { OnOk result (findings.new.items ≡ findings.old.items ++ clock_found (site_answers site.now) profile source) }
+{
+    judge_default(site, profile, source, findings)?;
+    add_outside(findings, source, timescale_outside(site, source))
+}
+
+/// Those of DEFAULT_DATA_SET.
+fn judge_default(
+    site: &Site,
+    profile: Profile,
+    source: Source,
+    findings: &mut Vec<Finding<'_>>,
+) -> Result<(), AllocError>
+    ensures { OnOk result (findings.new.items ≡ findings.old.items ++ default_found (site_answers site.now) profile source) }
+{
+    match site.default(source) {
+        Some(default) => add_all_outside(findings, source, &clock_outside(profile, &default)),
+        None => Ok(()),
+    }
+}
+
+fn judge_ports(
+    site: &Site,
+    profile: Profile,
+    source: Source,
+    ports: &[u16],
+    findings: &mut Vec<Finding<'_>>,
+) -> Result<(), AllocError>
+    ensures { OnOk result (findings.new.items ≡ findings.old.items ++ flat_map (port_found (site_answers site.now) profile source) ports.now) }
+{
+    for port in ports {
+        judge_port(site, profile, source, *port, findings)?;
+    }
+    Ok(())
+}
+
+/// The members of a port that takes part.
+#[tactic(auto, unfolding(crate::specs::ProfileFindings::port_found))]
+fn judge_port(
+    site: &Site,
+    profile: Profile,
+    source: Source,
+    port: u16,
+    findings: &mut Vec<Finding<'_>>,
+) -> Result<(), AllocError>
+    ensures { OnOk result (findings.new.items ≡ findings.old.items ++ port_found (site_answers site.now) profile source port) }
+{
+    match site.port(source, port) {
+        Some(set) if !is_idle(set.state) => {
+            judge_port_set(site, profile, source, port, &set, findings)
+        }
+        _ => Ok(()),
+    }
+}
+
+#[tactic(auto, unfolding(crate::specs::ProfileFindings::port_set_found))]
+fn judge_port_set(
+    site: &Site,
+    profile: Profile,
+    source: Source,
+    port: u16,
+    set: &PortDataSet,
+    findings: &mut Vec<Finding<'_>>,
+) -> Result<(), AllocError>
+    ensures { OnOk result (findings.new.items ≡ findings.old.items ++ port_set_found (site_answers site.now) profile source port set.now) }
+{
+    add_all_outside(findings, source, &port_outside(profile, port, set))?;
+    add_outside(findings, source, parent_outside(site, source, port, set))
+}
+
+/// Adds a finding for each of these members that is not allowed.
+fn add_all_outside(
+    findings: &mut Vec<Finding<'_>>,
+    source: Source,
+    members: &[Option<Outside>],
+) -> Result<(), AllocError>
+    ensures { OnOk result (findings.new.items ≡ findings.old.items ++ each_outside source members.now) }
+{
+    for outside in members {
+        add_outside(findings, source, *outside)?;
+    }
+    Ok(())
+}
+
+fn add_outside(
+    findings: &mut Vec<Finding<'_>>,
+    source: Source,
+    outside: Option<Outside>,
+) -> Result<(), AllocError>
+    ensures { OnOk result (findings.new.items ≡ findings.old.items ++ found what.Profile source outside) }
+{
+    match outside {
+        Some(outside) => add_finding(findings, source, What::Profile(outside)),
+        None => Ok(()),
+    }
+}

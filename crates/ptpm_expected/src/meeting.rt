@@ -1,0 +1,106 @@
+//! Whether the members of a clock are as an inventory wants them.
+
+ghost use Rattle.std.specs.Prelude.{◌≡◌, ◌-◌, length, option_and_then, slice_get};
+ghost use Rattle.std.specs.Option.{option_map};
+ghost use Rattle.ptpm_site.specs.Members.{value_of};
+ghost use Rattle.ptpm_site.specs.Site.{site_answers};
+ghost use Rattle.ptpm_expected.specs.Meeting.{IsUnmet, clock_says, first_some, is_as_wanted, is_met, meets, rule_says};
+
+use crate::inventory::MemberRule;
+use ptpm_site::clock::Received;
+use ptpm_site::expected::{Unmet, Wanted};
+use ptpm_site::member::{DataSet, Member, Value};
+use ptpm_site::site::Site;
+use ptpm_site::source::Source;
+
+/// Whether a value is one that is wanted.
+pub fn meets(wanted: &Wanted, value: &Value<'_>) -> bool
+    ensures { result ≡ meets wanted.now (value_of value.now) }
+{
+    match (wanted, value) {
+        (Wanted::Flag(wanted), Value::Flag(flag)) => wanted == flag,
+        (Wanted::Range(least, greatest), Value::Number(number)) => {
+            least <= number && number <= greatest
+        }
+        (Wanted::Quality(wanted), Value::Quality(quality)) => wanted == quality,
+        (Wanted::Class(class), Value::Quality(quality)) => *class == quality.class,
+        (Wanted::Clock(wanted), Value::Clock(clock)) => wanted == clock,
+        (Wanted::Port(wanted), Value::Port(port)) => wanted == port,
+        (Wanted::State(wanted), Value::State(state)) => wanted == state,
+        (Wanted::Mechanism(wanted), Value::Mechanism(mechanism)) => wanted == mechanism,
+        (Wanted::Text(wanted), Value::Text(text)) => wanted.as_str() == *text,
+        _ => false,
+    }
+}
+
+/// Whether a value is one of those that are wanted.
+fn is_met(wanted: &[Wanted], value: &Value<'_>) -> bool
+    ensures { result ≡ is_met wanted.now (value_of value.now) }
+{
+    wanted.iter().any(|one| meets(one, value))
+}
+
+/// What the last answer with a data set says of a member.
+fn last_value<T: DataSet>(received: &[Received<T>], member: Member) -> Option<Value<'_>>
+    ensures { option_map value_of result ≡ option_and_then (λ last. T.says last.set member) (slice_get received.now (length received.now - 1)) }
+{
+    received.last()?.set.value(member)
+}
+
+/// The first of two values that is there.
+fn first_some<'a>(first: Option<Value<'a>>, second: Option<Value<'a>>) -> Option<Value<'a>>
+    ensures { option_map value_of result ≡ first_some (option_map value_of first.entry) (option_map value_of second.entry) }
+{
+    match first {
+        Some(value) => Some(value),
+        None => second,
+    }
+}
+
+/// What a clock says of a member of its own.
+fn clock_value(site: &Site, source: Source, member: Member) -> Option<Value<'_>>
+    ensures { option_map value_of result ≡ clock_says (site_answers site.now) source member }
+{
+    let default = last_value(site.defaults(source), member);
+    let current = last_value(site.currents(source), member);
+    let parent = last_value(site.parents(source), member);
+    let time = last_value(site.times(source), member);
+    let description = last_value(site.descriptions(source), member);
+    let properties = first_some(time, description);
+    first_some(default, first_some(current, first_some(parent, properties)))
+}
+
+/// What a clock says of a member, its own or that of a port.
+pub fn rule_value<'a>(site: &'a Site, source: Source, rule: &MemberRule) -> Option<Value<'a>>
+    ensures { option_map value_of result ≡ rule_says (site_answers site.now) source rule.now.port rule.now.member }
+{
+    match rule.port {
+        Some(port) => last_value(site.port_answers(source, port), rule.member),
+        None => clock_value(site, source, rule.member),
+    }
+}
+
+/// Whether a member is as it is wanted.
+pub fn is_as_wanted(site: &Site, source: Source, rule: &MemberRule) -> bool
+    ensures { result ≡ is_as_wanted (site_answers site.now) source rule.now }
+{
+    match rule_value(site, source, rule) {
+        Some(value) => is_met(rule.wanted.as_slice(), &value),
+        None => false,
+    }
+}
+
+/// A member that is not as it is wanted.
+pub fn unmet<'a>(site: &'a Site, source: Source, rule: &'a MemberRule) -> Option<Unmet<'a>>
+    ensures { IsUnmet (site_answers site.now) source rule.now result }
+{
+    if is_as_wanted(site, source, rule) {
+        return None;
+    }
+    Some(Unmet {
+        port: rule.port,
+        member: rule.member,
+        value: rule_value(site, source, rule),
+        wanted: rule.wanted.as_slice(),
+    })
+}

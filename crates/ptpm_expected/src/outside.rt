@@ -1,0 +1,195 @@
+//! The members of a clock and of its ports that are not what a profile allows.
+
+ghost use Rattle.std.specs.Prelude.{◌≡◌};
+ghost use Rattle.ptpm_site.specs.Site.{site_answers};
+ghost use Rattle.ptpm_expected.specs.Outside.{beyond, clock_outside, delay_request_outside, is_idle, mechanism_outside, member_outside, parent_outside, pdelay_request_outside, port_outside, sync_outside, timescale_outside};
+
+use crate::profile::Profile;
+use crate::ranges::{
+    Range, allowed_mechanisms, announce_range, delay_request_range, domain_range,
+    pdelay_request_range, priority_range, sync_range, timeout_range,
+};
+use ptpm_data::PortState;
+use ptpm_site::data_sets::{DefaultDataSet, PortDataSet};
+use ptpm_site::expected::{Allowed, Outside};
+use ptpm_site::member::{Member, Value};
+use ptpm_site::port_groups::PortGroup;
+use ptpm_site::site::Site;
+use ptpm_site::source::Source;
+
+/// A number that is beyond a range.
+fn beyond(number: i64, range: Range) -> Option<Allowed>
+    ensures { result ≡ beyond number range }
+{
+    if range.least <= number && number <= range.greatest {
+        None
+    } else {
+        Some(Allowed::Range(range.least, range.greatest))
+    }
+}
+
+/// A member that is a number, if it is beyond its range.
+fn member_outside(
+    port: Option<u16>,
+    member: Member,
+    number: i64,
+    range: Option<Range>,
+) -> Option<Outside>
+    ensures { result ≡ member_outside port member number range }
+{
+    let allowed = beyond(number, range?)?;
+    Some(Outside {
+        port,
+        member,
+        value: Value::Number(number),
+        allowed,
+    })
+}
+
+/// What of a clock's DEFAULT_DATA_SET is not allowed.
+pub fn clock_outside(profile: Profile, default: &DefaultDataSet) -> [Option<Outside>; 2]
+    ensures { result ≡ clock_outside profile default.now }
+{
+    let (domain, priority1) = (default.domain as i64, default.priority1 as i64);
+    [
+        member_outside(None, Member::DomainNumber, domain, domain_range()),
+        member_outside(None, Member::Priority1, priority1, priority_range(profile)),
+    ]
+}
+
+/// ptpTimescale of a clock that leads and has, or had, a primary source of time, if it is false.
+pub fn timescale_outside(site: &Site, source: Source) -> Option<Outside>
+    ensures { result ≡ timescale_outside (site_answers site.now) source }
+{
+    if !site.leads(source) {
+        return None;
+    }
+    let class = site.default(source)?.quality.class;
+    let time = site.time(source)?;
+    if class != 6 && class != 7 || time.ptp_timescale {
+        return None;
+    }
+    Some(Outside {
+        port: None,
+        member: Member::PtpTimescale,
+        value: Value::Flag(false),
+        allowed: Allowed::Set,
+    })
+}
+
+/// What of a port's PORT_DATA_SET is not allowed. Its intervals of Sync and of Delay_Req count if it gives time: else it takes its
+/// master's.
+#[tactic(auto, unfolding(crate::specs::Outside::port_outside))]
+pub fn port_outside(profile: Profile, number: u16, set: &PortDataSet) -> [Option<Outside>; 6]
+    ensures { result ≡ port_outside profile number set.now }
+{
+    let (announce, timeout) = (set.log_announce as i64, set.receipt_timeout as i64);
+    [
+        member_outside(
+            Some(number),
+            Member::LogAnnounceInterval,
+            announce,
+            announce_range(profile),
+        ),
+        sync_outside(profile, number, set),
+        delay_request_outside(profile, number, set),
+        pdelay_request_outside(profile, number, set),
+        member_outside(
+            Some(number),
+            Member::AnnounceReceiptTimeout,
+            timeout,
+            timeout_range(profile),
+        ),
+        mechanism_outside(profile, number, set),
+    ]
+}
+
+/// logSyncInterval.
+fn sync_outside(profile: Profile, number: u16, set: &PortDataSet) -> Option<Outside>
+    ensures { result ≡ sync_outside profile number set.now }
+{
+    if !PortGroup::Giving.has(set.state) {
+        return None;
+    }
+    member_outside(
+        Some(number),
+        Member::LogSyncInterval,
+        set.log_sync as i64,
+        sync_range(profile),
+    )
+}
+
+/// logMinDelayReqInterval.
+fn delay_request_outside(profile: Profile, number: u16, set: &PortDataSet) -> Option<Outside>
+    ensures { result ≡ delay_request_outside profile number set.now }
+{
+    if !PortGroup::Giving.has(set.state) || !set.measures_end_to_end() {
+        return None;
+    }
+    member_outside(
+        Some(number),
+        Member::LogMinDelayReqInterval,
+        set.log_min_delay_req as i64,
+        delay_request_range(profile, set.log_sync),
+    )
+}
+
+/// logMinPdelayReqInterval.
+fn pdelay_request_outside(profile: Profile, number: u16, set: &PortDataSet) -> Option<Outside>
+    ensures { result ≡ pdelay_request_outside profile number set.now }
+{
+    if !set.measures_link() {
+        return None;
+    }
+    member_outside(
+        Some(number),
+        Member::LogMinPdelayReqInterval,
+        set.log_min_pdelay as i64,
+        pdelay_request_range(profile, set.log_sync),
+    )
+}
+
+/// delayMechanism.
+fn mechanism_outside(profile: Profile, number: u16, set: &PortDataSet) -> Option<Outside>
+    ensures { result ≡ mechanism_outside profile number set.now }
+{
+    let allowed = allowed_mechanisms(profile, set.delay_mechanism)?;
+    Some(Outside {
+        port: Some(number),
+        member: Member::DelayMechanism,
+        value: Value::Mechanism(set.delay_mechanism),
+        allowed,
+    })
+}
+
+/// Whether a port takes no part: it is in DISABLED or FAULTY.
+pub fn is_idle(state: Option<PortState>) -> bool
+    ensures { result ≡ is_idle state }
+{
+    matches!(state, Some(PortState::Disabled | PortState::Faulty))
+}
+
+/// logAnnounceInterval of a port that follows another, if it is not that of the other.
+pub fn parent_outside(
+    site: &Site,
+    source: Source,
+    number: u16,
+    set: &PortDataSet,
+) -> Option<Outside>
+    ensures { result ≡ parent_outside (site_answers site.now) source number set.now }
+{
+    if !set.is_following() {
+        return None;
+    }
+    let parent = site.parent(source)?.parent;
+    let above = site.port(source.beside(parent.clock), parent.port)?;
+    if above.log_announce == set.log_announce {
+        return None;
+    }
+    Some(Outside {
+        port: Some(number),
+        member: Member::LogAnnounceInterval,
+        value: Value::Number(set.log_announce as i64),
+        allowed: Allowed::OfParent(above.log_announce as i64),
+    })
+}

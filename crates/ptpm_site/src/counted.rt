@@ -1,0 +1,125 @@
+//! What counts of a site whose clocks may be gone.
+
+ghost use Rattle.std.specs.Prelude.{◌≡◌, ℕ, ◌++◌, ◌∷◌, [], List, IfOk, OnOk, not};
+ghost use Rattle.std.specs.BTreeSet.{contains};
+ghost use Rattle.std.specs.List.{filter};
+ghost use Rattle.std.specs.Ordering.{nat_cmp};
+ghost use Rattle.ptpm_site.specs.declared.heard.Heard.{Heard};
+ghost use Rattle.ptpm_site.specs.declared.source.Source.{Source};
+ghost use Rattle.ptpm_site.specs.Answers.{source_cmp};
+ghost use Rattle.ptpm_site.specs.Counted.{begun_in, counted, counts, has_begun, if_counts};
+ghost use Rattle.ptpm_site.specs.Gone.{is_gone};
+ghost use Rattle.ptpm_site.specs.Looks.{AreLast};
+
+use crate::clock::Clock;
+use crate::gone::gone_set;
+use crate::heard::Heard;
+use crate::looks::{LastLooks, Look};
+use crate::site::Site;
+use crate::source::Source;
+use std::alloc::{AllocError, Global};
+use std::collections::{BTreeMap, BTreeSet};
+
+/// The domain of a last look.
+fn begun_in(heard: &[Heard], last: &LastLooks, one: &Heard) -> Option<u8>
+    requires { AreLast heard.now last.now }
+    ensures { result ≡ begun_in heard.now one.now }
+{
+    let look = Look::of(one)?;
+    if last.is_latest(heard, look.topic, look.request) {
+        Some(look.topic.domain)
+    } else {
+        None
+    }
+}
+
+/// Adds the domain of a last look to those of the looks before it.
+fn begin(
+    heard: &[Heard],
+    last: &LastLooks,
+    one: &Heard,
+    begun: &mut BTreeSet<u8>,
+) -> Result<(), AllocError>
+    requires { AreLast heard.now last.now }
+    ensures { OnOk result ((before : List Heard) → ((d : ℕ) → contains nat_cmp begun.old d ≡ has_begun heard.now before d)
+        → (d : ℕ) → contains nat_cmp begun.new d ≡ has_begun heard.now (before ++ one.now ∷ []) d) }
+{
+    if let Some(domain) = begun_in(heard, last, one) {
+        begun.insert(domain)?;
+    }
+    Ok(())
+}
+
+/// Whether a datagram counts. `begun` has the domains of the last looks before it.
+fn counts(heard: &[Heard], gone: &BTreeSet<Source>, begun: &BTreeSet<u8>, one: &Heard) -> bool
+    requires { (s : Source) → contains source_cmp gone.now s ≡ is_gone heard.now s }
+    ensures { (before : List Heard) → ((d : ℕ) → contains nat_cmp begun.now d ≡ has_begun heard.now before d) → result ≡ counts heard.now before one.now }
+{
+    match one {
+        Heard::Sent(sender) => {
+            !gone.contains(&sender.source) || begun.contains(&sender.source.domain)
+        }
+        _ => true,
+    }
+}
+
+/// Adds a datagram if it counts.
+fn add_counted(
+    heard: &[Heard],
+    gone: &BTreeSet<Source>,
+    begun: &BTreeSet<u8>,
+    one: &Heard,
+    found: &mut Vec<Heard>,
+) -> Result<(), AllocError>
+    requires { (s : Source) → contains source_cmp gone.now s ≡ is_gone heard.now s }
+    ensures { OnOk result ((before : List Heard) → ((d : ℕ) → contains nat_cmp begun.now d ≡ has_begun heard.now before d)
+        → found.new.items ≡ found.old.items ++ if_counts heard.now before one.now) }
+{
+    if counts(heard, gone, begun, one) {
+        found.push(*one)?;
+    }
+    Ok(())
+}
+
+/// All that counts of what was heard.
+fn counted(
+    alloc: Global,
+    heard: &[Heard],
+    last: &LastLooks,
+    gone: &BTreeSet<Source>,
+) -> Result<Vec<Heard>, AllocError>
+    requires last { AreLast heard.now last.now }
+    requires gone { (s : Source) → contains source_cmp gone.now s ≡ is_gone heard.now s }
+    ensures { IfOk result (λ found. found.items ≡ counted heard.now) }
+{
+    let mut begun = BTreeSet::new(alloc);
+    let mut found = Vec::new(alloc);
+    for one in heard {
+        add_counted(heard, gone, &begun, one, &mut found)?;
+        begin(heard, last, one, &mut begun)?;
+    }
+    Ok(found)
+}
+
+/// Keeps the clocks that are not gone.
+fn keep_others(clocks: &mut BTreeMap<Source, Clock>, gone: &BTreeSet<Source>)
+    ensures { clocks.new.entries ≡ filter (λ e. not (contains source_cmp gone.now e.0)) clocks.old.entries }
+{
+    clocks.retain(|source, _| !gone.contains(source));
+}
+
+impl Site {
+    /// Drops what clocks said that are gone, and the messages that they sent before they were asked last. The site knows further
+    /// on that they are gone.
+    pub fn drop_gone(&mut self, alloc: Global) -> Result<(), AllocError>
+        ensures clocks { OnOk result (self.new.clocks.entries ≡ filter (λ e. not (is_gone self.old.heard.items e.0)) self.old.clocks.entries) }
+        ensures heard { OnOk result (self.new.heard.items ≡ counted self.old.heard.items) }
+    {
+        let last = LastLooks::of(alloc, self.heard.as_slice())?;
+        let gone = gone_set(alloc, self.heard.as_slice(), &last)?;
+        let heard = counted(alloc, self.heard.as_slice(), &last, &gone)?;
+        keep_others(&mut self.clocks, &gone);
+        self.heard = heard;
+        Ok(())
+    }
+}

@@ -1,0 +1,68 @@
+//! How a site is not as a profile wants it, or as the inventory that its operator keeps.
+
+use crate::data_sets::{ClockQuality, DelayMechanism};
+use crate::member::{Member, Value};
+use ptpm_codec::{ClockIdentity, PortIdentity};
+use ptpm_data::PortState;
+
+/// A member that is not what a profile allows.
+#[derive(Clone, Copy)]
+pub struct Outside {
+    /// The port. `None` if it is a member of the clock.
+    pub port: Option<u16>,
+    pub member: Member,
+    pub value: Value<'static>,
+    pub allowed: Allowed,
+}
+
+/// What a profile allows.
+#[derive(Clone, Copy)]
+pub enum Allowed {
+    /// The numbers from the first to the last.
+    Range(i64, i64),
+    /// The number that the parent port has.
+    OfParent(i64),
+    /// E2E and P2P.
+    EndToEndOrPeerToPeer,
+    /// P2P, COMMON_P2P and SPECIAL.
+    PeerToPeerOrSpecial,
+    /// True.
+    Set,
+}
+
+/// A value that an inventory wants of a member.
+#[derive(Drop)]
+pub enum Wanted {
+    Flag(bool),
+    /// A number from the first to the last.
+    Range(i64, i64),
+    Quality(ClockQuality),
+    /// clockClass alone.
+    Class(u8),
+    Clock(ClockIdentity),
+    Port(PortIdentity),
+    /// `None`: the number is reserved.
+    State(Option<PortState>),
+    /// `None`: the number is reserved.
+    Mechanism(Option<DelayMechanism>),
+    Text(String),
+}
+
+/// A member whose value is none of those that an inventory wants.
+#[derive(Clone, Copy)]
+pub struct Unmet<'a> {
+    /// The port. `None` if it is a member of the clock.
+    pub port: Option<u16>,
+    pub member: Member,
+    /// `None`: the clock did not answer it.
+    pub value: Option<Value<'a>>,
+    pub wanted: &'a [Wanted],
+}
+
+/// The clocks of a domain that lead, which are none of those that an inventory wants.
+#[derive(Drop)]
+pub struct OtherLeaders<'a> {
+    /// Ascending.
+    pub leading: Vec<ClockIdentity>,
+    pub wanted: &'a [Vec<ClockIdentity>],
+}

@@ -1,0 +1,162 @@
+//! Clocks that answered, and no longer to the last look.
+
+ghost use Rattle.std.specs.Prelude.{◌≡◌, IfOk};
+ghost use Rattle.std.specs.BTreeSet.{contains};
+ghost use Rattle.std.specs.List.{filter_map};
+ghost use Rattle.ptpm_site.specs.declared.answer.Request.{Request};
+ghost use Rattle.ptpm_site.specs.declared.source.Source.{Source};
+ghost use Rattle.ptpm_site.specs.Answers.{source_cmp};
+ghost use Rattle.ptpm_site.specs.Gone.{gone_clocks, gone_in, is_gone, is_present, is_single, present_in, single_in};
+ghost use Rattle.ptpm_site.specs.KeptStatements.{request_cmp};
+ghost use Rattle.ptpm_site.specs.Looks.{AreLast};
+
+use crate::answer::Request;
+use crate::heard::Heard;
+use crate::looks::{LastLooks, Topic};
+use crate::sets::add_keys;
+use crate::source::Source;
+use std::alloc::{AllocError, Global};
+use std::collections::BTreeSet;
+
+/// The GET to one clock or one port that a datagram is.
+fn single_in(heard: &Heard) -> Option<Request>
+    ensures { result ≡ single_in heard.now }
+{
+    match heard {
+        Heard::Asked(query) => {
+            if query.is_to_all {
+                None
+            } else {
+                Some(query.request)
+            }
+        }
+        _ => None,
+    }
+}
+
+fn singles(alloc: Global, heard: &[Heard]) -> Result<Vec<Request>, AllocError>
+    ensures { IfOk result (λ found. found.items ≡ filter_map single_in heard.now) }
+{
+    let mut found = Vec::new(alloc);
+    for one in heard {
+        let Some(request) = single_in(one) else {
+            continue;
+        };
+        found.push(request)?;
+    }
+    Ok(found)
+}
+
+fn single_set(alloc: Global, heard: &[Heard]) -> Result<BTreeSet<Request>, AllocError>
+    ensures { IfOk result (λ set. (r : Request) → contains request_cmp set r ≡ is_single heard.now r) }
+{
+    let mut set = BTreeSet::new(alloc);
+    let all = singles(alloc, heard)?;
+    add_keys(&mut set, all.as_slice())?;
+    Ok(set)
+}
+
+/// The clock of an answer that no look for its id came after, or that came to a GET that was not to all.
+fn present_in(
+    heard: &[Heard],
+    last: &LastLooks,
+    singles: &BTreeSet<Request>,
+    one: &Heard,
+) -> Option<Source>
+    requires last { AreLast heard.now last.now }
+    requires singles { (r : Request) → contains request_cmp singles.now r ≡ is_single heard.now r }
+    ensures { result ≡ present_in heard.now one.now }
+{
+    match one {
+        Heard::Answered(travel) => {
+            let topic = Topic::of(travel.source.domain, travel.asked);
+            if last.is_latest(heard, topic, travel.request) || singles.contains(&travel.request) {
+                Some(travel.source)
+            } else {
+                None
+            }
+        }
+        _ => None,
+    }
+}
+
+fn present(alloc: Global, heard: &[Heard], last: &LastLooks) -> Result<Vec<Source>, AllocError>
+    requires { AreLast heard.now last.now }
+    ensures { IfOk result (λ found. found.items ≡ filter_map (present_in heard.now) heard.now) }
+{
+    let singles = single_set(alloc, heard)?;
+    let mut found = Vec::new(alloc);
+    for one in heard {
+        let Some(source) = present_in(heard, last, &singles, one) else {
+            continue;
+        };
+        found.push(source)?;
+    }
+    Ok(found)
+}
+
+fn present_set(
+    alloc: Global,
+    heard: &[Heard],
+    last: &LastLooks,
+) -> Result<BTreeSet<Source>, AllocError>
+    requires { AreLast heard.now last.now }
+    ensures { IfOk result (λ set. (s : Source) → contains source_cmp set s ≡ is_present heard.now s) }
+{
+    let mut set = BTreeSet::new(alloc);
+    let all = present(alloc, heard, last)?;
+    add_keys(&mut set, all.as_slice())?;
+    Ok(set)
+}
+
+/// The clock of an answer, if it is gone.
+fn gone_in(heard: &[Heard], present: &BTreeSet<Source>, one: &Heard) -> Option<Source>
+    requires { (s : Source) → contains source_cmp present.now s ≡ is_present heard.now s }
+    ensures { result ≡ gone_in heard.now one.now }
+{
+    match one {
+        Heard::Answered(travel) => {
+            if present.contains(&travel.source) {
+                None
+            } else {
+                Some(travel.source)
+            }
+        }
+        _ => None,
+    }
+}
+
+/// The clocks that are gone, once for each answer.
+pub fn gone_clocks(
+    alloc: Global,
+    heard: &[Heard],
+    last: &LastLooks,
+) -> Result<Vec<Source>, AllocError>
+    requires { AreLast heard.now last.now }
+    ensures { IfOk result (λ found. found.items ≡ gone_clocks heard.now) }
+{
+    let present = present_set(alloc, heard, last)?;
+    let mut found = Vec::new(alloc);
+    for one in heard {
+        let Some(source) = gone_in(heard, &present, one) else {
+            continue;
+        };
+        found.push(source)?;
+    }
+    Ok(found)
+}
+
+/// The same, each once.
+pub fn gone_set(
+    alloc: Global,
+    heard: &[Heard],
+    last: &LastLooks,
+) -> Result<BTreeSet<Source>, AllocError>
+    requires { AreLast heard.now last.now }
+    ensures { IfOk result (λ set. (s : Source) → contains source_cmp set s ≡ is_gone heard.now s) }
+{
+    let mut set = BTreeSet::new(alloc);
+    let all = gone_clocks(alloc, heard, last)?;
+    add_keys(&mut set, all.as_slice())?;
+    Ok(set)
+}

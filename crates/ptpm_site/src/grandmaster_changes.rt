@@ -1,0 +1,187 @@
+//! Clocks whose grandmaster changed from one look to the next.
+
+ghost use Rattle.std.specs.Prelude.{◌≡◌, IfOk, find};
+ghost use Rattle.std.specs.List.{count_by, filter_map};
+ghost use Rattle.std.specs.Option.{option_copied};
+ghost use Rattle.ptpm_site.specs.GrandmasterChanges.{all_shown, clocks_with, grandmaster_changes, handover_of, handover_to, is_first, is_of_itself, last_handover, named_before, same_handover, shown, shown_at};
+ghost use Rattle.ptpm_site.specs.Site.{site_answers};
+
+use crate::clock::Received;
+use crate::data_sets::ParentDataSet;
+use crate::site::Site;
+use crate::source::Source;
+use ptpm_codec::ClockIdentity;
+use std::alloc::{AllocError, Global};
+
+/// A clock that went from one grandmaster to another.
+#[derive(Clone, Copy)]
+struct Handover {
+    source: Source,
+    before: ClockIdentity,
+    after: ClockIdentity,
+}
+
+/// What is shown of clocks of a domain that went from one grandmaster to another.
+#[derive(Clone, Copy)]
+pub struct GrandmasterChange {
+    /// The clock at which it is shown.
+    pub source: Source,
+    pub before: ClockIdentity,
+    pub after: ClockIdentity,
+    /// How many clocks went.
+    pub clocks: usize,
+}
+
+/// The latest of these answers that names another grandmaster.
+fn named_before<'a>(
+    received: &'a [Received<ParentDataSet>],
+    last: &Received<ParentDataSet>,
+) -> Option<&'a Received<ParentDataSet>>
+    ensures { option_copied result ≡ named_before received.now last.now }
+{
+    received
+        .iter()
+        .rev()
+        .find(|earlier| earlier.set.grandmaster != last.set.grandmaster)
+}
+
+/// How a clock came to the grandmaster that it names last, by these answers.
+fn handover_to(
+    source: Source,
+    received: &[Received<ParentDataSet>],
+    last: &Received<ParentDataSet>,
+) -> Option<Handover>
+    ensures { result ≡ handover_to source received.now last.now }
+{
+    let before = named_before(received, last)?;
+    if before.request == last.request {
+        return None;
+    }
+    Some(Handover {
+        source,
+        before: before.set.grandmaster,
+        after: last.set.grandmaster,
+    })
+}
+
+fn last_handover(source: Source, received: &[Received<ParentDataSet>]) -> Option<Handover>
+    ensures { result ≡ last_handover source received.now }
+{
+    handover_to(source, received, received.last()?)
+}
+
+/// The last change of a clock's grandmaster, if it changed.
+fn handover_of(site: &Site, source: Source) -> Option<Handover>
+    ensures { result ≡ handover_of (site_answers site.now) source }
+{
+    last_handover(source, site.parents(source))
+}
+
+/// Those of these clocks.
+fn handovers(alloc: Global, site: &Site, sources: &[Source]) -> Result<Vec<Handover>, AllocError>
+    ensures { IfOk result (λ found. found.items ≡ filter_map (handover_of (site_answers site.now)) sources.now) }
+{
+    let mut found = Vec::new(alloc);
+    for source in sources {
+        let Some(one) = handover_of(site, *source) else {
+            continue;
+        };
+        found.push(one)?;
+    }
+    Ok(found)
+}
+
+impl Handover {
+    /// Whether another clock of the domain went from the same grandmaster to the same other one.
+    fn is_with(&self, other: &Handover) -> bool
+        ensures { result ≡ same_handover self.now other.now }
+    {
+        self.source.domain == other.source.domain
+            && self.before == other.before
+            && self.after == other.after
+    }
+
+    /// How many of all went so.
+    fn clocks_with(&self, all: &[Handover]) -> usize
+        ensures { result ≡ clocks_with all.now self.now }
+    {
+        all.iter().filter(|other| self.is_with(other)).count()
+    }
+
+    /// Whether the clock is one of the two grandmasters.
+    fn is_of_itself(&self) -> bool
+        ensures { result ≡ is_of_itself self.now }
+    {
+        self.source.clock == self.before || self.source.clock == self.after
+    }
+
+    /// The clock at which it is shown.
+    fn shown_at(&self, all: &[Handover]) -> Source
+        ensures { result ≡ shown_at all.now self.now }
+    {
+        if self.clocks_with(all) == 1 && self.is_of_itself() {
+            self.source
+        } else {
+            self.source.beside(self.after)
+        }
+    }
+
+    /// Whether it is the first of those that went so.
+    fn is_first(&self, all: &[Handover]) -> bool
+        ensures { result ≡ is_first all.now self.now }
+    {
+        match self.first_with(all) {
+            Some(first) => first.source == self.source,
+            None => false,
+        }
+    }
+
+    /// The first of those that went so.
+    fn first_with<'a>(&self, all: &'a [Handover]) -> Option<&'a Handover>
+        ensures { option_copied result ≡ find (same_handover self.now) all.now }
+    {
+        all.iter().find(|other| self.is_with(other))
+    }
+
+    /// What is shown of those that went so, by the first of them.
+    fn shown(&self, all: &[Handover]) -> Option<GrandmasterChange>
+        ensures { result ≡ shown all.now self.now }
+    {
+        if !self.is_first(all) {
+            return None;
+        }
+        Some(GrandmasterChange {
+            source: self.shown_at(all),
+            before: self.before,
+            after: self.after,
+            clocks: self.clocks_with(all),
+        })
+    }
+}
+
+/// What is shown of all of them.
+fn all_shown(alloc: Global, all: &[Handover]) -> Result<Vec<GrandmasterChange>, AllocError>
+    ensures { IfOk result (λ found. found.items ≡ all_shown all.now) }
+{
+    let mut found = Vec::new(alloc);
+    for one in all {
+        let Some(change) = one.shown(all) else {
+            continue;
+        };
+        found.push(change)?;
+    }
+    Ok(found)
+}
+
+/// All changes of a grandmaster. `sources` has all clocks that are seen.
+pub fn grandmaster_changes(
+    alloc: Global,
+    site: &Site,
+    sources: &[Source],
+) -> Result<Vec<GrandmasterChange>, AllocError>
+    requires { sources.now ≡ (site_answers site.now).clocks }
+    ensures { IfOk result (λ found. found.items ≡ grandmaster_changes (site_answers site.now)) }
+{
+    let all = handovers(alloc, site, sources)?;
+    all_shown(alloc, all.as_slice())
+}

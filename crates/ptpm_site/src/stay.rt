@@ -1,0 +1,151 @@
+//! How long a port has been on its way to another state.
+
+ghost use Rattle.std.specs.Prelude.{◌≡◌};
+ghost use Rattle.ptpm_site.specs.PortStates.{is_another, is_on_the_way};
+ghost use Rattle.ptpm_site.specs.Stay.{apart, is_faulty, is_lasting, since_this, stay_after, stay_before, stay_by, stay_of, stay_since, time_between};
+
+use crate::answer::Request;
+use crate::clock::Received;
+use crate::data_sets::PortDataSet;
+use ptpm_data::PortState;
+
+/// The state of a port that is FAULTY or on its way to another state, and for how long it was on its way.
+#[derive(Clone, Copy)]
+pub struct Stay {
+    pub state: PortState,
+    /// Whether it was on its way in an answer to an earlier request of the same requester, and in each since.
+    pub is_seen_twice: bool,
+    /// How many nanoseconds after the first of these answers the last one came. `None` if that is not known.
+    pub time: Option<u64>,
+}
+
+impl Stay {
+    /// Whether two answers show it, and nothing says that it took less than this many nanoseconds.
+    pub fn is_lasting(&self, wait: u64) -> bool
+        ensures { result ≡ is_lasting wait self.now }
+    {
+        let is_long = match self.time {
+            Some(time) => wait <= time,
+            None => true,
+        };
+        self.is_seen_twice && is_long
+    }
+}
+
+/// Whether a state is on the way to another.
+fn is_on_the_way(state: PortState) -> bool
+    ensures { result ≡ is_on_the_way state }
+{
+    matches!(
+        state,
+        PortState::Initializing
+            | PortState::Listening
+            | PortState::PreMaster
+            | PortState::Uncalibrated
+    )
+}
+
+pub fn is_faulty(state: PortState) -> bool
+    ensures { result ≡ is_faulty state }
+{
+    matches!(state, PortState::Faulty)
+}
+
+/// Whether two requests are different ones of one requester.
+fn is_another(a: &Request, b: &Request) -> bool
+    ensures { result ≡ is_another a.now b.now }
+{
+    a.target == b.target && a.number != b.number
+}
+
+/// When the first answer of a stay came, after an answer that came to an earlier request of the same requester. It is `None` if
+/// that answer was not on the way.
+fn stay_after(
+    request: &Request,
+    since: Option<Option<u64>>,
+    received: &Received<PortDataSet>,
+) -> Option<Option<u64>>
+    ensures { result ≡ stay_after request.now since received.now }
+{
+    if !is_another(&received.request, request) {
+        return since;
+    }
+    match received.set.state {
+        Some(state) if is_on_the_way(state) => Some(since_this(since, received.at)),
+        _ => None,
+    }
+}
+
+/// When the stay began: as it is known, or else now.
+fn since_this(since: Option<Option<u64>>, at: Option<u64>) -> Option<u64>
+    ensures { Some result ≡ since_this since at }
+{
+    match since {
+        Some(since) => since,
+        None => at,
+    }
+}
+
+/// When the first answer came of those on the way with which these end. It is `None` if there is none.
+fn stay_before(request: &Request, earlier: &[Received<PortDataSet>]) -> Option<Option<u64>>
+    ensures { result ≡ stay_before request.now earlier.now }
+{
+    let mut since = None;
+    for received in earlier {
+        since = stay_after(request, since, received);
+    }
+    since
+}
+
+fn time_between(a: Option<u64>, b: Option<u64>) -> Option<u64>
+    ensures { result ≡ time_between a b }
+{
+    match (a, b) {
+        (Some(a), Some(b)) => Some(a.saturating_sub(b) + b.saturating_sub(a)),
+        _ => None,
+    }
+}
+
+fn stay_since(state: PortState, at: Option<u64>, since: Option<Option<u64>>) -> Stay
+    ensures { result ≡ stay_since state at since }
+{
+    match since {
+        None => Stay {
+            state,
+            is_seen_twice: false,
+            time: None,
+        },
+        Some(since) => Stay {
+            state,
+            is_seen_twice: true,
+            time: time_between(at, since),
+        },
+    }
+}
+
+/// The stay of a port whose last answer says this state, after these answers.
+fn stay_by(
+    last: &Received<PortDataSet>,
+    earlier: &[Received<PortDataSet>],
+    state: PortState,
+) -> Option<Stay>
+    ensures { result ≡ stay_by last.now earlier.now state }
+{
+    if is_faulty(state) {
+        Some(stay_since(state, last.at, None))
+    } else if is_on_the_way(state) {
+        let since = stay_before(&last.request, earlier);
+        Some(stay_since(state, last.at, since))
+    } else {
+        None
+    }
+}
+
+/// How a port is that answered so, if it is FAULTY or on its way.
+pub fn stay_of(received: &[Received<PortDataSet>]) -> Option<Stay>
+    ensures { result ≡ stay_of received.now }
+{
+    let (last, earlier) = received.split_last()?;
+    let state = last.set.state?;
+    stay_by(last, earlier, state)
+}

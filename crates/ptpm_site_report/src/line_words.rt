@@ -1,0 +1,53 @@
+//! The words before a datagram in a line: when it came.
+
+use std::str::FromStr;
+
+/// Nanoseconds in a second.
+const SECOND: u64 = 1_000_000_000;
+
+/// When the datagram of a line came, in nanoseconds since 1970, by the first word `at=`. A time has seconds in decimal digits, and
+/// after a point one to nine digits more. It is `None` if there is no such word, or if it has no time.
+pub(crate) fn at_of(line: &str) -> Option<u64> {
+    for word in line.split(' ') {
+        if let Some(time) = word.strip_prefix("at=") {
+            return nanoseconds_of(time);
+        }
+    }
+    None
+}
+
+fn nanoseconds_of(time: &str) -> Option<u64> {
+    match time.split_once('.') {
+        Some((whole, fraction)) => {
+            let whole = whole_of(whole)?;
+            whole.checked_add(fraction_of(fraction)?)
+        }
+        None => whole_of(time),
+    }
+}
+
+/// Whole seconds, in nanoseconds.
+fn whole_of(digits: &str) -> Option<u64> {
+    number_of(digits)?.checked_mul(SECOND)
+}
+
+/// The part of a second after a point, in nanoseconds.
+fn fraction_of(digits: &str) -> Option<u64> {
+    if 9 < digits.len() {
+        return None;
+    }
+    let mut fraction = number_of(digits)?;
+    for _ in digits.len()..9 {
+        fraction = fraction.checked_mul(10)?;
+    }
+    Some(fraction)
+}
+
+/// A number of decimal digits alone.
+fn number_of(digits: &str) -> Option<u64> {
+    if digits.bytes().all(|octet| octet.is_ascii_digit()) {
+        u64::from_str(digits).ok()
+    } else {
+        None
+    }
+}

@@ -1,0 +1,80 @@
+#include "heard.h"
+#include "lines.h"
+#include "message_places.h"
+#include "transport.h"
+#include <net/if.h>
+#include <string.h>
+
+/* versionPTP, the messageTypes beside Announce, and how many octets these messages have at least (IEEE 1588-2019, 13.3 to 13.7). */
+enum { VERSION = 2, SYNC = 0, DELAY_REQ = 1, FOLLOW_UP = 8, TIMED_SIZE = 44, ANNOUNCE_SIZE = 64 };
+
+/* Room for four messages of 256 ports. A longer message is not kept. */
+enum { MOST_KEPT_MESSAGES = 1024, MOST_OCTETS_KEPT = 1500, PORT_IDENTITY = 10, MOST_SENDER = 64 };
+
+struct kept {
+    struct timespec at;
+    char from[MOST_SENDER], on[IF_NAMESIZE];
+    size_t size;
+    uint8_t message[MOST_OCTETS_KEPT];
+};
+
+static struct kept all[MOST_KEPT_MESSAGES];
+static size_t kept_count;
+
+void hear_none(void) { kept_count = 0; }
+
+static unsigned type_of(const uint8_t *message) { return message[TYPE_AT] & LOWER_HALF; }
+
+static size_t length_of(const uint8_t *message) { return (size_t)message[LENGTH_AT] << 8 | message[LENGTH_AT + 1]; }
+
+static bool is_kept_type(unsigned type) {
+    return type == ANNOUNCE_TYPE || type == SYNC || type == DELAY_REQ || type == FOLLOW_UP;
+}
+
+/* Whether it is a message that is kept, whole and of this version. */
+static bool is_to_keep(const uint8_t *datagram, size_t size) {
+    if (size < TIMED_SIZE || !is_kept_type(type_of(datagram)) || (datagram[VERSION_AT] & LOWER_HALF) != VERSION) return false;
+    size_t length = length_of(datagram), least = type_of(datagram) == ANNOUNCE_TYPE ? ANNOUNCE_SIZE : TIMED_SIZE;
+    return length >= least && length <= size && length <= MOST_OCTETS_KEPT;
+}
+
+/* Whether they are of one port, domain, sdoId and messageType. */
+static bool is_like(const uint8_t *one, const uint8_t *other) {
+    return one[TYPE_AT] == other[TYPE_AT] && one[DOMAIN_AT] == other[DOMAIN_AT] && one[SDO_AT] == other[SDO_AT]
+           && memcmp(one + SOURCE_AT, other + SOURCE_AT, PORT_IDENTITY) == 0;
+}
+
+static struct kept *place_of(const uint8_t *message) {
+    for (size_t i = 0; i < kept_count; i++) {
+        if (is_like(all[i].message, message)) return &all[i];
+    }
+    return kept_count < MOST_KEPT_MESSAGES ? &all[kept_count++] : NULL;
+}
+
+void keep_heard(const uint8_t *datagram, size_t size) {
+    struct kept *kept = is_to_keep(datagram, size) ? place_of(datagram) : NULL;
+    if (kept == NULL) return;
+    kept->at = time_now();
+    kept->size = length_of(datagram);
+    memcpy(kept->message, datagram, kept->size);
+    snprintf(kept->from, sizeof kept->from, "%s", sender_text());
+    snprintf(kept->on, sizeof kept->on, "%s", came_in_at() == NULL ? "" : came_in_at());
+}
+
+const uint8_t *heard_clock(size_t place, uint8_t *domain) {
+    for (size_t i = 0; i < kept_count; i++) {
+        if (type_of(all[i].message) == DELAY_REQ || place-- > 0) continue;
+        *domain = all[i].message[DOMAIN_AT];
+        return all[i].message + SOURCE_AT;
+    }
+    return NULL;
+}
+
+void write_heard(FILE *to) {
+    for (size_t i = 0; i < kept_count; i++) {
+        const struct kept *one = &all[i];
+        write_line(to, &(struct line){
+            .at = one->at, .from = one->from, .on = *one->on == '\0' ? NULL : one->on, .message = one->message, .size = one->size,
+        });
+    }
+}

@@ -1,0 +1,30 @@
+/* The lines of a collection, which `ptpm site` reads: words NAME=VALUE, and then a message in hexadecimal. The word at= has
+   when it came or was sent, in seconds since 1970, from= its sender, and on= the interface. */
+#ifndef LINES_H
+#define LINES_H
+
+#include <stddef.h>
+#include <stdint.h>
+#include <stdio.h>
+#include <time.h>
+
+/* A message that came in, or one that was sent: then nobody sent it to this host, and `from` is "". `on` is NULL on a Unix socket. */
+struct line {
+    struct timespec at;
+    const char *from, *on;
+    const uint8_t *message;
+    size_t size;
+};
+
+struct timespec time_now(void);
+
+void write_line(FILE *to, const struct line *line);
+
+/* The message that went out last: a line for each interface that it went out at. */
+void write_sent(FILE *to, const uint8_t *message, size_t size);
+
+/* What is known of this host: a line that begins with #ptpm. The word own= has the identities that its interfaces would have. The
+   word clock=synchronised is there if the kernel says so of its clock, which at= is read from. */
+void write_host_note(FILE *to);
+
+#endif

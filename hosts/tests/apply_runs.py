@@ -1,0 +1,104 @@
+"""Runs of ptpm-manage that are killed while they change a site, and their journals, for apply_kills.py and apply_ptp4l.py."""
+import glob
+import json
+import os
+import random
+import re
+import subprocess
+import time
+import zlib
+from collections import Counter
+
+
+class Broken(Exception):
+    """What was promised does not hold."""
+
+
+class Journal:
+    """What a journal's whole lines say."""
+
+    def __init__(self, path):
+        with open(path, "rb") as file:
+            lines = file.read().split(b"\n")[:-1]
+        notes = [json.loads(line[9:]) for line in lines if f"{zlib.crc32(line[9:]):08x} ".encode() == line[:9]]
+        if len(notes) != len(lines):
+            raise Broken(f"{path} has a wrong line")
+        self.steps, self.told, self.begun, self.end = notes[0]["steps"], {}, None, None
+        for note in notes[1:]:
+            self.take(note)
+
+    def take(self, note):
+        if "begun" in note:
+            self.begun = note["begun"]
+        elif "not_begun" in note:
+            self.begun = None
+        elif "told" in note:
+            self.told[note["told"]], self.begun = note, None
+        else:
+            self.end = note["end"]
+
+    def state(self, step):
+        """As a report has it."""
+        if step in self.told:
+            return self.told[step]["outcome"]
+        return "may be" if step == self.begun else "not asked"
+
+    def place(self):
+        return "ended" if self.end else "a step is begun" if self.begun is not None else "between steps"
+
+
+class Runs:
+    """Runs of the program in a state folder of their own, and what is counted of them."""
+
+    def __init__(self, work, seed):
+        self.work, self.chance = work, random.Random(seed)
+        self.counts, self.places = Counter(), Counter()
+        self.is_taken = False               # whether a clock took the step that is begun and not told
+
+    def words(self):
+        """The program, and the way."""
+        raise NotImplementedError
+
+    def journals(self):
+        return set(glob.glob(os.path.join(self.work, "state/ptpm/apply/*.journal")))
+
+    def start(self, words, **environment):
+        environment = {**os.environ, "XDG_STATE_HOME": os.path.join(self.work, "state"), **environment}
+        with open(os.path.join(self.work, "said"), "w") as said:
+            return subprocess.Popen([*self.words(), "-w", "100", "-t", "40", *words], stdout=said, stderr=said, env=environment)
+
+    def write_plan(self, lines):
+        path = os.path.join(self.work, "plan.toml")
+        with open(path, "w") as file:
+            file.write("\n".join(["version = 1", *lines]) + "\n")
+        return path
+
+    def crash(self):
+        """What is changed crashes, if it keeps what it has."""
+
+    def check_report(self, journal):
+        """What the latest run printed of steps, if it came to that, is what the journal has. It may know that a step which is begun there was
+        not sent."""
+        with open(os.path.join(self.work, "said")) as said:
+            report = re.split(r"^(?:apply|rollback) \S+: .*\n", said.read(), flags=re.M)[1:]
+        for place, state in re.findall(r"^  (\d+) ([^:]+): ", "".join(report), re.M):
+            is_unsent = state == "not asked" and journal.begun == int(place) - 1 and not self.is_taken
+            if state != journal.state(int(place) - 1) and not is_unsent:
+                raise Broken(f"step {place} is reported as {state}, and is {journal.state(int(place) - 1)}")
+            self.counts["lines of reports"] += 1
+
+    def check_marks(self):
+        """One that ended may have been killed before it removed its marks."""
+        for path in glob.glob(os.path.join(self.work, "state/ptpm/*.apply")):
+            with open(path) as mark:
+                if not Journal(mark.read().strip()).end:
+                    raise Broken(f"{path} names an apply that is open")
+
+    def count_end(self, journal):
+        self.counts[journal.end] += 1
+        self.counts["steps told"] += len(journal.told)
+
+    def tell(self, began):
+        counted = ", ".join(f"{what} {count}" for what, count in sorted(self.counts.items()))
+        killed = ", ".join(f"{place} {count}" for place, count in sorted(self.places.items()))
+        print(f"{counted}; killed at: {killed}; {time.monotonic() - began:.0f} s")
