@@ -10,8 +10,9 @@ ghost use Rattle.std.specs.Prelude.{◌≡◌, ◌≤◌};
 ghost use Rattle.ptpm_host.specs.Numbers.{asker_number, begin_number, cause_number, change_number, clock_restore_number, give_up_number, handle_number, heard_number, image_number, managers_number, member_number, observe_number, parse_number, read_number, reason_number, report_number, restore_number, resume_number, said_number, saved_number, saving_number, send_number, session_number, start_number, surveyed_number, outcome_number, unseal_number, values_number, verdict_number};
 
 use crate::refusal::{
-    AskerRefusal, ChangeRefusal, ClockRestoreRefusal, HandleRefusal, ParseRefusal, ReadRefusal, ReportRefusal,
-    SaidRefusal, SavedRefusal, SavingRefusal, SendRefusal, SessionRefusal, StartRefusal,
+    AskerRefusal, ChangeRefusal, ClockRestoreRefusal, HandleRefusal, ParseRefusal, ReadRefusal,
+    ReportRefusal, SaidRefusal, SavedRefusal, SavingRefusal, SendRefusal, SessionRefusal,
+    StartRefusal,
 };
 use crate::reported_outcome::ReportedOutcome;
 use crate::session::Heard;

@@ -15,7 +15,7 @@ returns-clause-saving c = λ w held.
     let q = request_here c.args.action c.args.id c.args.port c.args.octets.now in
     let holds : ChangesUnsaved c.deref_mut.result.now q c.match-change_here.number c.match-change_here.error c.match-change_here.members (Some c.change_here.new.self) =
     elim c.match-change_here.branch [
-      in-Ok x ↦ λ none. (x.number-is, (x.error-is, (x.in-Ok.ensures.changed, x.members-is ∙ x.in-Ok.ensures.members)))
+      | in-Ok x ↦ λ none. (x.number-is, (x.error-is, (x.in-Ok.ensures.changed, x.members-is ∙ x.in-Ok.ensures.members)))
       | in-Err x ↦ λ none. absurd (none-some _ (sym none ∙ x.in-Err.ensures.refusal))
     ] in
     put_back (λ (y : SavingClock) (o : Option SavingClock). ChangesUnsaved y q c.match-change_here.number c.match-change_here.error c.match-change_here.members o)
