@@ -807,8 +807,9 @@ static inline bool ptpm_is_refusal(uint32_t answer) { return answer >= 32; }
 uint32_t ptpm_version(void);
 
 /* Compares the sizes of a caller's structs with those of the library, so that a header of another version is found.
-   Takes:   count sizes, one for each struct of this file, in its order.
-   Returns: PTPM_STARTED if the library has these structs, of these sizes, and no others; or PTPM_OTHER_SIZES. */
+   Takes:   count sizes: those that ptpm_header_agrees below passes, in its order. ptpm_question, ptpm_say and ptpm_limit are not
+            among them.
+   Returns: PTPM_STARTED if the library has these structs, of these sizes; or PTPM_OTHER_SIZES. */
 enum ptpm_started ptpm_sizes_agree(const size_t *sizes, size_t count);
 
 /* Compares the sizes of the file that the caller was compiled with. */
@@ -1303,7 +1304,8 @@ uint32_t ptpm_step_standing(uint32_t begun, uint16_t id, uint16_t port, const ui
                             const uint8_t *image, size_t image_size);
 
 /* Seals an image: writes `ptps`, the count of saves and the CRC-32 of all before it after the image. By them damage is found.
-   Takes:   room octets: the image is the first size octets. And the count, one more at each save.
+   Takes:   room octets: the image is the first size octets. And the count, one more at each save. A host calls ptpm_image_seal,
+            which takes size before room.
    Returns: PTPM_SAVED; or PTPM_NO_ROOM if room is less than size and PTPM_SEAL_OCTETS, and then no octet is written.
    Writes:  *sealed: how many octets image and seal have, 0 if the call is refused; and the PTPM_SEAL_OCTETS octets after the image. */
 enum ptpm_saved ptpm_image_seal_in(uint8_t *octets, size_t room, size_t size, uint64_t count, size_t *sealed);
@@ -1323,7 +1325,8 @@ enum ptpm_restored ptpm_image_unseal(const uint8_t *octets, size_t size, uint64_
 
 /* Finds the newest image of several places, each of as many octets. A host that writes only the oldest place has one image at any
    moment, whenever its power fails (docs/flash.md).
-   Takes:   the octets of all places, one after the other; how many octets a place has, and how many places there are.
+   Takes:   the octets of all places, one after the other; how many octets a place has, and how many places there are. Of a place
+            of a medium its head is enough: as many octets as the largest image and its seal.
    Returns: the place of the image with the highest count, counted from 0; of as many, the first. The number of places if no place
             holds an image that ptpm_image_unseal takes.
    Writes:  *count and *image, as ptpm_image_unseal does for that place. */

@@ -165,10 +165,11 @@ class Scene:
         return max(names, key=lambda name: os.path.getmtime(f"/var/lib/ptpm/apply/{name}"), default="none")[:-len(".journal")]
 
     def leave_pending(self, text):
-        """Ends a run of `set PRIORITY1 100` before its answer, so that the next run finds its request."""
+        """Ends a run of `set PRIORITY1 100` before its answer, so that the next run finds its request. On a busy machine it gets that far
+        later."""
         before = text.split(" set ")[0].replace("sudo ", "")
-        for _ in range(200):
-            self.run(f"timeout -s KILL 0.02 {before} -q -n 4000 set PRIORITY1 100")
+        for turn in range(200):
+            self.run(f"timeout -s KILL {0.02 + turn / 1000:.3f} {before} -q -n 4000 set PRIORITY1 100")
             images = [os.path.getsize(f"/var/lib/ptpm/{name}") for name in os.listdir("/var/lib/ptpm") if name.endswith("aabbccfffeddee01")]
             if any(53 < size < 75 for size in images):      # a GET's 20 octets would make it longer
                 return

@@ -159,7 +159,9 @@ class Kills:
             journal = Journal(made.pop()) if made else None
             if status is None:
                 self.site.places["no journal" if journal is None else journal.place()] += 1
-            if journal is None and status in (0, 2, 5):
+            if journal is None and status in (1, 2, 4):
+                raise Broken(f"{words} ended with {status}: {self.site.said()}")
+            if journal is None and status in (0, 5):
                 return None
             if journal is not None:
                 self.site.check(journal)
@@ -234,8 +236,8 @@ class Points(Changes):
 
     def is_killed_at(self, call, by):
         """Whether a `resume` was killed at this call; 0 is none."""
-        environment = {"LD_PRELOAD": os.path.join(HOME, "dies.so"), "DIES_AT": str(call), "DIES_FROM": "start", by: "1"}
-        is_killed = self.start(["resume"], **environment).wait(PATIENCE) in (-signal.SIGKILL, 128 + signal.SIGKILL)
+        preloaded = {"LD_PRELOAD": os.path.join(HOME, "dies.so"), "DIES_AT": str(call), "DIES_FROM": "start", by: "1"}
+        is_killed = self.start(["resume"], **preloaded).wait(PATIENCE) in (-signal.SIGKILL, 128 + signal.SIGKILL)
         self.counts["kills"] += is_killed
         self.counts["power cuts"] += is_killed and by == LOSES
         return is_killed

@@ -28,6 +28,11 @@ def within(namespace):
     return ["nsenter", f"--net=/var/run/netns/{namespace}"]
 
 
+def environment(state):
+    """That of a run with this state folder, which finds the program `ptpm` of this repository if there is no other."""
+    return {**os.environ, "XDG_STATE_HOME": state, "PATH": os.environ["PATH"] + ":" + os.path.dirname(HOME)}
+
+
 def must(*words):
     done = run(*words)
     if done.returncode:
@@ -146,16 +151,13 @@ class Network:
     def manage(self, *words, state="state", namespace=None, **more):
         """A run of the manager's program."""
         where = self.near if namespace is None else namespace
-        return run(*within(where), os.path.join(HOME, "manage"), "-i", "e1", *words, env=self.environment(state), **more)
-
-    def environment(self, state):
-        return {**os.environ, "XDG_STATE_HOME": os.path.join(self.work, state), "PATH": os.environ["PATH"] + ":" + os.path.dirname(HOME)}
+        return run(*within(where), os.path.join(HOME, "manage"), "-i", "e1", *words, env=environment(os.path.join(self.work, state)), **more)
 
     def manage_at_terminal(self, *words):
         """Such a run whose standard error is a terminal: its status, and what is shown there."""
         ours, theirs = pty.openpty()
         process = subprocess.Popen([*within(self.near), os.path.join(HOME, "manage"), "-i", "e1", *words], stdout=subprocess.DEVNULL,
-                                   stderr=theirs, env=self.environment("state"))
+                                   stderr=theirs, env=environment(os.path.join(self.work, "state")))
         os.close(theirs)
         shown = b""
         try:

@@ -9,6 +9,8 @@ import time
 import zlib
 from collections import Counter
 
+from apply_network import environment
+
 
 class Broken(Exception):
     """What was promised does not hold."""
@@ -62,10 +64,15 @@ class Runs:
     def journals(self):
         return set(glob.glob(os.path.join(self.work, "state/ptpm/apply/*.journal")))
 
-    def start(self, words, **environment):
-        environment = {**os.environ, "XDG_STATE_HOME": os.path.join(self.work, "state"), **environment}
+    def start(self, words, **more):
         with open(os.path.join(self.work, "said"), "w") as said:
-            return subprocess.Popen([*self.words(), "-w", "100", "-t", "40", *words], stdout=said, stderr=said, env=environment)
+            return subprocess.Popen([*self.words(), "-w", "100", "-t", "40", *words], stdout=said, stderr=said,
+                                    env={**environment(os.path.join(self.work, "state")), **more})
+
+    def said(self):
+        """What the latest run printed."""
+        with open(os.path.join(self.work, "said")) as said:
+            return said.read()
 
     def write_plan(self, lines):
         path = os.path.join(self.work, "plan.toml")
@@ -79,8 +86,7 @@ class Runs:
     def check_report(self, journal):
         """What the latest run printed of steps, if it came to that, is what the journal has. It may know that a step which is begun there was
         not sent."""
-        with open(os.path.join(self.work, "said")) as said:
-            report = re.split(r"^(?:apply|rollback) \S+: .*\n", said.read(), flags=re.M)[1:]
+        report = re.split(r"^(?:apply|rollback) \S+: .*\n", self.said(), flags=re.M)[1:]
         for place, state in re.findall(r"^  (\d+) ([^:]+): ", "".join(report), re.M):
             is_unsent = state == "not asked" and journal.begun == int(place) - 1 and not self.is_taken
             if state != journal.state(int(place) - 1) and not is_unsent:

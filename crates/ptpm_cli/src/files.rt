@@ -1,6 +1,7 @@
 //! Files that the words of the command line name.
 
 use std::alloc::Global;
+use std::io::Read;
 use std::rt::Files;
 use std::{fs, io};
 

@@ -5,6 +5,7 @@ use Rattle.std.specs.List.{filter, flat_map}
 use Rattle.ptpm_site.specs.declared.finding.Finding.{Finding}
 use Rattle.ptpm_site.specs.declared.finding.What.{What}
 use Rattle.ptpm_site.specs.declared.finding.What.TheVariants as what
+use Rattle.ptpm_site.specs.declared.source.Source.{Source}
 use Rattle.ptpm_site.specs.Findings.{Said, said, says, reported}
 use Rattle.ptpm_site.specs.SiteAnswers.{SiteAnswers}
 use Rattle.ptpm_expected.specs.declared.profile.Profile.{Profile}
@@ -44,3 +45,21 @@ as_many_said site p found =
     ∙ ap (λ n. n + length more) (sym kept)
     ∙ ap (λ n. length (filter (λ s. is_shown_said p s.says) (map said_of found)) + n) (sym added)
     ∙ sym (length-append (filter (λ s. is_shown_said p s.says) (map said_of found)) (map said_of more))
+
+-- as many say something as there are
+pub as_many_reported : (found : List Finding) → length (reported found) ≡ length found
+unfolding reported
+as_many_reported found = length-map found (λ f. said f.source (says f.what))
+
+-- what is kept, and what is added at all clocks, are as many as what is said then
+pub as_many_held : (site : SiteAnswers) (p : Profile) (sources : List Source) (found kept held : List Finding)
+    → sources ≡ site.clocks
+    → kept ≡ filter (λ f. is_shown p f.what) found
+    → held ≡ kept ++ flat_map (profile_found site p) sources
+    → length held ≡ length (said_by_profile site p (reported found))
+unfolding found_by_profile
+as_many_held site p sources found kept held all k h =
+    let shown : List Finding = filter (λ f. is_shown p f.what) found in
+    let by_profile : held ≡ found_by_profile site p found =
+    h ∙ ap (λ xs. xs ++ flat_map (profile_found site p) sources) k ∙ ap (λ ss. shown ++ flat_map (profile_found site p) ss) all in
+    ap length by_profile ∙ as_many_said site p found

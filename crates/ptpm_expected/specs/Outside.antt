@@ -51,34 +51,41 @@ timescale_outside site s = if leads site s then option_and_then (λ d. option_an
 -- ---- of a port
 
 -- logSyncInterval and logMinDelayReqInterval count of a port in MASTER, PRE_MASTER or PASSIVE; any other takes its master's
-abbrev pub sync_outside : Profile → ℕ → PortDataSet → Option Outside
+unfoldable pub sync_outside : Profile → ℕ → PortDataSet → Option Outside
 sync_outside profile n set =
     if is_giving set.state then member_outside (Some n) member.LogSyncInterval set.log_sync (sync_range profile) else None
 
 -- with E2E
-abbrev pub delay_request_outside : Profile → ℕ → PortDataSet → Option Outside
+unfoldable pub delay_request_outside : Profile → ℕ → PortDataSet → Option Outside
 delay_request_outside profile n set =
     if is_giving set.state && measures_end_to_end set.delay_mechanism
     then member_outside (Some n) member.LogMinDelayReqInterval set.log_min_delay_req (delay_request_range profile set.log_sync) else None
 
 -- with P2P or COMMON_P2P
-abbrev pub pdelay_request_outside : Profile → ℕ → PortDataSet → Option Outside
+unfoldable pub pdelay_request_outside : Profile → ℕ → PortDataSet → Option Outside
 pdelay_request_outside profile n set =
     if measures_link set.delay_mechanism
     then member_outside (Some n) member.LogMinPdelayReqInterval set.log_min_pdelay (pdelay_request_range profile set.log_sync) else None
 
-abbrev pub mechanism_outside : Profile → ℕ → PortDataSet → Option Outside
+unfoldable pub mechanism_outside : Profile → ℕ → PortDataSet → Option Outside
 mechanism_outside profile n set = option_map
     (λ a. record { port = Some n; member = member.DelayMechanism; value = value.Mechanism set.delay_mechanism; allowed = a })
     (allowed_mechanisms profile set.delay_mechanism)
 
+unfoldable pub announce_outside : Profile → ℕ → PortDataSet → Option Outside
+announce_outside profile n set = member_outside (Some n) member.LogAnnounceInterval set.log_announce (announce_range profile)
+
+unfoldable pub timeout_outside : Profile → ℕ → PortDataSet → Option Outside
+timeout_outside profile n set =
+    member_outside (Some n) member.AnnounceReceiptTimeout (pos set.receipt_timeout) (timeout_range profile)
+
 unfoldable pub port_outside : Profile → ℕ → PortDataSet → List (Option Outside)
 port_outside profile n set =
-    member_outside (Some n) member.LogAnnounceInterval set.log_announce (announce_range profile)
+    announce_outside profile n set
     ∷ sync_outside profile n set
     ∷ delay_request_outside profile n set
     ∷ pdelay_request_outside profile n set
-    ∷ member_outside (Some n) member.AnnounceReceiptTimeout (pos set.receipt_timeout) (timeout_range profile)
+    ∷ timeout_outside profile n set
     ∷ mechanism_outside profile n set ∷ []
 
 -- a port in DISABLED or FAULTY takes no part
@@ -87,9 +94,13 @@ is_idle (Some states.Disabled) = true
 is_idle (Some states.Faulty) = true
 is_idle _ = false
 
--- a port in SLAVE or UNCALIBRATED has the logAnnounceInterval of its parent port
-abbrev pub parent_outside : SiteAnswers → Source → ℕ → PortDataSet → Option Outside
-parent_outside site s n set = if is_following set.state then option_and_then (λ p. option_and_then (λ above.
+-- a port has another logAnnounceInterval than its parent port
+unfoldable pub unlike_parent : ℕ → PortDataSet → PortDataSet → Option Outside
+unlike_parent n set above =
     if int_eq above.log_announce set.log_announce then None
-    else Some (record { port = Some n; member = member.LogAnnounceInterval; value = value.Number set.log_announce; allowed = allowed.OfParent above.log_announce }))
-    (site.port (beside s p.parent.clock) p.parent.port)) (site.parent s) else None
+    else Some (record { port = Some n; member = member.LogAnnounceInterval; value = value.Number set.log_announce; allowed = allowed.OfParent above.log_announce })
+
+-- that of a port in SLAVE or UNCALIBRATED
+unfoldable pub parent_outside : SiteAnswers → Source → ℕ → PortDataSet → Option Outside
+parent_outside site s n set = if is_following set.state then option_and_then (λ p.
+    option_and_then (unlike_parent n set) (site.port (beside s p.parent.clock) p.parent.port)) (site.parent s) else None

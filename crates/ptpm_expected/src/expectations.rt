@@ -46,9 +46,10 @@ pub fn picture_of<'a>(
     ensures count { expectations.entry.inventory ≡ None → IfOk result (λ picture. length picture.findings.items
         ≡ length (said_by (site_answers site.now) expectations.entry.profile (findings_of (site_answers site.now) limits))) }
 {
+    let sources = site.sources(alloc)?;
     let mut picture = Picture::of(alloc, site, left_out, limits)?;
-    let sources = picture.forest.sources.as_slice();
-    hold(alloc, site, sources, expectations, &mut picture.findings)?;
+    let findings = &mut picture.findings;
+    hold(alloc, site, sources.as_slice(), expectations, findings)?;
     Ok(picture)
 }
 

@@ -57,5 +57,6 @@ pub fn hold_to_profile(
 {
     keep_shown(profile, findings);
     judge_profile(alloc, site, profile, sources, findings)?;
-    put_in_order(findings)
+    put_in_order(findings)?;
+    Ok(())
 }

@@ -49,7 +49,8 @@ pub fn put_in_order(findings: &mut Vec<Finding<'_>>) -> Result<(), AllocError>
     ensures permutation { IsPermutation findings.old.items findings.new.items }
     ensures len { length findings.new.items ≡ length findings.old.items }
     ensures sorted { OnOk result (IsSortedByKey finding_key ⟦<FindingKey as Ord>⟧.cmp findings.new.items) }
-    ensures stable { IsStableByKey finding_key ⟦<FindingKey as Ord>⟧.cmp findings.old.items findings.new.items }
+    ensures stable { OnOk result (IsStableByKey finding_key ⟦<FindingKey as Ord>⟧.cmp findings.old.items findings.new.items) }
 {
-    findings.sort_by_key(|finding| key_of(finding))
+    findings.sort_by_key(|finding| key_of(finding))?;
+    Ok(())
 }

@@ -2,7 +2,7 @@
 
 ghost use Rattle.std.specs.Prelude.{◌≡◌};
 ghost use Rattle.ptpm_site.specs.Site.{site_answers};
-ghost use Rattle.ptpm_expected.specs.Outside.{beyond, clock_outside, delay_request_outside, is_idle, mechanism_outside, member_outside, parent_outside, pdelay_request_outside, port_outside, sync_outside, timescale_outside};
+ghost use Rattle.ptpm_expected.specs.Outside.{announce_outside, timeout_outside, unlike_parent, beyond, clock_outside, delay_request_outside, is_idle, mechanism_outside, member_outside, parent_outside, pdelay_request_outside, port_outside, sync_outside, timescale_outside};
 
 use crate::profile::Profile;
 use crate::ranges::{
@@ -83,28 +83,44 @@ pub fn timescale_outside(site: &Site, source: Source) -> Option<Outside>
 pub fn port_outside(profile: Profile, number: u16, set: &PortDataSet) -> [Option<Outside>; 6]
     ensures { result ≡ port_outside profile number set.now }
 {
-    let (announce, timeout) = (set.log_announce as i64, set.receipt_timeout as i64);
     [
-        member_outside(
-            Some(number),
-            Member::LogAnnounceInterval,
-            announce,
-            announce_range(profile),
-        ),
+        announce_outside(profile, number, set),
         sync_outside(profile, number, set),
         delay_request_outside(profile, number, set),
         pdelay_request_outside(profile, number, set),
-        member_outside(
-            Some(number),
-            Member::AnnounceReceiptTimeout,
-            timeout,
-            timeout_range(profile),
-        ),
+        timeout_outside(profile, number, set),
         mechanism_outside(profile, number, set),
     ]
 }
 
+/// logAnnounceInterval.
+#[tactic(auto, unfolding(crate::specs::Outside::announce_outside))]
+fn announce_outside(profile: Profile, number: u16, set: &PortDataSet) -> Option<Outside>
+    ensures { result ≡ announce_outside profile number set.now }
+{
+    member_outside(
+        Some(number),
+        Member::LogAnnounceInterval,
+        set.log_announce as i64,
+        announce_range(profile),
+    )
+}
+
+/// announceReceiptTimeout.
+#[tactic(auto, unfolding(crate::specs::Outside::timeout_outside))]
+fn timeout_outside(profile: Profile, number: u16, set: &PortDataSet) -> Option<Outside>
+    ensures { result ≡ timeout_outside profile number set.now }
+{
+    member_outside(
+        Some(number),
+        Member::AnnounceReceiptTimeout,
+        set.receipt_timeout as i64,
+        timeout_range(profile),
+    )
+}
+
 /// logSyncInterval.
+#[tactic(auto, unfolding(crate::specs::Outside::sync_outside))]
 fn sync_outside(profile: Profile, number: u16, set: &PortDataSet) -> Option<Outside>
     ensures { result ≡ sync_outside profile number set.now }
 {
@@ -120,6 +136,7 @@ fn sync_outside(profile: Profile, number: u16, set: &PortDataSet) -> Option<Outs
 }
 
 /// logMinDelayReqInterval.
+#[tactic(auto, unfolding(crate::specs::Outside::delay_request_outside))]
 fn delay_request_outside(profile: Profile, number: u16, set: &PortDataSet) -> Option<Outside>
     ensures { result ≡ delay_request_outside profile number set.now }
 {
@@ -135,6 +152,7 @@ fn delay_request_outside(profile: Profile, number: u16, set: &PortDataSet) -> Op
 }
 
 /// logMinPdelayReqInterval.
+#[tactic(auto, unfolding(crate::specs::Outside::pdelay_request_outside))]
 fn pdelay_request_outside(profile: Profile, number: u16, set: &PortDataSet) -> Option<Outside>
     ensures { result ≡ pdelay_request_outside profile number set.now }
 {
@@ -150,6 +168,7 @@ fn pdelay_request_outside(profile: Profile, number: u16, set: &PortDataSet) -> O
 }
 
 /// delayMechanism.
+#[tactic(auto, unfolding(crate::specs::Outside::mechanism_outside))]
 fn mechanism_outside(profile: Profile, number: u16, set: &PortDataSet) -> Option<Outside>
     ensures { result ≡ mechanism_outside profile number set.now }
 {
@@ -170,6 +189,7 @@ pub fn is_idle(state: Option<PortState>) -> bool
 }
 
 /// logAnnounceInterval of a port that follows another, if it is not that of the other.
+#[tactic(auto, unfolding(crate::specs::Outside::parent_outside))]
 pub fn parent_outside(
     site: &Site,
     source: Source,
@@ -183,6 +203,14 @@ pub fn parent_outside(
     }
     let parent = site.parent(source)?.parent;
     let above = site.port(source.beside(parent.clock), parent.port)?;
+    unlike_parent(number, set, &above)
+}
+
+/// logAnnounceInterval of a port, if it is not that of the port that it follows.
+#[tactic(auto, unfolding(crate::specs::Outside::unlike_parent))]
+fn unlike_parent(number: u16, set: &PortDataSet, above: &PortDataSet) -> Option<Outside>
+    ensures { result ≡ unlike_parent number set.now above.now }
+{
     if above.log_announce == set.log_announce {
         return None;
     }

@@ -8,7 +8,8 @@ use ptpm_site::site::Site;
 use std::alloc::Global;
 use std::io::Read;
 
-/// The site of a reader's lines as it is shown: without the clocks that are gone, and what there is no room for.
+/// What is shown of the site of a reader's lines: no more than there is room for, and without the clocks that are gone. And how much
+/// there is no room for.
 pub(crate) fn read_shown<R: Read + Drop>(
     alloc: Global,
     reader: R,
@@ -35,16 +36,4 @@ fn read_site<R: Read + Drop>(alloc: Global, reader: R) -> Result<Site, Fault> {
         }
     }
     Ok(site)
-}
-
-/// What is shown of the site of a reader's lines: no more than there is room for, and without the clocks that are gone. And how much
-/// there is no room for.
-pub(crate) fn read_shown<R: Read + Drop>(
-    alloc: Global,
-    reader: R,
-) -> Result<(Site, LeftOut), Fault> {
-    let mut site = read_site(alloc, reader)?;
-    let left_out = site.keep_first();
-    site.drop_gone(alloc).map_err(|_| Fault::OutOfMemory)?;
-    Ok((site, left_out))
 }
