@@ -56,13 +56,14 @@ static bool note_answer(struct desk *desk, struct journal *journal, long step, b
 
 /* ---- what is asked */
 
-/* No answer came. If no message of a step left, it was not begun: the session was saved without it. */
-static int no_answer_to(struct desk *desk, struct journal *journal, long step) {
+/* No answer came. If no message of a step left that was begun now, it was not begun: the session was saved without it. One that an earlier
+   run began stays in the session, and that run may have sent it. */
+static int no_answer_to(struct desk *desk, struct journal *journal, long step, bool is_begun_now) {
     char clock[IDENTITY_TEXT];
     const struct driver *driver = &desk->driver;
     bool is_begun = step != NO_STEP && journal->begun == step;
     write_identity(clock, desk->task.settings.target);
-    if (is_begun && driver->handed.what == PTPM_FAILED && !driver->handed.was_sent) {
+    if (is_begun && is_begun_now && driver->handed.what == PTPM_FAILED && !driver->handed.was_sent) {
         if (!note_not_begun(journal)) return not_noted(journal);
         is_begun = false;
     }
@@ -102,7 +103,7 @@ static int carry_out(struct desk *desk, struct journal *journal, long step, bool
             }
             if (say_saved(&desk->driver)) return ANSWERED;
             break;
-        default: return no_answer_to(desk, journal, step);
+        default: return no_answer_to(desk, journal, step, is_begun);
         }
     }
 }

@@ -82,6 +82,9 @@ static const char site_text[] =
     "      --max-delay NS      delays above this limit too\n"
     "      --tai-utc S         how many seconds TAI is before UTC (37)\n"
     "      --settle SECONDS    a port that is not locked, or in no lasting state, is a finding after this (10)\n"
+    "      --profile NAME      members that this profile does not allow are findings too: default,\n"
+    "                          st2059-2, aes67 or gptp\n"
+    "      --expect FILE       what is not as this inventory of the site says is a finding too\n"
     "      --draw              status as an SVG file\n"
     "      --html              status as a page in HTML\n"
     "      --openmetrics       status as numbers for Prometheus\n"
@@ -151,7 +154,7 @@ static _Noreturn void version(void) {
 enum { WORD = 1, UDP = 256, TEXT, VERSION, GIVE_UP, JSON, ANY_SOURCE, NAMES, EXPECT, PROBE };
 
 /* The same, only for `collect` and `status`. */
-enum site_option { LISTEN = 512, DRAW, HTML, OPENMETRICS, NAGIOS, OUTPUT, MAX_OFFSET, MAX_DELAY, TAI_UTC, SETTLE, ONCE, WATCH };
+enum site_option { LISTEN = 512, DRAW, HTML, OPENMETRICS, NAGIOS, OUTPUT, MAX_OFFSET, MAX_DELAY, TAI_UTC, SETTLE, PROFILE, ONCE, WATCH };
 
 enum { MOST_WORDS = 2 + MOST_FIELD_WORDS, MOST_FIELD = 1418, NOT_NAMED = -1 };
 
@@ -176,7 +179,7 @@ static const struct option options[] = {
     { "openmetrics", no_argument, NULL, OPENMETRICS }, { "nagios", no_argument, NULL, NAGIOS },
     { "output", required_argument, NULL, OUTPUT }, { "max-offset", required_argument, NULL, MAX_OFFSET },
     { "max-delay", required_argument, NULL, MAX_DELAY }, { "tai-utc", required_argument, NULL, TAI_UTC },
-    { "settle", required_argument, NULL, SETTLE },
+    { "settle", required_argument, NULL, SETTLE }, { "profile", required_argument, NULL, PROFILE },
     { "once", no_argument, NULL, ONCE }, { "watch", required_argument, NULL, WATCH },
     { "hexadecimal", no_argument, NULL, 'x' }, { "text", no_argument, NULL, TEXT }, { "quiet", no_argument, NULL, 'q' },
     { "help", no_argument, NULL, 'h' }, { "version", no_argument, NULL, VERSION },
@@ -232,7 +235,7 @@ static void take_form(struct site_options *site, enum shown_as form) {
 static bool take_site_option(struct site_options *site, int option, const char *value) {
     static const char *const names[] = {
         "--listen", "--draw", "--html", "--openmetrics", "--nagios", "--output", "--max-offset", "--max-delay", "--tai-utc",
-        "--settle", "--once", "--watch",
+        "--settle", "--profile", "--once", "--watch",
     };
     if (option < LISTEN || option > WATCH) return false;
     const char *name = names[option - LISTEN];
@@ -243,6 +246,7 @@ static bool take_site_option(struct site_options *site, int option, const char *
     case MAX_DELAY: site->max_delay = limit(name, value, false); break;
     case TAI_UTC: site->tai_utc = tai_utc(name, value); break;
     case SETTLE: site->settle = settle(name, value); break;
+    case PROFILE: site->profile = value; break;
     case DRAW: take_form(site, AS_DRAWING); break;
     case HTML: take_form(site, AS_PAGE); break;
     case OPENMETRICS: take_form(site, AS_NUMBERS); break;
@@ -307,11 +311,18 @@ static void take_interface(struct task *task, const char *name) {
     task->interfaces[task->interface_count++] = name;
 }
 
-/* The id of a plan, eight hexadecimal digits. */
-static void take_expected(struct plan_options *plan, const char *text) {
+/* Of status the file of an inventory; of apply the id of a plan, eight hexadecimal digits. */
+static void judge_expected(struct task *task) {
+    const char *text = task->plan.expected;
+    if (text == NULL) return;
+    if (task->site.is_shown) {
+        task->site.inventory = text;
+        task->plan.expected = NULL;
+        return;
+    }
+    if (task->plan.verb != APPLY) refuse("--expect: it is of apply and status alone");
     bool is_id = strlen(text) == PLAN_DIGITS && strspn(text, "0123456789abcdef") == PLAN_DIGITS;
     if (!is_id) refuse("--expect %s: it takes the eight digits of a plan", text);
-    plan->expected = text;
 }
 
 static void take_option(struct task *task, struct words *words, int option, const char *value) {
@@ -324,7 +335,7 @@ static void take_option(struct task *task, struct words *words, int option, cons
     case 'u': task->path = value; break;
     case 'T': words->target = value; break;
     case NAMES: read_clock_names(value); break;
-    case EXPECT: take_expected(&task->plan, value); break;
+    case EXPECT: task->plan.expected = value; break;
     case PROBE: task->plan.is_probed = true; break;
     case 'p': read_port(words, value); break;
     case 'd': words->domain = value; break;
@@ -572,7 +583,7 @@ void read_task(struct task *task, int argc, char **argv) {
     judge(task, &words);
     judge_site_options(&task->site);
     judge_json(task);
-    if (task->plan.expected != NULL && task->plan.verb != APPLY) refuse("--expect: it is of apply alone");
+    judge_expected(task);
     if (task->plan.is_probed && task->plan.verb != PLAN) refuse("--probe: it is of plan alone");
     if (task->site.listen < 0) task->site.listen = LISTENED;
     long port = words.port >= 0 ? words.port : words.target_port;

@@ -135,8 +135,13 @@ def _text(value: object) -> str:
     return ",".join(map(_text, value)) if isinstance(value, tuple) else str(value)
 
 
+def _is_grandmaster(told: Mapping[str, Any], name: str) -> bool:
+    """Whether a value is a clock: the grandmaster that others had before, or have after it."""
+    return name in ("before", "after") and "member" not in told
+
+
 def _value(told: Mapping[str, Any], name: str) -> Any:
-    if name == "better":
+    if name == "better" or _is_grandmaster(told, name):
         return identity_of(told[name])
     if isinstance(told[name], list):
         if name == "clocks":
