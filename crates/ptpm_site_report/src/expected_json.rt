@@ -33,7 +33,7 @@ pub(crate) fn put_unmet(
     map: &mut Map<String, Value>,
     unmet: &Unmet<'_>,
 ) -> Result<(), AllocError> {
-    let name = words_value(alloc, &UnmetMember(unmet))?;
+    let name = words_value(alloc, &UnmetMember(&*unmet))?;
     put(map, alloc, "member", name)?;
     let value = match unmet_value(unmet) {
         Some(value) => words_value(alloc, &value)?,

@@ -102,7 +102,7 @@ impl fmt::Display for Said<'_> {
 }
 
 fn write_unmet<W: fmt::Write>(unmet: &Unmet<'_>, f: &mut fmt::Formatter<W>) -> fmt::Result {
-    write!(f, " {} ", UnmetMember(unmet))?;
+    write!(f, " {} ", UnmetMember(&*unmet))?;
     match unmet_value(unmet) {
         Some(value) => write!(f, "{value}")?,
         None => f.write_str("not said")?,
