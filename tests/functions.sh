@@ -140,3 +140,6 @@ unsettled() {
             if (answered != begun && !is_last_open) print name ": " answered " of " begun " are answered"
         }' "$1" "$2"
 }
+
+# What a site has that is open, or else its findings: of what `ptpm site` prints, without the description of a clock.
+undecided() { sed -n '/^\(findings\|open\): [1-9]/,$p' | sed 's/ "clock"$//' | short; }
