@@ -36,6 +36,7 @@ u32 portable_ptpm_session_restore(address a0, address a1, address a2, u64 a3);
 u32 portable_ptpm_session_start(address a0, address a1);
 void portable_ptpm_session_stop(address a0);
 u32 portable_ptpm_sizes_agree(address a0, u64 a1);
+u32 portable_ptpm_step_standing(u32 a0, u16 a1, u16 a2, address a3, u64 a4, u32 a5, address a6, u64 a7);
 void portable_ptpm_survey_stop(address a0);
 u32 portable_ptpm_version(void);
 u32 portable_ptpm_survey_start(address a0, address a1);
@@ -63,6 +64,7 @@ u32 portable_ptpm_clock_observe(address a0, address a1, address a2, u64 a3, addr
 u32 portable_ptpm_clock_saved(address a0, u64 a1, address a2, u64 a3, address a4);
 u32 portable_ptpm_clock_handle_said(address a0, u16 a1, address a2, u64 a3, address a4, address a5, u64 a6, address a7, address a8);
 u32 portable_ptpm_clock_saving(address a0);
+u32 portable_ptpm_clock_set(address a0, u8 a1, u16 a2, u16 a3, address a4, u64 a5, address a6, address a7);
 u32 portable_ptpm_session_begin(address a0, u8 a1, u16 a2, u16 a3, address a4, u64 a5);
 u32 portable_ptpm_session_begin_at(address a0, u8 a1, u16 a2, u16 a3, address a4, u64 a5);
 u32 portable_ptpm_session_give_up(address a0);
@@ -312,6 +314,16 @@ uint16_t ptpm_limits_say(const struct ptpm_limit *limits, size_t limit_count, co
         if (answer > greatest) greatest = answer;
     }
     return greatest;
+}
+
+enum ptpm_set_here ptpm_clock_set(struct ptpm_clock *clock, uint8_t action, uint16_t id, uint16_t port, const uint8_t *octets, size_t size, struct ptpm_changed *changed, uint16_t *error) {
+    fill();
+    swap_ptpm_changed(changed);
+    u16 error_out = 0;
+    enum ptpm_set_here answer = (enum ptpm_set_here)portable_ptpm_clock_set(ADDRESS(clock), action, id, port, ADDRESS(octets), size, ADDRESS(changed), ADDRESS(&error_out));
+    swap_ptpm_changed(changed);
+    *error = load16(ADDRESS(&error_out));
+    return answer;
 }
 
 enum ptpm_observed ptpm_clock_observe(struct ptpm_clock *clock, const struct ptpm_observed_clock *observed, const struct ptpm_observed_port *ports, size_t port_count, uint8_t *left) {
@@ -672,6 +684,11 @@ enum ptpm_reported ptpm_asker_report(const struct ptpm_asker *asker, uint8_t *oc
 void ptpm_asker_stop(struct ptpm_asker *asker) {
     fill();
     portable_ptpm_asker_stop(ADDRESS(asker));
+}
+
+uint32_t ptpm_step_standing(uint32_t begun, uint16_t id, uint16_t port, const uint8_t *octets, size_t size, uint32_t told, const uint8_t *image, size_t image_size) {
+    fill();
+    return (uint32_t)portable_ptpm_step_standing(begun, id, port, ADDRESS(octets), size, told, ADDRESS(image), image_size);
 }
 
 enum ptpm_saved ptpm_image_seal_in(uint8_t *octets, size_t room, size_t size, uint64_t count, size_t *sealed) {

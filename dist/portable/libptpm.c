@@ -365,148 +365,148 @@ static const union { u8 octets[3]; u64 aligned; } octets_of_c169 = { { 80,50,80 
 #define c170 (octets_of_c170.octets)
 static const union { u8 octets[12]; u64 aligned; } octets_of_c170 = { { 78,79,95,77,69,67,72,65,78,73,83,77 } };
 #define c171 (octets_of_c171.octets)
-static const union { u8 octets[11]; u64 aligned; } octets_of_c171 = { { 110,117,109,98,101,114,80,111,114,116,115 } };
+static const union { u8 octets[10]; u64 aligned; } octets_of_c171 = { { 67,79,77,77,79,78,95,80,50,80 } };
 #define c172 (octets_of_c172.octets)
-static const union { u8 octets[9]; u64 aligned; } octets_of_c172 = { { 115,108,97,118,101,79,110,108,121 } };
+static const union { u8 octets[7]; u64 aligned; } octets_of_c172 = { { 83,80,69,67,73,65,76 } };
 #define c173 (octets_of_c173.octets)
-static const union { u8 octets[12]; u64 aligned; } octets_of_c173 = { { 112,111,114,116,73,100,101,110,116,105,116,121 } };
+static const union { u8 octets[11]; u64 aligned; } octets_of_c173 = { { 110,117,109,98,101,114,80,111,114,116,115 } };
 #define c174 (octets_of_c174.octets)
-static const union { u8 octets[13]; u64 aligned; } octets_of_c174 = { { 118,101,114,115,105,111,110,78,117,109,98,101,114 } };
+static const union { u8 octets[9]; u64 aligned; } octets_of_c174 = { { 115,108,97,118,101,79,110,108,121 } };
 #define c175 (octets_of_c175.octets)
-static const union { u8 octets[13]; u64 aligned; } octets_of_c175 = { { 99,108,111,99,107,65,99,99,117,114,97,99,121 } };
+static const union { u8 octets[12]; u64 aligned; } octets_of_c175 = { { 112,111,114,116,73,100,101,110,116,105,116,121 } };
 #define c176 (octets_of_c176.octets)
-static const union { u8 octets[13]; u64 aligned; } octets_of_c176 = { { 99,108,111,99,107,73,100,101,110,116,105,116,121 } };
+static const union { u8 octets[13]; u64 aligned; } octets_of_c176 = { { 118,101,114,115,105,111,110,78,117,109,98,101,114 } };
 #define c177 (octets_of_c177.octets)
-static const union { u8 octets[12]; u64 aligned; } octets_of_c177 = { { 100,111,109,97,105,110,78,117,109,98,101,114 } };
+static const union { u8 octets[13]; u64 aligned; } octets_of_c177 = { { 99,108,111,99,107,65,99,99,117,114,97,99,121 } };
 #define c178 (octets_of_c178.octets)
-static const union { u8 octets[15]; u64 aligned; } octets_of_c178 = { { 117,115,101,114,68,101,115,99,114,105,112,116,105,111,110 } };
+static const union { u8 octets[13]; u64 aligned; } octets_of_c178 = { { 99,108,111,99,107,73,100,101,110,116,105,116,121 } };
 #define c179 (octets_of_c179.octets)
-static const union { u8 octets[11]; u64 aligned; } octets_of_c179 = { { 116,119,111,83,116,101,112,70,108,97,103 } };
+static const union { u8 octets[12]; u64 aligned; } octets_of_c179 = { { 100,111,109,97,105,110,78,117,109,98,101,114 } };
 #define c180 (octets_of_c180.octets)
-static const union { u8 octets[9]; u64 aligned; } octets_of_c180 = { { 112,114,105,111,114,105,116,121,49 } };
+static const union { u8 octets[15]; u64 aligned; } octets_of_c180 = { { 117,115,101,114,68,101,115,99,114,105,112,116,105,111,110 } };
 #define c181 (octets_of_c181.octets)
-static const union { u8 octets[23]; u64 aligned; } octets_of_c181 = { { 99,108,111,99,107,81,117,97,108,105,116,121,46,99,108,111,99,107,67,108,97,115,115 } };
+static const union { u8 octets[11]; u64 aligned; } octets_of_c181 = { { 116,119,111,83,116,101,112,70,108,97,103 } };
 #define c182 (octets_of_c182.octets)
-static const union { u8 octets[26]; u64 aligned; } octets_of_c182 = { { 99,108,111,99,107,81,117,97,108,105,116,121,46,99,108,111,99,107,65,99,99,117,114,97,99,121 } };
+static const union { u8 octets[9]; u64 aligned; } octets_of_c182 = { { 112,114,105,111,114,105,116,121,49 } };
 #define c183 (octets_of_c183.octets)
-static const union { u8 octets[36]; u64 aligned; } octets_of_c183 = { { 99,108,111,99,107,81,117,97,108,105,116,121,46,111,102,102,115,101,116,83,99,97,108,101,100,76,111,103,86,97,114,105,97,110,99,101 } };
+static const union { u8 octets[23]; u64 aligned; } octets_of_c183 = { { 99,108,111,99,107,81,117,97,108,105,116,121,46,99,108,111,99,107,67,108,97,115,115 } };
 #define c184 (octets_of_c184.octets)
-static const union { u8 octets[9]; u64 aligned; } octets_of_c184 = { { 112,114,105,111,114,105,116,121,50 } };
+static const union { u8 octets[26]; u64 aligned; } octets_of_c184 = { { 99,108,111,99,107,81,117,97,108,105,116,121,46,99,108,111,99,107,65,99,99,117,114,97,99,121 } };
 #define c185 (octets_of_c185.octets)
-static const union { u8 octets[12]; u64 aligned; } octets_of_c185 = { { 115,116,101,112,115,82,101,109,111,118,101,100 } };
+static const union { u8 octets[36]; u64 aligned; } octets_of_c185 = { { 99,108,111,99,107,81,117,97,108,105,116,121,46,111,102,102,115,101,116,83,99,97,108,101,100,76,111,103,86,97,114,105,97,110,99,101 } };
 #define c186 (octets_of_c186.octets)
-static const union { u8 octets[16]; u64 aligned; } octets_of_c186 = { { 111,102,102,115,101,116,70,114,111,109,77,97,115,116,101,114 } };
+static const union { u8 octets[9]; u64 aligned; } octets_of_c186 = { { 112,114,105,111,114,105,116,121,50 } };
 #define c187 (octets_of_c187.octets)
-static const union { u8 octets[9]; u64 aligned; } octets_of_c187 = { { 109,101,97,110,68,101,108,97,121 } };
+static const union { u8 octets[12]; u64 aligned; } octets_of_c187 = { { 115,116,101,112,115,82,101,109,111,118,101,100 } };
 #define c188 (octets_of_c188.octets)
-static const union { u8 octets[18]; u64 aligned; } octets_of_c188 = { { 112,97,114,101,110,116,80,111,114,116,73,100,101,110,116,105,116,121 } };
+static const union { u8 octets[16]; u64 aligned; } octets_of_c188 = { { 111,102,102,115,101,116,70,114,111,109,77,97,115,116,101,114 } };
 #define c189 (octets_of_c189.octets)
-static const union { u8 octets[11]; u64 aligned; } octets_of_c189 = { { 112,97,114,101,110,116,83,116,97,116,115 } };
+static const union { u8 octets[9]; u64 aligned; } octets_of_c189 = { { 109,101,97,110,68,101,108,97,121 } };
 #define c190 (octets_of_c190.octets)
-static const union { u8 octets[37]; u64 aligned; } octets_of_c190 = { { 111,98,115,101,114,118,101,100,80,97,114,101,110,116,79,102,102,115,101,116,83,99,97,108,101,100,76,111,103,86,97,114,105,97,110,99,101 } };
+static const union { u8 octets[18]; u64 aligned; } octets_of_c190 = { { 112,97,114,101,110,116,80,111,114,116,73,100,101,110,116,105,116,121 } };
 #define c191 (octets_of_c191.octets)
-static const union { u8 octets[34]; u64 aligned; } octets_of_c191 = { { 111,98,115,101,114,118,101,100,80,97,114,101,110,116,67,108,111,99,107,80,104,97,115,101,67,104,97,110,103,101,82,97,116,101 } };
+static const union { u8 octets[11]; u64 aligned; } octets_of_c191 = { { 112,97,114,101,110,116,83,116,97,116,115 } };
 #define c192 (octets_of_c192.octets)
-static const union { u8 octets[20]; u64 aligned; } octets_of_c192 = { { 103,114,97,110,100,109,97,115,116,101,114,80,114,105,111,114,105,116,121,49 } };
+static const union { u8 octets[37]; u64 aligned; } octets_of_c192 = { { 111,98,115,101,114,118,101,100,80,97,114,101,110,116,79,102,102,115,101,116,83,99,97,108,101,100,76,111,103,86,97,114,105,97,110,99,101 } };
 #define c193 (octets_of_c193.octets)
-static const union { u8 octets[34]; u64 aligned; } octets_of_c193 = { { 103,114,97,110,100,109,97,115,116,101,114,67,108,111,99,107,81,117,97,108,105,116,121,46,99,108,111,99,107,67,108,97,115,115 } };
+static const union { u8 octets[34]; u64 aligned; } octets_of_c193 = { { 111,98,115,101,114,118,101,100,80,97,114,101,110,116,67,108,111,99,107,80,104,97,115,101,67,104,97,110,103,101,82,97,116,101 } };
 #define c194 (octets_of_c194.octets)
-static const union { u8 octets[37]; u64 aligned; } octets_of_c194 = { { 103,114,97,110,100,109,97,115,116,101,114,67,108,111,99,107,81,117,97,108,105,116,121,46,99,108,111,99,107,65,99,99,117,114,97,99,121 } };
+static const union { u8 octets[20]; u64 aligned; } octets_of_c194 = { { 103,114,97,110,100,109,97,115,116,101,114,80,114,105,111,114,105,116,121,49 } };
 #define c195 (octets_of_c195.octets)
-static const union { u8 octets[47]; u64 aligned; } octets_of_c195 = { { 103,114,97,110,100,109,97,115,116,101,114,67,108,111,99,107,81,117,97,108,105,116,121,46,111,102,102,115,101,116,83,99,97,108,101,100,76,111,103,86,97,114,105,97,110,99,101 } };
+static const union { u8 octets[34]; u64 aligned; } octets_of_c195 = { { 103,114,97,110,100,109,97,115,116,101,114,67,108,111,99,107,81,117,97,108,105,116,121,46,99,108,111,99,107,67,108,97,115,115 } };
 #define c196 (octets_of_c196.octets)
-static const union { u8 octets[20]; u64 aligned; } octets_of_c196 = { { 103,114,97,110,100,109,97,115,116,101,114,80,114,105,111,114,105,116,121,50 } };
+static const union { u8 octets[37]; u64 aligned; } octets_of_c196 = { { 103,114,97,110,100,109,97,115,116,101,114,67,108,111,99,107,81,117,97,108,105,116,121,46,99,108,111,99,107,65,99,99,117,114,97,99,121 } };
 #define c197 (octets_of_c197.octets)
-static const union { u8 octets[19]; u64 aligned; } octets_of_c197 = { { 103,114,97,110,100,109,97,115,116,101,114,73,100,101,110,116,105,116,121 } };
+static const union { u8 octets[47]; u64 aligned; } octets_of_c197 = { { 103,114,97,110,100,109,97,115,116,101,114,67,108,111,99,107,81,117,97,108,105,116,121,46,111,102,102,115,101,116,83,99,97,108,101,100,76,111,103,86,97,114,105,97,110,99,101 } };
 #define c198 (octets_of_c198.octets)
-static const union { u8 octets[16]; u64 aligned; } octets_of_c198 = { { 99,117,114,114,101,110,116,85,116,99,79,102,102,115,101,116 } };
+static const union { u8 octets[20]; u64 aligned; } octets_of_c198 = { { 103,114,97,110,100,109,97,115,116,101,114,80,114,105,111,114,105,116,121,50 } };
 #define c199 (octets_of_c199.octets)
-static const union { u8 octets[6]; u64 aligned; } octets_of_c199 = { { 108,101,97,112,54,49 } };
+static const union { u8 octets[19]; u64 aligned; } octets_of_c199 = { { 103,114,97,110,100,109,97,115,116,101,114,73,100,101,110,116,105,116,121 } };
 #define c200 (octets_of_c200.octets)
-static const union { u8 octets[6]; u64 aligned; } octets_of_c200 = { { 108,101,97,112,53,57 } };
+static const union { u8 octets[16]; u64 aligned; } octets_of_c200 = { { 99,117,114,114,101,110,116,85,116,99,79,102,102,115,101,116 } };
 #define c201 (octets_of_c201.octets)
-static const union { u8 octets[21]; u64 aligned; } octets_of_c201 = { { 99,117,114,114,101,110,116,85,116,99,79,102,102,115,101,116,86,97,108,105,100 } };
+static const union { u8 octets[6]; u64 aligned; } octets_of_c201 = { { 108,101,97,112,54,49 } };
 #define c202 (octets_of_c202.octets)
-static const union { u8 octets[12]; u64 aligned; } octets_of_c202 = { { 112,116,112,84,105,109,101,115,99,97,108,101 } };
+static const union { u8 octets[6]; u64 aligned; } octets_of_c202 = { { 108,101,97,112,53,57 } };
 #define c203 (octets_of_c203.octets)
-static const union { u8 octets[13]; u64 aligned; } octets_of_c203 = { { 116,105,109,101,84,114,97,99,101,97,98,108,101 } };
+static const union { u8 octets[21]; u64 aligned; } octets_of_c203 = { { 99,117,114,114,101,110,116,85,116,99,79,102,102,115,101,116,86,97,108,105,100 } };
 #define c204 (octets_of_c204.octets)
-static const union { u8 octets[18]; u64 aligned; } octets_of_c204 = { { 102,114,101,113,117,101,110,99,121,84,114,97,99,101,97,98,108,101 } };
+static const union { u8 octets[12]; u64 aligned; } octets_of_c204 = { { 112,116,112,84,105,109,101,115,99,97,108,101 } };
 #define c205 (octets_of_c205.octets)
-static const union { u8 octets[10]; u64 aligned; } octets_of_c205 = { { 116,105,109,101,83,111,117,114,99,101 } };
+static const union { u8 octets[13]; u64 aligned; } octets_of_c205 = { { 116,105,109,101,84,114,97,99,101,97,98,108,101 } };
 #define c206 (octets_of_c206.octets)
-static const union { u8 octets[9]; u64 aligned; } octets_of_c206 = { { 112,111,114,116,83,116,97,116,101 } };
+static const union { u8 octets[18]; u64 aligned; } octets_of_c206 = { { 102,114,101,113,117,101,110,99,121,84,114,97,99,101,97,98,108,101 } };
 #define c207 (octets_of_c207.octets)
-static const union { u8 octets[22]; u64 aligned; } octets_of_c207 = { { 108,111,103,77,105,110,68,101,108,97,121,82,101,113,73,110,116,101,114,118,97,108 } };
+static const union { u8 octets[10]; u64 aligned; } octets_of_c207 = { { 116,105,109,101,83,111,117,114,99,101 } };
 #define c208 (octets_of_c208.octets)
-static const union { u8 octets[13]; u64 aligned; } octets_of_c208 = { { 109,101,97,110,76,105,110,107,68,101,108,97,121 } };
+static const union { u8 octets[9]; u64 aligned; } octets_of_c208 = { { 112,111,114,116,83,116,97,116,101 } };
 #define c209 (octets_of_c209.octets)
-static const union { u8 octets[6]; u64 aligned; } octets_of_c209 = { { 118,97,108,117,101,32 } };
+static const union { u8 octets[22]; u64 aligned; } octets_of_c209 = { { 108,111,103,77,105,110,68,101,108,97,121,82,101,113,73,110,116,101,114,118,97,108 } };
 #define c210 (octets_of_c210.octets)
-static const union { u8 octets[2]; u64 aligned; } octets_of_c210 = { { 48,120 } };
+static const union { u8 octets[13]; u64 aligned; } octets_of_c210 = { { 109,101,97,110,76,105,110,107,68,101,108,97,121 } };
 #define c211 (octets_of_c211.octets)
-static const union { u8 octets[200]; u64 aligned; } octets_of_c211 = { { 48,48,48,49,48,50,48,51,48,52,48,53,48,54,48,55,48,56,48,57,49,48,49,49,49,50,49,51,49,52,49,53,49,54,49,55,49,56,49,57,50,48,50,49,50,50,50,51,50,52,50,53,50,54,50,55,50,56,50,57,51,48,51,49,51,50,51,51,51,52,51,53,51,54,51,55,51,56,51,57,52,48,52,49,52,50,52,51,52,52,52,53,52,54,52,55,52,56,52,57,53,48,53,49,53,50,53,51,53,52,53,53,53,54,53,55,53,56,53,57,54,48,54,49,54,50,54,51,54,52,54,53,54,54,54,55,54,56,54,57,55,48,55,49,55,50,55,51,55,52,55,53,55,54,55,55,55,56,55,57,56,48,56,49,56,50,56,51,56,52,56,53,56,54,56,55,56,56,56,57,57,48,57,49,57,50,57,51,57,52,57,53,57,54,57,55,57,56,57,57 } };
+static const union { u8 octets[6]; u64 aligned; } octets_of_c211 = { { 118,97,108,117,101,32 } };
 #define c212 (octets_of_c212.octets)
-static const union { u8 octets[12]; u64 aligned; } octets_of_c212 = { { 73,78,73,84,73,65,76,73,90,73,78,71 } };
+static const union { u8 octets[2]; u64 aligned; } octets_of_c212 = { { 48,120 } };
 #define c213 (octets_of_c213.octets)
-static const union { u8 octets[6]; u64 aligned; } octets_of_c213 = { { 70,65,85,76,84,89 } };
+static const union { u8 octets[200]; u64 aligned; } octets_of_c213 = { { 48,48,48,49,48,50,48,51,48,52,48,53,48,54,48,55,48,56,48,57,49,48,49,49,49,50,49,51,49,52,49,53,49,54,49,55,49,56,49,57,50,48,50,49,50,50,50,51,50,52,50,53,50,54,50,55,50,56,50,57,51,48,51,49,51,50,51,51,51,52,51,53,51,54,51,55,51,56,51,57,52,48,52,49,52,50,52,51,52,52,52,53,52,54,52,55,52,56,52,57,53,48,53,49,53,50,53,51,53,52,53,53,53,54,53,55,53,56,53,57,54,48,54,49,54,50,54,51,54,52,54,53,54,54,54,55,54,56,54,57,55,48,55,49,55,50,55,51,55,52,55,53,55,54,55,55,55,56,55,57,56,48,56,49,56,50,56,51,56,52,56,53,56,54,56,55,56,56,56,57,57,48,57,49,57,50,57,51,57,52,57,53,57,54,57,55,57,56,57,57 } };
 #define c214 (octets_of_c214.octets)
-static const union { u8 octets[8]; u64 aligned; } octets_of_c214 = { { 68,73,83,65,66,76,69,68 } };
+static const union { u8 octets[12]; u64 aligned; } octets_of_c214 = { { 73,78,73,84,73,65,76,73,90,73,78,71 } };
 #define c215 (octets_of_c215.octets)
-static const union { u8 octets[9]; u64 aligned; } octets_of_c215 = { { 76,73,83,84,69,78,73,78,71 } };
+static const union { u8 octets[6]; u64 aligned; } octets_of_c215 = { { 70,65,85,76,84,89 } };
 #define c216 (octets_of_c216.octets)
-static const union { u8 octets[10]; u64 aligned; } octets_of_c216 = { { 80,82,69,95,77,65,83,84,69,82 } };
+static const union { u8 octets[8]; u64 aligned; } octets_of_c216 = { { 68,73,83,65,66,76,69,68 } };
 #define c217 (octets_of_c217.octets)
-static const union { u8 octets[6]; u64 aligned; } octets_of_c217 = { { 77,65,83,84,69,82 } };
+static const union { u8 octets[9]; u64 aligned; } octets_of_c217 = { { 76,73,83,84,69,78,73,78,71 } };
 #define c218 (octets_of_c218.octets)
-static const union { u8 octets[7]; u64 aligned; } octets_of_c218 = { { 80,65,83,83,73,86,69 } };
+static const union { u8 octets[10]; u64 aligned; } octets_of_c218 = { { 80,82,69,95,77,65,83,84,69,82 } };
 #define c219 (octets_of_c219.octets)
-static const union { u8 octets[12]; u64 aligned; } octets_of_c219 = { { 85,78,67,65,76,73,66,82,65,84,69,68 } };
+static const union { u8 octets[6]; u64 aligned; } octets_of_c219 = { { 77,65,83,84,69,82 } };
 #define c220 (octets_of_c220.octets)
-static const union { u8 octets[5]; u64 aligned; } octets_of_c220 = { { 83,76,65,86,69 } };
+static const union { u8 octets[7]; u64 aligned; } octets_of_c220 = { { 80,65,83,83,73,86,69 } };
 #define c221 (octets_of_c221.octets)
-static const union { u8 octets[2]; u64 aligned; } octets_of_c221 = { { 92,120 } };
+static const union { u8 octets[12]; u64 aligned; } octets_of_c221 = { { 85,78,67,65,76,73,66,82,65,84,69,68 } };
 #define c222 (octets_of_c222.octets)
-static const union { u8 octets[42]; u64 aligned; } octets_of_c222 = { { 0,0,2,0,0,32,1,32,2,32,3,32,4,32,5,32,6,32,7,32,8,32,9,32,10,32,11,32,12,32,13,32,14,32,16,32,17,32,0,96,1,96 } };
+static const union { u8 octets[5]; u64 aligned; } octets_of_c222 = { { 83,76,65,86,69 } };
 #define c223 (octets_of_c223.octets)
-static const union { u8 octets[4]; u64 aligned; } octets_of_c223 = { { 112,116,112,115 } };
+static const union { u8 octets[2]; u64 aligned; } octets_of_c223 = { { 92,120 } };
 #define c224 (octets_of_c224.octets)
-static const union { u8 octets[4]; u64 aligned; } octets_of_c224 = { { 112,116,112,109 } };
+static const union { u8 octets[42]; u64 aligned; } octets_of_c224 = { { 0,0,2,0,0,32,1,32,2,32,3,32,4,32,5,32,6,32,7,32,8,32,9,32,10,32,11,32,12,32,13,32,14,32,16,32,17,32,0,96,1,96 } };
 #define c225 (octets_of_c225.octets)
-static const union { u8 octets[144]; u64 aligned; } octets_of_c225 = { { 16,0,0,0,0,0,0,0,216,0,0,0,0,0,0,0,16,0,0,0,0,0,0,0,88,0,0,0,0,0,0,0,16,0,0,0,0,0,0,0,12,0,0,0,0,0,0,0,196,5,0,0,0,0,0,0,12,0,0,0,0,0,0,0,16,0,0,0,0,0,0,0,26,0,0,0,0,0,0,0,16,0,0,0,0,0,0,0,16,0,0,0,0,0,0,0,10,0,0,0,0,0,0,0,8,0,3,0,0,0,0,0,24,0,0,0,0,0,0,0,16,0,0,0,0,0,0,0,36,0,0,0,0,0,0,0,24,0,0,0,0,0,0,0 } };
+static const union { u8 octets[4]; u64 aligned; } octets_of_c225 = { { 112,116,112,115 } };
 #define c226 (octets_of_c226.octets)
-static const union { u8 octets[40]; u64 aligned; } octets_of_c226 = { { 19,0,0,0,0,0,0,0,22,0,0,0,0,0,0,0,15,0,0,0,0,0,0,0,14,0,0,0,0,0,0,0,23,0,0,0,0,0,0,0 } };
-#if IS_LITTLE_ENDIAN
-static const struct form_of_c227 { slot slot0; slot slot8; slot slot16; slot slot24; slot slot32; } octets_of_c227;
-#define c227 ((const u8 *)&octets_of_c227)
-#else
-static union form_of_c227 { u8 octets[40]; u64 aligned; } octets_of_c227;
+static const union { u8 octets[4]; u64 aligned; } octets_of_c226 = { { 112,116,112,109 } };
 #define c227 (octets_of_c227.octets)
-#endif
+static const union { u8 octets[144]; u64 aligned; } octets_of_c227 = { { 16,0,0,0,0,0,0,0,216,0,0,0,0,0,0,0,16,0,0,0,0,0,0,0,88,0,0,0,0,0,0,0,16,0,0,0,0,0,0,0,12,0,0,0,0,0,0,0,196,5,0,0,0,0,0,0,12,0,0,0,0,0,0,0,16,0,0,0,0,0,0,0,26,0,0,0,0,0,0,0,16,0,0,0,0,0,0,0,16,0,0,0,0,0,0,0,10,0,0,0,0,0,0,0,8,0,3,0,0,0,0,0,24,0,0,0,0,0,0,0,16,0,0,0,0,0,0,0,36,0,0,0,0,0,0,0,24,0,0,0,0,0,0,0 } };
 #define c228 (octets_of_c228.octets)
-static const union { u8 octets[14]; u64 aligned; } octets_of_c228 = { { 1,0,2,0,3,0,4,0,5,0,6,0,254,255 } };
-#define c229 (octets_of_c229.octets)
-static const union { u8 octets[20]; u64 aligned; } octets_of_c229 = { { 0,0,0,0,1,0,0,0,2,0,0,0,3,0,0,0,3,0,0,0 } };
-#define c230 (octets_of_c230.octets)
-static const union { u8 octets[12]; u64 aligned; } octets_of_c230 = { { 51,0,0,0,52,0,0,0,35,0,0,0 } };
-#define c231 (octets_of_c231.octets)
-static const union { u8 octets[72]; u64 aligned; } octets_of_c231 = { { 13,0,0,0,0,0,0,0,0,0,0,0,0,0,0,0,0,0,0,0,0,0,0,0,16,0,0,0,0,0,0,0,10,0,0,0,0,0,0,0,12,0,0,0,0,0,0,0,11,0,0,0,0,0,0,0,11,0,0,0,0,0,0,0,13,0,0,0,0,0,0,0 } };
+static const union { u8 octets[40]; u64 aligned; } octets_of_c228 = { { 19,0,0,0,0,0,0,0,22,0,0,0,0,0,0,0,15,0,0,0,0,0,0,0,14,0,0,0,0,0,0,0,23,0,0,0,0,0,0,0 } };
 #if IS_LITTLE_ENDIAN
-static const struct form_of_c232 { slot slot0; u8 octets8[16]; slot slot24; slot slot32; slot slot40; slot slot48; slot slot56; slot slot64; } octets_of_c232;
-#define c232 ((const u8 *)&octets_of_c232)
+static const struct form_of_c229 { slot slot0; slot slot8; slot slot16; slot slot24; slot slot32; } octets_of_c229;
+#define c229 ((const u8 *)&octets_of_c229)
 #else
-static union form_of_c232 { u8 octets[72]; u64 aligned; } octets_of_c232;
-#define c232 (octets_of_c232.octets)
+static union form_of_c229 { u8 octets[40]; u64 aligned; } octets_of_c229;
+#define c229 (octets_of_c229.octets)
 #endif
+#define c230 (octets_of_c230.octets)
+static const union { u8 octets[20]; u64 aligned; } octets_of_c230 = { { 0,0,0,0,1,0,0,0,2,0,0,0,3,0,0,0,3,0,0,0 } };
+#define c231 (octets_of_c231.octets)
+static const union { u8 octets[12]; u64 aligned; } octets_of_c231 = { { 51,0,0,0,52,0,0,0,35,0,0,0 } };
+#define c232 (octets_of_c232.octets)
+static const union { u8 octets[72]; u64 aligned; } octets_of_c232 = { { 13,0,0,0,0,0,0,0,0,0,0,0,0,0,0,0,0,0,0,0,0,0,0,0,16,0,0,0,0,0,0,0,10,0,0,0,0,0,0,0,12,0,0,0,0,0,0,0,11,0,0,0,0,0,0,0,11,0,0,0,0,0,0,0,13,0,0,0,0,0,0,0 } };
 #if IS_LITTLE_ENDIAN
-static const struct form_of_c233 { slot slot0; slot slot8; slot slot16; slot slot24; slot slot32; } octets_of_c233;
+static const struct form_of_c233 { slot slot0; u8 octets8[16]; slot slot24; slot slot32; slot slot40; slot slot48; slot slot56; slot slot64; } octets_of_c233;
 #define c233 ((const u8 *)&octets_of_c233)
 #else
-static union form_of_c233 { u8 octets[40]; u64 aligned; } octets_of_c233;
+static union form_of_c233 { u8 octets[72]; u64 aligned; } octets_of_c233;
 #define c233 (octets_of_c233.octets)
 #endif
+#if IS_LITTLE_ENDIAN
+static const struct form_of_c234 { slot slot0; slot slot8; slot slot16; slot slot24; slot slot32; } octets_of_c234;
+#define c234 ((const u8 *)&octets_of_c234)
+#else
+static union form_of_c234 { u8 octets[40]; u64 aligned; } octets_of_c234;
 #define c234 (octets_of_c234.octets)
-static const union { u8 octets[72]; u64 aligned; } octets_of_c234 = { { 12,0,0,0,0,0,0,0,6,0,0,0,0,0,0,0,8,0,0,0,0,0,0,0,9,0,0,0,0,0,0,0,10,0,0,0,0,0,0,0,6,0,0,0,0,0,0,0,7,0,0,0,0,0,0,0,12,0,0,0,0,0,0,0,5,0,0,0,0,0,0,0 } };
+#endif
 #if IS_LITTLE_ENDIAN
 static const struct form_of_c235 { slot slot0; slot slot8; slot slot16; slot slot24; slot slot32; slot slot40; slot slot48; slot slot56; slot slot64; } octets_of_c235;
 #define c235 ((const u8 *)&octets_of_c235)
@@ -515,11 +515,28 @@ static union form_of_c235 { u8 octets[72]; u64 aligned; } octets_of_c235;
 #define c235 (octets_of_c235.octets)
 #endif
 #define c236 (octets_of_c236.octets)
-static const union { u8 octets[24]; u64 aligned; } octets_of_c236 = { { 104,0,0,0,105,0,0,0,106,0,0,0,107,0,0,0,110,0,0,0,35,0,0,0 } };
+static const union { u8 octets[72]; u64 aligned; } octets_of_c236 = { { 12,0,0,0,0,0,0,0,6,0,0,0,0,0,0,0,8,0,0,0,0,0,0,0,9,0,0,0,0,0,0,0,10,0,0,0,0,0,0,0,6,0,0,0,0,0,0,0,7,0,0,0,0,0,0,0,12,0,0,0,0,0,0,0,5,0,0,0,0,0,0,0 } };
 #define c237 (octets_of_c237.octets)
-static const union { u8 octets[9]; u64 aligned; } octets_of_c237 = { { 6,0,0,0,0,0,3,4,5 } };
+static const union { u8 octets[56]; u64 aligned; } octets_of_c237 = { { 1,0,0,0,0,0,0,0,0,0,0,0,0,0,0,0,0,0,0,0,0,0,0,0,1,0,0,0,0,0,0,0,1,0,0,0,0,0,0,0,1,0,0,0,0,0,0,0,1,0,0,0,0,0,0,0 } };
+#if IS_LITTLE_ENDIAN
+static const struct form_of_c238 { slot slot0; u8 octets8[16]; slot slot24; slot slot32; slot slot40; slot slot48; } octets_of_c238;
+#define c238 ((const u8 *)&octets_of_c238)
+#else
+static union form_of_c238 { u8 octets[56]; u64 aligned; } octets_of_c238;
 #define c238 (octets_of_c238.octets)
-static const union { u8 octets[24]; u64 aligned; } octets_of_c238 = { { 38,0,0,0,39,0,0,0,40,0,0,0,41,0,0,0,42,0,0,0,35,0,0,0 } };
+#endif
+#define c239 (octets_of_c239.octets)
+static const union { u8 octets[56]; u64 aligned; } octets_of_c239 = { { 12,0,0,0,0,0,0,0,0,0,0,0,0,0,0,0,0,0,0,0,0,0,0,0,3,0,0,0,0,0,0,0,3,0,0,0,0,0,0,0,10,0,0,0,0,0,0,0,7,0,0,0,0,0,0,0 } };
+#define c240 (octets_of_c240.octets)
+static const union { u8 octets[24]; u64 aligned; } octets_of_c240 = { { 104,0,0,0,105,0,0,0,106,0,0,0,107,0,0,0,110,0,0,0,35,0,0,0 } };
+#define c241 (octets_of_c241.octets)
+static const union { u8 octets[9]; u64 aligned; } octets_of_c241 = { { 6,0,0,0,0,0,3,4,5 } };
+#define c242 (octets_of_c242.octets)
+static const union { u8 octets[14]; u64 aligned; } octets_of_c242 = { { 1,0,2,0,3,0,4,0,5,0,6,0,254,255 } };
+#define c243 (octets_of_c243.octets)
+static const union { u8 octets[12]; u64 aligned; } octets_of_c243 = { { 33,0,0,0,40,0,0,0,41,0,0,0 } };
+#define c244 (octets_of_c244.octets)
+static const union { u8 octets[24]; u64 aligned; } octets_of_c244 = { { 38,0,0,0,39,0,0,0,40,0,0,0,41,0,0,0,42,0,0,0,35,0,0,0 } };
 #if IS_LITTLE_ENDIAN
 static const struct form_of_c112 octets_of_c112 = { SLOT(c112 + 8), { 112,116,112,109,0,0,0,0 } };
 #else
@@ -531,24 +548,29 @@ static const struct form_of_c139 octets_of_c139 = { SLOT(c139 + 8), { 0 } };
 static union form_of_c139 octets_of_c139 = { { 0 } };
 #endif
 #if IS_LITTLE_ENDIAN
-static const struct form_of_c227 octets_of_c227 = { SLOT(c130 + 0), SLOT(c132 + 0), SLOT(c134 + 0), SLOT(c136 + 0), SLOT(c138 + 0) };
+static const struct form_of_c229 octets_of_c229 = { SLOT(c130 + 0), SLOT(c132 + 0), SLOT(c134 + 0), SLOT(c136 + 0), SLOT(c138 + 0) };
 #else
-static union form_of_c227 octets_of_c227 = { { 0 } };
+static union form_of_c229 octets_of_c229 = { { 0 } };
 #endif
 #if IS_LITTLE_ENDIAN
-static const struct form_of_c232 octets_of_c232 = { SLOT(c147 + 0), { 0 }, SLOT(c141 + 0), SLOT(c142 + 0), SLOT(c143 + 0), SLOT(c144 + 0), SLOT(c145 + 0), SLOT(c146 + 0) };
-#else
-static union form_of_c232 octets_of_c232 = { { 0 } };
-#endif
-#if IS_LITTLE_ENDIAN
-static const struct form_of_c233 octets_of_c233 = { SLOT(c158 + 0), SLOT(c159 + 0), SLOT(c160 + 0), SLOT(c161 + 0), SLOT(c162 + 0) };
+static const struct form_of_c233 octets_of_c233 = { SLOT(c147 + 0), { 0 }, SLOT(c141 + 0), SLOT(c142 + 0), SLOT(c143 + 0), SLOT(c144 + 0), SLOT(c145 + 0), SLOT(c146 + 0) };
 #else
 static union form_of_c233 octets_of_c233 = { { 0 } };
 #endif
 #if IS_LITTLE_ENDIAN
-static const struct form_of_c235 octets_of_c235 = { SLOT(c212 + 0), SLOT(c213 + 0), SLOT(c214 + 0), SLOT(c215 + 0), SLOT(c216 + 0), SLOT(c217 + 0), SLOT(c218 + 0), SLOT(c219 + 0), SLOT(c220 + 0) };
+static const struct form_of_c234 octets_of_c234 = { SLOT(c158 + 0), SLOT(c159 + 0), SLOT(c160 + 0), SLOT(c161 + 0), SLOT(c162 + 0) };
+#else
+static union form_of_c234 octets_of_c234 = { { 0 } };
+#endif
+#if IS_LITTLE_ENDIAN
+static const struct form_of_c235 octets_of_c235 = { SLOT(c214 + 0), SLOT(c215 + 0), SLOT(c216 + 0), SLOT(c217 + 0), SLOT(c218 + 0), SLOT(c219 + 0), SLOT(c220 + 0), SLOT(c221 + 0), SLOT(c222 + 0) };
 #else
 static union form_of_c235 octets_of_c235 = { { 0 } };
+#endif
+#if IS_LITTLE_ENDIAN
+static const struct form_of_c238 octets_of_c238 = { SLOT(c170 + 0), { 0 }, SLOT(c168 + 0), SLOT(c169 + 0), SLOT(c171 + 0), SLOT(c172 + 0) };
+#else
+static union form_of_c238 octets_of_c238 = { { 0 } };
 #endif
 
 #if !IS_LITTLE_ENDIAN
@@ -556,32 +578,37 @@ void portable_fill(void);
 void portable_fill(void) {
     store_address(ADDRESS(c112) + 0u, ADDRESS(c112) + 8u);
     store_address(ADDRESS(c139) + 0u, ADDRESS(c139) + 8u);
-    store_address(ADDRESS(c227) + 0u, ADDRESS(c130) + 0u);
-    store_address(ADDRESS(c227) + 8u, ADDRESS(c132) + 0u);
-    store_address(ADDRESS(c227) + 16u, ADDRESS(c134) + 0u);
-    store_address(ADDRESS(c227) + 24u, ADDRESS(c136) + 0u);
-    store_address(ADDRESS(c227) + 32u, ADDRESS(c138) + 0u);
-    store_address(ADDRESS(c232) + 0u, ADDRESS(c147) + 0u);
-    store_address(ADDRESS(c232) + 24u, ADDRESS(c141) + 0u);
-    store_address(ADDRESS(c232) + 32u, ADDRESS(c142) + 0u);
-    store_address(ADDRESS(c232) + 40u, ADDRESS(c143) + 0u);
-    store_address(ADDRESS(c232) + 48u, ADDRESS(c144) + 0u);
-    store_address(ADDRESS(c232) + 56u, ADDRESS(c145) + 0u);
-    store_address(ADDRESS(c232) + 64u, ADDRESS(c146) + 0u);
-    store_address(ADDRESS(c233) + 0u, ADDRESS(c158) + 0u);
-    store_address(ADDRESS(c233) + 8u, ADDRESS(c159) + 0u);
-    store_address(ADDRESS(c233) + 16u, ADDRESS(c160) + 0u);
-    store_address(ADDRESS(c233) + 24u, ADDRESS(c161) + 0u);
-    store_address(ADDRESS(c233) + 32u, ADDRESS(c162) + 0u);
-    store_address(ADDRESS(c235) + 0u, ADDRESS(c212) + 0u);
-    store_address(ADDRESS(c235) + 8u, ADDRESS(c213) + 0u);
-    store_address(ADDRESS(c235) + 16u, ADDRESS(c214) + 0u);
-    store_address(ADDRESS(c235) + 24u, ADDRESS(c215) + 0u);
-    store_address(ADDRESS(c235) + 32u, ADDRESS(c216) + 0u);
-    store_address(ADDRESS(c235) + 40u, ADDRESS(c217) + 0u);
-    store_address(ADDRESS(c235) + 48u, ADDRESS(c218) + 0u);
-    store_address(ADDRESS(c235) + 56u, ADDRESS(c219) + 0u);
-    store_address(ADDRESS(c235) + 64u, ADDRESS(c220) + 0u);
+    store_address(ADDRESS(c229) + 0u, ADDRESS(c130) + 0u);
+    store_address(ADDRESS(c229) + 8u, ADDRESS(c132) + 0u);
+    store_address(ADDRESS(c229) + 16u, ADDRESS(c134) + 0u);
+    store_address(ADDRESS(c229) + 24u, ADDRESS(c136) + 0u);
+    store_address(ADDRESS(c229) + 32u, ADDRESS(c138) + 0u);
+    store_address(ADDRESS(c233) + 0u, ADDRESS(c147) + 0u);
+    store_address(ADDRESS(c233) + 24u, ADDRESS(c141) + 0u);
+    store_address(ADDRESS(c233) + 32u, ADDRESS(c142) + 0u);
+    store_address(ADDRESS(c233) + 40u, ADDRESS(c143) + 0u);
+    store_address(ADDRESS(c233) + 48u, ADDRESS(c144) + 0u);
+    store_address(ADDRESS(c233) + 56u, ADDRESS(c145) + 0u);
+    store_address(ADDRESS(c233) + 64u, ADDRESS(c146) + 0u);
+    store_address(ADDRESS(c234) + 0u, ADDRESS(c158) + 0u);
+    store_address(ADDRESS(c234) + 8u, ADDRESS(c159) + 0u);
+    store_address(ADDRESS(c234) + 16u, ADDRESS(c160) + 0u);
+    store_address(ADDRESS(c234) + 24u, ADDRESS(c161) + 0u);
+    store_address(ADDRESS(c234) + 32u, ADDRESS(c162) + 0u);
+    store_address(ADDRESS(c235) + 0u, ADDRESS(c214) + 0u);
+    store_address(ADDRESS(c235) + 8u, ADDRESS(c215) + 0u);
+    store_address(ADDRESS(c235) + 16u, ADDRESS(c216) + 0u);
+    store_address(ADDRESS(c235) + 24u, ADDRESS(c217) + 0u);
+    store_address(ADDRESS(c235) + 32u, ADDRESS(c218) + 0u);
+    store_address(ADDRESS(c235) + 40u, ADDRESS(c219) + 0u);
+    store_address(ADDRESS(c235) + 48u, ADDRESS(c220) + 0u);
+    store_address(ADDRESS(c235) + 56u, ADDRESS(c221) + 0u);
+    store_address(ADDRESS(c235) + 64u, ADDRESS(c222) + 0u);
+    store_address(ADDRESS(c238) + 0u, ADDRESS(c170) + 0u);
+    store_address(ADDRESS(c238) + 24u, ADDRESS(c168) + 0u);
+    store_address(ADDRESS(c238) + 32u, ADDRESS(c169) + 0u);
+    store_address(ADDRESS(c238) + 40u, ADDRESS(c171) + 0u);
+    store_address(ADDRESS(c238) + 48u, ADDRESS(c172) + 0u);
 }
 #endif
 
@@ -630,54 +657,57 @@ static struct s2 f41(address a0, u64 a1);
 static struct s5 f42(address a0);
 static u64 f43(u16 a0, address a1);
 static void f44(u64 a0, address a1);
-static u32 f45(address a0, u64 a1, address a2, u64 a3);
-static void f46(address a0, address a1, u64 a2);
-static u8 f47(address a0, u64 a1, address a2);
-static u32 f48(address a0, address a1);
-static void f49(address a0, address a1, address a2, u64 a3);
-static struct s2 f50(address a0, address a1, u16 a2, address a3);
-static void f51(address a0, address a1, u8 a2, address a3);
-static u8 f52(address a0, address a1, u64 a2);
-static void f53(address a0, u8 a1, u8 a2, address a3);
-static void f54(address a0, u8 a1, address a2);
-static void f55(address a0, address a1, address a2, u8 a3, u8 a4, address a5);
-static void f56(address a0, address a1);
-static void f57(address a0, u64 a1);
-static struct s2 f58(address a0, address a1);
-static struct s2 f59(address a0, u8 a1, u16 a2, u8 a3, u16 a4, address a5, u64 a6);
-static void f60(address a0, address a1, address a2, u64 a3);
-static struct s2 f61(address a0, address a1, address a2);
-static void f62(address a0, address a1, address a2, u64 a3);
-static void f63(address a0, address a1, address a2, u64 a3, u16 a4, u8 a5);
-static u32 f64(address a0, u16 a1, address a2, u64 a3, address a4, u64 a5, address a6);
+static void f45(address a0, u8 a1, address a2);
+static u32 f46(address a0, u64 a1, address a2, u64 a3);
+static void f47(address a0, address a1, u64 a2);
+static u8 f48(address a0, u64 a1, address a2);
+static u32 f49(address a0, address a1);
+static void f50(address a0, address a1, address a2, u64 a3);
+static struct s2 f51(address a0, address a1, u16 a2, address a3);
+static void f52(address a0, address a1, u8 a2, address a3);
+static u8 f53(address a0, address a1, u64 a2);
+static void f54(address a0, u8 a1, u8 a2, address a3);
+static void f55(address a0, u8 a1, address a2);
+static void f56(address a0, address a1, address a2, u8 a3, u8 a4, address a5);
+static void f57(address a0, address a1);
+static void f58(address a0, u64 a1);
+static struct s2 f59(address a0, address a1);
+static struct s2 f60(address a0, u8 a1, u16 a2, u8 a3, u16 a4, address a5, u64 a6);
+static void f61(address a0, address a1, address a2, u64 a3);
+static struct s2 f62(address a0, address a1, address a2);
+static void f63(address a0, address a1, address a2, u64 a3);
+static void f64(address a0, address a1, address a2, u64 a3, u16 a4, u8 a5);
 static u32 f65(address a0, u16 a1, address a2, u64 a3, address a4, u64 a5, address a6);
 static u32 f66(address a0, u16 a1, address a2, u64 a3, address a4, u64 a5, address a6);
-static void f67(address a0, address a1, u16 a2, address a3, u64 a4, address a5, u64 a6);
-static u8 f68(address a0, address a1);
+static u32 f67(address a0, u16 a1, address a2, u64 a3, address a4, u64 a5, address a6);
+static void f68(address a0, address a1, u16 a2, address a3, u64 a4, address a5, u64 a6);
 static u8 f69(address a0, address a1);
-static void f70(address a0, u16 a1, address a2, u8 a3, address a4);
-static void f71(address a0, address a1, u8 a2, address a3);
-static void f72(address a0, u16 a1, u16 a2, u16 a3, address a4);
-static void f73(address a0, u8 a1, address a2);
-static void f74(address a0, address a1, address a2, u8 a3, u8 a4, address a5);
-static void f75(address a0, address a1, u64 a2);
+static u8 f70(address a0, address a1);
+static void f71(address a0, u16 a1, address a2, u8 a3, address a4);
+static void f72(address a0, address a1, u8 a2, address a3);
+static void f73(address a0, u16 a1, u16 a2, u16 a3, address a4);
+static void f74(address a0, u8 a1, address a2);
+static void f75(address a0, address a1, address a2, u8 a3, u8 a4, address a5);
 static void f76(address a0, address a1, u64 a2);
-static void f77(address a0, address a1, address a2);
-static void f78(address a0, u64 a1, address a2, address a3, u16 a4, address a5);
-static void f79(address a0, u8 a1, u16 a2, address a3, address a4, address a5);
-static void f80(address a0, u16 a1, address a2, address a3);
-static void f81(address a0, address a1, address a2);
-static u32 f82(address a0, u16 a1, address a2, u64 a3, address a4, u64 a5, address a6, address a7);
-static void f83(address a0, address a1, address a2);
-static u32 f84(address a0, address a1, address a2, u64 a3, address a4);
-static void f85(address a0, address a1, address a2, address a3, u64 a4);
-static void f86(address a0, address a1, address a2, address a3);
-static void f87(address a0, address a1, address a2);
-static void f88(address a0, u8 a1, address a2);
-static void f89(address a0, address a1, address a2, u8 a3, address a4);
-static u8 f90(address a0);
-static u8 f91(address a0);
-static u8 f92(address a0, u64 a1);
+static void f77(address a0, address a1, u64 a2);
+static void f78(address a0, address a1, address a2);
+static void f79(address a0, u64 a1, address a2, address a3, u16 a4, address a5);
+static void f80(address a0, u8 a1, u16 a2, address a3, address a4, address a5);
+static void f81(address a0, u16 a1, address a2, address a3);
+static void f82(address a0, address a1, address a2);
+static u32 f83(address a0, u16 a1, address a2, u64 a3, address a4, u64 a5, address a6, address a7);
+static void f84(address a0, address a1, address a2);
+static u32 f85(address a0, address a1, address a2, u64 a3, address a4);
+static void f86(address a0, address a1, address a2, address a3, u64 a4);
+static void f87(address a0, address a1, address a2, address a3);
+static void f88(address a0, address a1, u8 a2);
+static void f89(address a0, address a1, address a2);
+static void f90(address a0, u8 a1, address a2);
+static void f91(address a0, address a1, address a2, u8 a3, address a4);
+static void f92(address a0, address a1, u8 a2, u16 a3, u16 a4, address a5, u64 a6);
+static u8 f93(address a0);
+static u8 f94(address a0);
+static u8 f95(address a0, u64 a1);
 u64 portable_ptpm_answer_name(u32 a0, address a1, u64 a2);
 u32 portable_ptpm_asker_earlier(address a0, u8 a1, address a2);
 u32 portable_ptpm_asker_image(address a0, address a1, u64 a2, address a3);
@@ -711,6 +741,7 @@ u32 portable_ptpm_session_restore(address a0, address a1, address a2, u64 a3);
 u32 portable_ptpm_session_start(address a0, address a1);
 void portable_ptpm_session_stop(address a0);
 u32 portable_ptpm_sizes_agree(address a0, u64 a1);
+u32 portable_ptpm_step_standing(u32 a0, u16 a1, u16 a2, address a3, u64 a4, u32 a5, address a6, u64 a7);
 void portable_ptpm_survey_stop(address a0);
 u32 portable_ptpm_version(void);
 u32 portable_ptpm_survey_start(address a0, address a1);
@@ -738,6 +769,7 @@ u32 portable_ptpm_clock_observe(address a0, address a1, address a2, u64 a3, addr
 u32 portable_ptpm_clock_saved(address a0, u64 a1, address a2, u64 a3, address a4);
 u32 portable_ptpm_clock_handle_said(address a0, u16 a1, address a2, u64 a3, address a4, address a5, u64 a6, address a7, address a8);
 u32 portable_ptpm_clock_saving(address a0);
+u32 portable_ptpm_clock_set(address a0, u8 a1, u16 a2, u16 a3, address a4, u64 a5, address a6, address a7);
 u32 portable_ptpm_session_begin(address a0, u8 a1, u16 a2, u16 a3, address a4, u64 a5);
 u32 portable_ptpm_session_begin_at(address a0, u8 a1, u16 a2, u16 a3, address a4, u64 a5);
 u32 portable_ptpm_session_give_up(address a0);
@@ -9638,20 +9670,27 @@ L6:;
 
 static void f38(address a0, address a1, address a2, u64 a3, address a4) {
     u64 v5, v7, v10, v11, v13, v14, v15, v20, v21, v22, v79, v82, v88, v89, v90, v91;
-    u64 v93, v95, v98, v99, v102, v170, v198, v199, v206, v207;
+    u64 v93, v95, v98, v99, v102, v300, v315, v316, v323, v324;
     address v6, v28, v29, v30, v31, v33, v35, v37, v39, v41, v44, v49, v52, v53, v80, v81;
-    address v87, v92, v96, v97, v104, v142, v149, v156, v163, v172, v174, v194, v195, v196, v197, v201;
-    address v203, v209, v210, v211, v212;
+    address v87, v92, v96, v97, v104, v142, v149, v156, v163, v176, v183, v190, v197, v204, v211, v218;
+    address v225, v232, v245, v252, v259, v266, v273, v280, v287, v289, v311, v312, v313, v314, v318, v320;
+    address v326, v327, v328, v329;
     u8 v8, v9, v12, v16, v18, v19, v23, v24, v25, v26, v27, v32, v34, v36, v38, v40;
     u8 v42, v43, v45, v46, v47, v48, v50, v51, v54, v55, v56, v57, v58, v59, v60, v61;
     u8 v62, v63, v64, v65, v66, v67, v68, v69, v70, v71, v72, v73, v74, v75, v76, v77;
     u8 v78, v83, v84, v85, v86, v94, v100, v101, v103, v105, v106, v108, v109, v111, v113, v114;
     u8 v117, v119, v121, v122, v123, v124, v125, v127, v128, v129, v130, v132, v133, v134, v135, v136;
     u8 v137, v138, v139, v140, v141, v143, v144, v145, v146, v147, v148, v150, v151, v152, v153, v154;
-    u8 v155, v157, v158, v159, v160, v161, v162, v164, v165, v166, v167, v168, v169, v171, v173, v175;
-    u8 v176, v177, v178, v179, v180, v181, v182, v183, v184, v187, v188, v189, v191, v192, v193, v200;
-    u8 v202, v204, v205, v208;
-    struct s2 v17, v120, v126, v131, v185, v186, v190;
+    u8 v155, v157, v158, v159, v160, v161, v162, v164, v165, v166, v167, v168, v169, v170, v171, v172;
+    u8 v173, v174, v175, v177, v178, v179, v180, v181, v182, v184, v185, v186, v187, v188, v189, v191;
+    u8 v192, v193, v194, v195, v196, v198, v199, v200, v201, v202, v203, v205, v206, v207, v208, v209;
+    u8 v210, v212, v213, v214, v215, v216, v217, v219, v220, v221, v222, v223, v224, v226, v227, v228;
+    u8 v229, v230, v231, v233, v234, v235, v236, v237, v238, v239, v240, v241, v242, v243, v244, v246;
+    u8 v247, v248, v249, v250, v251, v253, v254, v255, v256, v257, v258, v260, v261, v262, v263, v264;
+    u8 v265, v267, v268, v269, v270, v271, v272, v274, v275, v276, v277, v278, v279, v281, v282, v283;
+    u8 v284, v285, v286, v288, v290, v291, v292, v293, v294, v295, v296, v297, v298, v299, v301, v304;
+    u8 v305, v306, v308, v309, v310, v317, v319, v321, v322, v325;
+    struct s2 v17, v120, v126, v131, v302, v303, v307;
     struct s4 v107, v112;
     u16 v110, v115, v116, v118;
     u64 block0[3];
@@ -9682,11 +9721,11 @@ static void f38(address a0, address a1, address a2, u64 a3, address a4) {
     case 4u: goto L31;
     case 5u: goto L33;
     case 10u: goto L34;
-    case 6u: v23 = v34; v24 = 3u; v25 = 1u; v26 = v32; v27 = v36; goto L53;
-    case 7u: v23 = v34; v24 = 3u; v25 = 1u; v26 = v32; v27 = v36; goto L53;
-    case 8u: v23 = v34; v24 = 3u; v25 = 1u; v26 = v32; v27 = v36; goto L53;
-    case 9u: v23 = v34; v24 = 3u; v25 = 1u; v26 = v32; v27 = v36; goto L53;
-    default: goto L49;
+    case 6u: v23 = v34; v24 = 3u; v25 = 1u; v26 = v32; v27 = v36; goto L70;
+    case 7u: v23 = v34; v24 = 3u; v25 = 1u; v26 = v32; v27 = v36; goto L70;
+    case 8u: v23 = v34; v24 = 3u; v25 = 1u; v26 = v32; v27 = v36; goto L70;
+    case 9u: v23 = v34; v24 = 3u; v25 = 1u; v26 = v32; v27 = v36; goto L70;
+    default: goto L66;
     }
 L1:;
     memory_set(v29, 0u, 136u);
@@ -9803,7 +9842,7 @@ L17:;
     store8(a4, v100);
     memory_cpy(v96, v30, v88);
     v101 = v99 == 0u;
-    if (v101) { v23 = 0u; v24 = 0u; v25 = 0u; v26 = 0u; v27 = 0u; goto L53; }
+    if (v101) { v23 = 0u; v24 = 0u; v25 = 0u; v26 = 0u; v27 = 0u; goto L70; }
     else { goto L18; }
 L18:;
     v102 = (u64)((u64)v99 + (u64)UINT64_C(18446744073709551615));
@@ -9816,67 +9855,67 @@ L19:;
 L20:;
     v104 = v97 + v102 * 1u;
     store8(v104, 0u);
-    v23 = 0u; v24 = 0u; v25 = 0u; v26 = 0u; v27 = 0u; goto L53;
+    v23 = 0u; v24 = 0u; v25 = 0u; v26 = 0u; v27 = 0u; goto L70;
 L21:;
-    v23 = v34; v24 = 3u; v25 = 1u; v26 = v32; v27 = v36; goto L53;
+    v23 = v34; v24 = 3u; v25 = 1u; v26 = v32; v27 = v36; goto L70;
 L22:;
     v105 = v42 == 1u;
-    if (v105) { goto L46; }
-    else { v23 = v34; v24 = 3u; v25 = 1u; v26 = v32; v27 = v36; goto L53; }
+    if (v105) { goto L63; }
+    else { v23 = v34; v24 = 3u; v25 = 1u; v26 = v32; v27 = v36; goto L70; }
 L23:;
     v106 = v42 == 1u;
-    if (v106) { goto L46; }
-    else { v23 = v34; v24 = 3u; v25 = 1u; v26 = v32; v27 = v36; goto L53; }
+    if (v106) { goto L63; }
+    else { v23 = v34; v24 = 3u; v25 = 1u; v26 = v32; v27 = v36; goto L70; }
 L24:;
     switch (v42) {
     case 1u: goto L25;
     case 2u: goto L27;
-    default: v23 = v34; v24 = 3u; v25 = 1u; v26 = v32; v27 = v36; goto L53;
+    default: v23 = v34; v24 = 3u; v25 = 1u; v26 = v32; v27 = v36; goto L70;
     }
 L25:;
     v107 = f39(127u, a2, a3);
     v108 = v107.m0;
     v109 = (u8)((v108) & UINT64_C(1));
     if (v109) { goto L26; }
-    else { v23 = v34; v24 = 3u; v25 = 1u; v26 = v32; v27 = v36; goto L53; }
+    else { v23 = v34; v24 = 3u; v25 = 1u; v26 = v32; v27 = v36; goto L70; }
 L26:;
     v110 = v107.m1;
     v111 = (u8)(v110);
-    v18 = 0u; v19 = v111; v20 = 1u; goto L48;
+    v18 = 0u; v19 = v111; v20 = 1u; goto L65;
 L27:;
     v112 = f39(32767u, a2, a3);
     v113 = v112.m0;
     v114 = (u8)((v113) & UINT64_C(1));
     if (v114) { goto L28; }
-    else { v23 = v34; v24 = 3u; v25 = 1u; v26 = v32; v27 = v36; goto L53; }
+    else { v23 = v34; v24 = 3u; v25 = 1u; v26 = v32; v27 = v36; goto L70; }
 L28:;
     v115 = v112.m1;
     v116 = swap16(v115);
     v117 = (u8)(v116);
     v118 = (u16)((u32)v116 >> (8u & 15u));
     v119 = (u8)(v118);
-    v18 = v119; v19 = v117; v20 = 2u; goto L48;
+    v18 = v119; v19 = v117; v20 = 2u; goto L65;
 L29:;
     v120 = f40(a2, a3);
     v121 = v120.m0;
     v122 = (u8)((v121) & UINT64_C(1));
     if (v122) { goto L30; }
-    else { v23 = v34; v24 = 3u; v25 = 1u; v26 = v32; v27 = v36; goto L53; }
+    else { v23 = v34; v24 = 3u; v25 = 1u; v26 = v32; v27 = v36; goto L70; }
 L30:;
     v123 = v120.m1;
     v124 = (u8)((v123) & UINT64_C(1));
     v125 = v124 ? v42 : 0u;
-    v18 = 0u; v19 = v125; v20 = 1u; goto L48;
+    v18 = 0u; v19 = v125; v20 = 1u; goto L65;
 L31:;
     v126 = f40(a2, a3);
     v127 = v126.m0;
     v128 = (u8)((v127) & UINT64_C(1));
     if (v128) { goto L32; }
-    else { v23 = v34; v24 = 3u; v25 = 1u; v26 = v32; v27 = v36; goto L53; }
+    else { v23 = v34; v24 = 3u; v25 = 1u; v26 = v32; v27 = v36; goto L70; }
 L32:;
     v129 = v126.m1;
     v130 = (u8)((u32)v129 & (u32)1u);
-    v18 = 0u; v19 = v130; v20 = 1u; goto L48;
+    v18 = 0u; v19 = v130; v20 = 1u; goto L65;
 L33:;
     v131 = f41(a2, a3);
     v132 = v131.m0;
@@ -9884,13 +9923,15 @@ L33:;
     v134 = v131.m1;
     v135 = v134 < 16u;
     v136 = v133 ? v135 : 0u;
-    if (v136) { v18 = 0u; v19 = v134; v20 = 1u; goto L48; }
-    else { v23 = v34; v24 = 3u; v25 = 1u; v26 = v32; v27 = v36; goto L53; }
+    if (v136) { v18 = 0u; v19 = v134; v20 = 1u; goto L65; }
+    else { v23 = v34; v24 = 3u; v25 = 1u; v26 = v32; v27 = v36; goto L70; }
 L34:;
     switch (a3) {
     case 3u: goto L35;
-    case 12u: v15 = 0u; goto L41;
-    default: goto L43;
+    case 10u: goto L40;
+    case 7u: goto L50;
+    case 12u: v15 = 0u; goto L57;
+    default: goto L60;
     }
 L35:;
     v137 = load8(a2);
@@ -9901,7 +9942,7 @@ L35:;
     switch (v141) {
     case 101u: goto L36;
     case 112u: goto L38;
-    default: goto L43;
+    default: goto L60;
     }
 L36:;
     v142 = a2 + 1u * 1u;
@@ -9912,7 +9953,7 @@ L36:;
     v147 = v145 ? v146 : v143;
     v148 = v147 == 50u;
     if (v148) { goto L37; }
-    else { goto L43; }
+    else { goto L60; }
 L37:;
     v149 = a2 + 2u * 1u;
     v150 = load8(v149);
@@ -9921,8 +9962,8 @@ L37:;
     v153 = (u8)((u32)v150 + (u32)32u);
     v154 = v152 ? v153 : v150;
     v155 = v154 == 101u;
-    if (v155) { v16 = 1u; goto L42; }
-    else { goto L43; }
+    if (v155) { v16 = 1u; goto L59; }
+    else { goto L60; }
 L38:;
     v156 = a2 + 1u * 1u;
     v157 = load8(v156);
@@ -9932,7 +9973,7 @@ L38:;
     v161 = v159 ? v160 : v157;
     v162 = v161 == 50u;
     if (v162) { goto L39; }
-    else { goto L43; }
+    else { goto L60; }
 L39:;
     v163 = a2 + 2u * 1u;
     v164 = load8(v163);
@@ -9941,95 +9982,263 @@ L39:;
     v167 = (u8)((u32)v164 + (u32)32u);
     v168 = v166 ? v167 : v164;
     v169 = v168 == 112u;
-    if (v169) { v16 = 2u; goto L42; }
-    else { goto L43; }
+    if (v169) { v16 = 2u; goto L59; }
+    else { goto L60; }
 L40:;
-    v170 = (u64)((u64)v15 + (u64)1u);
-    v171 = v170 == 12u;
-    if (v171) { v16 = 254u; goto L42; }
-    else { v15 = v170; goto L41; }
+    v170 = load8(a2);
+    v171 = (u8)((u32)v170 + (u32)191u);
+    v172 = (u8)((u32)v170 + (u32)32u);
+    v173 = v171 < 26u;
+    v174 = v173 ? v172 : v170;
+    v175 = v174 == 99u;
+    if (v175) { goto L41; }
+    else { goto L60; }
 L41:;
-    v172 = a2 + v15 * 1u;
-    v173 = load8(v172);
-    v174 = ADDRESS(c170) + v15 * 1u;
-    v175 = load8(v174);
-    v176 = (u8)((u32)v173 + (u32)191u);
-    v177 = v176 < 26u;
-    v178 = (u8)((u32)v173 + (u32)32u);
-    v179 = v177 ? v178 : v173;
-    v180 = (u8)((u32)v175 + (u32)191u);
-    v181 = v180 < 26u;
-    v182 = (u8)((u32)v175 + (u32)32u);
-    v183 = v181 ? v182 : v175;
-    v184 = v179 == v183;
-    if (v184) { goto L40; }
-    else { goto L43; }
+    v176 = a2 + 1u * 1u;
+    v177 = load8(v176);
+    v178 = (u8)((u32)v177 + (u32)191u);
+    v179 = v178 < 26u;
+    v180 = (u8)((u32)v177 + (u32)32u);
+    v181 = v179 ? v180 : v177;
+    v182 = v181 == 111u;
+    if (v182) { goto L42; }
+    else { goto L60; }
 L42:;
-    v185 = (struct s2){ 1u, 0u };
-    v185.m1 = v16;
-    v17 = v185; goto L44;
+    v183 = a2 + 2u * 1u;
+    v184 = load8(v183);
+    v185 = (u8)((u32)v184 + (u32)191u);
+    v186 = v185 < 26u;
+    v187 = (u8)((u32)v184 + (u32)32u);
+    v188 = v186 ? v187 : v184;
+    v189 = v188 == 109u;
+    if (v189) { goto L43; }
+    else { goto L60; }
 L43:;
-    v186 = f41(a2, a3);
-    v17 = v186; goto L44;
+    v190 = a2 + 3u * 1u;
+    v191 = load8(v190);
+    v192 = (u8)((u32)v191 + (u32)191u);
+    v193 = v192 < 26u;
+    v194 = (u8)((u32)v191 + (u32)32u);
+    v195 = v193 ? v194 : v191;
+    v196 = v195 == 109u;
+    if (v196) { goto L44; }
+    else { goto L60; }
 L44:;
-    v187 = v17.m0;
-    v188 = v187 == 1u;
-    if (v188) { goto L45; }
-    else { v23 = v34; v24 = 3u; v25 = 1u; v26 = v32; v27 = v36; goto L53; }
+    v197 = a2 + 4u * 1u;
+    v198 = load8(v197);
+    v199 = (u8)((u32)v198 + (u32)191u);
+    v200 = v199 < 26u;
+    v201 = (u8)((u32)v198 + (u32)32u);
+    v202 = v200 ? v201 : v198;
+    v203 = v202 == 111u;
+    if (v203) { goto L45; }
+    else { goto L60; }
 L45:;
-    v189 = v17.m1;
-    v18 = 0u; v19 = v189; v20 = 1u; goto L48;
+    v204 = a2 + 5u * 1u;
+    v205 = load8(v204);
+    v206 = (u8)((u32)v205 + (u32)191u);
+    v207 = v206 < 26u;
+    v208 = (u8)((u32)v205 + (u32)32u);
+    v209 = v207 ? v208 : v205;
+    v210 = v209 == 110u;
+    if (v210) { goto L46; }
+    else { goto L60; }
 L46:;
-    v190 = f41(a2, a3);
-    v191 = v190.m0;
-    v192 = v191 == 1u;
-    if (v192) { goto L47; }
-    else { v23 = v34; v24 = 3u; v25 = 1u; v26 = v32; v27 = v36; goto L53; }
+    v211 = a2 + 6u * 1u;
+    v212 = load8(v211);
+    v213 = (u8)((u32)v212 + (u32)191u);
+    v214 = v213 < 26u;
+    v215 = (u8)((u32)v212 + (u32)32u);
+    v216 = v214 ? v215 : v212;
+    v217 = v216 == 95u;
+    if (v217) { goto L47; }
+    else { goto L60; }
 L47:;
-    v193 = v190.m1;
-    v18 = 0u; v19 = v193; v20 = 1u; goto L48;
+    v218 = a2 + 7u * 1u;
+    v219 = load8(v218);
+    v220 = (u8)((u32)v219 + (u32)191u);
+    v221 = v220 < 26u;
+    v222 = (u8)((u32)v219 + (u32)32u);
+    v223 = v221 ? v222 : v219;
+    v224 = v223 == 112u;
+    if (v224) { goto L48; }
+    else { goto L60; }
 L48:;
-    store8(v31, v19);
-    v194 = v31 + 1u * 1u;
-    store8(v194, v18);
-    v195 = v31 + 2u * 1u;
-    memory_set(v195, 0u, 6u);
-    v196 = v31 + 8u * 1u;
-    store64(v196, v20);
-    v197 = a4 + 136u * 1u;
-    v198 = load64(v197);
-    v199 = (u64)v38;
-    v21 = v199; v22 = 0u; goto L50;
+    v225 = a2 + 8u * 1u;
+    v226 = load8(v225);
+    v227 = (u8)((u32)v226 + (u32)191u);
+    v228 = v227 < 26u;
+    v229 = (u8)((u32)v226 + (u32)32u);
+    v230 = v228 ? v229 : v226;
+    v231 = v230 == 50u;
+    if (v231) { goto L49; }
+    else { goto L60; }
 L49:;
-    UNREACHABLE;
+    v232 = a2 + 9u * 1u;
+    v233 = load8(v232);
+    v234 = (u8)((u32)v233 + (u32)191u);
+    v235 = v234 < 26u;
+    v236 = (u8)((u32)v233 + (u32)32u);
+    v237 = v235 ? v236 : v233;
+    v238 = v237 == 112u;
+    if (v238) { v16 = 3u; goto L59; }
+    else { goto L60; }
 L50:;
-    v200 = v21 < v198;
-    if (v200) { goto L51; }
-    else { goto L52; }
+    v239 = load8(a2);
+    v240 = (u8)((u32)v239 + (u32)191u);
+    v241 = (u8)((u32)v239 + (u32)32u);
+    v242 = v240 < 26u;
+    v243 = v242 ? v241 : v239;
+    v244 = v243 == 115u;
+    if (v244) { goto L51; }
+    else { goto L60; }
 L51:;
-    v201 = v31 + v22 * 1u;
-    v202 = load8(v201);
-    v203 = a4 + v21 * 1u;
-    v204 = load8(v203);
-    v205 = (u8)((u32)v204 | (u32)v202);
-    store8(v203, v205);
-    goto L52;
+    v245 = a2 + 1u * 1u;
+    v246 = load8(v245);
+    v247 = (u8)((u32)v246 + (u32)191u);
+    v248 = v247 < 26u;
+    v249 = (u8)((u32)v246 + (u32)32u);
+    v250 = v248 ? v249 : v246;
+    v251 = v250 == 112u;
+    if (v251) { goto L52; }
+    else { goto L60; }
 L52:;
-    v206 = (u64)((u64)v21 + (u64)1u);
-    v207 = (u64)((u64)v22 + (u64)1u);
-    v208 = v207 == v20;
-    if (v208) { v23 = 0u; v24 = 0u; v25 = 0u; v26 = 0u; v27 = 0u; goto L53; }
-    else { v21 = v206; v22 = v207; goto L50; }
+    v252 = a2 + 2u * 1u;
+    v253 = load8(v252);
+    v254 = (u8)((u32)v253 + (u32)191u);
+    v255 = v254 < 26u;
+    v256 = (u8)((u32)v253 + (u32)32u);
+    v257 = v255 ? v256 : v253;
+    v258 = v257 == 101u;
+    if (v258) { goto L53; }
+    else { goto L60; }
 L53:;
+    v259 = a2 + 3u * 1u;
+    v260 = load8(v259);
+    v261 = (u8)((u32)v260 + (u32)191u);
+    v262 = v261 < 26u;
+    v263 = (u8)((u32)v260 + (u32)32u);
+    v264 = v262 ? v263 : v260;
+    v265 = v264 == 99u;
+    if (v265) { goto L54; }
+    else { goto L60; }
+L54:;
+    v266 = a2 + 4u * 1u;
+    v267 = load8(v266);
+    v268 = (u8)((u32)v267 + (u32)191u);
+    v269 = v268 < 26u;
+    v270 = (u8)((u32)v267 + (u32)32u);
+    v271 = v269 ? v270 : v267;
+    v272 = v271 == 105u;
+    if (v272) { goto L55; }
+    else { goto L60; }
+L55:;
+    v273 = a2 + 5u * 1u;
+    v274 = load8(v273);
+    v275 = (u8)((u32)v274 + (u32)191u);
+    v276 = v275 < 26u;
+    v277 = (u8)((u32)v274 + (u32)32u);
+    v278 = v276 ? v277 : v274;
+    v279 = v278 == 97u;
+    if (v279) { goto L56; }
+    else { goto L60; }
+L56:;
+    v280 = a2 + 6u * 1u;
+    v281 = load8(v280);
+    v282 = (u8)((u32)v281 + (u32)191u);
+    v283 = v282 < 26u;
+    v284 = (u8)((u32)v281 + (u32)32u);
+    v285 = v283 ? v284 : v281;
+    v286 = v285 == 108u;
+    if (v286) { v16 = 4u; goto L59; }
+    else { goto L60; }
+L57:;
+    v287 = a2 + v15 * 1u;
+    v288 = load8(v287);
+    v289 = ADDRESS(c170) + v15 * 1u;
+    v290 = load8(v289);
+    v291 = (u8)((u32)v288 + (u32)191u);
+    v292 = v291 < 26u;
+    v293 = (u8)((u32)v288 + (u32)32u);
+    v294 = v292 ? v293 : v288;
+    v295 = (u8)((u32)v290 + (u32)191u);
+    v296 = v295 < 26u;
+    v297 = (u8)((u32)v290 + (u32)32u);
+    v298 = v296 ? v297 : v290;
+    v299 = v294 == v298;
+    if (v299) { goto L58; }
+    else { goto L60; }
+L58:;
+    v300 = (u64)((u64)v15 + (u64)1u);
+    v301 = v300 == 12u;
+    if (v301) { v16 = 254u; goto L59; }
+    else { v15 = v300; goto L57; }
+L59:;
+    v302 = (struct s2){ 1u, 0u };
+    v302.m1 = v16;
+    v17 = v302; goto L61;
+L60:;
+    v303 = f41(a2, a3);
+    v17 = v303; goto L61;
+L61:;
+    v304 = v17.m0;
+    v305 = v304 == 1u;
+    if (v305) { goto L62; }
+    else { v23 = v34; v24 = 3u; v25 = 1u; v26 = v32; v27 = v36; goto L70; }
+L62:;
+    v306 = v17.m1;
+    v18 = 0u; v19 = v306; v20 = 1u; goto L65;
+L63:;
+    v307 = f41(a2, a3);
+    v308 = v307.m0;
+    v309 = v308 == 1u;
+    if (v309) { goto L64; }
+    else { v23 = v34; v24 = 3u; v25 = 1u; v26 = v32; v27 = v36; goto L70; }
+L64:;
+    v310 = v307.m1;
+    v18 = 0u; v19 = v310; v20 = 1u; goto L65;
+L65:;
+    store8(v31, v19);
+    v311 = v31 + 1u * 1u;
+    store8(v311, v18);
+    v312 = v31 + 2u * 1u;
+    memory_set(v312, 0u, 6u);
+    v313 = v31 + 8u * 1u;
+    store64(v313, v20);
+    v314 = a4 + 136u * 1u;
+    v315 = load64(v314);
+    v316 = (u64)v38;
+    v21 = v316; v22 = 0u; goto L67;
+L66:;
+    UNREACHABLE;
+L67:;
+    v317 = v21 < v315;
+    if (v317) { goto L68; }
+    else { goto L69; }
+L68:;
+    v318 = v31 + v22 * 1u;
+    v319 = load8(v318);
+    v320 = a4 + v21 * 1u;
+    v321 = load8(v320);
+    v322 = (u8)((u32)v321 | (u32)v319);
+    store8(v320, v322);
+    goto L69;
+L69:;
+    v323 = (u64)((u64)v21 + (u64)1u);
+    v324 = (u64)((u64)v22 + (u64)1u);
+    v325 = v324 == v20;
+    if (v325) { v23 = 0u; v24 = 0u; v25 = 0u; v26 = 0u; v27 = 0u; goto L70; }
+    else { v21 = v323; v22 = v324; goto L67; }
+L70:;
     store8(a0, v25);
-    v209 = a0 + 1u * 1u;
-    store8(v209, v24);
-    v210 = a0 + 2u * 1u;
-    store8(v210, v26);
-    v211 = a0 + 3u * 1u;
-    store8(v211, v23);
-    v212 = a0 + 4u * 1u;
-    store8(v212, v27);
+    v326 = a0 + 1u * 1u;
+    store8(v326, v24);
+    v327 = a0 + 2u * 1u;
+    store8(v327, v26);
+    v328 = a0 + 3u * 1u;
+    store8(v328, v23);
+    v329 = a0 + 4u * 1u;
+    store8(v329, v27);
     return;
 }
 
@@ -10445,7 +10654,7 @@ static struct s5 f42(address a0) {
     v3 = load8(a0);
     switch (v3) {
     case 0u: goto L1;
-    case 1u: v1 = 11u; v2 = ADDRESS(c171); goto L40;
+    case 1u: v1 = 11u; v2 = ADDRESS(c173); goto L40;
     case 2u: goto L36;
     case 3u: goto L37;
     case 4u: goto L38;
@@ -10456,7 +10665,7 @@ L1:;
     v4 = a0 + 1u * 1u;
     v5 = load8(v4);
     switch (v5) {
-    case 0u: v1 = 13u; v2 = ADDRESS(c176); goto L40;
+    case 0u: v1 = 13u; v2 = ADDRESS(c178); goto L40;
     case 1u: goto L2;
     case 2u: goto L3;
     case 3u: goto L4;
@@ -10493,89 +10702,89 @@ L1:;
     default: goto L35;
     }
 L2:;
-    v1 = 12u; v2 = ADDRESS(c177); goto L40;
+    v1 = 12u; v2 = ADDRESS(c179); goto L40;
 L3:;
-    v1 = 15u; v2 = ADDRESS(c178); goto L40;
+    v1 = 15u; v2 = ADDRESS(c180); goto L40;
 L4:;
-    v1 = 11u; v2 = ADDRESS(c179); goto L40;
+    v1 = 11u; v2 = ADDRESS(c181); goto L40;
 L5:;
-    v1 = 9u; v2 = ADDRESS(c180); goto L40;
+    v1 = 9u; v2 = ADDRESS(c182); goto L40;
 L6:;
-    v1 = 23u; v2 = ADDRESS(c181); goto L40;
+    v1 = 23u; v2 = ADDRESS(c183); goto L40;
 L7:;
-    v1 = 26u; v2 = ADDRESS(c182); goto L40;
+    v1 = 26u; v2 = ADDRESS(c184); goto L40;
 L8:;
-    v1 = 36u; v2 = ADDRESS(c183); goto L40;
+    v1 = 36u; v2 = ADDRESS(c185); goto L40;
 L9:;
-    v1 = 9u; v2 = ADDRESS(c184); goto L40;
+    v1 = 9u; v2 = ADDRESS(c186); goto L40;
 L10:;
-    v1 = 12u; v2 = ADDRESS(c185); goto L40;
+    v1 = 12u; v2 = ADDRESS(c187); goto L40;
 L11:;
-    v1 = 16u; v2 = ADDRESS(c186); goto L40;
+    v1 = 16u; v2 = ADDRESS(c188); goto L40;
 L12:;
-    v1 = 9u; v2 = ADDRESS(c187); goto L40;
+    v1 = 9u; v2 = ADDRESS(c189); goto L40;
 L13:;
-    v1 = 18u; v2 = ADDRESS(c188); goto L40;
+    v1 = 18u; v2 = ADDRESS(c190); goto L40;
 L14:;
-    v1 = 11u; v2 = ADDRESS(c189); goto L40;
+    v1 = 11u; v2 = ADDRESS(c191); goto L40;
 L15:;
-    v1 = 37u; v2 = ADDRESS(c190); goto L40;
+    v1 = 37u; v2 = ADDRESS(c192); goto L40;
 L16:;
-    v1 = 34u; v2 = ADDRESS(c191); goto L40;
-L17:;
-    v1 = 20u; v2 = ADDRESS(c192); goto L40;
-L18:;
     v1 = 34u; v2 = ADDRESS(c193); goto L40;
+L17:;
+    v1 = 20u; v2 = ADDRESS(c194); goto L40;
+L18:;
+    v1 = 34u; v2 = ADDRESS(c195); goto L40;
 L19:;
-    v1 = 37u; v2 = ADDRESS(c194); goto L40;
+    v1 = 37u; v2 = ADDRESS(c196); goto L40;
 L20:;
-    v1 = 47u; v2 = ADDRESS(c195); goto L40;
+    v1 = 47u; v2 = ADDRESS(c197); goto L40;
 L21:;
-    v1 = 20u; v2 = ADDRESS(c196); goto L40;
+    v1 = 20u; v2 = ADDRESS(c198); goto L40;
 L22:;
-    v1 = 19u; v2 = ADDRESS(c197); goto L40;
+    v1 = 19u; v2 = ADDRESS(c199); goto L40;
 L23:;
-    v1 = 16u; v2 = ADDRESS(c198); goto L40;
+    v1 = 16u; v2 = ADDRESS(c200); goto L40;
 L24:;
-    v1 = 6u; v2 = ADDRESS(c199); goto L40;
+    v1 = 6u; v2 = ADDRESS(c201); goto L40;
 L25:;
-    v1 = 6u; v2 = ADDRESS(c200); goto L40;
+    v1 = 6u; v2 = ADDRESS(c202); goto L40;
 L26:;
-    v1 = 21u; v2 = ADDRESS(c201); goto L40;
+    v1 = 21u; v2 = ADDRESS(c203); goto L40;
 L27:;
-    v1 = 12u; v2 = ADDRESS(c202); goto L40;
+    v1 = 12u; v2 = ADDRESS(c204); goto L40;
 L28:;
-    v1 = 13u; v2 = ADDRESS(c203); goto L40;
+    v1 = 13u; v2 = ADDRESS(c205); goto L40;
 L29:;
-    v1 = 18u; v2 = ADDRESS(c204); goto L40;
+    v1 = 18u; v2 = ADDRESS(c206); goto L40;
 L30:;
-    v1 = 10u; v2 = ADDRESS(c205); goto L40;
+    v1 = 10u; v2 = ADDRESS(c207); goto L40;
 L31:;
-    v1 = 9u; v2 = ADDRESS(c206); goto L40;
+    v1 = 9u; v2 = ADDRESS(c208); goto L40;
 L32:;
-    v1 = 22u; v2 = ADDRESS(c207); goto L40;
+    v1 = 22u; v2 = ADDRESS(c209); goto L40;
 L33:;
-    v1 = 13u; v2 = ADDRESS(c208); goto L40;
+    v1 = 13u; v2 = ADDRESS(c210); goto L40;
 L34:;
     v6 = a0 + 2u * 1u;
     v7 = load8(v6);
     v8 = (u64)v7;
-    v9 = ADDRESS(c226) + v8 * 8u;
+    v9 = ADDRESS(c228) + v8 * 8u;
     v10 = load64(v9);
     v11 = (u64)v7;
-    v12 = ADDRESS(c227) + v11 * 8u;
+    v12 = ADDRESS(c229) + v11 * 8u;
     v13 = load_address(v12);
     v1 = v10; v2 = v13; goto L40;
 L35:;
     UNREACHABLE;
 L36:;
-    v1 = 9u; v2 = ADDRESS(c172); goto L40;
+    v1 = 9u; v2 = ADDRESS(c174); goto L40;
 L37:;
-    v1 = 12u; v2 = ADDRESS(c173); goto L40;
+    v1 = 12u; v2 = ADDRESS(c175); goto L40;
 L38:;
-    v1 = 13u; v2 = ADDRESS(c174); goto L40;
+    v1 = 13u; v2 = ADDRESS(c176); goto L40;
 L39:;
-    v1 = 13u; v2 = ADDRESS(c175); goto L40;
+    v1 = 13u; v2 = ADDRESS(c177); goto L40;
 L40:;
     v14 = (struct s5){ 0 };
     v14.m0 = v2;
@@ -10722,7 +10931,7 @@ L1:;
     v18 = (u16)((u32)v15 - (u32)v17);
     v19 = (u16)((u32)v18 << (1u & 15u));
     v20 = (u64)v19;
-    v21 = ADDRESS(c211) + v20 * 1u;
+    v21 = ADDRESS(c213) + v20 * 1u;
     v22 = load8(v21);
     v23 = v21 + 1u * 1u;
     v24 = load8(v23);
@@ -10734,7 +10943,7 @@ L1:;
     v28 = (u64)((u64)v3 + (u64)UINT64_C(18446744073709551612));
     v29 = (u16)((u32)v16 << (1u & 15u));
     v30 = (u64)v29;
-    v31 = ADDRESS(c211) + v30 * 1u;
+    v31 = ADDRESS(c213) + v30 * 1u;
     v32 = load8(v31);
     v33 = v31 + 1u * 1u;
     v34 = load8(v33);
@@ -10763,7 +10972,7 @@ L4:;
 L5:;
     v44 = (u64)((u64)v4 + (u64)UINT64_C(18446744073709551614));
     v45 = (u64)((u64)v5 << (1u & 63u));
-    v46 = ADDRESS(c211) + v45 * 1u;
+    v46 = ADDRESS(c213) + v45 * 1u;
     v47 = load8(v46);
     v48 = v46 + 1u * 1u;
     v49 = load8(v48);
@@ -10779,7 +10988,7 @@ L6:;
     v55 = (u16)((u32)v52 - (u32)v54);
     v56 = (u16)((u32)v55 << (1u & 15u));
     v57 = (u64)v56;
-    v58 = ADDRESS(c211) + v57 * 1u;
+    v58 = ADDRESS(c213) + v57 * 1u;
     v59 = load8(v58);
     v60 = v58 + 1u * 1u;
     v61 = load8(v60);
@@ -10802,7 +11011,7 @@ L8:;
     v70 = (u64)((u64)v4 + (u64)UINT64_C(18446744073709551612));
     v71 = (u16)((u32)v53 << (1u & 15u));
     v72 = (u64)v71;
-    v73 = ADDRESS(c211) + v72 * 1u;
+    v73 = ADDRESS(c213) + v72 * 1u;
     v74 = load8(v73);
     v75 = v73 + 1u * 1u;
     v76 = load8(v75);
@@ -10844,7 +11053,143 @@ L13:;
     return;
 }
 
-static u32 f45(address a0, u64 a1, address a2, u64 a3) {
+static void f45(address a0, u8 a1, address a2) {
+    u64 v3, v4, v5, v6, v7, v11, v18, v20, v22, v26, v28, v29, v30, v35, v41, v43;
+    u64 v45, v49, v51, v52, v55, v63, v65, v73;
+    u8 v8, v9, v15, v16, v21, v23, v24, v31, v34, v36, v38, v39, v44, v46, v47, v53;
+    u8 v56, v57, v58, v59, v60, v61, v66, v67, v68, v69, v70, v71;
+    address v10, v12, v13, v14, v17, v19, v25, v27, v32, v33, v37, v40, v42, v48, v50, v54;
+    address v62, v64, v72, v74;
+    v8 = load8(a0);
+    v9 = v8 == 1u;
+    if (v9) { goto L1; }
+    else { goto L7; }
+L1:;
+    v10 = a0 + 16u * 1u;
+    v11 = load64(v10);
+    v12 = a0 + 8u * 1u;
+    v13 = load_address(v12);
+    v14 = a2 + 16u * 1u;
+    v15 = load8(v14);
+    v16 = v15 == 1u;
+    if (v16) { goto L2; }
+    else { goto L18; }
+L2:;
+    v17 = a2 + 24u * 1u;
+    v18 = load64(v17);
+    v19 = a2 + 8u * 1u;
+    v20 = load64(v19);
+    v21 = v20 < v18;
+    v22 = (u64)((u64)v20 - (u64)v18);
+    v23 = v22 < v11;
+    v24 = v21 ? 1u : v23;
+    if (v24) { v4 = 0u; v5 = 0u; goto L6; }
+    else { goto L3; }
+L3:;
+    v25 = load_address(a2);
+    v26 = (u64)((u64)v18 + (u64)v11);
+    v27 = v25 + v18 * 1u;
+    v28 = (u64)v27;
+    v29 = (u64)v13;
+    v30 = (u64)((u64)v28 - (u64)v29);
+    v31 = v30 < v11;
+    if (v31) { v3 = 0u; goto L5; }
+    else { goto L4; }
+L4:;
+    memory_move(v27, v13, v11);
+    v4 = v26; v5 = 1u; goto L6;
+L5:;
+    v32 = v27 + v3 * 1u;
+    v33 = v13 + v3 * 1u;
+    v34 = load8(v33);
+    store8(v32, v34);
+    v35 = (u64)((u64)v3 + (u64)1u);
+    v36 = v35 == v11;
+    if (v36) { v4 = v26; v5 = 1u; goto L6; }
+    else { v3 = v35; goto L5; }
+L6:;
+    store64(v14, v5);
+    store64(v17, v4);
+    goto L18;
+L7:;
+    v37 = a2 + 16u * 1u;
+    v38 = load8(v37);
+    v39 = v38 == 1u;
+    if (v39) { goto L8; }
+    else { goto L18; }
+L8:;
+    v40 = a2 + 24u * 1u;
+    v41 = load64(v40);
+    v42 = a2 + 8u * 1u;
+    v43 = load64(v42);
+    v44 = v43 < v41;
+    v45 = (u64)((u64)v43 - (u64)v41);
+    v46 = v45 < 2u;
+    v47 = v44 ? 1u : v46;
+    if (v47) { goto L17; }
+    else { goto L9; }
+L9:;
+    v48 = load_address(a2);
+    v49 = (u64)((u64)v41 + (u64)2u);
+    v50 = v48 + v41 * 1u;
+    v51 = (u64)v50;
+    v52 = (u64)((u64)v51 - (u64)ADDRESS(c212));
+    v53 = v52 < 2u;
+    if (v53) { goto L10; }
+    else { goto L11; }
+L10:;
+    store8(v50, 48u);
+    v54 = v50 + 1u * 1u;
+    store8(v54, 120u);
+    goto L12;
+L11:;
+    store16(v50, 30768u);
+    goto L12;
+L12:;
+    v55 = load64(v42);
+    v56 = v55 > v49;
+    if (v56) { goto L13; }
+    else { goto L16; }
+L13:;
+    v57 = a1 < 160u;
+    v58 = (u8)((u32)a1 >> (4u & 7u));
+    v59 = (u8)((u32)v58 | (u32)48u);
+    v60 = (u8)((u32)v58 + (u32)87u);
+    v61 = v57 ? v59 : v60;
+    v62 = load_address(a2);
+    v63 = (u64)((u64)v41 + (u64)3u);
+    v64 = v62 + v49 * 1u;
+    store8(v64, v61);
+    v65 = load64(v42);
+    v66 = v65 > v63;
+    if (v66) { goto L14; }
+    else { v6 = 0u; v7 = 0u; goto L15; }
+L14:;
+    v67 = (u8)((u32)a1 & (u32)15u);
+    v68 = v67 < 10u;
+    v69 = (u8)((u32)v67 | (u32)48u);
+    v70 = (u8)((u32)v67 + (u32)87u);
+    v71 = v68 ? v69 : v70;
+    v72 = load_address(a2);
+    v73 = (u64)((u64)v41 + (u64)4u);
+    v74 = v72 + v63 * 1u;
+    store8(v74, v71);
+    v6 = v73; v7 = 1u; goto L15;
+L15:;
+    store64(v37, v7);
+    store64(v40, v6);
+    goto L18;
+L16:;
+    memory_set(v37, 0u, 16u);
+    goto L18;
+L17:;
+    memory_set(v37, 0u, 16u);
+    goto L18;
+L18:;
+    return;
+}
+
+static u32 f46(address a0, u64 a1, address a2, u64 a3) {
     u32 v4, v6, v7, v9, v13, v14, v15, v17, v18, v19, v20, v22, v23, v24, v25, v27;
     u32 v28, v29, v30, v32, v33, v34, v35, v37, v38, v39, v40, v42, v43, v44, v45, v47;
     u32 v48, v49, v50, v52, v53, v54, v60, v61, v62, v64, v65, v66, v67, v69, v70, v71;
@@ -10964,7 +11309,7 @@ L4:;
     return v104;
 }
 
-static void f46(address a0, address a1, u64 a2) {
+static void f47(address a0, address a1, u64 a2) {
     u32 v3, v31, v32, v33, v34, v35, v36, v37, v38, v39, v40, v41, v77, v78, v79, v81;
     u32 v82, v83, v84, v86, v87, v88, v89, v91, v92, v93, v94, v96, v97, v98, v99, v101;
     u32 v102, v103, v104, v106, v107, v108, v109, v111, v112, v113, v114, v116, v117, v118, v121, v122;
@@ -10999,7 +11344,7 @@ L1:;
     if (v19) { goto L4; }
     else { goto L2; }
 L2:;
-    v20 = f4(a1, 4u, ADDRESS(c224), 4u);
+    v20 = f4(a1, 4u, ADDRESS(c226), 4u);
     if (v20) { goto L5; }
     else { goto L4; }
 L3:;
@@ -11069,7 +11414,7 @@ L8:;
     if (v64) { goto L13; }
     else { goto L9; }
 L9:;
-    v65 = f4(v50, 4u, ADDRESS(c223), 4u);
+    v65 = f4(v50, 4u, ADDRESS(c225), 4u);
     if (v65) { goto L10; }
     else { goto L13; }
 L10:;
@@ -11205,7 +11550,7 @@ L14:;
     goto L3;
 }
 
-static u8 f47(address a0, u64 a1, address a2) {
+static u8 f48(address a0, u64 a1, address a2) {
     address v3, v7, v8, v10, v14, v21, v24, v27, v30, v33, v36, v39, v42, v45, v48, v51;
     address v54, v57, v60, v63, v66, v69, v72, v75, v78, v81, v84, v87, v90, v93, v96, v99;
     address v102, v105, v108, v111, v114;
@@ -11444,7 +11789,7 @@ L38:;
     return v5;
 }
 
-static u32 f48(address a0, address a1) {
+static u32 f49(address a0, address a1) {
     u32 v2;
     u64 v3, v4, v11, v13, v17, v19, v23, v25, v29, v31, v33, v35, v37, v39, v42, v46;
     u64 v50, v56, v62, v83, v87, v93;
@@ -11658,7 +12003,7 @@ L28:;
     v2 = 35u; goto L2;
 }
 
-static void f49(address a0, address a1, address a2, u64 a3) {
+static void f50(address a0, address a1, address a2, u64 a3) {
     address v4, v5, v6, v7, v8, v9, v12, v13, v14, v16, v18, v23, v25, v27, v29, v31;
     address v33, v43, v44, v45, v46, v47, v48, v51, v53, v57, v61, v63, v66, v71, v75, v77;
     address v83, v84, v86, v98, v99, v100, v101, v102, v103, v104, v105, v106, v107, v108, v109, v110;
@@ -11801,7 +12146,7 @@ L7:;
     v89 = (u16)((u32)v88 << (8u & 15u));
     v90 = (u16)v87;
     v91 = (u16)((u32)v89 | (u32)v90);
-    v92 = f50(v53, v8, v91, v7);
+    v92 = f51(v53, v8, v91, v7);
     v93 = v92.m0;
     v94 = v93 == 1u;
     if (v94) { goto L9; }
@@ -11856,13 +12201,13 @@ L9:;
     store8(v116, 1u);
     v117 = v4 + 1137u * 1u;
     memory_set(v117, 0u, 159u);
-    f51(v5, v7, v95, v4);
+    f52(v5, v7, v95, v4);
     v118 = load8(v102);
     v119 = v4 + 1288u * 1u;
     v120 = load64(v119);
-    v121 = v120 != 0u;
+    v121 = v120 == 0u;
     v122 = v118 != 2u;
-    v123 = v121 ? v122 : 0u;
+    v123 = v121 ? 1u : v122;
     if (v123) { goto L13; }
     else { goto L12; }
 L10:;
@@ -11925,7 +12270,7 @@ L13:;
     goto L10;
 }
 
-static struct s2 f50(address a0, address a1, u16 a2, address a3) {
+static struct s2 f51(address a0, address a1, u16 a2, address a3) {
     address v4, v10, v13, v14, v15, v17, v19, v22, v27, v30, v32, v34, v36, v43, v47, v50;
     address v53, v54, v55, v62, v63, v68, v69, v74, v75, v81, v82, v90;
     u64 v5, v6, v11, v18, v23, v24, v37, v56, v86;
@@ -12088,7 +12433,7 @@ L22:;
     return v93;
 }
 
-static void f51(address a0, address a1, u8 a2, address a3) {
+static void f52(address a0, address a1, u8 a2, address a3) {
     address v4, v25, v26, v27, v28, v29, v31, v32, v33, v34, v35, v36, v37, v38, v48, v49;
     address v50, v76, v77, v78, v80, v81, v84, v85, v86, v87, v91, v92, v95, v96, v97, v99;
     address v101, v102, v105, v106, v107, v108, v110, v111, v114, v115, v116, v117;
@@ -12353,7 +12698,7 @@ L48:;
     store8(v77, v17);
     v78 = v25 + 3u * 1u;
     store8(v78, v18);
-    v79 = f52(v25, v49, v51);
+    v79 = f53(v25, v49, v51);
     if (v79) { goto L51; }
     else { v19 = 3u; goto L49; }
 L49:;
@@ -12362,7 +12707,7 @@ L49:;
 L50:;
     goto L51;
 L51:;
-    f53(a0, v12, v13, a1);
+    f54(a0, v12, v13, a1);
     if (v8) { goto L53; }
     else { v23 = 0u; v24 = 0u; goto L62; }
 L52:;
@@ -12448,10 +12793,10 @@ L60:;
     store64(v102, v109);
     goto L63;
 L61:;
-    f54(a0, v12, a3);
+    f55(a0, v12, a3);
     goto L63;
 L62:;
-    f55(a0, v27, a1, v24, v23, a3);
+    f56(a0, v27, a1, v24, v23, a3);
     goto L63;
 L63:;
     return;
@@ -12473,7 +12818,7 @@ L64:;
     goto L63;
 }
 
-static u8 f52(address a0, address a1, u64 a2) {
+static u8 f53(address a0, address a1, u64 a2) {
     address v3, v6, v8, v10, v12, v15, v29;
     u64 v4, v17;
     u8 v5, v7, v9, v11, v13, v14, v16, v18, v19, v20, v21, v25, v27, v28, v30, v31;
@@ -12574,7 +12919,7 @@ L14:;
     UNREACHABLE;
 }
 
-static void f53(address a0, u8 a1, u8 a2, address a3) {
+static void f54(address a0, u8 a1, u8 a2, address a3) {
     u64 v4, v6, v7, v8, v9, v10, v17, v21, v23, v24, v25, v27, v29, v32, v33, v35;
     u64 v36, v37, v42, v45, v50, v51, v57, v58, v64, v65, v92, v95, v96, v100, v102, v103;
     u64 v106, v112, v115, v119, v121, v122, v129, v132, v134, v136, v137;
@@ -12893,7 +13238,7 @@ L44:;
     UNREACHABLE;
 }
 
-static void f54(address a0, u8 a1, address a2) {
+static void f55(address a0, u8 a1, address a2) {
     address v3, v4, v5, v6, v7, v9, v12, v13, v14, v15, v16, v19, v20, v22, v25, v26;
     address v27, v28, v31, v32;
     u8 v8, v11, v24;
@@ -12972,7 +13317,7 @@ L7:;
     return;
 }
 
-static void f55(address a0, address a1, address a2, u8 a3, u8 a4, address a5) {
+static void f56(address a0, address a1, address a2, u8 a3, u8 a4, address a5) {
     u16 v6, v7, v17, v21, v22, v39, v51, v64, v65, v70, v71, v72, v73, v82, v100, v117;
     u16 v127;
     u64 v8, v20, v31, v32, v35, v36, v44, v47, v48, v55, v58, v59, v61, v63, v75, v76;
@@ -13238,7 +13583,7 @@ L22:;
     return;
 }
 
-static void f56(address a0, address a1) {
+static void f57(address a0, address a1) {
     u64 v2, v3, v4, v9, v11, v12, v13, v14, v15, v16, v17, v19, v21, v23, v40, v41;
     u64 v42, v66, v78, v79, v80, v104, v130, v134, v144, v145, v146, v151;
     address v5, v8, v18, v22, v30, v31, v34, v38, v39, v45, v46, v48, v49, v51, v52, v54;
@@ -13276,7 +13621,7 @@ L3:;
     if (v20) { v3 = v17; goto L5; }
     else { goto L4; }
 L4:;
-    f57(a1, v17);
+    f58(a1, v17);
     v21 = load64(v18);
     v3 = v21; goto L5;
 L5:;
@@ -13477,7 +13822,7 @@ L17:;
     return;
 }
 
-static void f57(address a0, u64 a1) {
+static void f58(address a0, u64 a1) {
     u64 v2, v3, v5, v8, v9, v10, v13, v14, v19;
     address v4, v7, v12, v16, v17;
     u8 v6, v11, v15, v18, v20;
@@ -13524,7 +13869,7 @@ L7:;
     return;
 }
 
-static struct s2 f58(address a0, address a1) {
+static struct s2 f59(address a0, address a1) {
     address v2, v6, v7, v11, v13, v15, v16, v17, v26, v31, v32, v38, v40, v41, v42, v43;
     address v44, v46, v47, v48, v49, v53, v55;
     u64 v3, v8, v18, v23, v25, v27, v28, v29, v34, v36, v37, v45;
@@ -13633,7 +13978,7 @@ L11:;
     return v57;
 }
 
-static struct s2 f59(address a0, u8 a1, u16 a2, u8 a3, u16 a4, address a5, u64 a6) {
+static struct s2 f60(address a0, u8 a1, u16 a2, u8 a3, u16 a4, address a5, u64 a6) {
     u16 v7, v15, v17;
     u8 v8, v9, v12, v13, v16, v18, v19, v21, v22, v23, v24, v32, v33;
     address v10, v11, v14, v25, v26, v27, v28, v29, v30;
@@ -13721,7 +14066,7 @@ L9:;
     store_address(v29, a5);
     v30 = v10 + 16u * 1u;
     store64(v30, a6);
-    v31 = f58(a0, v10);
+    v31 = f59(a0, v10);
     v32 = v31.m0;
     v33 = v31.m1;
     v8 = v33; v9 = v32; goto L10;
@@ -13733,7 +14078,7 @@ L10:;
     return v35;
 }
 
-static void f60(address a0, address a1, address a2, u64 a3) {
+static void f61(address a0, address a1, address a2, u64 a3) {
     u64 v4, v5, v11, v25, v32, v43, v83, v84, v90, v91;
     u8 v6, v7, v8, v9, v10, v16, v17, v19, v20, v23, v36, v37, v60, v61, v63, v64;
     u8 v66, v67, v69, v70, v75, v76, v78, v79, v80, v87, v88, v95, v96, v101, v105, v106;
@@ -13818,7 +14163,7 @@ L2:;
     store_address(v58, v41);
     v59 = v12 + 48u * 1u;
     store64(v59, v43);
-    f56(v12, a2);
+    f57(v12, a2);
     v60 = load8(v18);
     v61 = (u8)((u32)v60 + (u32)255u);
     store8(v18, v61);
@@ -13946,7 +14291,7 @@ L17:;
     return;
 }
 
-static struct s2 f61(address a0, address a1, address a2) {
+static struct s2 f62(address a0, address a1, address a2) {
     u8 v3, v4, v5, v6, v7, v8, v10, v17, v20, v22, v23, v27, v35, v36, v39, v40;
     u8 v41, v43, v44, v48, v56, v57, v59, v60, v68, v69;
     struct s2 v9, v34, v37, v55, v58, v67, v70, v71;
@@ -14009,7 +14354,7 @@ L4:;
     store_address(v32, a2);
     v33 = v13 + 16u * 1u;
     store64(v33, 26u);
-    v34 = f58(a0, v13);
+    v34 = f59(a0, v13);
     v35 = v34.m0;
     v36 = v34.m1;
     v3 = v36; v4 = v35; goto L5;
@@ -14053,7 +14398,7 @@ L10:;
     store_address(v53, a2);
     v54 = v12 + 16u * 1u;
     store64(v54, 20u);
-    v55 = f58(a0, v12);
+    v55 = f59(a0, v12);
     v56 = v55.m0;
     v57 = v55.m1;
     v5 = v57; v6 = v56; goto L11;
@@ -14080,7 +14425,7 @@ L13:;
     store_address(v65, a2);
     v66 = v11 + 16u * 1u;
     store64(v66, 20u);
-    v67 = f58(a0, v11);
+    v67 = f59(a0, v11);
     v68 = v67.m0;
     v69 = v67.m1;
     v7 = v69; v8 = v68; goto L14;
@@ -14094,7 +14439,7 @@ L15:;
     return v71;
 }
 
-static void f62(address a0, address a1, address a2, u64 a3) {
+static void f63(address a0, address a1, address a2, u64 a3) {
     u8 v4, v12, v15, v16, v22, v24, v25, v26, v28, v29, v30, v32, v34, v35, v37, v39;
     u8 v46, v50, v54, v56, v63, v65, v66, v69, v70, v71, v74, v76, v78, v90, v92, v96;
     u8 v98, v103, v104, v105, v108, v110, v126, v130, v133, v134, v137, v138, v142, v147, v150, v152;
@@ -14441,7 +14786,7 @@ L34:;
     goto L18;
 }
 
-static void f63(address a0, address a1, address a2, u64 a3, u16 a4, u8 a5) {
+static void f64(address a0, address a1, address a2, u64 a3, u16 a4, u8 a5) {
     address v6, v7, v8, v9, v12, v13, v15, v17, v19, v21, v23, v24, v25, v26, v27, v28;
     address v29, v30, v35, v36, v37, v38, v40, v41, v42, v47, v49, v54, v55, v56, v57, v58;
     address v60, v61, v62, v63, v64, v65, v66, v68, v70, v72, v74, v76, v79, v81, v82, v83;
@@ -14492,7 +14837,7 @@ L1:;
     v29 = v7 + 25u * 1u;
     memory_set(v29, 0u, 71u);
     v30 = a1 + 48u * 1u;
-    v31 = f61(v7, v12, v30);
+    v31 = f62(v7, v12, v30);
     v32 = v31.m0;
     v33 = v31.m1;
     v34 = v32 == 0u;
@@ -14564,7 +14909,7 @@ L9:;
     store8(v65, 0u);
     v66 = a1 + 353u * 1u;
     store8(v66, 0u);
-    f60(v8, a1, a2, a3);
+    f61(v8, a1, a2, a3);
     v67 = load8(v8);
     v68 = v8 + 1u * 1u;
     v69 = load8(v68);
@@ -14606,7 +14951,7 @@ L9:;
     goto L2;
 }
 
-static u32 f64(address a0, u16 a1, address a2, u64 a3, address a4, u64 a5, address a6) {
+static u32 f65(address a0, u16 a1, address a2, u64 a3, address a4, u64 a5, address a6) {
     u16 v7, v33, v60, v61, v62, v63, v70, v71, v72, v84, v87, v88, v89, v95, v96, v97;
     u16 v98, v114, v115, v116, v117, v118, v139, v160, v161;
     u64 v8, v10, v25, v28, v32, v55, v65, v74, v80, v102, v103, v109, v111, v113, v132, v137;
@@ -14706,7 +15051,7 @@ L8:;
     if (v52) { goto L11; }
     else { goto L9; }
 L9:;
-    v53 = f68(v27, v16);
+    v53 = f69(v27, v16);
     if (v53) { goto L10; }
     else { goto L27; }
 L10:;
@@ -14737,7 +15082,7 @@ L11:;
     if (v75) { goto L29; }
     else { goto L12; }
 L12:;
-    v76 = f69(v27, v16);
+    v76 = f70(v27, v16);
     if (v76) { goto L13; }
     else { goto L30; }
 L13:;
@@ -14814,7 +15159,7 @@ L17:;
     store_address(v123, v112);
     v124 = v15 + 16u * 1u;
     store64(v124, v113);
-    v125 = f50(v73, v14, v98, v15);
+    v125 = f51(v73, v14, v98, v15);
     v126 = v125.m0;
     switch (v126) {
     case 0u: goto L36;
@@ -14864,10 +15209,10 @@ L24:;
 L25:;
     return v11;
 L26:;
-    v145 = f65(a0, a1, a2, a3, a4, a5, a6);
+    v145 = f66(a0, a1, a2, a3, a4, a5, a6);
     v11 = v145; goto L25;
 L27:;
-    f79(v27, 1u, a1, a2, v40, v18);
+    f80(v27, 1u, a1, a2, v40, v18);
     v146 = load64(v37);
     store64(a6, v146);
     v12 = 1u; goto L39;
@@ -14879,23 +15224,23 @@ L28:;
     v150 = (u32)((u32)v149 + (u32)16u);
     v12 = v150; goto L39;
 L29:;
-    f79(v27, 2u, a1, a2, v40, v18);
+    f80(v27, 2u, a1, a2, v40, v18);
     v151 = load64(v37);
     store64(a6, v151);
     v12 = 2u; goto L39;
 L30:;
-    f79(v27, 3u, a1, a2, v40, v18);
+    f80(v27, 3u, a1, a2, v40, v18);
     v152 = load64(v37);
     store64(a6, v152);
     v12 = 3u; goto L39;
 L31:;
-    f79(v27, 4u, a1, a2, v40, v18);
+    f80(v27, 4u, a1, a2, v40, v18);
     v153 = load64(v37);
     store64(a6, v153);
     v12 = 4u; goto L39;
 L32:;
     v154 = v125.m1;
-    f70(v27, a1, v40, v154, v18);
+    f71(v27, a1, v40, v154, v18);
     v155 = load64(v37);
     store64(a6, v155);
     v12 = 5u; goto L39;
@@ -14919,22 +15264,22 @@ L33:;
     v167 = v9 + 1440u * 1u;
     v168 = load64(v167);
     v169 = v9 + 1448u * 1u;
-    f78(v166, v168, v169, v13, a1, v18);
+    f79(v166, v168, v169, v13, a1, v18);
     v170 = load64(v37);
     store64(a6, v170);
     v12 = 6u; goto L39;
 L34:;
-    f79(v27, 7u, a1, a2, v40, v18);
+    f80(v27, 7u, a1, a2, v40, v18);
     v171 = load64(v37);
     store64(a6, v171);
     v12 = 7u; goto L39;
 L35:;
-    f79(v27, 8u, a1, a2, v40, v18);
+    f80(v27, 8u, a1, a2, v40, v18);
     v172 = load64(v37);
     store64(a6, v172);
     v12 = 8u; goto L39;
 L36:;
-    f79(v27, 9u, a1, a2, v40, v18);
+    f80(v27, 9u, a1, a2, v40, v18);
     v173 = load64(v37);
     store64(a6, v173);
     v12 = 9u; goto L39;
@@ -14952,7 +15297,7 @@ L39:;
     v11 = v12; goto L25;
 }
 
-static u32 f65(address a0, u16 a1, address a2, u64 a3, address a4, u64 a5, address a6) {
+static u32 f66(address a0, u16 a1, address a2, u64 a3, address a4, u64 a5, address a6) {
     u32 v7, v19;
     address v8, v9, v13, v16, v17;
     u8 v10, v11, v12, v15;
@@ -14984,7 +15329,7 @@ L2:;
     memory_set(v17, 0u, 7u);
     v7 = 32u; goto L4;
 L3:;
-    v19 = f66(v16, a1, a2, a3, a4, a5, a6);
+    v19 = f67(v16, a1, a2, a3, a4, a5, a6);
     store64(v8, 4u);
     store_address(v13, v16);
     store_address(a0, v8);
@@ -14995,7 +15340,7 @@ L4:;
     return v7;
 }
 
-static u32 f66(address a0, u16 a1, address a2, u64 a3, address a4, u64 a5, address a6) {
+static u32 f67(address a0, u16 a1, address a2, u64 a3, address a4, u64 a5, address a6) {
     u32 v7, v33, v75, v76, v78;
     address v8, v9, v10, v14, v15, v19, v22, v24, v26, v29, v36, v37, v38, v40, v42, v44;
     address v50, v52, v58, v60, v62, v63, v64, v65, v66, v67, v68, v69, v70;
@@ -15031,7 +15376,7 @@ L3:;
     v7 = 33u; goto L23;
 L4:;
     v19 = load_address(a0);
-    f67(v8, v19, a1, a2, a3, a4, a5);
+    f68(v8, v19, a1, a2, a3, a4, a5);
     v20 = load8(v8);
     v21 = v20 == 0u;
     if (v21) { goto L5; }
@@ -15162,7 +15507,7 @@ L23:;
     return v7;
 }
 
-static void f67(address a0, address a1, u16 a2, address a3, u64 a4, address a5, u64 a6) {
+static void f68(address a0, address a1, u16 a2, address a3, u64 a4, address a5, u64 a6) {
     u16 v7, v28, v55, v56, v57, v58, v65, v66, v67, v79, v82, v83, v84, v90, v91, v92;
     u16 v93, v109, v110, v111, v112, v113, v137, v147, v148;
     u64 v8, v10, v18, v27, v50, v60, v69, v75, v97, v98, v104, v106, v108, v130, v135, v140;
@@ -15235,7 +15580,7 @@ L5:;
     if (v47) { goto L8; }
     else { goto L6; }
 L6:;
-    v48 = f68(a1, v22);
+    v48 = f69(a1, v22);
     if (v48) { goto L7; }
     else { v11 = 1u; goto L27; }
 L7:;
@@ -15266,7 +15611,7 @@ L8:;
     if (v70) { v11 = 2u; goto L27; }
     else { goto L9; }
 L9:;
-    v71 = f69(a1, v22);
+    v71 = f70(a1, v22);
     if (v71) { goto L10; }
     else { v11 = 3u; goto L27; }
 L10:;
@@ -15343,7 +15688,7 @@ L14:;
     store_address(v118, v107);
     v119 = v21 + 16u * 1u;
     store64(v119, v108);
-    v120 = f50(v68, v20, v93, v21);
+    v120 = f51(v68, v20, v93, v21);
     v121 = v120.m0;
     switch (v121) {
     case 0u: v11 = 9u; goto L27;
@@ -15365,7 +15710,7 @@ L18:;
     v12 = v123; v13 = 0u; goto L28;
 L19:;
     v124 = v120.m1;
-    f70(a1, a2, v35, v124, v24);
+    f71(a1, a2, v35, v124, v24);
     v12 = 0u; v13 = 5u; goto L28;
 L20:;
     v125 = v36 + 44u * 1u;
@@ -15422,10 +15767,10 @@ L26:;
     v154 = v9 + 1440u * 1u;
     v155 = load64(v154);
     v156 = v9 + 1448u * 1u;
-    f78(v153, v155, v156, v19, a2, v24);
+    f79(v153, v155, v156, v19, a2, v24);
     v12 = 0u; v13 = 6u; goto L28;
 L27:;
-    f79(a1, v11, a2, a3, v35, v24);
+    f80(a1, v11, a2, a3, v35, v24);
     v12 = 0u; v13 = v11; goto L28;
 L28:;
     v157 = load64(v32);
@@ -15443,7 +15788,7 @@ L29:;
     return;
 }
 
-static u8 f68(address a0, address a1) {
+static u8 f69(address a0, address a1) {
     address v2, v6, v7, v8, v9, v11, v13, v18, v21, v23, v25, v34, v38, v41, v42, v44;
     address v50, v55, v57, v59, v61, v67, v68, v69, v70, v71, v72;
     u64 v3, v10, v19, v22, v35, v53, v54, v60, v62;
@@ -15564,7 +15909,7 @@ L9:;
     store_address(v71, v2);
     v72 = v7 + 16u * 1u;
     store64(v72, v3);
-    v73 = f50(v18, v6, v49, v7);
+    v73 = f51(v18, v6, v49, v7);
     v74 = v73.m0;
     v75 = v74 == 2u;
     v4 = v75; goto L10;
@@ -15574,7 +15919,7 @@ L11:;
     return v5;
 }
 
-static u8 f69(address a0, address a1) {
+static u8 f70(address a0, address a1) {
     u8 v2, v7, v9, v16, v17, v18, v22;
     address v3, v4, v6, v8, v14, v19;
     u64 v5, v15, v20;
@@ -15615,7 +15960,7 @@ L4:;
     return v2;
 }
 
-static void f70(address a0, u16 a1, address a2, u8 a3, address a4) {
+static void f71(address a0, u16 a1, address a2, u8 a3, address a4) {
     address v5, v7, v11, v12, v13, v14, v15, v17, v19, v21, v27, v29, v35, v37, v39, v41;
     address v46, v48, v50, v52, v54, v56, v66, v67, v68, v69, v70, v71, v72, v73, v74, v75;
     address v76, v81, v82, v83, v84, v86, v88, v90, v91, v92, v100, v101, v107, v109, v111, v112;
@@ -15761,7 +16106,7 @@ L2:;
     v108 = swap16(v65);
     v109 = v13 + 52u * 1u;
     store16(v109, v108);
-    f71(a0, v12, a3, v13);
+    f72(a0, v12, a3, v13);
     v110 = load8(v74);
     v111 = a0 + 448u * 1u;
     v112 = load_address(v111);
@@ -15881,10 +16226,10 @@ L17:;
     memory_move(v150, v158, 80u);
     goto L23;
 L18:;
-    f75(v150, v158, v157);
+    f76(v150, v158, v157);
     goto L23;
 L19:;
-    f76(v150, v158, v157);
+    f77(v150, v158, v157);
     goto L23;
 L20:;
     v167 = v127 + 2088u * 1u;
@@ -15897,13 +16242,13 @@ L21:;
     store64(v167, 0u);
     goto L22;
 L22:;
-    f77(a4, v149, v150);
+    f78(a4, v149, v150);
     goto L23;
 L23:;
     return;
 }
 
-static void f71(address a0, address a1, u8 a2, address a3) {
+static void f72(address a0, address a1, u8 a2, address a3) {
     address v4, v27, v28, v29, v30, v31, v33, v34, v35, v36, v37, v38, v39, v40, v50, v51;
     address v52, v78, v79, v80, v82, v83, v85, v86, v90, v92, v93, v96, v97, v98, v103, v104;
     address v106, v107, v108, v109, v112, v113, v114, v119, v120, v124, v126, v127, v130, v132, v133, v135;
@@ -16172,7 +16517,7 @@ L48:;
     store8(v79, v17);
     v80 = v27 + 3u * 1u;
     store8(v80, v18);
-    v81 = f52(v27, v51, v53);
+    v81 = f53(v27, v51, v53);
     if (v81) { goto L51; }
     else { v19 = 3u; goto L49; }
 L49:;
@@ -16181,7 +16526,7 @@ L49:;
 L50:;
     goto L51;
 L51:;
-    f53(a0, v12, v13, a1);
+    f54(a0, v12, v13, a1);
     if (v8) { goto L53; }
     else { v25 = 0u; v26 = 0u; goto L68; }
 L52:;
@@ -16205,7 +16550,7 @@ L52:;
     v97 = v96 + 2u * 1u;
     store16(v97, 60u);
     v98 = v96 + 4u * 1u;
-    f72(a3, v84, v89, v91, v98);
+    f73(a3, v84, v89, v91, v98);
     v99 = load64(v93);
     v100 = (u64)((u64)v99 + (u64)1u);
     store64(v93, v100);
@@ -16342,10 +16687,10 @@ L66:;
     store64(v138, v160);
     goto L69;
 L67:;
-    f73(a0, v12, a3);
+    f74(a0, v12, a3);
     goto L69;
 L68:;
-    f74(a0, v29, a1, v26, v25, a3);
+    f75(a0, v29, a1, v26, v25, a3);
     goto L69;
 L69:;
     return;
@@ -16367,14 +16712,14 @@ L70:;
     v173 = v172 + 2u * 1u;
     store16(v173, 60u);
     v174 = v172 + 4u * 1u;
-    f72(a3, v163, 2u, v167, v174);
+    f73(a3, v163, 2u, v167, v174);
     v175 = load64(v169);
     v176 = (u64)((u64)v175 + (u64)1u);
     store64(v169, v176);
     goto L69;
 }
 
-static void f72(address a0, u16 a1, u16 a2, u16 a3, address a4) {
+static void f73(address a0, u16 a1, u16 a2, u16 a3, address a4) {
     u64 v5, v7, v8, v9, v14, v16, v17;
     address v6, v11, v12, v19, v20, v21, v23, v25, v26, v28;
     u8 v10, v13, v15, v18;
@@ -16431,7 +16776,7 @@ L6:;
     return;
 }
 
-static void f73(address a0, u8 a1, address a2) {
+static void f74(address a0, u8 a1, address a2) {
     u64 v3, v4, v5, v6, v11, v19, v20, v27, v28, v29, v34, v36, v37, v38, v43, v52;
     u64 v53, v55, v63, v64, v71, v72, v73, v78, v80, v81, v82, v87, v96, v97;
     address v7, v9, v10, v12, v13, v15, v16, v17, v18, v21, v24, v25, v26, v31, v32, v40;
@@ -16597,7 +16942,7 @@ L15:;
     return;
 }
 
-static void f74(address a0, address a1, address a2, u8 a3, u8 a4, address a5) {
+static void f75(address a0, address a1, address a2, u8 a3, u8 a4, address a5) {
     u16 v6, v7, v17, v21, v22, v40, v42, v43, v51, v56, v74, v75, v88, v89, v94, v95;
     u16 v96, v97, v102, v126, v127, v132, v150, v151, v166, v184, v186, v187, v192, v210, v211;
     u64 v8, v9, v10, v11, v13, v14, v20, v31, v34, v35, v36, v46, v47, v52, v53, v60;
@@ -16644,7 +16989,7 @@ L3:;
     v34 = (u64)v7;
     v35 = (u64)v22;
     v36 = (u64)a4;
-    v37 = ADDRESS(c228) + v36 * 2u;
+    v37 = ADDRESS(c242) + v36 * 2u;
     v8 = v34; goto L4;
 L4:;
     v38 = load8(v24);
@@ -16667,7 +17012,7 @@ L5:;
     store16(v49, 60u);
     v50 = v48 + 4u * 1u;
     v51 = (u16)(v8);
-    f72(a5, v51, v42, v43, v50);
+    f73(a5, v51, v42, v43, v50);
     v52 = load64(v45);
     v53 = (u64)((u64)v52 + (u64)1u);
     store64(v45, v53);
@@ -16991,7 +17336,7 @@ L37:;
     return;
 }
 
-static void f75(address a0, address a1, u64 a2) {
+static void f76(address a0, address a1, u64 a2) {
     u64 v3, v4, v5, v6, v11;
     u8 v7, v10, v12;
     address v8, v9;
@@ -17017,7 +17362,7 @@ L3:;
     return;
 }
 
-static void f76(address a0, address a1, u64 a2) {
+static void f77(address a0, address a1, u64 a2) {
     u64 v3, v4, v5, v7, v10, v12, v14, v15, v16, v21, v24, v25, v28, v29, v30, v35;
     u64 v37;
     address v6, v9, v11, v18, v19, v27, v32, v33;
@@ -17096,7 +17441,7 @@ L12:;
     return;
 }
 
-static void f77(address a0, address a1, address a2) {
+static void f78(address a0, address a1, address a2) {
     u64 v3, v4, v5, v6, v7, v8, v10, v15, v19, v22, v24, v25, v26, v29, v30, v31;
     u64 v36, v38, v41, v42, v43, v48, v50, v53, v54, v55, v60, v62, v65, v66, v67, v72;
     u64 v74, v75;
@@ -17248,7 +17593,7 @@ L21:;
     return;
 }
 
-static void f78(address a0, u64 a1, address a2, address a3, u16 a4, address a5) {
+static void f79(address a0, u64 a1, address a2, address a3, u16 a4, address a5) {
     u64 v6, v8, v15, v17, v19, v22, v40, v41;
     address v7, v9, v11, v12, v13, v14, v16, v20, v21, v23, v25, v26, v28, v34, v36, v38;
     address v39;
@@ -17294,7 +17639,7 @@ L5:;
     memory_move(v26, v7, 80u);
     goto L7;
 L6:;
-    f75(v26, v7, v19);
+    f76(v26, v7, v19);
     goto L7;
 L7:;
     v27 = load8(a3);
@@ -17330,7 +17675,7 @@ L10:;
     return;
 }
 
-static void f79(address a0, u8 a1, u16 a2, address a3, address a4, address a5) {
+static void f80(address a0, u8 a1, u16 a2, address a3, address a4, address a5) {
     address v6, v8, v9, v10, v12, v13, v18, v22, v24, v27, v30, v36, v40, v42, v45, v47;
     address v50, v53, v55, v57, v59, v61, v63, v73, v74, v75, v76, v77, v78, v79, v81, v83;
     address v85, v91, v93, v99, v101, v103, v104, v105, v110, v111, v112, v114, v116, v118, v119, v120;
@@ -17413,7 +17758,7 @@ L6:;
 L7:;
     UNREACHABLE;
 L8:;
-    f80(a0, a2, a3, a5);
+    f81(a0, a2, a3, a5);
     goto L9;
 L9:;
     v44 = a1 == 9u;
@@ -17535,13 +17880,13 @@ L12:;
     v129 = swap16(v72);
     v130 = v9 + 52u * 1u;
     store16(v130, v129);
-    f81(a0, v8, v9);
+    f82(a0, v8, v9);
     goto L13;
 L13:;
     return;
 }
 
-static void f80(address a0, u16 a1, address a2, address a3) {
+static void f81(address a0, u16 a1, address a2, address a3) {
     u64 v4, v5, v7, v15, v16, v17, v19, v20, v22, v26, v27, v35, v39, v40, v45, v50;
     u64 v51, v52;
     address v6, v11, v12, v13, v14, v23, v25, v28, v37, v38, v42, v43, v47;
@@ -17643,7 +17988,7 @@ L11:;
     return;
 }
 
-static void f81(address a0, address a1, address a2) {
+static void f82(address a0, address a1, address a2) {
     address v3, v15, v16, v17, v20, v22, v23, v24, v25, v26, v27, v28, v29, v30, v31, v33;
     address v34, v36, v38, v39, v42, v43, v44, v49, v50, v52, v53, v54, v56, v57, v60, v61;
     address v62, v65, v67, v68, v70, v71, v72, v73, v76, v77, v78, v79, v84, v85, v90, v92;
@@ -17767,7 +18112,7 @@ L22:;
     v43 = v42 + 2u * 1u;
     store16(v43, 60u);
     v44 = v42 + 4u * 1u;
-    f72(a2, v32, v35, v37, v44);
+    f73(a2, v32, v35, v37, v44);
     v45 = load64(v39);
     v46 = (u64)((u64)v45 + (u64)1u);
     store64(v39, v46);
@@ -17806,7 +18151,7 @@ L28:;
     v61 = v60 + 2u * 1u;
     store16(v61, 60u);
     v62 = v60 + 4u * 1u;
-    f72(a2, v51, 6u, v55, v62);
+    f73(a2, v51, 6u, v55, v62);
     v63 = load64(v57);
     v64 = (u64)((u64)v63 + (u64)1u);
     store64(v57, v64);
@@ -17894,14 +18239,14 @@ L38:;
     store64(v73, v95);
     goto L23;
 L39:;
-    f73(a0, v8, a2);
+    f74(a0, v8, a2);
     goto L23;
 L40:;
-    f74(a0, v16, a1, v14, v13, a2);
+    f75(a0, v16, a1, v14, v13, a2);
     goto L23;
 }
 
-static u32 f82(address a0, u16 a1, address a2, u64 a3, address a4, u64 a5, address a6, address a7) {
+static u32 f83(address a0, u16 a1, address a2, u64 a3, address a4, u64 a5, address a6, address a7) {
     u64 v8, v21, v24, v32;
     u32 v9, v10, v27, v30;
     address v11, v12, v13, v14, v15, v16, v20, v23, v25, v26, v29, v31, v33;
@@ -17946,14 +18291,14 @@ L3:;
     v26 = load_address(v23);
     f31(v13, v26);
     memory_cpy(v12, v13, 440u);
-    v27 = f66(v23, a1, a2, a3, a4, a5, a6);
+    v27 = f67(v23, a1, a2, a3, a4, a5, a6);
     memory_set(v11, 0u, 12u);
     v28 = v27 == 5u;
     if (v28) { goto L4; }
     else { v8 = 0u; v9 = 0u; goto L5; }
 L4:;
     v29 = load_address(v23);
-    f83(v11, v29, v12);
+    f84(v11, v29, v12);
     v30 = load32(v11);
     v31 = v11 + 4u * 1u;
     v32 = load64(v31);
@@ -17972,7 +18317,7 @@ L6:;
     return v10;
 }
 
-static void f83(address a0, address a1, address a2) {
+static void f84(address a0, address a1, address a2) {
     u64 v3, v5, v7, v8, v12, v13, v15, v16, v18, v19, v20, v22, v23, v24, v25, v27;
     u64 v28, v29, v30, v31, v33, v34, v35, v36, v37, v38, v40, v41, v42, v43, v44, v45;
     u64 v46, v48, v49, v50, v51, v52, v53, v54, v55, v56, v57, v58, v59, v60, v61, v62;
@@ -18971,7 +19316,7 @@ L48:;
     return;
 }
 
-static u32 f84(address a0, address a1, address a2, u64 a3, address a4) {
+static u32 f85(address a0, address a1, address a2, u64 a3, address a4) {
     u32 v5, v8, v70, v71;
     u8 v6, v7, v12, v13, v14, v17, v22, v24, v26, v28, v30, v32, v34, v36, v38, v40;
     u8 v42, v44, v47, v48, v49, v50, v51, v52, v53, v54, v55, v56, v57, v58, v59, v60;
@@ -19010,7 +19355,7 @@ L2:;
 L3:;
     memory_set(v9, 0u, 24u);
     v21 = load_address(v18);
-    f85(v9, v21, a1, a2, a3);
+    f86(v9, v21, a1, a2, a3);
     v22 = load8(v9);
     v23 = v9 + 1u * 1u;
     v24 = load8(v23);
@@ -19220,7 +19565,7 @@ L52:;
     v5 = v8; goto L4;
 }
 
-static void f85(address a0, address a1, address a2, address a3, u64 a4) {
+static void f86(address a0, address a1, address a2, address a3, u64 a4) {
     u64 v5, v6, v7, v9, v18, v21, v24, v26, v42, v43, v51, v65, v67, v68, v69, v74;
     u64 v75, v95, v99, v129, v133, v146, v147, v149, v150, v281, v283, v284, v286, v288, v295, v311;
     u64 v321, v323, v327, v347, v352, v361, v366, v367, v368, v369, v370, v371, v372, v373, v374, v375;
@@ -19673,7 +20018,7 @@ L20:;
     else { goto L21; }
 L21:;
     v325 = a1 + 192u * 1u;
-    f86(v33, v40, a1, v325);
+    f87(v33, v40, a1, v325);
     v326 = v33 + 20u * 1u;
     v327 = load64(v326);
     v328 = v33 + 34u * 1u;
@@ -19740,7 +20085,7 @@ L30:;
     if (v362) { goto L31; }
     else { v24 = v361; goto L28; }
 L31:;
-    f86(v34, v40, a1, v325);
+    f87(v34, v40, a1, v325);
     memory_cpy(v325, v34, 36u);
     v363 = v160 ? v80 : v285;
     v364 = v157 ? v84 : v287;
@@ -19862,7 +20207,7 @@ L37:;
     goto L1;
 }
 
-static void f86(address a0, address a1, address a2, address a3) {
+static void f87(address a0, address a1, address a2, address a3) {
     u64 v4, v6, v7, v8, v18, v20, v24, v26, v28, v30, v49, v50, v51, v52, v53, v54;
     u64 v55, v56, v57, v58, v59, v60, v64, v66, v67, v69, v71, v90, v91, v92, v93, v94;
     u64 v95, v96, v97, v98, v99, v100, v101, v103, v107, v109;
@@ -20030,7 +20375,74 @@ L6:;
     return;
 }
 
-static void f87(address a0, address a1, address a2) {
+static void f88(address a0, address a1, u8 a2) {
+    address v3, v4, v5, v6, v10, v12, v13, v14, v15, v16, v17, v18, v19, v20, v21, v22;
+    address v23, v24, v25, v26, v27, v28, v29, v30, v31, v32;
+    u8 v7, v8, v9;
+    u16 v11, v33;
+    u64 block0[163];
+    u64 block1[162];
+    v3 = ADDRESS(block0);
+    v4 = ADDRESS(block1);
+    v5 = a1 + 16u * 1u;
+    v6 = v3 + 1296u * 1u;
+    store64(v6, 0u);
+    v7 = load8(v5);
+    v8 = v7 > 2u;
+    v9 = v8 ? 4u : 2u;
+    v10 = a1 + 18u * 1u;
+    v11 = load16(v10);
+    store8(v3, v9);
+    v12 = v3 + 1u * 1u;
+    store8(v12, 0u);
+    v13 = v3 + 2u * 1u;
+    store16(v13, v11);
+    v14 = v3 + 4u * 1u;
+    store32(v14, 0u);
+    v15 = v3 + 8u * 1u;
+    store64(v15, 0u);
+    v16 = v3 + 16u * 1u;
+    store8(v16, 1u);
+    v17 = v3 + 17u * 1u;
+    memory_set(v17, 0u, 159u);
+    v18 = v3 + 176u * 1u;
+    store8(v18, 1u);
+    v19 = v3 + 177u * 1u;
+    memory_set(v19, 0u, 159u);
+    v20 = v3 + 336u * 1u;
+    store8(v20, 1u);
+    v21 = v3 + 337u * 1u;
+    memory_set(v21, 0u, 159u);
+    v22 = v3 + 496u * 1u;
+    store8(v22, 1u);
+    v23 = v3 + 497u * 1u;
+    memory_set(v23, 0u, 159u);
+    v24 = v3 + 656u * 1u;
+    store8(v24, 1u);
+    v25 = v3 + 657u * 1u;
+    memory_set(v25, 0u, 159u);
+    v26 = v3 + 816u * 1u;
+    store8(v26, 1u);
+    v27 = v3 + 817u * 1u;
+    memory_set(v27, 0u, 159u);
+    v28 = v3 + 976u * 1u;
+    store8(v28, 1u);
+    v29 = v3 + 977u * 1u;
+    memory_set(v29, 0u, 159u);
+    v30 = v3 + 1136u * 1u;
+    store8(v30, 1u);
+    v31 = v3 + 1137u * 1u;
+    memory_set(v31, 0u, 159u);
+    store8(v6, a2);
+    f89(a0, v5, v3);
+    memory_cpy(v4, v3, 1296u);
+    v32 = a1 + 10u * 1u;
+    v33 = load16(v32);
+    f34(a0, a1, v33, v5, v4);
+    return;
+}
+
+static void f89(address a0, address a1, address a2) {
     address v3, v10, v11, v12, v15, v17, v18, v19, v20, v21, v22, v23, v24, v28, v30, v31;
     address v34, v35, v36, v37, v39, v41, v42, v45, v46, v47, v48, v50, v52, v53, v56, v57;
     address v58, v59;
@@ -20219,15 +20631,15 @@ L28:;
     store64(v53, v60);
     goto L23;
 L29:;
-    f88(a0, v8, a2);
+    f90(a0, v8, a2);
     goto L23;
 L30:;
     v61 = (u8)v27;
-    f89(a0, v11, a1, v61, a2);
+    f91(a0, v11, a1, v61, a2);
     goto L23;
 }
 
-static void f88(address a0, u8 a1, address a2) {
+static void f90(address a0, u8 a1, address a2) {
     address v3, v5, v7, v8, v11, v12, v13, v14, v16, v18, v19, v22, v23, v24, v25;
     u8 v4, v6, v17;
     u64 v9, v10, v15, v20, v21, v26;
@@ -20278,7 +20690,7 @@ L3:;
     return;
 }
 
-static void f89(address a0, address a1, address a2, u8 a3, address a4) {
+static void f91(address a0, address a1, address a2, u8 a3, address a4) {
     u16 v5, v6, v9, v13, v14, v26;
     u64 v7, v12, v19, v20, v22, v23, v31, v32;
     address v8, v11, v16, v17, v18, v24, v25, v27, v28, v29, v30;
@@ -20332,7 +20744,169 @@ L5:;
     return;
 }
 
-static u8 f90(address a0) {
+static void f92(address a0, address a1, u8 a2, u16 a3, u16 a4, address a5, u64 a6) {
+    u8 v7, v8, v15, v16, v20, v24, v25, v30, v31, v32, v40, v41, v62, v63, v66, v67;
+    u8 v68, v69;
+    address v9, v10, v11, v12, v13, v14, v17, v21, v22, v23, v26, v27, v28, v33, v34, v35;
+    address v36, v37, v38, v39, v42, v43, v44, v45, v46, v47, v48, v49, v50, v51, v52, v53;
+    address v54, v55, v56, v57, v58, v59, v60, v61, v64, v70, v71, v72, v73, v74;
+    u64 v18, v29, v65;
+    u16 v19;
+    u64 block0[162];
+    u64 block1[3];
+    u64 block2[55];
+    u64 block3[55];
+    u64 block4[2];
+    u64 block5[2];
+    v9 = ADDRESS(block0);
+    v10 = ADDRESS(block1);
+    v11 = ADDRESS(block2);
+    v12 = ADDRESS(block3);
+    v13 = ADDRESS(block4);
+    v14 = ADDRESS(block5);
+    store64(v10, 0u);
+    memory_set(v12, 0u, 440u);
+    memory_set(v13, 0u, 13u);
+    memory_set(v14, 0u, 12u);
+    v15 = a2 < 4u;
+    v16 = v15 ? a2 : 2u;
+    switch (a4) {
+    case 65535u: goto L4;
+    case 0u: goto L3;
+    default: goto L1;
+    }
+L1:;
+    v17 = a1 + 432u * 1u;
+    v18 = load64(v17);
+    v19 = (u16)(v18);
+    v20 = a4 > v19;
+    if (v20) { goto L3; }
+    else { goto L4; }
+L2:;
+    return;
+L3:;
+    store8(a0, 1u);
+    v21 = a0 + 1u * 1u;
+    store8(v21, 0u);
+    v22 = a0 + 2u * 1u;
+    store8(v22, 0u);
+    v23 = a0 + 4u * 1u;
+    memory_set(v23, 0u, 12u);
+    goto L2;
+L4:;
+    v24 = (u8)((u32)v16 & (u32)1u);
+    v25 = v24 == 0u;
+    if (v25) { goto L5; }
+    else { goto L6; }
+L5:;
+    store8(a0, 1u);
+    v26 = a0 + 1u * 1u;
+    store8(v26, 1u);
+    v27 = a0 + 2u * 1u;
+    store8(v27, 0u);
+    v28 = a0 + 4u * 1u;
+    memory_set(v28, 0u, 12u);
+    goto L2;
+L6:;
+    v29 = (u64)((u64)a6 & (u64)1u);
+    v30 = v29 == 0u;
+    v31 = a6 < 1419u;
+    v32 = (u8)(((u32)v31 & (u32)v30) & UINT64_C(1));
+    if (v32) { goto L8; }
+    else { goto L7; }
+L7:;
+    store8(a0, 1u);
+    v33 = a0 + 1u * 1u;
+    store8(v33, 2u);
+    v34 = a0 + 2u * 1u;
+    store8(v34, 0u);
+    v35 = a0 + 4u * 1u;
+    memory_set(v35, 0u, 12u);
+    goto L2;
+L8:;
+    store8(v10, v16);
+    v36 = v10 + 2u * 1u;
+    store16(v36, a3);
+    v37 = v10 + 4u * 1u;
+    store16(v37, a4);
+    v38 = v10 + 8u * 1u;
+    store_address(v38, a5);
+    v39 = v10 + 16u * 1u;
+    store64(v39, a6);
+    f31(v12, a1);
+    memory_cpy(v11, v12, 440u);
+    v40 = v16 == 3u;
+    v41 = v40 ? 4u : 2u;
+    store8(v9, v41);
+    v42 = v9 + 1u * 1u;
+    store8(v42, 0u);
+    v43 = v9 + 2u * 1u;
+    store16(v43, a3);
+    v44 = v9 + 4u * 1u;
+    store32(v44, 0u);
+    v45 = v9 + 8u * 1u;
+    store64(v45, 0u);
+    v46 = v9 + 16u * 1u;
+    store8(v46, 1u);
+    v47 = v9 + 17u * 1u;
+    memory_set(v47, 0u, 159u);
+    v48 = v9 + 176u * 1u;
+    store8(v48, 1u);
+    v49 = v9 + 177u * 1u;
+    memory_set(v49, 0u, 159u);
+    v50 = v9 + 336u * 1u;
+    store8(v50, 1u);
+    v51 = v9 + 337u * 1u;
+    memory_set(v51, 0u, 159u);
+    v52 = v9 + 496u * 1u;
+    store8(v52, 1u);
+    v53 = v9 + 497u * 1u;
+    memory_set(v53, 0u, 159u);
+    v54 = v9 + 656u * 1u;
+    store8(v54, 1u);
+    v55 = v9 + 657u * 1u;
+    memory_set(v55, 0u, 159u);
+    v56 = v9 + 816u * 1u;
+    store8(v56, 1u);
+    v57 = v9 + 817u * 1u;
+    memory_set(v57, 0u, 159u);
+    v58 = v9 + 976u * 1u;
+    store8(v58, 1u);
+    v59 = v9 + 977u * 1u;
+    memory_set(v59, 0u, 159u);
+    v60 = v9 + 1136u * 1u;
+    store8(v60, 1u);
+    v61 = v9 + 1137u * 1u;
+    memory_set(v61, 0u, 159u);
+    f52(a1, v10, 7u, v9);
+    v62 = load8(v46);
+    v63 = load8(v47);
+    v64 = v9 + 1288u * 1u;
+    v65 = load64(v64);
+    v66 = v65 != 0u;
+    v67 = v62 == 2u;
+    v68 = v66 ? v67 : 0u;
+    v69 = (u8)v68;
+    if (v68) { v7 = 3u; v8 = v63; goto L10; }
+    else { goto L9; }
+L9:;
+    f84(v14, a1, v11);
+    v70 = v13 + 1u * 1u;
+    memory_cpy(v70, v14, 12u);
+    v7 = 0u; v8 = 0u; goto L10;
+L10:;
+    v71 = v13 + 1u * 1u;
+    store8(a0, v69);
+    v72 = a0 + 1u * 1u;
+    store8(v72, v7);
+    v73 = a0 + 2u * 1u;
+    store8(v73, v8);
+    v74 = a0 + 4u * 1u;
+    memory_cpy(v74, v71, 12u);
+    goto L2;
+}
+
+static u8 f93(address a0) {
     u64 v1, v6, v11, v13, v15, v16, v18, v20, v24, v25, v27, v29, v32, v34, v38, v40;
     u64 v41, v43, v45, v49, v50, v52, v54, v57, v59;
     struct pair v2, v3, v26, v30, v31, v51, v55, v56;
@@ -20345,7 +20919,7 @@ static u8 f90(address a0) {
     else { v1 = v6; goto L3; }
 L1:;
     v8 = a0 + 48u * 1u;
-    v9 = f91(v8);
+    v9 = f94(v8);
     v10 = (u8)((v9) & UINT64_C(1));
     if (v10) { v4 = 1u; goto L17; }
     else { goto L2; }
@@ -20449,7 +21023,7 @@ L17:;
     return v4;
 }
 
-static u8 f91(address a0) {
+static u8 f94(address a0) {
     u64 v1, v2, v3, v5, v7, v8, v9, v10, v12, v13, v14, v15, v19, v22, v23, v24;
     u64 v25, v32, v34, v35, v36, v39, v40, v47, v118, v119, v121, v124, v127, v128, v131, v133;
     u64 v134, v135, v136, v138, v139, v141, v142, v144, v150, v151, v153, v155, v158, v160, v162, v163;
@@ -20774,7 +21348,7 @@ L30:;
     if (v190) { goto L31; }
     else { v9 = v7; v10 = 0u; goto L33; }
 L31:;
-    v191 = f92(a0, v3);
+    v191 = f95(a0, v3);
     if (v191) { goto L32; }
     else { goto L36; }
 L32:;
@@ -20965,7 +21539,7 @@ L44:;
     return v16;
 }
 
-static u8 f92(address a0, u64 a1) {
+static u8 f95(address a0, u64 a1) {
     u8 v2, v7, v12, v16, v17, v23, v28;
     struct pair v3, v21, v25, v26;
     address v4, v8, v18, v30;
@@ -21430,7 +22004,7 @@ L6:;
     store8(a2, v3);
     v20 = load8(v13);
     v21 = (u64)v20;
-    v22 = ADDRESS(c229) + v21 * 4u;
+    v22 = ADDRESS(c230) + v21 * 4u;
     v23 = load32(v22);
     v4 = v23; goto L7;
 L7:;
@@ -21804,7 +22378,7 @@ L12:;
     v118 = v117 == 8192u;
     v119 = v103 == 20u;
     v120 = (u8)(((u32)v119 & (u32)v118) & UINT64_C(1));
-    if (v120) { v7 = 1u; v8 = 0u; goto L18; }
+    if (v120) { v7 = 0u; v8 = 1u; goto L18; }
     else { goto L13; }
 L13:;
     v121 = v117 == 8196u;
@@ -21820,12 +22394,12 @@ L14:;
     else { v6 = 4u; goto L17; }
 L15:;
     v128 = load8(v102);
-    v7 = 3u; v8 = v128; goto L18;
+    v7 = v128; v8 = 3u; goto L18;
 L16:;
     UNREACHABLE;
 L17:;
-    if (v86) { v7 = v6; v8 = 0u; goto L18; }
-    else { v9 = v6; v10 = 0u; v11 = 0u; goto L19; }
+    if (v86) { v7 = 0u; v8 = v6; goto L18; }
+    else { v9 = 0u; v10 = v6; v11 = 0u; goto L19; }
 L18:;
     v129 = v60 + 33u * 1u;
     v130 = load8(v129);
@@ -21861,7 +22435,7 @@ L19:;
     memory_set(v47, 0u, 1480u);
     v147 = (u64)v5;
     v148 = (u64)((u64)v11 | (u64)v147);
-    v12 = v135; v13 = v138; v14 = v140; v15 = v142; v16 = v144; v17 = v146; v18 = v75; v19 = v77; v20 = v79; v21 = v82; v22 = v85; v23 = v148; v24 = 1u; v25 = v9; v26 = v10; v27 = v62; v28 = v64; v29 = v69; v30 = v73; v31 = 0u; goto L21;
+    v12 = v135; v13 = v138; v14 = v140; v15 = v142; v16 = v144; v17 = v146; v18 = v75; v19 = v77; v20 = v79; v21 = v82; v22 = v85; v23 = v148; v24 = 1u; v25 = v10; v26 = v9; v27 = v62; v28 = v64; v29 = v69; v30 = v73; v31 = 0u; goto L21;
 L20:;
     v149 = v35 + 1u * 1u;
     v150 = load8(v149);
@@ -22028,7 +22602,7 @@ L34:;
     portable_rattle_dealloc(v156);
     v32 = 35u; goto L36;
 L35:;
-    v215 = ADDRESS(c236) + v31 * 4u;
+    v215 = ADDRESS(c240) + v31 * 4u;
     v216 = load32(v215);
     v32 = v216; goto L36;
 L36:;
@@ -22677,7 +23251,7 @@ L8:;
     v8 = 35u; goto L10;
 L9:;
     v43 = (u64)v26;
-    v44 = ADDRESS(c230) + v43 * 4u;
+    v44 = ADDRESS(c231) + v43 * 4u;
     v45 = load32(v44);
     v8 = v45; goto L10;
 L10:;
@@ -23291,7 +23865,7 @@ L68:;
     UNREACHABLE;
 L69:;
     v297 = (u64)v254;
-    v298 = ADDRESS(c230) + v297 * 4u;
+    v298 = ADDRESS(c231) + v297 * 4u;
     v299 = load32(v298);
     v16 = v299; goto L73;
 L70:;
@@ -23344,10 +23918,10 @@ u64 portable_ptpm_error_name(u16 a0, address a1, u64 a2) {
     else { v4 = 0u; goto L5; }
 L1:;
     v13 = (u64)v8;
-    v14 = ADDRESS(c231) + v13 * 8u;
+    v14 = ADDRESS(c232) + v13 * 8u;
     v15 = load64(v14);
     v16 = (u64)v8;
-    v17 = ADDRESS(c232) + v16 * 8u;
+    v17 = ADDRESS(c233) + v16 * 8u;
     v18 = load_address(v17);
     v19 = a2 < v15;
     if (v19) { v4 = 0u; goto L5; }
@@ -23853,7 +24427,7 @@ L51:;
 L52:;
     v62 = 4u; v63 = ADDRESS(c165); goto L55;
 L53:;
-    v255 = ADDRESS(c233) + v58 * 8u;
+    v255 = ADDRESS(c234) + v58 * 8u;
     v256 = load_address(v255);
     v61 = v256; goto L54;
 L54:;
@@ -24022,77 +24596,81 @@ L78:;
 
 u64 portable_ptpm_field_text(u16 a0, address a1, u64 a2, address a3, u64 a4) {
     u64 v5, v7, v9, v10, v12, v13, v15, v18, v19, v22, v23, v26, v27, v28, v29, v32;
-    u64 v35, v36, v37, v38, v41, v42, v45, v46, v47, v49, v50, v51, v52, v53, v54, v55;
-    u64 v56, v57, v58, v59, v60, v61, v62, v63, v64, v65, v66, v70, v71, v72, v77, v78;
-    u64 v79, v84, v85, v86, v87, v88, v89, v90, v92, v93, v94, v96, v97, v98, v99, v100;
-    u64 v102, v103, v106, v108, v117, v120, v129, v134, v135, v136, v137, v140, v141, v142, v143, v152;
-    u64 v153, v164, v166, v169, v172, v181, v183, v185, v192, v194, v197, v200, v202, v215, v218, v219;
-    u64 v221, v222, v226, v228, v229, v231, v235, v237, v238, v239, v244, v246, v249, v252, v253, v255;
-    u64 v256, v257, v259, v260, v262, v266, v268, v269, v282, v283, v286, v288, v296, v299, v301, v302;
-    u64 v304, v305, v306, v307, v308, v310, v311, v312, v313, v315, v316, v317, v318, v324, v332, v334;
-    u64 v346, v348, v349, v361, v372, v374, v376, v384, v387, v389, v390, v392, v396, v401, v404, v405;
-    u64 v407, v411, v413, v414, v415, v420, v425, v428, v429, v431, v435, v437, v438, v439, v444, v448;
-    u64 v449, v450, v451, v455, v456, v459, v461, v464, v465, v468, v474, v480, v489, v490, v493, v495;
-    u64 v503, v506, v508, v524, v525, v528, v530, v538, v541, v545, v548, v549, v552, v554, v559, v561;
-    u64 v562, v566, v567, v569, v573, v575, v576, v577, v582, v584, v587, v588, v590, v594, v596, v597;
-    u64 v598, v603, v605, v609, v618, v619, v622, v625, v626, v628, v632, v634, v635, v638, v646, v648;
-    u64 v656, v659, v663, v664, v667, v671, v673, v675;
+    u64 v35, v36, v37, v38, v41, v42, v49, v50, v51, v57, v58, v59, v60, v61, v62, v63;
+    u64 v64, v65, v67, v68, v69, v70, v71, v72, v73, v77, v78, v79, v84, v85, v86, v91;
+    u64 v92, v93, v95, v96, v98, v100, v101, v102, v103, v104, v109, v110, v113, v115, v127, v130;
+    u64 v139, v144, v145, v146, v147, v150, v151, v152, v153, v170, v171, v182, v184, v187, v190, v199;
+    u64 v201, v203, v210, v212, v215, v218, v220, v233, v236, v237, v239, v240, v244, v246, v247, v249;
+    u64 v253, v255, v256, v257, v262, v264, v267, v273, v274, v276, v280, v282, v283, v287, v297, v298;
+    u64 v301, v303, v311, v314, v318, v320, v321, v323, v324, v325, v326, v328, v329, v330, v331, v332;
+    u64 v334, v335, v336, v337, v339, v340, v341, v342, v348, v356, v358, v370, v372, v373, v385, v396;
+    u64 v398, v400, v408, v411, v413, v414, v416, v420, v425, v428, v429, v431, v435, v437, v438, v439;
+    u64 v444, v446, v447, v448, v452, v453, v456, v458, v461, v462, v465, v471, v477, v479, v480, v481;
+    u64 v491, v492, v495, v497, v505, v508, v510, v519, v522, v530, v531, v534, v536, v544, v547, v551;
+    u64 v554, v555, v558, v564, v567, v569, v570, v574, v576, v577, v580, v582, v585, v594, v595, v598;
+    u64 v601, v602, v604, v608, v610, v611, v614, v622, v624, v632, v635, v639, v640, v643, v647, v649;
+    u64 v651;
     u8 v6, v11, v16, v17, v20, v21, v24, v25, v30, v31, v33, v34, v39, v40, v43, v44;
-    u8 v48, v68, v69, v73, v74, v75, v76, v80, v81, v82, v83, v95, v101, v104, v105, v107;
-    u8 v116, v119, v125, v128, v131, v133, v138, v139, v144, v150, v151, v154, v160, v161, v162, v165;
-    u8 v167, v173, v175, v176, v177, v178, v179, v184, v186, v174, v188, v189, v190, v191, v171, v193;
-    u8 v195, v196, v198, v204, v206, v208, v210, v212, v214, v217, v220, v223, v227, v230, v232, v233;
-    u8 v240, v243, v245, v247, v251, v258, v261, v263, v264, v270, v272, v273, v275, v276, v277, v278;
-    u8 v279, v280, v281, v284, v289, v290, v291, v292, v293, v294, v298, v300, v309, v314, v326, v328;
-    u8 v336, v338, v341, v342, v343, v344, v345, v351, v353, v363, v365, v369, v370, v371, v378, v380;
-    u8 v383, v388, v391, v393, v394, v398, v399, v400, v403, v406, v408, v409, v416, v419, v421, v422;
-    u8 v423, v424, v427, v430, v432, v433, v440, v443, v445, v446, v447, v452, v453, v454, v457, v462;
-    u8 v463, v466, v476, v477, v478, v479, v482, v483, v484, v485, v486, v487, v488, v491, v496, v497;
-    u8 v498, v499, v500, v501, v505, v507, v510, v512, v517, v518, v519, v520, v521, v522, v523, v526;
-    u8 v531, v532, v533, v534, v535, v536, v540, v542, v544, v546, v547, v550, v555, v556, v557, v558;
-    u8 v565, v568, v570, v571, v578, v581, v583, v585, v586, v589, v591, v592, v599, v602, v604, v606;
-    u8 v608, v610, v612, v613, v614, v615, v616, v617, v620, v624, v627, v629, v630, v636, v639, v640;
-    u8 v641, v642, v643, v644, v649, v650, v651, v652, v653, v654, v658, v660, v661, v662, v665, v669;
-    u8 v670, v672, v674;
-    address v8, v14, v91, v109, v110, v111, v112, v113, v114, v115, v118, v121, v122, v123, v124, v126;
-    address v127, v130, v132, v145, v146, v147, v148, v149, v155, v156, v157, v158, v159, v163, v168, v170;
-    address v180, v182, v187, v199, v201, v203, v205, v207, v209, v211, v213, v216, v225, v234, v236, v241;
-    address v242, v248, v250, v254, v265, v267, v271, v274, v285, v287, v295, v297, v303, v325, v327, v329;
-    address v330, v331, v335, v337, v339, v340, v347, v350, v352, v354, v355, v362, v364, v366, v367, v368;
-    address v373, v377, v379, v381, v382, v385, v386, v395, v397, v402, v410, v412, v417, v418, v426, v434;
-    address v436, v441, v442, v458, v460, v467, v469, v481, v492, v494, v502, v504, v509, v511, v527, v529;
-    address v537, v539, v543, v551, v553, v560, v563, v564, v572, v574, v579, v580, v593, v595, v600, v601;
-    address v607, v611, v621, v623, v631, v633, v637, v645, v647, v655, v657, v666, v668;
-    u32 v67, v470, v471, v472, v473, v475;
-    struct s5 v224;
-    u16 v319, v320, v321, v322, v323, v333, v356, v357, v358, v359, v360, v375, v513, v514, v515, v516;
-    u64 block0[5];
-    u64 block1[1];
-    u64 block2[1];
+    u8 v45, v46, v47, v48, v52, v53, v54, v55, v56, v66, v75, v76, v80, v81, v82, v83;
+    u8 v87, v88, v89, v90, v99, v105, v106, v107, v108, v111, v112, v114, v126, v129, v135, v138;
+    u8 v141, v143, v148, v149, v154, v168, v169, v172, v178, v179, v180, v183, v185, v191, v193, v194;
+    u8 v195, v196, v197, v202, v204, v192, v206, v207, v208, v209, v189, v211, v213, v214, v216, v222;
+    u8 v224, v226, v228, v230, v232, v235, v238, v241, v245, v248, v250, v251, v258, v261, v263, v265;
+    u8 v269, v270, v271, v272, v275, v277, v278, v284, v286, v288, v290, v291, v292, v293, v294, v295;
+    u8 v296, v299, v304, v305, v306, v307, v308, v309, v313, v315, v316, v317, v319, v333, v338, v350;
+    u8 v352, v360, v362, v365, v366, v367, v368, v369, v375, v377, v387, v389, v393, v394, v395, v402;
+    u8 v404, v407, v412, v415, v417, v418, v422, v423, v424, v427, v430, v432, v433, v440, v443, v445;
+    u8 v449, v450, v451, v454, v459, v460, v463, v473, v474, v475, v476, v478, v482, v484, v485, v486;
+    u8 v487, v488, v489, v490, v493, v498, v499, v500, v501, v502, v503, v507, v509, v512, v514, v523;
+    u8 v524, v525, v526, v527, v528, v529, v532, v537, v538, v539, v540, v541, v542, v546, v548, v550;
+    u8 v552, v553, v556, v560, v561, v562, v563, v571, v572, v573, v584, v586, v588, v589, v590, v591;
+    u8 v592, v593, v596, v600, v603, v605, v606, v612, v615, v616, v617, v618, v619, v620, v625, v626;
+    u8 v627, v628, v629, v630, v634, v636, v637, v638, v641, v645, v646, v648, v650;
+    address v8, v14, v94, v97, v116, v117, v118, v119, v120, v121, v122, v123, v124, v125, v128, v131;
+    address v132, v133, v134, v136, v137, v140, v142, v155, v156, v157, v158, v159, v160, v161, v162, v163;
+    address v164, v165, v166, v167, v173, v174, v175, v176, v177, v181, v186, v188, v198, v200, v205, v217;
+    address v219, v221, v223, v225, v227, v229, v231, v234, v243, v252, v254, v259, v260, v266, v268, v279;
+    address v281, v285, v289, v300, v302, v310, v312, v322, v327, v349, v351, v353, v354, v355, v359, v361;
+    address v363, v364, v371, v374, v376, v378, v379, v386, v388, v390, v391, v392, v397, v401, v403, v405;
+    address v406, v409, v410, v419, v421, v426, v434, v436, v441, v442, v455, v457, v464, v466, v483, v494;
+    address v496, v504, v506, v511, v513, v533, v535, v543, v545, v549, v557, v559, v565, v566, v568, v575;
+    address v578, v579, v581, v583, v587, v597, v599, v607, v609, v613, v621, v623, v631, v633, v642, v644;
+    u32 v74, v467, v468, v469, v470, v472, v520, v521;
+    struct s5 v242;
+    u16 v343, v344, v345, v346, v347, v357, v380, v381, v382, v383, v384, v399, v515, v516, v517, v518;
+    u64 block0[3];
+    u64 block1[3];
+    u64 block2[5];
     u64 block3[1];
     u64 block4[2];
     u64 block5[1];
-    u64 block6[4];
-    v109 = ADDRESS(block0);
-    v110 = ADDRESS(block1);
-    v111 = ADDRESS(block2);
-    v112 = ADDRESS(block3);
-    v113 = ADDRESS(block4);
-    v114 = ADDRESS(block5);
-    v115 = ADDRESS(block6);
-    v116 = a1 == 0u;
-    v117 = v116 ? 4096u : 0u;
-    v118 = a1 + v117 * 1u;
-    v119 = a3 == 0u;
-    v120 = v119 ? 4096u : 0u;
-    v121 = a3 + v120 * 1u;
-    store_address(v115, v121);
-    v122 = v115 + 8u * 1u;
-    store64(v122, a4);
-    v123 = v115 + 16u * 1u;
-    store64(v123, 1u);
-    v124 = v115 + 24u * 1u;
-    store64(v124, 0u);
+    u64 block6[1];
+    u64 block7[2];
+    u64 block8[1];
+    u64 block9[4];
+    v116 = ADDRESS(block0);
+    v117 = ADDRESS(block1);
+    v118 = ADDRESS(block2);
+    v119 = ADDRESS(block3);
+    v120 = ADDRESS(block4);
+    v121 = ADDRESS(block5);
+    v122 = ADDRESS(block6);
+    v123 = ADDRESS(block7);
+    v124 = ADDRESS(block8);
+    v125 = ADDRESS(block9);
+    v126 = a1 == 0u;
+    v127 = v126 ? 4096u : 0u;
+    v128 = a1 + v127 * 1u;
+    v129 = a3 == 0u;
+    v130 = v129 ? 4096u : 0u;
+    v131 = a3 + v130 * 1u;
+    store_address(v125, v131);
+    v132 = v125 + 8u * 1u;
+    store64(v132, a4);
+    v133 = v125 + 16u * 1u;
+    store64(v133, 1u);
+    v134 = v125 + 24u * 1u;
+    store64(v134, 0u);
     switch (a0) {
     case 0u: v10 = 0u; v11 = 0u; v12 = 0u; goto L28;
     case 2u: goto L5;
@@ -24126,8 +24704,8 @@ L3:;
 L4:;
     v10 = 0u; v11 = 14u; v12 = 0u; goto L28;
 L5:;
-    v125 = a2 == 0u;
-    if (v125) { goto L46; }
+    v135 = a2 == 0u;
+    if (v135) { goto L46; }
     else { goto L42; }
 L6:;
     v5 = 0u; v6 = 4u; v7 = 60u; v8 = ADDRESS(c151); goto L21;
@@ -24160,13 +24738,13 @@ L19:;
 L20:;
     UNREACHABLE;
 L21:;
-    v126 = v8 + v7 * 1u;
-    v127 = v126 + UINT64_C(18446744073709551613) * 1u;
-    v128 = load8(v127);
-    v129 = (u64)v128;
-    v130 = v126 + UINT64_C(18446744073709551614) * 1u;
-    v131 = load8(v130);
-    switch (v131) {
+    v136 = v8 + v7 * 1u;
+    v137 = v136 + UINT64_C(18446744073709551613) * 1u;
+    v138 = load8(v137);
+    v139 = (u64)v138;
+    v140 = v136 + UINT64_C(18446744073709551614) * 1u;
+    v141 = load8(v140);
+    switch (v141) {
     case 0u: goto L25;
     case 1u: goto L25;
     case 2u: goto L25;
@@ -24188,20 +24766,20 @@ L23:;
 L24:;
     v9 = 0u; goto L27;
 L25:;
-    v132 = v126 + UINT64_C(18446744073709551615) * 1u;
-    v133 = load8(v132);
-    v134 = (u64)v133;
-    v9 = v134; goto L27;
+    v142 = v136 + UINT64_C(18446744073709551615) * 1u;
+    v143 = load8(v142);
+    v144 = (u64)v143;
+    v9 = v144; goto L27;
 L26:;
     UNREACHABLE;
 L27:;
-    v135 = (u64)((u64)v9 + (u64)v129);
-    v10 = v5; v11 = v6; v12 = v135; goto L28;
+    v145 = (u64)((u64)v9 + (u64)v139);
+    v10 = v5; v11 = v6; v12 = v145; goto L28;
 L28:;
-    v136 = (u64)((u64)v12 & (u64)1u);
-    v137 = (u64)((u64)v136 + (u64)v12);
-    v138 = a2 == v137;
-    if (v138) { goto L29; }
+    v146 = (u64)((u64)v12 & (u64)1u);
+    v147 = (u64)((u64)v146 + (u64)v12);
+    v148 = a2 == v147;
+    if (v148) { goto L29; }
     else { goto L45; }
 L29:;
     switch (v11) {
@@ -24249,1088 +24827,1016 @@ L40:;
 L41:;
     v13 = 4u; v14 = ADDRESS(c165); goto L44;
 L42:;
-    v139 = load8(v118);
-    v140 = (u64)v139;
-    v141 = (u64)((u64)v140 + (u64)1u);
-    v142 = (u64)((u64)v141 & (u64)1u);
-    v143 = (u64)((u64)v142 + (u64)v141);
-    v144 = a2 == v143;
-    if (v144) { v13 = 1u; v14 = ADDRESS(c148); goto L44; }
+    v149 = load8(v128);
+    v150 = (u64)v149;
+    v151 = (u64)((u64)v150 + (u64)1u);
+    v152 = (u64)((u64)v151 & (u64)1u);
+    v153 = (u64)((u64)v152 + (u64)v151);
+    v154 = a2 == v153;
+    if (v154) { v13 = 1u; v14 = ADDRESS(c148); goto L44; }
     else { goto L45; }
 L43:;
-    v145 = ADDRESS(c233) + v10 * 8u;
-    v146 = load_address(v145);
-    v13 = 1u; v14 = v146; goto L44;
+    v155 = ADDRESS(c234) + v10 * 8u;
+    v156 = load_address(v155);
+    v13 = 1u; v14 = v156; goto L44;
 L44:;
-    v147 = v114 + 1u * 1u;
-    v148 = v114 + 2u * 1u;
-    v149 = v113 + 8u * 1u;
+    v157 = v124 + 1u * 1u;
+    v158 = v124 + 2u * 1u;
+    v159 = v116 + 8u * 1u;
+    v160 = v116 + 16u * 1u;
+    v161 = v117 + 8u * 1u;
+    v162 = v117 + 16u * 1u;
+    v163 = v120 + 6u * 1u;
+    v164 = v119 + 1u * 1u;
+    v165 = v119 + 7u * 1u;
+    v166 = v123 + 8u * 1u;
+    v167 = v123 + 6u * 1u;
     v30 = 1u; v31 = 1u; v32 = 0u; goto L68;
 L45:;
-    v150 = a4 < 6u;
-    if (v150) { goto L52; }
+    v168 = a4 < 6u;
+    if (v168) { goto L52; }
     else { goto L47; }
 L46:;
-    v151 = a4 < 6u;
-    if (v151) { goto L202; }
+    v169 = a4 < 6u;
+    if (v169) { goto L188; }
     else { goto L47; }
 L47:;
-    v152 = (u64)v121;
-    v153 = (u64)((u64)v152 - (u64)ADDRESS(c209));
-    v154 = v153 < 6u;
-    if (v154) { goto L48; }
+    v170 = (u64)v131;
+    v171 = (u64)((u64)v170 - (u64)ADDRESS(c211));
+    v172 = v171 < 6u;
+    if (v172) { goto L48; }
     else { goto L49; }
 L48:;
-    store8(v121, 118u);
-    v155 = v121 + 1u * 1u;
-    store8(v155, 97u);
-    v156 = v121 + 2u * 1u;
-    store8(v156, 108u);
-    v157 = v121 + 3u * 1u;
-    store8(v157, 117u);
-    v158 = v121 + 4u * 1u;
-    store8(v158, 101u);
-    v159 = v121 + 5u * 1u;
-    store8(v159, 32u);
+    store8(v131, 118u);
+    v173 = v131 + 1u * 1u;
+    store8(v173, 97u);
+    v174 = v131 + 2u * 1u;
+    store8(v174, 108u);
+    v175 = v131 + 3u * 1u;
+    store8(v175, 117u);
+    v176 = v131 + 4u * 1u;
+    store8(v176, 101u);
+    v177 = v131 + 5u * 1u;
+    store8(v177, 32u);
     goto L50;
 L49:;
-    memory_cpy(v121, ADDRESS(c209), 6u);
+    memory_cpy(v131, ADDRESS(c211), 6u);
     goto L50;
 L50:;
-    v160 = a2 == 0u;
-    if (v160) { goto L53; }
+    v178 = a2 == 0u;
+    if (v178) { goto L53; }
     else { v15 = 6u; v16 = 1u; v17 = 1u; goto L51; }
 L51:;
     v23 = v15; v24 = v16; v25 = v17; v26 = 0u; goto L61;
 L52:;
-    v161 = a2 == 0u;
-    if (v161) { goto L202; }
+    v179 = a2 == 0u;
+    if (v179) { goto L188; }
     else { v15 = 0u; v16 = 0u; v17 = 0u; goto L51; }
 L53:;
-    v162 = a4 == 6u;
-    if (v162) { goto L202; }
+    v180 = a4 == 6u;
+    if (v180) { goto L188; }
     else { goto L54; }
 L54:;
-    v163 = v121 + 6u * 1u;
-    store8(v163, 45u);
+    v181 = v131 + 6u * 1u;
+    store8(v181, 45u);
     v28 = a4; v29 = 7u; goto L66;
 L55:;
-    v164 = (u64)((u64)v18 + (u64)1u);
-    v165 = v164 == a2;
-    if (v165) { goto L64; }
-    else { v18 = v164; goto L55; }
+    v182 = (u64)((u64)v18 + (u64)1u);
+    v183 = v182 == a2;
+    if (v183) { goto L64; }
+    else { v18 = v182; goto L55; }
 L56:;
-    v166 = load64(v122);
-    v167 = v166 > v23;
-    if (v167) { goto L57; }
+    v184 = load64(v132);
+    v185 = v184 > v23;
+    if (v185) { goto L57; }
     else { goto L63; }
 L57:;
-    v168 = load_address(v115);
-    v169 = (u64)((u64)v23 + (u64)1u);
-    v170 = v168 + v23 * 1u;
-    store8(v170, v171);
-    v172 = load64(v122);
-    v173 = v172 > v169;
-    if (v173) { goto L58; }
+    v186 = load_address(v125);
+    v187 = (u64)((u64)v23 + (u64)1u);
+    v188 = v186 + v23 * 1u;
+    store8(v188, v189);
+    v190 = load64(v132);
+    v191 = v190 > v187;
+    if (v191) { goto L58; }
     else { goto L59; }
 L58:;
-    v175 = (u8)((u32)v174 & (u32)15u);
-    v176 = v175 < 10u;
-    v177 = (u8)((u32)v175 | (u32)48u);
-    v178 = (u8)((u32)v175 + (u32)87u);
-    v179 = v176 ? v177 : v178;
-    v180 = load_address(v115);
-    v181 = (u64)((u64)v23 + (u64)2u);
-    v182 = v180 + v169 * 1u;
-    store8(v182, v179);
-    v183 = (u64)((u64)v26 + (u64)1u);
-    v184 = v183 == a2;
-    if (v184) { v27 = v181; goto L65; }
-    else { v19 = v181; v20 = 1u; v21 = 1u; v22 = v183; goto L60; }
+    v193 = (u8)((u32)v192 & (u32)15u);
+    v194 = v193 < 10u;
+    v195 = (u8)((u32)v193 | (u32)48u);
+    v196 = (u8)((u32)v193 + (u32)87u);
+    v197 = v194 ? v195 : v196;
+    v198 = load_address(v125);
+    v199 = (u64)((u64)v23 + (u64)2u);
+    v200 = v198 + v187 * 1u;
+    store8(v200, v197);
+    v201 = (u64)((u64)v26 + (u64)1u);
+    v202 = v201 == a2;
+    if (v202) { v27 = v199; goto L65; }
+    else { v19 = v199; v20 = 1u; v21 = 1u; v22 = v201; goto L60; }
 L59:;
-    v185 = (u64)((u64)v26 + (u64)1u);
-    v186 = v185 == a2;
-    if (v186) { v106 = 0u; v107 = 0u; goto L203; }
-    else { v19 = 0u; v20 = 0u; v21 = 0u; v22 = v185; goto L60; }
+    v203 = (u64)((u64)v26 + (u64)1u);
+    v204 = v203 == a2;
+    if (v204) { v113 = 0u; v114 = 0u; goto L189; }
+    else { v19 = 0u; v20 = 0u; v21 = 0u; v22 = v203; goto L60; }
 L60:;
     v23 = v19; v24 = v20; v25 = v21; v26 = v22; goto L61;
 L61:;
-    v187 = v118 + v26 * 1u;
-    v174 = load8(v187);
-    v188 = (u8)((u32)v174 >> (4u & 7u));
-    v189 = v174 < 160u;
-    v190 = (u8)((u32)v188 | (u32)48u);
-    v191 = (u8)((u32)v188 + (u32)87u);
-    v171 = v189 ? v190 : v191;
+    v205 = v128 + v26 * 1u;
+    v192 = load8(v205);
+    v206 = (u8)((u32)v192 >> (4u & 7u));
+    v207 = v192 < 160u;
+    v208 = (u8)((u32)v206 | (u32)48u);
+    v209 = (u8)((u32)v206 + (u32)87u);
+    v189 = v207 ? v208 : v209;
     if (v25) { goto L56; }
     else { goto L62; }
 L62:;
-    v192 = (u64)((u64)v26 + (u64)1u);
-    v193 = v192 == a2;
-    if (v193) { goto L64; }
-    else { v18 = v192; goto L55; }
+    v210 = (u64)((u64)v26 + (u64)1u);
+    v211 = v210 == a2;
+    if (v211) { goto L64; }
+    else { v18 = v210; goto L55; }
 L63:;
-    v194 = (u64)((u64)v26 + (u64)1u);
-    v195 = v194 == a2;
-    if (v195) { v106 = 0u; v107 = 0u; goto L203; }
-    else { v19 = 0u; v20 = 0u; v21 = 0u; v22 = v194; goto L60; }
+    v212 = (u64)((u64)v26 + (u64)1u);
+    v213 = v212 == a2;
+    if (v213) { v113 = 0u; v114 = 0u; goto L189; }
+    else { v19 = 0u; v20 = 0u; v21 = 0u; v22 = v212; goto L60; }
 L64:;
-    v196 = v24 == 0u;
-    if (v196) { v106 = v23; v107 = v24; goto L203; }
+    v214 = v24 == 0u;
+    if (v214) { v113 = v23; v114 = v24; goto L189; }
     else { v27 = v23; goto L65; }
 L65:;
-    v197 = load64(v122);
-    v28 = v197; v29 = v27; goto L66;
+    v215 = load64(v132);
+    v28 = v215; v29 = v27; goto L66;
 L66:;
-    v198 = v28 > v29;
-    if (v198) { goto L67; }
-    else { goto L202; }
+    v216 = v28 > v29;
+    if (v216) { goto L67; }
+    else { goto L188; }
 L67:;
-    v199 = load_address(v115);
-    v200 = (u64)((u64)v29 + (u64)1u);
-    v201 = v199 + v29 * 1u;
-    store8(v201, 10u);
-    v108 = v200; goto L204;
+    v217 = load_address(v125);
+    v218 = (u64)((u64)v29 + (u64)1u);
+    v219 = v217 + v29 * 1u;
+    store8(v219, 10u);
+    v115 = v218; goto L190;
 L68:;
-    v202 = (u64)((u64)v32 * (u64)6u);
-    v203 = v14 + v202 * 1u;
-    v204 = load8(v203);
-    v205 = v203 + 1u * 1u;
-    v206 = load8(v205);
-    v207 = v203 + 2u * 1u;
-    v208 = load8(v207);
-    v209 = v203 + 3u * 1u;
-    v210 = load8(v209);
-    v211 = v203 + 4u * 1u;
-    v212 = load8(v211);
-    v213 = v203 + 5u * 1u;
-    v214 = load8(v213);
-    v215 = (u64)v210;
-    v216 = v118 + v215 * 1u;
-    v217 = v31 == 1u;
-    if (v217) { goto L69; }
+    v220 = (u64)((u64)v32 * (u64)6u);
+    v221 = v14 + v220 * 1u;
+    v222 = load8(v221);
+    v223 = v221 + 1u * 1u;
+    v224 = load8(v223);
+    v225 = v221 + 2u * 1u;
+    v226 = load8(v225);
+    v227 = v221 + 3u * 1u;
+    v228 = load8(v227);
+    v229 = v221 + 4u * 1u;
+    v230 = load8(v229);
+    v231 = v221 + 5u * 1u;
+    v232 = load8(v231);
+    v233 = (u64)v228;
+    v234 = v128 + v233 * 1u;
+    v235 = v31 == 1u;
+    if (v235) { goto L69; }
     else { v33 = v30; v34 = v31; goto L70; }
 L69:;
-    v218 = load64(v124);
-    v219 = load64(v122);
-    v220 = v219 >= v218;
-    v221 = v220 ? v218 : 0u;
-    v222 = (u64)v220;
-    store64(v123, v222);
-    store64(v124, v221);
-    v223 = (u8)v220;
-    v33 = v223; v34 = v223; goto L70;
+    v236 = load64(v134);
+    v237 = load64(v132);
+    v238 = v237 >= v236;
+    v239 = v238 ? v236 : 0u;
+    v240 = (u64)v238;
+    store64(v133, v240);
+    store64(v134, v239);
+    v241 = (u8)v238;
+    v33 = v241; v34 = v241; goto L70;
 L70:;
-    store8(v114, v204);
-    store8(v147, v206);
-    store8(v148, v208);
-    v224 = f42(v114);
-    v225 = v224.m0;
-    v226 = v224.m1;
-    v227 = v34 == 1u;
-    if (v227) { goto L71; }
-    else { v39 = v33; v40 = v34; goto L80; }
+    store8(v124, v222);
+    store8(v157, v224);
+    store8(v158, v226);
+    v242 = f42(v124);
+    v243 = v242.m0;
+    v244 = v242.m1;
+    v245 = v34 == 1u;
+    if (v245) { goto L71; }
+    else { v39 = v33; v40 = v34; goto L79; }
 L71:;
-    v228 = load64(v124);
-    v229 = load64(v122);
-    v230 = v229 < v228;
-    v231 = (u64)((u64)v229 - (u64)v228);
-    v232 = v231 < v226;
-    v233 = v230 ? 1u : v232;
-    if (v233) { goto L75; }
+    v246 = load64(v134);
+    v247 = load64(v132);
+    v248 = v247 < v246;
+    v249 = (u64)((u64)v247 - (u64)v246);
+    v250 = v249 < v244;
+    v251 = v248 ? 1u : v250;
+    if (v251) { goto L80; }
     else { goto L72; }
 L72:;
-    v234 = load_address(v115);
-    v235 = (u64)((u64)v228 + (u64)v226);
-    v236 = v234 + v228 * 1u;
-    v237 = (u64)v236;
-    v238 = (u64)v225;
-    v239 = (u64)((u64)v237 - (u64)v238);
-    v240 = v239 < v226;
-    if (v240) { v35 = 0u; goto L74; }
+    v252 = load_address(v125);
+    v253 = (u64)((u64)v246 + (u64)v244);
+    v254 = v252 + v246 * 1u;
+    v255 = (u64)v254;
+    v256 = (u64)v243;
+    v257 = (u64)((u64)v255 - (u64)v256);
+    v258 = v257 < v244;
+    if (v258) { v35 = 0u; goto L74; }
     else { goto L73; }
 L73:;
-    memory_move(v236, v225, v226);
-    v36 = v229; goto L77;
+    memory_move(v254, v243, v244);
+    v36 = v247; goto L76;
 L74:;
-    v241 = v236 + v35 * 1u;
-    v242 = v225 + v35 * 1u;
-    v243 = load8(v242);
-    store8(v241, v243);
-    v244 = (u64)((u64)v35 + (u64)1u);
-    v245 = v244 == v226;
-    if (v245) { goto L76; }
-    else { v35 = v244; goto L74; }
+    v259 = v254 + v35 * 1u;
+    v260 = v243 + v35 * 1u;
+    v261 = load8(v260);
+    store8(v259, v261);
+    v262 = (u64)((u64)v35 + (u64)1u);
+    v263 = v262 == v244;
+    if (v263) { goto L75; }
+    else { v35 = v262; goto L74; }
 L75:;
-    memory_set(v123, 0u, 16u);
-    v39 = 0u; v40 = 0u; goto L80;
+    v264 = load64(v132);
+    v36 = v264; goto L76;
 L76:;
-    v246 = load64(v122);
-    v36 = v246; goto L77;
+    v265 = v36 > v253;
+    if (v265) { goto L77; }
+    else { v37 = 0u; v38 = 0u; goto L78; }
 L77:;
-    v247 = v36 > v235;
-    if (v247) { goto L78; }
-    else { v37 = 0u; v38 = 0u; goto L79; }
+    v266 = load_address(v125);
+    v267 = (u64)((u64)v253 + (u64)1u);
+    v268 = v266 + v253 * 1u;
+    store8(v268, 32u);
+    v37 = v267; v38 = 1u; goto L78;
 L78:;
-    v248 = load_address(v115);
-    v249 = (u64)((u64)v235 + (u64)1u);
-    v250 = v248 + v235 * 1u;
-    store8(v250, 32u);
-    v37 = v249; v38 = 1u; goto L79;
+    store64(v133, v38);
+    store64(v134, v37);
+    v269 = (u8)(v38);
+    v39 = v269; v40 = v269; goto L79;
 L79:;
-    store64(v123, v38);
-    store64(v124, v37);
-    v251 = (u8)(v38);
-    v39 = v251; v40 = v251; goto L80;
+    v270 = v230 == 1u;
+    if (v270) { goto L81; }
+    else { v56 = v40; goto L95; }
 L80:;
-    store64(v112, 0u);
-    memory_set(v113, 0u, 10u);
-    switch (v212) {
-    case 0u: goto L81;
-    case 1u: goto L82;
-    case 2u: goto L96;
-    case 3u: goto L112;
-    case 4u: goto L118;
-    case 5u: goto L124;
+    v271 = v230 == 1u;
+    memory_set(v133, 0u, 16u);
+    if (v271) { v43 = 0u; v44 = 0u; goto L87; }
+    else { v56 = 0u; goto L95; }
+L81:;
+    v272 = v40 == 1u;
+    if (v272) { goto L82; }
+    else { v43 = v39; v44 = v40; goto L87; }
+L82:;
+    v273 = load64(v134);
+    v274 = load64(v132);
+    v275 = v274 < v273;
+    v276 = (u64)((u64)v274 - (u64)v273);
+    v277 = v276 < 2u;
+    v278 = v275 ? 1u : v277;
+    if (v278) { v41 = 0u; v42 = 0u; goto L86; }
+    else { goto L83; }
+L83:;
+    v279 = load_address(v125);
+    v280 = (u64)((u64)v273 + (u64)2u);
+    v281 = v279 + v273 * 1u;
+    v282 = (u64)v281;
+    v283 = (u64)((u64)v282 - (u64)ADDRESS(c212));
+    v284 = v283 < 2u;
+    if (v284) { goto L84; }
+    else { goto L85; }
+L84:;
+    store8(v281, 48u);
+    v285 = v281 + 1u * 1u;
+    store8(v285, 120u);
+    v41 = v280; v42 = 1u; goto L86;
+L85:;
+    store16(v281, 30768u);
+    v41 = v280; v42 = 1u; goto L86;
+L86:;
+    store64(v133, v42);
+    store64(v134, v41);
+    v286 = (u8)(v42);
+    v43 = v286; v44 = v286; goto L87;
+L87:;
+    v287 = (u64)v232;
+    v288 = v232 == 0u;
+    if (v288) { v106 = v43; v107 = v44; v108 = v44; goto L182; }
+    else { v45 = v43; v46 = v44; v47 = v44; v48 = v44; v49 = 0u; goto L88; }
+L88:;
+    v289 = v234 + v49 * 1u;
+    v290 = load8(v289);
+    v291 = (u8)((u32)v290 >> (4u & 7u));
+    v292 = v290 < 160u;
+    v293 = (u8)((u32)v291 | (u32)48u);
+    v294 = (u8)((u32)v291 + (u32)87u);
+    v295 = v292 ? v293 : v294;
+    v296 = v48 == 1u;
+    if (v296) { goto L89; }
+    else { v52 = v45; v53 = v46; v54 = v47; v55 = v48; goto L94; }
+L89:;
+    v297 = load64(v134);
+    v298 = load64(v132);
+    v299 = v298 > v297;
+    if (v299) { goto L90; }
+    else { goto L93; }
+L90:;
+    v300 = load_address(v125);
+    v301 = (u64)((u64)v297 + (u64)1u);
+    v302 = v300 + v297 * 1u;
+    store8(v302, v295);
+    v303 = load64(v132);
+    v304 = v303 > v301;
+    if (v304) { goto L91; }
+    else { v50 = 0u; v51 = 0u; goto L92; }
+L91:;
+    v305 = (u8)((u32)v290 & (u32)15u);
+    v306 = v305 < 10u;
+    v307 = (u8)((u32)v305 | (u32)48u);
+    v308 = (u8)((u32)v305 + (u32)87u);
+    v309 = v306 ? v307 : v308;
+    v310 = load_address(v125);
+    v311 = (u64)((u64)v297 + (u64)2u);
+    v312 = v310 + v301 * 1u;
+    store8(v312, v309);
+    v50 = v311; v51 = 1u; goto L92;
+L92:;
+    store64(v133, v51);
+    store64(v134, v50);
+    v313 = (u8)(v51);
+    v52 = v313; v53 = v313; v54 = v313; v55 = v313; goto L94;
+L93:;
+    memory_set(v133, 0u, 16u);
+    v52 = 0u; v53 = 0u; v54 = 0u; v55 = 0u; goto L94;
+L94:;
+    v314 = (u64)((u64)v49 + (u64)1u);
+    v315 = v314 == v287;
+    if (v315) { v106 = v52; v107 = v53; v108 = v54; goto L182; }
+    else { v45 = v52; v46 = v53; v47 = v54; v48 = v55; v49 = v314; goto L88; }
+L95:;
+    switch (v230) {
+    case 0u: goto L100;
+    case 11u: goto L98;
+    case 2u: goto L103;
+    case 3u: v66 = v232; goto L119;
+    case 4u: goto L96;
+    case 5u: goto L97;
     case 6u: goto L125;
     case 7u: goto L135;
     case 8u: goto L143;
     case 9u: goto L157;
-    case 10u: goto L165;
-    case 11u: goto L175;
-    default: goto L194;
+    case 10u: goto L160;
+    default: goto L101;
     }
-L81:;
-    v252 = (u64)v214;
-    store64(v111, 0u);
-    v253 = (u64)((u64)8u - (u64)v252);
-    v254 = v111 + v253 * 1u;
-    memory_cpy(v254, v216, v252);
-    v255 = load64(v111);
-    v256 = swap64(v255);
-    f44(v256, v115);
-    goto L196;
-L82:;
-    v257 = (u64)v214;
-    v258 = v40 == 1u;
-    if (v258) { goto L83; }
-    else { v43 = v40; goto L88; }
-L83:;
-    v259 = load64(v124);
-    v260 = load64(v122);
-    v261 = v260 < v259;
-    v262 = (u64)((u64)v260 - (u64)v259);
-    v263 = v262 < 2u;
-    v264 = v261 ? 1u : v263;
-    if (v264) { v41 = 0u; v42 = 0u; goto L87; }
-    else { goto L84; }
-L84:;
-    v265 = load_address(v115);
-    v266 = (u64)((u64)v259 + (u64)2u);
-    v267 = v265 + v259 * 1u;
-    v268 = (u64)v267;
-    v269 = (u64)((u64)v268 - (u64)ADDRESS(c210));
-    v270 = v269 < 2u;
-    if (v270) { goto L85; }
-    else { goto L86; }
-L85:;
-    store8(v267, 48u);
-    v271 = v267 + 1u * 1u;
-    store8(v271, 120u);
-    v41 = v266; v42 = 1u; goto L87;
-L86:;
-    store16(v267, 30768u);
-    v41 = v266; v42 = 1u; goto L87;
-L87:;
-    store64(v123, v42);
-    store64(v124, v41);
-    v272 = (u8)(v42);
-    v43 = v272; goto L88;
-L88:;
-    v273 = v214 == 0u;
-    if (v273) { goto L196; }
-    else { v44 = v43; v45 = 0u; goto L89; }
-L89:;
-    v274 = v216 + v45 * 1u;
-    v275 = load8(v274);
-    v276 = (u8)((u32)v275 >> (4u & 7u));
-    v277 = v275 < 160u;
-    v278 = (u8)((u32)v276 | (u32)48u);
-    v279 = (u8)((u32)v276 + (u32)87u);
-    v280 = v277 ? v278 : v279;
-    v281 = v44 == 1u;
-    if (v281) { goto L90; }
-    else { v48 = v44; goto L95; }
-L90:;
-    v282 = load64(v124);
-    v283 = load64(v122);
-    v284 = v283 > v282;
-    if (v284) { goto L91; }
-    else { goto L94; }
-L91:;
-    v285 = load_address(v115);
-    v286 = (u64)((u64)v282 + (u64)1u);
-    v287 = v285 + v282 * 1u;
-    store8(v287, v280);
-    v288 = load64(v122);
-    v289 = v288 > v286;
-    if (v289) { goto L92; }
-    else { v46 = 0u; v47 = 0u; goto L93; }
-L92:;
-    v290 = (u8)((u32)v275 & (u32)15u);
-    v291 = v290 < 10u;
-    v292 = (u8)((u32)v290 | (u32)48u);
-    v293 = (u8)((u32)v290 + (u32)87u);
-    v294 = v291 ? v292 : v293;
-    v295 = load_address(v115);
-    v296 = (u64)((u64)v282 + (u64)2u);
-    v297 = v295 + v286 * 1u;
-    store8(v297, v294);
-    v46 = v296; v47 = 1u; goto L93;
-L93:;
-    store64(v123, v47);
-    store64(v124, v46);
-    v298 = (u8)(v47);
-    v48 = v298; goto L95;
-L94:;
-    memory_set(v123, 0u, 16u);
-    v48 = 0u; goto L95;
-L95:;
-    v299 = (u64)((u64)v45 + (u64)1u);
-    v300 = v299 == v257;
-    if (v300) { goto L196; }
-    else { v44 = v48; v45 = v299; goto L89; }
 L96:;
-    v301 = (u64)v214;
-    store64(v110, 0u);
-    v302 = (u64)((u64)8u - (u64)v301);
-    v303 = v110 + v302 * 1u;
-    memory_cpy(v303, v216, v301);
-    v304 = load64(v110);
-    v305 = swap64(v304);
-    v306 = (u64)((u64)v301 << (3u & 63u));
-    v307 = (u64)((u64)v306 + (u64)UINT64_C(18446744073709551615));
-    v308 = (u64)((u64)v305 >> (v307 & 63u));
-    v309 = v308 == 0u;
-    v310 = (u64)((u64)UINT64_C(18446744073709551614) << (v307 & 63u));
-    v311 = v309 ? 0u : v310;
-    v312 = (u64)((u64)v311 + (u64)v305);
-    memory_set(v109, 0u, 40u);
-    v313 = (i64)v312 < 0 ? (u64)(0u - (u64)v312) : v312;
-    v314 = v313 > 9999u;
-    if (v314) { v49 = v313; v50 = 40u; goto L97; }
-    else { v51 = 40u; v52 = v313; goto L98; }
+    v66 = 3u; goto L119;
 L97:;
-    v315 = v49;
-    v316 = (u64)((u64)v315 / (u64)10000u);
-    v317 = (u64)((u64)v316 * (u64)10000u);
-    v318 = (u64)((u64)v315 - (u64)v317);
-    v319 = (u16)(v318);
-    v320 = (u16)((u32)v319 / (u32)100u);
-    v321 = (u16)((u32)v320 * (u32)100u);
-    v322 = (u16)((u32)v319 - (u32)v321);
-    v323 = (u16)((u32)v322 << (1u & 15u));
-    v324 = (u64)v323;
-    v325 = ADDRESS(c211) + v324 * 1u;
-    v326 = load8(v325);
-    v327 = v325 + 1u * 1u;
-    v328 = load8(v327);
-    v329 = v109 + v50 * 1u;
-    v330 = v329 + UINT64_C(18446744073709551614) * 1u;
-    store8(v330, v326);
-    v331 = v329 + UINT64_C(18446744073709551615) * 1u;
-    store8(v331, v328);
-    v332 = (u64)((u64)v50 + (u64)UINT64_C(18446744073709551612));
-    v333 = (u16)((u32)v320 << (1u & 15u));
-    v334 = (u64)v333;
-    v335 = ADDRESS(c211) + v334 * 1u;
-    v336 = load8(v335);
-    v337 = v335 + 1u * 1u;
-    v338 = load8(v337);
-    v339 = v109 + v332 * 1u;
-    store8(v339, v336);
-    v340 = v339 + 1u * 1u;
-    store8(v340, v338);
-    v341 = v49 > UINT64_C(99999999);
-    if (v341) { v49 = v316; v50 = v332; goto L97; }
-    else { v51 = v332; v52 = v316; goto L98; }
+    v316 = load8(v234);
+    v317 = (u8)((u32)v316 & (u32)15u);
+    v318 = (u64)v317;
+    v57 = v318; goto L102;
 L98:;
-    v342 = v52 < 100u;
-    if (v342) { goto L99; }
-    else { goto L102; }
+    v319 = a2 == v233;
+    if (v319) { goto L99; }
+    else { goto L163; }
 L99:;
-    v343 = v52 < 10u;
-    if (v343) { goto L100; }
-    else { goto L101; }
+    goto L181;
 L100:;
-    v344 = (u8)(v52);
-    v345 = (u8)((u32)v344 | (u32)48u);
-    v346 = (u64)((u64)v51 + (u64)UINT64_C(18446744073709551615));
-    v347 = v109 + v346 * 1u;
-    store8(v347, v345);
-    v53 = v346; goto L105;
+    v320 = (u64)v232;
+    store64(v121, 0u);
+    v321 = (u64)((u64)8u - (u64)v320);
+    v322 = v121 + v321 * 1u;
+    memory_cpy(v322, v234, v320);
+    v323 = load64(v121);
+    v324 = swap64(v323);
+    v57 = v324; goto L102;
 L101:;
-    v348 = (u64)((u64)v51 + (u64)UINT64_C(18446744073709551614));
-    v349 = (u64)((u64)v52 << (1u & 63u));
-    v350 = ADDRESS(c211) + v349 * 1u;
-    v351 = load8(v350);
-    v352 = v350 + 1u * 1u;
-    v353 = load8(v352);
-    v354 = v109 + v348 * 1u;
-    store8(v354, v351);
-    v355 = v354 + 1u * 1u;
-    store8(v355, v353);
-    v53 = v348; goto L105;
+    UNREACHABLE;
 L102:;
-    v356 = (u16)(v52);
-    v357 = (u16)((u32)v356 / (u32)100u);
-    v358 = (u16)((u32)v357 * (u32)100u);
-    v359 = (u16)((u32)v356 - (u32)v358);
-    v360 = (u16)((u32)v359 << (1u & 15u));
-    v361 = (u64)v360;
-    v362 = ADDRESS(c211) + v361 * 1u;
-    v363 = load8(v362);
-    v364 = v362 + 1u * 1u;
-    v365 = load8(v364);
-    v366 = v109 + v51 * 1u;
-    v367 = v366 + UINT64_C(18446744073709551614) * 1u;
-    store8(v367, v363);
-    v368 = v366 + UINT64_C(18446744073709551615) * 1u;
-    store8(v368, v365);
-    v369 = v52 < 1000u;
-    if (v369) { goto L103; }
-    else { goto L104; }
+    f44(v57, v125);
+    goto L181;
 L103:;
-    v370 = (u8)(v357);
-    v371 = (u8)((u32)v370 | (u32)48u);
-    v372 = (u64)((u64)v51 + (u64)UINT64_C(18446744073709551613));
-    v373 = v109 + v372 * 1u;
-    store8(v373, v371);
-    v53 = v372; goto L105;
+    v325 = (u64)v232;
+    store64(v122, 0u);
+    v326 = (u64)((u64)8u - (u64)v325);
+    v327 = v122 + v326 * 1u;
+    memory_cpy(v327, v234, v325);
+    v328 = load64(v122);
+    v329 = swap64(v328);
+    v330 = (u64)((u64)v325 << (3u & 63u));
+    v331 = (u64)((u64)v330 + (u64)UINT64_C(18446744073709551615));
+    v332 = (u64)((u64)v329 >> (v331 & 63u));
+    v333 = v332 == 0u;
+    v334 = (u64)((u64)UINT64_C(18446744073709551614) << (v331 & 63u));
+    v335 = v333 ? 0u : v334;
+    v336 = (u64)((u64)v335 + (u64)v329);
+    memory_set(v118, 0u, 40u);
+    v337 = (i64)v336 < 0 ? (u64)(0u - (u64)v336) : v336;
+    v338 = v337 > 9999u;
+    if (v338) { v58 = v337; v59 = 40u; goto L104; }
+    else { v60 = 40u; v61 = v337; goto L105; }
 L104:;
-    v374 = (u64)((u64)v51 + (u64)UINT64_C(18446744073709551612));
-    v375 = (u16)((u32)v357 << (1u & 15u));
-    v376 = (u64)v375;
-    v377 = ADDRESS(c211) + v376 * 1u;
-    v378 = load8(v377);
-    v379 = v377 + 1u * 1u;
-    v380 = load8(v379);
-    v381 = v109 + v374 * 1u;
-    store8(v381, v378);
-    v382 = v381 + 1u * 1u;
-    store8(v382, v380);
-    v53 = v374; goto L105;
+    v339 = v58;
+    v340 = (u64)((u64)v339 / (u64)10000u);
+    v341 = (u64)((u64)v340 * (u64)10000u);
+    v342 = (u64)((u64)v339 - (u64)v341);
+    v343 = (u16)(v342);
+    v344 = (u16)((u32)v343 / (u32)100u);
+    v345 = (u16)((u32)v344 * (u32)100u);
+    v346 = (u16)((u32)v343 - (u32)v345);
+    v347 = (u16)((u32)v346 << (1u & 15u));
+    v348 = (u64)v347;
+    v349 = ADDRESS(c213) + v348 * 1u;
+    v350 = load8(v349);
+    v351 = v349 + 1u * 1u;
+    v352 = load8(v351);
+    v353 = v118 + v59 * 1u;
+    v354 = v353 + UINT64_C(18446744073709551614) * 1u;
+    store8(v354, v350);
+    v355 = v353 + UINT64_C(18446744073709551615) * 1u;
+    store8(v355, v352);
+    v356 = (u64)((u64)v59 + (u64)UINT64_C(18446744073709551612));
+    v357 = (u16)((u32)v344 << (1u & 15u));
+    v358 = (u64)v357;
+    v359 = ADDRESS(c213) + v358 * 1u;
+    v360 = load8(v359);
+    v361 = v359 + 1u * 1u;
+    v362 = load8(v361);
+    v363 = v118 + v356 * 1u;
+    store8(v363, v360);
+    v364 = v363 + 1u * 1u;
+    store8(v364, v362);
+    v365 = v58 > UINT64_C(99999999);
+    if (v365) { v58 = v340; v59 = v356; goto L104; }
+    else { v60 = v356; v61 = v340; goto L105; }
 L105:;
-    v383 = (i64)v312 > (i64)UINT64_C(18446744073709551615);
-    if (v383) { v54 = v53; goto L107; }
-    else { goto L106; }
-L106:;
-    v384 = (u64)((u64)v53 + (u64)UINT64_C(18446744073709551615));
-    v385 = v109 + v384 * 1u;
-    store8(v385, 45u);
-    v54 = v384; goto L107;
-L107:;
-    v386 = v109 + v54 * 1u;
-    v387 = (u64)((u64)40u - (u64)v54);
-    v388 = v40 == 1u;
-    if (v388) { goto L108; }
-    else { goto L111; }
-L108:;
-    v389 = load64(v124);
-    v390 = load64(v122);
-    v391 = v390 < v389;
-    v392 = (u64)((u64)v390 - (u64)v389);
-    v393 = v392 < v387;
-    v394 = v391 ? 1u : v393;
-    if (v394) { v55 = 0u; v56 = 0u; goto L110; }
+    v366 = v61 < 100u;
+    if (v366) { goto L106; }
     else { goto L109; }
+L106:;
+    v367 = v61 < 10u;
+    if (v367) { goto L107; }
+    else { goto L108; }
+L107:;
+    v368 = (u8)(v61);
+    v369 = (u8)((u32)v368 | (u32)48u);
+    v370 = (u64)((u64)v60 + (u64)UINT64_C(18446744073709551615));
+    v371 = v118 + v370 * 1u;
+    store8(v371, v369);
+    v62 = v370; goto L112;
+L108:;
+    v372 = (u64)((u64)v60 + (u64)UINT64_C(18446744073709551614));
+    v373 = (u64)((u64)v61 << (1u & 63u));
+    v374 = ADDRESS(c213) + v373 * 1u;
+    v375 = load8(v374);
+    v376 = v374 + 1u * 1u;
+    v377 = load8(v376);
+    v378 = v118 + v372 * 1u;
+    store8(v378, v375);
+    v379 = v378 + 1u * 1u;
+    store8(v379, v377);
+    v62 = v372; goto L112;
 L109:;
-    v395 = load_address(v115);
-    v396 = (u64)((u64)v389 + (u64)v387);
-    v397 = v395 + v389 * 1u;
-    memory_cpy(v397, v386, v387);
-    v55 = v396; v56 = 1u; goto L110;
+    v380 = (u16)(v61);
+    v381 = (u16)((u32)v380 / (u32)100u);
+    v382 = (u16)((u32)v381 * (u32)100u);
+    v383 = (u16)((u32)v380 - (u32)v382);
+    v384 = (u16)((u32)v383 << (1u & 15u));
+    v385 = (u64)v384;
+    v386 = ADDRESS(c213) + v385 * 1u;
+    v387 = load8(v386);
+    v388 = v386 + 1u * 1u;
+    v389 = load8(v388);
+    v390 = v118 + v60 * 1u;
+    v391 = v390 + UINT64_C(18446744073709551614) * 1u;
+    store8(v391, v387);
+    v392 = v390 + UINT64_C(18446744073709551615) * 1u;
+    store8(v392, v389);
+    v393 = v61 < 1000u;
+    if (v393) { goto L110; }
+    else { goto L111; }
 L110:;
-    store64(v123, v56);
-    store64(v124, v55);
-    goto L111;
+    v394 = (u8)(v381);
+    v395 = (u8)((u32)v394 | (u32)48u);
+    v396 = (u64)((u64)v60 + (u64)UINT64_C(18446744073709551613));
+    v397 = v118 + v396 * 1u;
+    store8(v397, v395);
+    v62 = v396; goto L112;
 L111:;
-    goto L196;
+    v398 = (u64)((u64)v60 + (u64)UINT64_C(18446744073709551612));
+    v399 = (u16)((u32)v381 << (1u & 15u));
+    v400 = (u64)v399;
+    v401 = ADDRESS(c213) + v400 * 1u;
+    v402 = load8(v401);
+    v403 = v401 + 1u * 1u;
+    v404 = load8(v403);
+    v405 = v118 + v398 * 1u;
+    store8(v405, v402);
+    v406 = v405 + 1u * 1u;
+    store8(v406, v404);
+    v62 = v398; goto L112;
 L112:;
-    v398 = load8(v216);
-    v399 = (u8)((u32)v398 & (u32)v214);
-    v400 = v399 == 0u;
-    v401 = v400 ? 5u : 4u;
-    v402 = v400 ? ADDRESS(c167) : ADDRESS(c166);
-    v403 = v40 == 1u;
-    if (v403) { goto L113; }
-    else { goto L195; }
+    v407 = (i64)v336 > (i64)UINT64_C(18446744073709551615);
+    if (v407) { v63 = v62; goto L114; }
+    else { goto L113; }
 L113:;
-    v404 = load64(v124);
-    v405 = load64(v122);
-    v406 = v405 < v404;
-    v407 = (u64)((u64)v405 - (u64)v404);
-    v408 = v407 < v401;
-    v409 = v406 ? 1u : v408;
-    if (v409) { v58 = 0u; v59 = 0u; goto L117; }
-    else { goto L114; }
+    v408 = (u64)((u64)v62 + (u64)UINT64_C(18446744073709551615));
+    v409 = v118 + v408 * 1u;
+    store8(v409, 45u);
+    v63 = v408; goto L114;
 L114:;
-    v410 = load_address(v115);
-    v411 = (u64)((u64)v404 + (u64)v401);
-    v412 = v410 + v404 * 1u;
-    v413 = (u64)v412;
-    v414 = (u64)v402;
-    v415 = (u64)((u64)v413 - (u64)v414);
-    v416 = v415 < v401;
-    if (v416) { v57 = 0u; goto L116; }
-    else { goto L115; }
+    v410 = v118 + v63 * 1u;
+    v411 = (u64)((u64)40u - (u64)v63);
+    v412 = v56 == 1u;
+    if (v412) { goto L115; }
+    else { goto L118; }
 L115:;
-    memory_cpy(v412, v402, v401);
-    v58 = v411; v59 = 1u; goto L117;
+    v413 = load64(v134);
+    v414 = load64(v132);
+    v415 = v414 < v413;
+    v416 = (u64)((u64)v414 - (u64)v413);
+    v417 = v416 < v411;
+    v418 = v415 ? 1u : v417;
+    if (v418) { v64 = 0u; v65 = 0u; goto L117; }
+    else { goto L116; }
 L116:;
-    v417 = v412 + v57 * 1u;
-    v418 = v402 + v57 * 1u;
-    v419 = load8(v418);
-    store8(v417, v419);
-    v420 = (u64)((u64)v57 + (u64)1u);
-    v421 = v420 == v401;
-    if (v421) { v58 = v411; v59 = 1u; goto L117; }
-    else { v57 = v420; goto L116; }
+    v419 = load_address(v125);
+    v420 = (u64)((u64)v413 + (u64)v411);
+    v421 = v419 + v413 * 1u;
+    memory_cpy(v421, v410, v411);
+    v64 = v420; v65 = 1u; goto L117;
 L117:;
-    store64(v123, v59);
-    store64(v124, v58);
-    goto L196;
+    store64(v133, v65);
+    store64(v134, v64);
+    goto L118;
 L118:;
-    v422 = load8(v216);
-    v423 = (u8)((u32)v422 & (u32)3u);
+    goto L181;
+L119:;
+    v422 = load8(v234);
+    v423 = (u8)((u32)v422 & (u32)v66);
     v424 = v423 == 0u;
     v425 = v424 ? 5u : 4u;
     v426 = v424 ? ADDRESS(c167) : ADDRESS(c166);
-    v427 = v40 == 1u;
-    if (v427) { goto L119; }
-    else { goto L195; }
-L119:;
-    v428 = load64(v124);
-    v429 = load64(v122);
+    v427 = v56 == 1u;
+    if (v427) { goto L120; }
+    else { goto L181; }
+L120:;
+    v428 = load64(v134);
+    v429 = load64(v132);
     v430 = v429 < v428;
     v431 = (u64)((u64)v429 - (u64)v428);
     v432 = v431 < v425;
     v433 = v430 ? 1u : v432;
-    if (v433) { v61 = 0u; v62 = 0u; goto L123; }
-    else { goto L120; }
-L120:;
-    v434 = load_address(v115);
+    if (v433) { v68 = 0u; v69 = 0u; goto L124; }
+    else { goto L121; }
+L121:;
+    v434 = load_address(v125);
     v435 = (u64)((u64)v428 + (u64)v425);
     v436 = v434 + v428 * 1u;
     v437 = (u64)v436;
     v438 = (u64)v426;
     v439 = (u64)((u64)v437 - (u64)v438);
     v440 = v439 < v425;
-    if (v440) { v60 = 0u; goto L122; }
-    else { goto L121; }
-L121:;
-    memory_cpy(v436, v426, v425);
-    v61 = v435; v62 = 1u; goto L123;
+    if (v440) { v67 = 0u; goto L123; }
+    else { goto L122; }
 L122:;
-    v441 = v436 + v60 * 1u;
-    v442 = v426 + v60 * 1u;
+    memory_cpy(v436, v426, v425);
+    v68 = v435; v69 = 1u; goto L124;
+L123:;
+    v441 = v436 + v67 * 1u;
+    v442 = v426 + v67 * 1u;
     v443 = load8(v442);
     store8(v441, v443);
-    v444 = (u64)((u64)v60 + (u64)1u);
+    v444 = (u64)((u64)v67 + (u64)1u);
     v445 = v444 == v425;
-    if (v445) { v61 = v435; v62 = 1u; goto L123; }
-    else { v60 = v444; goto L122; }
-L123:;
-    store64(v123, v62);
-    store64(v124, v61);
-    goto L196;
+    if (v445) { v68 = v435; v69 = 1u; goto L124; }
+    else { v67 = v444; goto L123; }
 L124:;
-    v446 = load8(v216);
-    v447 = (u8)((u32)v446 & (u32)15u);
-    v448 = (u64)v447;
-    f44(v448, v115);
-    goto L196;
+    store64(v133, v69);
+    store64(v134, v68);
+    goto L181;
 L125:;
-    v449 = load64(v216);
-    v450 = swap64(v449);
-    v451 = (i64)v450 < 0 ? (u64)(0u - (u64)v450) : v450;
-    v452 = (i64)v450 < (i64)0u;
-    v453 = v40 == 1u;
-    v454 = v452 ? v453 : 0u;
-    if (v454) { goto L126; }
+    v446 = load64(v234);
+    v447 = swap64(v446);
+    v448 = (i64)v447 < 0 ? (u64)(0u - (u64)v447) : v447;
+    v449 = (i64)v447 < (i64)0u;
+    v450 = v56 == 1u;
+    v451 = v449 ? v450 : 0u;
+    if (v451) { goto L126; }
     else { goto L129; }
 L126:;
-    v455 = load64(v124);
-    v456 = load64(v122);
-    v457 = v456 > v455;
-    if (v457) { goto L127; }
-    else { v63 = 0u; v64 = 0u; goto L128; }
+    v452 = load64(v134);
+    v453 = load64(v132);
+    v454 = v453 > v452;
+    if (v454) { goto L127; }
+    else { v70 = 0u; v71 = 0u; goto L128; }
 L127:;
-    v458 = load_address(v115);
-    v459 = (u64)((u64)v455 + (u64)1u);
-    v460 = v458 + v455 * 1u;
-    store8(v460, 45u);
-    v63 = v459; v64 = 1u; goto L128;
+    v455 = load_address(v125);
+    v456 = (u64)((u64)v452 + (u64)1u);
+    v457 = v455 + v452 * 1u;
+    store8(v457, 45u);
+    v70 = v456; v71 = 1u; goto L128;
 L128:;
-    store64(v123, v64);
-    store64(v124, v63);
+    store64(v133, v71);
+    store64(v134, v70);
     goto L129;
 L129:;
-    v461 = (u64)((u64)v451 >> (16u & 63u));
-    f44(v461, v115);
-    v462 = load8(v123);
-    v463 = v462 == 1u;
-    if (v463) { goto L130; }
+    v458 = (u64)((u64)v448 >> (16u & 63u));
+    f44(v458, v125);
+    v459 = load8(v133);
+    v460 = v459 == 1u;
+    if (v460) { goto L130; }
     else { goto L133; }
 L130:;
-    v464 = load64(v124);
-    v465 = load64(v122);
-    v466 = v465 > v464;
-    if (v466) { goto L131; }
-    else { v65 = 0u; v66 = 0u; goto L132; }
+    v461 = load64(v134);
+    v462 = load64(v132);
+    v463 = v462 > v461;
+    if (v463) { goto L131; }
+    else { v72 = 0u; v73 = 0u; goto L132; }
 L131:;
-    v467 = load_address(v115);
-    v468 = (u64)((u64)v464 + (u64)1u);
-    v469 = v467 + v464 * 1u;
-    store8(v469, 46u);
-    v65 = v468; v66 = 1u; goto L132;
+    v464 = load_address(v125);
+    v465 = (u64)((u64)v461 + (u64)1u);
+    v466 = v464 + v461 * 1u;
+    store8(v466, 46u);
+    v72 = v465; v73 = 1u; goto L132;
 L132:;
-    store64(v123, v66);
-    store64(v124, v65);
+    store64(v133, v73);
+    store64(v134, v72);
     goto L133;
 L133:;
-    v470 = (u32)(v451);
-    v471 = (u32)((u32)v470 & (u32)65535u);
-    v67 = v471; v68 = 16u; goto L134;
+    v467 = (u32)(v448);
+    v468 = (u32)((u32)v467 & (u32)65535u);
+    v74 = v468; v75 = 16u; goto L134;
 L134:;
-    v472 = (u32)((u32)v67 * (u32)10u);
-    v473 = (u32)((u32)v472 >> (16u & 31u));
-    v474 = (u64)v473;
-    f44(v474, v115);
-    v475 = (u32)((u32)v472 & (u32)65534u);
-    v476 = v475 == 0u;
-    v477 = (u8)((u32)v68 + (u32)255u);
-    v478 = v477 == 0u;
-    v479 = v476 ? 1u : v478;
-    if (v479) { goto L196; }
-    else { v67 = v475; v68 = v477; goto L134; }
+    v469 = (u32)((u32)v74 * (u32)10u);
+    v470 = (u32)((u32)v469 >> (16u & 31u));
+    v471 = (u64)v470;
+    f44(v471, v125);
+    v472 = (u32)((u32)v469 & (u32)65534u);
+    v473 = v472 == 0u;
+    v474 = (u8)((u32)v75 + (u32)255u);
+    v475 = v474 == 0u;
+    v476 = v473 ? 1u : v475;
+    if (v476) { goto L181; }
+    else { v74 = v472; v75 = v474; goto L134; }
 L135:;
-    v480 = load64(v216);
-    store64(v112, v480);
-    v69 = v40; v70 = 0u; goto L136;
+    v477 = load64(v234);
+    v478 = (u8)(v477);
+    v479 = (u64)((u64)v477 >> (8u & 63u));
+    v480 = (u64)((v479) & UINT64_C(281474976710655));
+    v481 = (u64)((u64)v477 >> (56u & 63u));
+    store8(v119, v478);
+    store8(v164 + 0u, (u8)((u64)v480 >> 0));
+    store8(v164 + 1u, (u8)((u64)v480 >> 8));
+    store8(v164 + 2u, (u8)((u64)v480 >> 16));
+    store8(v164 + 3u, (u8)((u64)v480 >> 24));
+    store8(v164 + 4u, (u8)((u64)v480 >> 32));
+    store8(v164 + 5u, (u8)((u64)v480 >> 40));
+    v482 = (u8)(v481);
+    store8(v165, v482);
+    v76 = v56; v77 = 0u; goto L136;
 L136:;
-    v481 = v112 + v70 * 1u;
-    v482 = load8(v481);
-    v483 = (u8)((u32)v482 >> (4u & 7u));
-    v484 = v482 < 160u;
-    v485 = (u8)((u32)v483 | (u32)48u);
-    v486 = (u8)((u32)v483 + (u32)87u);
-    v487 = v484 ? v485 : v486;
-    v488 = v69 == 1u;
-    if (v488) { goto L137; }
-    else { v73 = v69; goto L142; }
+    v483 = v119 + v77 * 1u;
+    v484 = load8(v483);
+    v485 = (u8)((u32)v484 >> (4u & 7u));
+    v486 = v484 < 160u;
+    v487 = (u8)((u32)v485 | (u32)48u);
+    v488 = (u8)((u32)v485 + (u32)87u);
+    v489 = v486 ? v487 : v488;
+    v490 = v76 == 1u;
+    if (v490) { goto L137; }
+    else { v80 = v76; goto L142; }
 L137:;
-    v489 = load64(v124);
-    v490 = load64(v122);
-    v491 = v490 > v489;
-    if (v491) { goto L138; }
+    v491 = load64(v134);
+    v492 = load64(v132);
+    v493 = v492 > v491;
+    if (v493) { goto L138; }
     else { goto L141; }
 L138:;
-    v492 = load_address(v115);
-    v493 = (u64)((u64)v489 + (u64)1u);
-    v494 = v492 + v489 * 1u;
-    store8(v494, v487);
-    v495 = load64(v122);
-    v496 = v495 > v493;
-    if (v496) { goto L139; }
-    else { v71 = 0u; v72 = 0u; goto L140; }
+    v494 = load_address(v125);
+    v495 = (u64)((u64)v491 + (u64)1u);
+    v496 = v494 + v491 * 1u;
+    store8(v496, v489);
+    v497 = load64(v132);
+    v498 = v497 > v495;
+    if (v498) { goto L139; }
+    else { v78 = 0u; v79 = 0u; goto L140; }
 L139:;
-    v497 = (u8)((u32)v482 & (u32)15u);
-    v498 = v497 < 10u;
-    v499 = (u8)((u32)v497 | (u32)48u);
-    v500 = (u8)((u32)v497 + (u32)87u);
-    v501 = v498 ? v499 : v500;
-    v502 = load_address(v115);
-    v503 = (u64)((u64)v489 + (u64)2u);
-    v504 = v502 + v493 * 1u;
-    store8(v504, v501);
-    v71 = v503; v72 = 1u; goto L140;
+    v499 = (u8)((u32)v484 & (u32)15u);
+    v500 = v499 < 10u;
+    v501 = (u8)((u32)v499 | (u32)48u);
+    v502 = (u8)((u32)v499 + (u32)87u);
+    v503 = v500 ? v501 : v502;
+    v504 = load_address(v125);
+    v505 = (u64)((u64)v491 + (u64)2u);
+    v506 = v504 + v495 * 1u;
+    store8(v506, v503);
+    v78 = v505; v79 = 1u; goto L140;
 L140:;
-    store64(v123, v72);
-    store64(v124, v71);
-    v505 = (u8)(v72);
-    v73 = v505; goto L142;
+    store64(v133, v79);
+    store64(v134, v78);
+    v507 = (u8)(v79);
+    v80 = v507; goto L142;
 L141:;
-    memory_set(v123, 0u, 16u);
-    v73 = 0u; goto L142;
+    memory_set(v133, 0u, 16u);
+    v80 = 0u; goto L142;
 L142:;
-    v506 = (u64)((u64)v70 + (u64)1u);
-    v507 = v506 == 8u;
-    if (v507) { goto L196; }
-    else { v69 = v73; v70 = v506; goto L136; }
+    v508 = (u64)((u64)v77 + (u64)1u);
+    v509 = v508 == 8u;
+    if (v509) { goto L181; }
+    else { v76 = v80; v77 = v508; goto L136; }
 L143:;
-    v508 = load64(v216);
-    v509 = v216 + 8u * 1u;
-    v510 = load8(v509);
-    v511 = v216 + 9u * 1u;
+    v510 = load64(v234);
+    v511 = v234 + 8u * 1u;
     v512 = load8(v511);
-    v513 = (u16)v510;
-    v514 = (u16)((u32)v513 << (8u & 15u));
+    v513 = v234 + 9u * 1u;
+    v514 = load8(v513);
     v515 = (u16)v512;
-    v516 = (u16)((u32)v514 | (u32)v515);
-    store64(v113, v508);
-    store16(v149, v516);
-    v517 = (u8)(v508);
-    v74 = v517; v75 = v40; v76 = v40; v77 = 0u; goto L144;
+    v516 = (u16)((u32)v515 << (8u & 15u));
+    v517 = (u16)v514;
+    v518 = (u16)((u32)v516 | (u32)v517);
+    store64(v123, v510);
+    store16(v166, v518);
+    v519 = (u64)((v510) & UINT64_C(281474976710655));
+    v520 = load32(v167);
+    store8(v120 + 0u, (u8)((u64)v519 >> 0));
+    store8(v120 + 1u, (u8)((u64)v519 >> 8));
+    store8(v120 + 2u, (u8)((u64)v519 >> 16));
+    store8(v120 + 3u, (u8)((u64)v519 >> 24));
+    store8(v120 + 4u, (u8)((u64)v519 >> 32));
+    store8(v120 + 5u, (u8)((u64)v519 >> 40));
+    store32(v163, v520);
+    v521 = (u32)((u32)v520 >> (16u & 31u));
+    v522 = (u64)v521;
+    v523 = (u8)(v510);
+    v81 = v523; v82 = v56; v83 = v56; v84 = 0u; goto L144;
 L144:;
-    v518 = (u8)((u32)v74 >> (4u & 7u));
-    v519 = v74 < 160u;
-    v520 = (u8)((u32)v518 | (u32)48u);
-    v521 = (u8)((u32)v518 + (u32)87u);
-    v522 = v519 ? v520 : v521;
-    v523 = v76 == 1u;
-    if (v523) { goto L145; }
-    else { v80 = v75; v81 = v76; goto L149; }
+    v524 = (u8)((u32)v81 >> (4u & 7u));
+    v525 = v81 < 160u;
+    v526 = (u8)((u32)v524 | (u32)48u);
+    v527 = (u8)((u32)v524 + (u32)87u);
+    v528 = v525 ? v526 : v527;
+    v529 = v83 == 1u;
+    if (v529) { goto L145; }
+    else { v87 = v82; v88 = v83; goto L149; }
 L145:;
-    v524 = load64(v124);
-    v525 = load64(v122);
-    v526 = v525 > v524;
-    if (v526) { goto L146; }
+    v530 = load64(v134);
+    v531 = load64(v132);
+    v532 = v531 > v530;
+    if (v532) { goto L146; }
     else { goto L151; }
 L146:;
-    v527 = load_address(v115);
-    v528 = (u64)((u64)v524 + (u64)1u);
-    v529 = v527 + v524 * 1u;
-    store8(v529, v522);
-    v530 = load64(v122);
-    v531 = v530 > v528;
-    if (v531) { goto L147; }
-    else { v78 = 0u; v79 = 0u; goto L148; }
+    v533 = load_address(v125);
+    v534 = (u64)((u64)v530 + (u64)1u);
+    v535 = v533 + v530 * 1u;
+    store8(v535, v528);
+    v536 = load64(v132);
+    v537 = v536 > v534;
+    if (v537) { goto L147; }
+    else { v85 = 0u; v86 = 0u; goto L148; }
 L147:;
-    v532 = (u8)((u32)v74 & (u32)15u);
-    v533 = v532 < 10u;
-    v534 = (u8)((u32)v532 | (u32)48u);
-    v535 = (u8)((u32)v532 + (u32)87u);
-    v536 = v533 ? v534 : v535;
-    v537 = load_address(v115);
-    v538 = (u64)((u64)v524 + (u64)2u);
-    v539 = v537 + v528 * 1u;
-    store8(v539, v536);
-    v78 = v538; v79 = 1u; goto L148;
+    v538 = (u8)((u32)v81 & (u32)15u);
+    v539 = v538 < 10u;
+    v540 = (u8)((u32)v538 | (u32)48u);
+    v541 = (u8)((u32)v538 + (u32)87u);
+    v542 = v539 ? v540 : v541;
+    v543 = load_address(v125);
+    v544 = (u64)((u64)v530 + (u64)2u);
+    v545 = v543 + v534 * 1u;
+    store8(v545, v542);
+    v85 = v544; v86 = 1u; goto L148;
 L148:;
-    store64(v123, v79);
-    store64(v124, v78);
-    v540 = (u8)(v79);
-    v80 = v540; v81 = v540; goto L149;
+    store64(v133, v86);
+    store64(v134, v85);
+    v546 = (u8)(v86);
+    v87 = v546; v88 = v546; goto L149;
 L149:;
-    v541 = (u64)((u64)v77 + (u64)1u);
-    v542 = v541 == 8u;
-    if (v542) { goto L152; }
-    else { v82 = v80; v83 = v81; v84 = v541; goto L150; }
+    v547 = (u64)((u64)v84 + (u64)1u);
+    v548 = v547 == 8u;
+    if (v548) { goto L152; }
+    else { v89 = v87; v90 = v88; v91 = v547; goto L150; }
 L150:;
-    v543 = v113 + v84 * 1u;
-    v544 = load8(v543);
-    v74 = v544; v75 = v82; v76 = v83; v77 = v84; goto L144;
+    v549 = v120 + v91 * 1u;
+    v550 = load8(v549);
+    v81 = v550; v82 = v89; v83 = v90; v84 = v91; goto L144;
 L151:;
-    memory_set(v123, 0u, 16u);
-    v545 = (u64)((u64)v77 + (u64)1u);
-    v546 = v545 == 8u;
-    if (v546) { goto L156; }
-    else { v82 = 0u; v83 = 0u; v84 = v545; goto L150; }
+    memory_set(v133, 0u, 16u);
+    v551 = (u64)((u64)v84 + (u64)1u);
+    v552 = v551 == 8u;
+    if (v552) { goto L156; }
+    else { v89 = 0u; v90 = 0u; v91 = v551; goto L150; }
 L152:;
-    v547 = v80 == 1u;
-    if (v547) { goto L153; }
+    v553 = v87 == 1u;
+    if (v553) { goto L153; }
     else { goto L156; }
 L153:;
-    v548 = load64(v124);
-    v549 = load64(v122);
-    v550 = v549 > v548;
-    if (v550) { goto L154; }
-    else { v85 = 0u; v86 = 0u; goto L155; }
+    v554 = load64(v134);
+    v555 = load64(v132);
+    v556 = v555 > v554;
+    if (v556) { goto L154; }
+    else { v92 = 0u; v93 = 0u; goto L155; }
 L154:;
-    v551 = load_address(v115);
-    v552 = (u64)((u64)v548 + (u64)1u);
-    v553 = v551 + v548 * 1u;
-    store8(v553, 47u);
-    v85 = v552; v86 = 1u; goto L155;
+    v557 = load_address(v125);
+    v558 = (u64)((u64)v554 + (u64)1u);
+    v559 = v557 + v554 * 1u;
+    store8(v559, 47u);
+    v92 = v558; v93 = 1u; goto L155;
 L155:;
-    store64(v123, v86);
-    store64(v124, v85);
+    store64(v133, v93);
+    store64(v134, v92);
     goto L156;
 L156:;
-    v554 = (u64)v516;
-    f44(v554, v115);
-    goto L196;
+    f44(v522, v125);
+    goto L181;
 L157:;
-    v555 = load8(v216);
-    v556 = (u8)((u32)v555 + (u32)255u);
-    v557 = v556 < 9u;
-    if (v557) { goto L158; }
-    else { goto L164; }
+    v560 = load8(v234);
+    v561 = (u8)((u32)v560 + (u32)255u);
+    v562 = v561 < 9u;
+    if (v562) { goto L158; }
+    else { v94 = 0u; v95 = 0u; goto L159; }
 L158:;
-    v558 = (u8)((u32)v555 + (u32)255u);
-    v559 = (u64)v558;
-    v560 = ADDRESS(c234) + v559 * 8u;
-    v561 = load64(v560);
-    v562 = (u64)v558;
-    v563 = ADDRESS(c235) + v562 * 8u;
-    v564 = load_address(v563);
-    v565 = v40 == 1u;
-    if (v565) { goto L159; }
-    else { goto L195; }
+    v563 = (u8)((u32)v560 + (u32)255u);
+    v564 = (u64)v563;
+    v565 = ADDRESS(c235) + v564 * 8u;
+    v566 = load_address(v565);
+    v567 = (u64)v563;
+    v568 = ADDRESS(c236) + v567 * 8u;
+    v569 = load64(v568);
+    v94 = v566; v95 = v569; goto L159;
 L159:;
-    v566 = load64(v124);
-    v567 = load64(v122);
-    v568 = v567 < v566;
-    v569 = (u64)((u64)v567 - (u64)v566);
-    v570 = v569 < v561;
-    v571 = v568 ? 1u : v570;
-    if (v571) { v88 = 0u; v89 = 0u; goto L163; }
-    else { goto L160; }
+    v570 = (u64)v562;
+    store64(v117, v570);
+    store_address(v161, v94);
+    store64(v162, v95);
+    f45(v117, v560, v125);
+    goto L181;
 L160:;
-    v572 = load_address(v115);
-    v573 = (u64)((u64)v566 + (u64)v561);
-    v574 = v572 + v566 * 1u;
-    v575 = (u64)v574;
-    v576 = (u64)v564;
-    v577 = (u64)((u64)v575 - (u64)v576);
-    v578 = v577 < v561;
-    if (v578) { v87 = 0u; goto L162; }
-    else { goto L161; }
+    v571 = load8(v234);
+    v572 = (u8)((u32)v571 + (u32)2u);
+    v573 = v572 < 7u;
+    if (v573) { goto L161; }
+    else { v96 = 0u; v97 = 0u; v98 = 0u; goto L162; }
 L161:;
-    memory_move(v574, v564, v561);
-    v88 = v573; v89 = 1u; goto L163;
+    v574 = (u64)v572;
+    v575 = ADDRESS(c237) + v574 * 8u;
+    v576 = load64(v575);
+    v577 = (u64)v572;
+    v578 = ADDRESS(c238) + v577 * 8u;
+    v579 = load_address(v578);
+    v580 = (u64)v572;
+    v581 = ADDRESS(c239) + v580 * 8u;
+    v582 = load64(v581);
+    v96 = v576; v97 = v579; v98 = v582; goto L162;
 L162:;
-    v579 = v574 + v87 * 1u;
-    v580 = v564 + v87 * 1u;
-    v581 = load8(v580);
-    store8(v579, v581);
-    v582 = (u64)((u64)v87 + (u64)1u);
-    v583 = v582 == v561;
-    if (v583) { v88 = v573; v89 = 1u; goto L163; }
-    else { v87 = v582; goto L162; }
+    store64(v116, v96);
+    store_address(v159, v97);
+    store64(v160, v98);
+    f45(v116, v571, v125);
+    goto L181;
 L163:;
-    store64(v123, v89);
-    store64(v124, v88);
-    goto L196;
+    v583 = v234 + 1u * 1u;
+    v584 = load8(v234);
+    v585 = (u64)v584;
+    v586 = v584 == 0u;
+    if (v586) { goto L181; }
+    else { v99 = v56; v100 = 0u; goto L164; }
 L164:;
-    v584 = (u64)v555;
-    f44(v584, v115);
-    goto L196;
+    v587 = v583 + v100 * 1u;
+    v588 = load8(v587);
+    v589 = (u8)((u32)v588 + (u32)129u);
+    v590 = v589 < 161u;
+    v591 = v588 == 92u;
+    v592 = (u8)(((u32)v591 | (u32)v590) & UINT64_C(1));
+    v593 = v99 == 1u;
+    if (v592) { goto L169; }
+    else { goto L165; }
 L165:;
-    v585 = load8(v216);
-    switch (v585) {
-    case 1u: goto L166;
-    case 2u: v90 = 3u; v91 = ADDRESS(c169); goto L168;
-    case 254u: goto L167;
-    default: goto L174;
-    }
+    if (v593) { goto L166; }
+    else { v105 = v99; goto L180; }
 L166:;
-    v90 = 3u; v91 = ADDRESS(c168); goto L168;
+    v594 = load64(v134);
+    v595 = load64(v132);
+    v596 = v595 > v594;
+    if (v596) { goto L167; }
+    else { v101 = 0u; v102 = 0u; goto L168; }
 L167:;
-    v90 = 12u; v91 = ADDRESS(c170); goto L168;
+    v597 = load_address(v125);
+    v598 = (u64)((u64)v594 + (u64)1u);
+    v599 = v597 + v594 * 1u;
+    store8(v599, v588);
+    v101 = v598; v102 = 1u; goto L168;
 L168:;
-    v586 = v40 == 1u;
-    if (v586) { goto L169; }
-    else { goto L195; }
+    store64(v133, v102);
+    store64(v134, v101);
+    v600 = (u8)(v102);
+    v105 = v600; goto L180;
 L169:;
-    v587 = load64(v124);
-    v588 = load64(v122);
-    v589 = v588 < v587;
-    v590 = (u64)((u64)v588 - (u64)v587);
-    v591 = v590 < v90;
-    v592 = v589 ? 1u : v591;
-    if (v592) { v93 = 0u; v94 = 0u; goto L173; }
-    else { goto L170; }
+    if (v593) { goto L170; }
+    else { v105 = v99; goto L180; }
 L170:;
-    v593 = load_address(v115);
-    v594 = (u64)((u64)v587 + (u64)v90);
-    v595 = v593 + v587 * 1u;
-    v596 = (u64)v595;
-    v597 = (u64)v91;
-    v598 = (u64)((u64)v596 - (u64)v597);
-    v599 = v598 < v90;
-    if (v599) { v92 = 0u; goto L172; }
+    v601 = load64(v134);
+    v602 = load64(v132);
+    v603 = v602 < v601;
+    v604 = (u64)((u64)v602 - (u64)v601);
+    v605 = v604 < 2u;
+    v606 = v603 ? 1u : v605;
+    if (v606) { goto L179; }
     else { goto L171; }
 L171:;
-    memory_cpy(v595, v91, v90);
-    v93 = v594; v94 = 1u; goto L173;
+    v607 = load_address(v125);
+    v608 = (u64)((u64)v601 + (u64)2u);
+    v609 = v607 + v601 * 1u;
+    v610 = (u64)v609;
+    v611 = (u64)((u64)v610 - (u64)ADDRESS(c223));
+    v612 = v611 < 2u;
+    if (v612) { goto L172; }
+    else { goto L173; }
 L172:;
-    v600 = v595 + v92 * 1u;
-    v601 = v91 + v92 * 1u;
-    v602 = load8(v601);
-    store8(v600, v602);
-    v603 = (u64)((u64)v92 + (u64)1u);
-    v604 = v603 == v90;
-    if (v604) { v93 = v594; v94 = 1u; goto L173; }
-    else { v92 = v603; goto L172; }
+    store8(v609, 92u);
+    v613 = v609 + 1u * 1u;
+    store8(v613, 120u);
+    goto L174;
 L173:;
-    store64(v123, v94);
-    store64(v124, v93);
-    goto L196;
+    store16(v609, 30812u);
+    goto L174;
 L174:;
-    v605 = (u64)v585;
-    f44(v605, v115);
-    goto L196;
-L175:;
-    v606 = a2 == v215;
-    if (v606) { goto L196; }
-    else { goto L176; }
-L176:;
-    v607 = v216 + 1u * 1u;
-    v608 = load8(v216);
-    v609 = (u64)v608;
-    v610 = v608 == 0u;
-    if (v610) { goto L196; }
-    else { v95 = v40; v96 = 0u; goto L177; }
-L177:;
-    v611 = v607 + v96 * 1u;
-    v612 = load8(v611);
-    v613 = (u8)((u32)v612 + (u32)129u);
-    v614 = v613 < 161u;
-    v615 = v612 == 92u;
-    v616 = (u8)(((u32)v615 | (u32)v614) & UINT64_C(1));
-    v617 = v95 == 1u;
-    if (v616) { goto L182; }
+    v614 = load64(v132);
+    v615 = v614 > v608;
+    if (v615) { goto L175; }
     else { goto L178; }
+L175:;
+    v616 = v588 < 160u;
+    v617 = (u8)((u32)v588 >> (4u & 7u));
+    v618 = (u8)((u32)v617 | (u32)48u);
+    v619 = (u8)((u32)v617 + (u32)87u);
+    v620 = v616 ? v618 : v619;
+    v621 = load_address(v125);
+    v622 = (u64)((u64)v601 + (u64)3u);
+    v623 = v621 + v608 * 1u;
+    store8(v623, v620);
+    v624 = load64(v132);
+    v625 = v624 > v622;
+    if (v625) { goto L176; }
+    else { v103 = 0u; v104 = 0u; goto L177; }
+L176:;
+    v626 = (u8)((u32)v588 & (u32)15u);
+    v627 = v626 < 10u;
+    v628 = (u8)((u32)v626 | (u32)48u);
+    v629 = (u8)((u32)v626 + (u32)87u);
+    v630 = v627 ? v628 : v629;
+    v631 = load_address(v125);
+    v632 = (u64)((u64)v601 + (u64)4u);
+    v633 = v631 + v622 * 1u;
+    store8(v633, v630);
+    v103 = v632; v104 = 1u; goto L177;
+L177:;
+    store64(v133, v104);
+    store64(v134, v103);
+    v634 = (u8)(v104);
+    v105 = v634; goto L180;
 L178:;
-    if (v617) { goto L179; }
-    else { v101 = v95; goto L193; }
+    memory_set(v133, 0u, 16u);
+    v105 = 0u; goto L180;
 L179:;
-    v618 = load64(v124);
-    v619 = load64(v122);
-    v620 = v619 > v618;
-    if (v620) { goto L180; }
-    else { v97 = 0u; v98 = 0u; goto L181; }
+    memory_set(v133, 0u, 16u);
+    v105 = 0u; goto L180;
 L180:;
-    v621 = load_address(v115);
-    v622 = (u64)((u64)v618 + (u64)1u);
-    v623 = v621 + v618 * 1u;
-    store8(v623, v612);
-    v97 = v622; v98 = 1u; goto L181;
+    v635 = (u64)((u64)v100 + (u64)1u);
+    v636 = v635 == v585;
+    if (v636) { goto L181; }
+    else { v99 = v105; v100 = v635; goto L164; }
 L181:;
-    store64(v123, v98);
-    store64(v124, v97);
-    v624 = (u8)(v98);
-    v101 = v624; goto L193;
+    v637 = load8(v133);
+    v106 = v637; v107 = v637; v108 = v637; goto L182;
 L182:;
-    if (v617) { goto L183; }
-    else { v101 = v95; goto L193; }
+    v638 = v108 == 1u;
+    if (v638) { goto L183; }
+    else { v111 = v106; v112 = v107; goto L186; }
 L183:;
-    v625 = load64(v124);
-    v626 = load64(v122);
-    v627 = v626 < v625;
-    v628 = (u64)((u64)v626 - (u64)v625);
-    v629 = v628 < 2u;
-    v630 = v627 ? 1u : v629;
-    if (v630) { goto L192; }
-    else { goto L184; }
+    v639 = load64(v134);
+    v640 = load64(v132);
+    v641 = v640 > v639;
+    if (v641) { goto L184; }
+    else { v109 = 0u; v110 = 0u; goto L185; }
 L184:;
-    v631 = load_address(v115);
-    v632 = (u64)((u64)v625 + (u64)2u);
-    v633 = v631 + v625 * 1u;
-    v634 = (u64)v633;
-    v635 = (u64)((u64)v634 - (u64)ADDRESS(c221));
-    v636 = v635 < 2u;
-    if (v636) { goto L185; }
-    else { goto L186; }
+    v642 = load_address(v125);
+    v643 = (u64)((u64)v639 + (u64)1u);
+    v644 = v642 + v639 * 1u;
+    store8(v644, 10u);
+    v109 = v643; v110 = 1u; goto L185;
 L185:;
-    store8(v633, 92u);
-    v637 = v633 + 1u * 1u;
-    store8(v637, 120u);
-    goto L187;
+    store64(v133, v110);
+    store64(v134, v109);
+    v645 = (u8)(v110);
+    v111 = v645; v112 = v645; goto L186;
 L186:;
-    store16(v633, 30812u);
-    goto L187;
+    v646 = v111;
+    v647 = (u64)((u64)v32 + (u64)1u);
+    v648 = v647 == v13;
+    if (v648) { goto L187; }
+    else { v30 = v646; v31 = v112; v32 = v647; goto L68; }
 L187:;
-    v638 = load64(v122);
-    v639 = v638 > v632;
-    if (v639) { goto L188; }
-    else { goto L191; }
+    v649 = load64(v134);
+    v113 = v649; v114 = v646; goto L189;
 L188:;
-    v640 = v612 < 160u;
-    v641 = (u8)((u32)v612 >> (4u & 7u));
-    v642 = (u8)((u32)v641 | (u32)48u);
-    v643 = (u8)((u32)v641 + (u32)87u);
-    v644 = v640 ? v642 : v643;
-    v645 = load_address(v115);
-    v646 = (u64)((u64)v625 + (u64)3u);
-    v647 = v645 + v632 * 1u;
-    store8(v647, v644);
-    v648 = load64(v122);
-    v649 = v648 > v646;
-    if (v649) { goto L189; }
-    else { v99 = 0u; v100 = 0u; goto L190; }
+    v115 = 0u; goto L190;
 L189:;
-    v650 = (u8)((u32)v612 & (u32)15u);
-    v651 = v650 < 10u;
-    v652 = (u8)((u32)v650 | (u32)48u);
-    v653 = (u8)((u32)v650 + (u32)87u);
-    v654 = v651 ? v652 : v653;
-    v655 = load_address(v115);
-    v656 = (u64)((u64)v625 + (u64)4u);
-    v657 = v655 + v646 * 1u;
-    store8(v657, v654);
-    v99 = v656; v100 = 1u; goto L190;
+    v650 = v114 == 1u;
+    v651 = v650 ? v113 : 0u;
+    v115 = v651; goto L190;
 L190:;
-    store64(v123, v100);
-    store64(v124, v99);
-    v658 = (u8)(v100);
-    v101 = v658; goto L193;
-L191:;
-    memory_set(v123, 0u, 16u);
-    v101 = 0u; goto L193;
-L192:;
-    memory_set(v123, 0u, 16u);
-    v101 = 0u; goto L193;
-L193:;
-    v659 = (u64)((u64)v96 + (u64)1u);
-    v660 = v659 == v609;
-    if (v660) { goto L196; }
-    else { v95 = v101; v96 = v659; goto L177; }
-L194:;
-    UNREACHABLE;
-L195:;
-    v104 = v39; v105 = v40; goto L200;
-L196:;
-    v661 = load8(v123);
-    v662 = v661 == 1u;
-    if (v662) { goto L197; }
-    else { v104 = v661; v105 = v661; goto L200; }
-L197:;
-    v663 = load64(v124);
-    v664 = load64(v122);
-    v665 = v664 > v663;
-    if (v665) { goto L198; }
-    else { v102 = 0u; v103 = 0u; goto L199; }
-L198:;
-    v666 = load_address(v115);
-    v667 = (u64)((u64)v663 + (u64)1u);
-    v668 = v666 + v663 * 1u;
-    store8(v668, 10u);
-    v102 = v667; v103 = 1u; goto L199;
-L199:;
-    store64(v123, v103);
-    store64(v124, v102);
-    v669 = (u8)(v103);
-    v104 = v669; v105 = v669; goto L200;
-L200:;
-    v670 = v104;
-    v671 = (u64)((u64)v32 + (u64)1u);
-    v672 = v671 == v13;
-    if (v672) { goto L201; }
-    else { v30 = v670; v31 = v105; v32 = v671; goto L68; }
-L201:;
-    v673 = load64(v124);
-    v106 = v673; v107 = v670; goto L203;
-L202:;
-    v108 = 0u; goto L204;
-L203:;
-    v674 = v107 == 1u;
-    v675 = v674 ? v106 : 0u;
-    v108 = v675; goto L204;
-L204:;
-    return v108;
+    return v115;
 }
 
 u32 portable_ptpm_id_at(u64 a0) {
@@ -25344,7 +25850,7 @@ u32 portable_ptpm_id_at(u64 a0) {
     else { v1 = UINT32_C(65536); goto L2; }
 L1:;
     v3 = (u64)((u64)a0 << (1u & 63u));
-    v4 = ADDRESS(c222) + v3 * 1u;
+    v4 = ADDRESS(c224) + v3 * 1u;
     v5 = load16(v4);
     v6 = (u32)v5;
     v1 = v6; goto L2;
@@ -25462,7 +25968,7 @@ u32 portable_ptpm_id_named(address a0, u64 a1) {
     v2 = 0u; goto L1;
 L1:;
     v10 = (u64)((u64)v2 << (1u & 63u));
-    v11 = ADDRESS(c222) + v10 * 1u;
+    v11 = ADDRESS(c224) + v10 * 1u;
     v12 = load16(v11);
     switch (v12) {
     case 0u: v3 = ADDRESS(c113); v4 = 19u; goto L22;
@@ -25590,7 +26096,7 @@ L1:;
     v18 = v7 + 4u * 1u;
     store64(v18, v17);
     store64(v16, 12u);
-    v19 = f45(v14, a2, v7, 12u);
+    v19 = f46(v14, a2, v7, 12u);
     v20 = swap32(v19);
     v21 = v7 + 12u * 1u;
     store32(v21, v20);
@@ -25616,7 +26122,7 @@ u32 portable_ptpm_image_unseal(address a0, u64 a1, address a2, address a3) {
     memory_set(v5, 0u, 24u);
     store64(a2, 0u);
     store64(a3, 0u);
-    f46(v5, v8, a1);
+    f47(v5, v8, a1);
     v9 = load8(v5);
     v10 = v9 == 0u;
     if (v10) { goto L1; }
@@ -25703,11 +26209,11 @@ u16 portable_ptpm_limits_say(address a0, u64 a1, address a2) {
     default: goto L11;
     }
 L1:;
-    v11 = f47(v8, a1, a2);
+    v11 = f48(v8, a1, a2);
     if (v11) { v5 = 6u; goto L12; }
     else { goto L11; }
 L2:;
-    v12 = f47(v8, a1, a2);
+    v12 = f48(v8, a1, a2);
     if (v12) { v5 = 5u; goto L12; }
     else { goto L3; }
 L3:;
@@ -25795,7 +26301,7 @@ L3:;
     memory_set(v17, 0u, 24u);
     v26 = (u64)((u64)v5 * (u64)a2);
     v27 = v20 + v26 * 1u;
-    f46(v17, v27, a2);
+    f47(v17, v27, a2);
     v28 = load8(v17);
     v29 = v28 == 0u;
     if (v29) { goto L5; }
@@ -26162,7 +26668,7 @@ L2:;
     v44 = v5 + 1u * 1u;
     v45 = load8(v44);
     v46 = (u64)v45;
-    v47 = ADDRESS(c236) + v46 * 4u;
+    v47 = ADDRESS(c240) + v46 * 4u;
     v48 = load32(v47);
     v4 = v48; goto L10;
 L3:;
@@ -26359,7 +26865,7 @@ L2:;
 L3:;
     v11 = (u64)((u64)v2 << (3u & 63u));
     v12 = v7 + v11 * 1u;
-    v13 = ADDRESS(c225) + v11 * 1u;
+    v13 = ADDRESS(c227) + v11 * 1u;
     v14 = load64(v12);
     v15 = load64(v13);
     v16 = v14 == v15;
@@ -26369,7 +26875,7 @@ L4:;
     v17 = (u64)((u64)v2 | (u64)1u);
     v18 = (u64)((u64)v17 << (3u & 63u));
     v19 = v7 + v18 * 1u;
-    v20 = ADDRESS(c225) + v18 * 1u;
+    v20 = ADDRESS(c227) + v18 * 1u;
     v21 = load64(v19);
     v22 = load64(v20);
     v23 = v21 == v22;
@@ -26379,7 +26885,7 @@ L5:;
     v24 = (u64)((u64)v2 | (u64)2u);
     v25 = (u64)((u64)v24 << (3u & 63u));
     v26 = v7 + v25 * 1u;
-    v27 = ADDRESS(c225) + v25 * 1u;
+    v27 = ADDRESS(c227) + v25 * 1u;
     v28 = load64(v26);
     v29 = load64(v27);
     v30 = v28 == v29;
@@ -26389,7 +26895,7 @@ L6:;
     v31 = (u64)((u64)v2 | (u64)3u);
     v32 = (u64)((u64)v31 << (3u & 63u));
     v33 = v7 + v32 * 1u;
-    v34 = ADDRESS(c225) + v32 * 1u;
+    v34 = ADDRESS(c227) + v32 * 1u;
     v35 = load64(v33);
     v36 = load64(v34);
     v37 = v35 == v36;
@@ -26417,6 +26923,241 @@ L10:;
     v4 = v47; goto L11;
 L11:;
     return v4;
+}
+
+u32 portable_ptpm_step_standing(u32 a0, u16 a1, u16 a2, address a3, u64 a4, u32 a5, address a6, u64 a7) {
+    address v8, v15, v25, v29, v37, v42, v44, v46, v48, v50, v52, v54, v56, v58, v60, v62;
+    address v64, v70, v72, v78, v80, v138, v139, v144, v145, v150, v151, v157, v158;
+    u64 v9, v18, v21, v24, v28, v63, v98, v99, v100, v101, v102, v103, v104, v105, v106, v107;
+    u64 v108, v109, v110, v111, v112, v113, v114, v115, v116, v117, v118, v119, v120, v123, v162;
+    u16 v10, v12, v13, v14, v17, v30, v32, v35, v74, v75, v76, v77, v82, v83, v84, v85;
+    u16 v94, v95, v96, v97, v121, v122, v124, v125;
+    u8 v11, v16, v19, v20, v23, v26, v27, v31, v33, v36, v38, v39, v40, v41, v43, v45;
+    u8 v47, v49, v51, v53, v55, v57, v59, v61, v65, v66, v67, v68, v69, v71, v73, v79;
+    u8 v81, v86, v87, v88, v89, v90, v91, v92, v126, v127, v128, v129, v130, v131, v132, v133;
+    u8 v134, v135, v136, v137, v140, v141, v142, v143, v146, v147, v148, v149, v152, v153, v154, v155;
+    u8 v156, v159, v160, v161, v163, v164, v165, v166, v167, v168;
+    u32 v22, v34, v93, v169;
+    v23 = a6 == 0u;
+    v24 = v23 ? 4096u : 0u;
+    v25 = a6 + v24 * 1u;
+    v26 = a0 < UINT32_C(65536);
+    if (v26) { goto L1; }
+    else { v8 = 0u; v9 = 0u; v10 = 0u; v11 = 0u; v12 = 0u; v13 = 0u; goto L2; }
+L1:;
+    v27 = a3 == 0u;
+    v28 = v27 ? 4096u : 0u;
+    v29 = a3 + v28 * 1u;
+    v30 = (u16)(a0);
+    v31 = a2 == 0u;
+    v32 = v31 ? 65535u : a2;
+    v8 = v29; v9 = a4; v10 = v30; v11 = 1u; v12 = a1; v13 = v32; goto L2;
+L2:;
+    v33 = a5 < UINT32_C(65536);
+    v34 = a5 < UINT32_C(65536) ? a5 : UINT32_C(65536);
+    v35 = (u16)(v34);
+    v36 = a7 > 52u;
+    if (v36) { goto L3; }
+    else { goto L9; }
+L3:;
+    v37 = v25 + 52u * 1u;
+    v38 = load8(v37);
+    v39 = v38 == 0u;
+    v40 = a7 > 59u;
+    v41 = (u8)(((u32)v40 | (u32)v39) & UINT64_C(1));
+    if (v41) { goto L4; }
+    else { goto L9; }
+L4:;
+    v42 = v25 + 36u * 1u;
+    v43 = load8(v42);
+    v44 = v25 + 37u * 1u;
+    v45 = load8(v44);
+    v46 = v25 + 38u * 1u;
+    v47 = load8(v46);
+    v48 = v25 + 39u * 1u;
+    v49 = load8(v48);
+    v50 = v25 + 40u * 1u;
+    v51 = load8(v50);
+    v52 = v25 + 41u * 1u;
+    v53 = load8(v52);
+    v54 = v25 + 42u * 1u;
+    v55 = load8(v54);
+    v56 = v25 + 43u * 1u;
+    v57 = load8(v56);
+    v58 = v25 + 31u * 1u;
+    v59 = load8(v58);
+    v60 = v25 + 32u * 1u;
+    v61 = load8(v60);
+    if (v39) { v14 = 0u; v15 = 0u; v16 = 0u; v17 = 0u; v18 = 0u; v19 = 1u; v20 = 0u; goto L10; }
+    else { goto L5; }
+L5:;
+    v62 = v25 + 60u * 1u;
+    v63 = (u64)((u64)a7 + (u64)UINT64_C(18446744073709551556));
+    v64 = v25 + 53u * 1u;
+    v65 = load8(v64);
+    v66 = v65 == 3u;
+    v67 = v66 ? 3u : 0u;
+    v68 = v65 == 1u;
+    v69 = v68 ? 1u : v67;
+    v70 = v25 + 54u * 1u;
+    v71 = load8(v70);
+    v72 = v25 + 55u * 1u;
+    v73 = load8(v72);
+    v74 = (u16)v71;
+    v75 = (u16)((u32)v74 << (8u & 15u));
+    v76 = (u16)v73;
+    v77 = (u16)((u32)v75 | (u32)v76);
+    v78 = v25 + 56u * 1u;
+    v79 = load8(v78);
+    v80 = v25 + 57u * 1u;
+    v81 = load8(v80);
+    v82 = (u16)v79;
+    v83 = (u16)((u32)v82 << (8u & 15u));
+    v84 = (u16)v81;
+    v85 = (u16)((u32)v83 | (u32)v84);
+    v86 = v69 == 0u;
+    if (v86) { goto L6; }
+    else { goto L8; }
+L6:;
+    v87 = v77 == 8192u;
+    v88 = v63 == 20u;
+    v89 = (u8)(((u32)v88 & (u32)v87) & UINT64_C(1));
+    if (v89) { v14 = 0u; v15 = 0u; v16 = 0u; v17 = 0u; v18 = 0u; v19 = 1u; v20 = 0u; goto L10; }
+    else { goto L7; }
+L7:;
+    v90 = v77 == 8196u;
+    v91 = v63 == 26u;
+    v92 = (u8)(((u32)v91 & (u32)v90) & UINT64_C(1));
+    if (v92) { v14 = 0u; v15 = 0u; v16 = 0u; v17 = 0u; v18 = 0u; v19 = 1u; v20 = 0u; goto L10; }
+    else { goto L8; }
+L8:;
+    v14 = v85; v15 = v62; v16 = v69; v17 = v77; v18 = v63; v19 = 0u; v20 = 1u; goto L10;
+L9:;
+    v93 = v26 ? 4u : 0u;
+    v22 = v93; goto L26;
+L10:;
+    v94 = (u16)v59;
+    v95 = (u16)((u32)v94 << (8u & 15u));
+    v96 = (u16)v61;
+    v97 = (u16)((u32)v95 | (u32)v96);
+    v98 = (u64)v45;
+    v99 = (u64)((u64)v98 << (8u & 63u));
+    v100 = (u64)v43;
+    v101 = (u64)((u64)v99 | (u64)v100);
+    v102 = (u64)v47;
+    v103 = (u64)((u64)v102 << (16u & 63u));
+    v104 = (u64)((u64)v101 | (u64)v103);
+    v105 = (u64)v49;
+    v106 = (u64)((u64)v105 << (24u & 63u));
+    v107 = (u64)((u64)v104 | (u64)v106);
+    v108 = (u64)v51;
+    v109 = (u64)((u64)v108 << (32u & 63u));
+    v110 = (u64)((u64)v107 | (u64)v109);
+    v111 = (u64)v53;
+    v112 = (u64)((u64)v111 << (40u & 63u));
+    v113 = (u64)((u64)v110 | (u64)v112);
+    v114 = (u64)v55;
+    v115 = (u64)((u64)v114 << (48u & 63u));
+    v116 = (u64)((u64)v113 | (u64)v115);
+    v117 = (u64)v57;
+    v118 = (u64)((u64)v117 << (56u & 63u));
+    v119 = (u64)((u64)v116 | (u64)v118);
+    v120 = swap64(v119);
+    v121 = (u16)(v120);
+    v122 = (u16)((u32)v97 + (u32)v121);
+    v123 = v120 > 1u ? (u64)((u64)v120 - (u64)1u) : 0u;
+    v124 = (u16)(v123);
+    v125 = (u16)((u32)v97 + (u32)v124);
+    if (v26) { goto L11; }
+    else { goto L24; }
+L11:;
+    if (v20) { goto L12; }
+    else { goto L22; }
+L12:;
+    v126 = v125 == v10;
+    if (v126) { goto L13; }
+    else { goto L23; }
+L13:;
+    v127 = v11 == v16;
+    v128 = v12 == v17;
+    v129 = v127 ? v128 : 0u;
+    v130 = v13 == v14;
+    v131 = v129 ? v130 : 0u;
+    v132 = v9 == v18;
+    v133 = (u8)(((u32)v132 & (u32)v131) & UINT64_C(1));
+    if (v133) { goto L14; }
+    else { v22 = 3u; goto L26; }
+L14:;
+    v134 = v9 < 4u;
+    if (v134) { goto L16; }
+    else { goto L15; }
+L15:;
+    v135 = load8(v8);
+    v136 = load8(v15);
+    v137 = v135 != v136;
+    v138 = v8 + 1u * 1u;
+    v139 = v15 + 1u * 1u;
+    v140 = load8(v138);
+    v141 = load8(v139);
+    v142 = v140 != v141;
+    v143 = (u8)(((u32)v137 | (u32)v142) & UINT64_C(1));
+    v144 = v8 + 2u * 1u;
+    v145 = v15 + 2u * 1u;
+    v146 = load8(v144);
+    v147 = load8(v145);
+    v148 = v146 != v147;
+    v149 = (u8)(((u32)v143 | (u32)v148) & UINT64_C(1));
+    v150 = v8 + 3u * 1u;
+    v151 = v15 + 3u * 1u;
+    v152 = load8(v150);
+    v153 = load8(v151);
+    v154 = v152 != v153;
+    v155 = (u8)(((u32)v149 | (u32)v154) & UINT64_C(1));
+    if (v155) { v22 = 3u; goto L26; }
+    else { goto L19; }
+L16:;
+    v156 = v9 == 0u;
+    if (v156) { goto L21; }
+    else { v21 = 0u; goto L17; }
+L17:;
+    v157 = v8 + v21 * 1u;
+    v158 = v15 + v21 * 1u;
+    v159 = load8(v157);
+    v160 = load8(v158);
+    v161 = v159 == v160;
+    if (v161) { goto L18; }
+    else { goto L20; }
+L18:;
+    v162 = (u64)((u64)v21 + (u64)1u);
+    v163 = v162 == v9;
+    if (v163) { goto L21; }
+    else { v21 = v162; goto L17; }
+L19:;
+    v164 = f4(v8, v9, v15, v9);
+    if (v164) { goto L21; }
+    else { v22 = 3u; goto L26; }
+L20:;
+    v165 = v21 < v9;
+    if (v165) { v22 = 3u; goto L26; }
+    else { goto L21; }
+L21:;
+    v22 = 1u; goto L26;
+L22:;
+    v166 = v122 == v10;
+    if (v166) { v22 = 2u; goto L26; }
+    else { goto L23; }
+L23:;
+    v22 = 4u; goto L26;
+L24:;
+    if (v19) { v22 = 0u; goto L26; }
+    else { goto L25; }
+L25:;
+    v167 = v125 == v35;
+    v168 = v33 ? v167 : 0u;
+    v169 = v168 ? 5u : 6u;
+    v22 = v169; goto L26;
+L26:;
+    return v22;
 }
 
 void portable_ptpm_survey_stop(address a0) {
@@ -26494,7 +27235,7 @@ L1:;
     memory_set(v35, 0u, 24u);
     v36 = v4 + 136u * 1u;
     store64(v36, UINT64_C(2611923443488327891));
-    v37 = f48(a0, v4);
+    v37 = f49(a0, v4);
     v2 = v37; goto L2;
 L2:;
     return v2;
@@ -26579,7 +27320,7 @@ L4:;
     memory_set(v40, 0u, 24u);
     v41 = v5 + 136u * 1u;
     store64(v41, UINT64_C(2611923443488327891));
-    v42 = f48(a0, v5);
+    v42 = f49(a0, v5);
     v3 = v42; goto L5;
 L5:;
     return v3;
@@ -26636,7 +27377,7 @@ L5:;
     if (v30) { goto L12; }
     else { goto L6; }
 L6:;
-    f49(v10, v25, v13, a3);
+    f50(v10, v25, v13, a3);
     v31 = load8(v10);
     v32 = v31 == 1u;
     if (v32) { goto L7; }
@@ -27124,7 +27865,7 @@ L3:;
     store_address(v43, ADDRESS(c111));
     v44 = v5 + 48u * 1u;
     store64(v44, 0u);
-    f56(v5, v6);
+    f57(v5, v6);
     v45 = v6 + 1472u * 1u;
     v46 = load64(v45);
     memory_cpy(v9, v6, v46);
@@ -27319,7 +28060,7 @@ L15:;
     portable_rattle_dealloc(v116);
     v12 = (struct s2){ 0 }; goto L18;
 L16:;
-    v126 = f59(v58, v78, a4, 0u, 0u, v64, a7);
+    v126 = f60(v58, v78, a4, 0u, 0u, v64, a7);
     v127 = v58 + 48u * 1u;
     v128 = load8(v127);
     v129 = v58 + 80u * 1u;
@@ -27453,7 +28194,7 @@ L31:;
     store8(v187, 0u);
     v188 = v73 + 353u * 1u;
     store8(v188, 0u);
-    f60(v53, v73, v76, a1);
+    f61(v53, v73, v76, a1);
     v189 = load8(v53);
     v190 = v53 + 1u * 1u;
     v191 = load8(v190);
@@ -27551,7 +28292,7 @@ L40:;
     else { goto L44; }
 L41:;
     v249 = v73 + 48u * 1u;
-    v250 = f61(v52, v55, v249);
+    v250 = f62(v52, v55, v249);
     v251 = v250.m0;
     v252 = v251 == 0u;
     if (v252) { goto L44; }
@@ -27610,7 +28351,7 @@ L49:;
 L50:;
     v279 = v73 + 80u * 1u;
     v280 = v73 + 48u * 1u;
-    v281 = f61(v279, v55, v280);
+    v281 = f62(v279, v55, v280);
     v282 = v281.m0;
     v26 = v282; goto L51;
 L51:;
@@ -27779,7 +28520,7 @@ L76:;
 L77:;
     v346 = v12.m1;
     v347 = (u64)v346;
-    v348 = ADDRESS(c238) + v347 * 4u;
+    v348 = ADDRESS(c244) + v347 * 4u;
     v349 = load32(v348);
     v47 = v349; goto L78;
 L78:;
@@ -27841,7 +28582,7 @@ L3:;
     else { goto L16; }
 L4:;
     v28 = v23 + 80u * 1u;
-    f62(v10, v28, v14, a2);
+    f63(v10, v28, v14, a2);
     v29 = load8(v10);
     v30 = v10 + 24u * 1u;
     v31 = load8(v30);
@@ -27913,7 +28654,7 @@ L11:;
     goto L18;
 L12:;
     v69 = v23 + 240u * 1u;
-    f62(v11, v69, v14, a2);
+    f63(v11, v69, v14, a2);
     v70 = load8(v11);
     v71 = v11 + 24u * 1u;
     v72 = load8(v71);
@@ -28236,7 +28977,7 @@ L11:;
     store_address(v56, v37);
     v57 = v11 + 16u * 1u;
     store64(v57, v39);
-    v58 = f58(v28, v11);
+    v58 = f59(v28, v11);
     v59 = v58.m0;
     v60 = v58.m1;
     v2 = v60; v3 = v59; goto L12;
@@ -28247,7 +28988,7 @@ L12:;
     v62.m1 = v2;
     v4 = v62; goto L14;
 L13:;
-    v63 = f59(v28, v29, v31, 0u, 0u, v37, v39);
+    v63 = f60(v28, v29, v31, 0u, 0u, v37, v39);
     v4 = v63; goto L14;
 L14:;
     v64 = v4.m0;
@@ -28291,7 +29032,7 @@ L20:;
 L21:;
     v78 = v4.m1;
     v79 = (u64)v78;
-    v80 = ADDRESS(c238) + v79 * 4u;
+    v80 = ADDRESS(c244) + v79 * 4u;
     v81 = load32(v80);
     v8 = 5u; v9 = v81; goto L22;
 L22:;
@@ -28373,7 +29114,7 @@ L6:;
     store8(v51, 0u);
     v52 = v38 + 353u * 1u;
     store8(v52, 0u);
-    f60(v22, v38, v40, a1);
+    f61(v22, v38, v40, a1);
     v53 = load8(v22);
     v54 = v22 + 1u * 1u;
     v55 = load8(v54);
@@ -28626,7 +29367,7 @@ L15:;
     store8(v71, 0u);
     v72 = v28 + 353u * 1u;
     store8(v72, 0u);
-    f60(v16, v28, v30, a1);
+    f61(v16, v28, v30, a1);
     v73 = load8(v16);
     v74 = v16 + 1u * 1u;
     v75 = load8(v74);
@@ -28976,7 +29717,7 @@ L6:;
     v43 = load16(v42);
     v44 = v33 + 237u * 1u;
     v45 = load8(v44);
-    f63(v23, v33, v36, a1, v43, v45);
+    f64(v23, v33, v36, a1, v43, v45);
     goto L47;
 L7:;
     memory_set(v22, 0u, 64u);
@@ -29090,7 +29831,7 @@ L15:;
     store_address(v96, v18);
     v97 = v20 + 48u * 1u;
     store64(v97, 0u);
-    f56(v20, v36);
+    f57(v20, v36);
     v98 = v33 + 32u * 1u;
     v99 = load64(v98);
     v100 = (u64)((u64)v99 + (u64)a1) < v99 ? UINT64_C(18446744073709551615) : (u64)((u64)v99 + (u64)a1);
@@ -29254,7 +29995,7 @@ L24:;
     store_address(v192, v175);
     v193 = v19 + 48u * 1u;
     store64(v193, v177);
-    f56(v19, v36);
+    f57(v19, v36);
     v194 = load8(v152);
     v195 = (u8)((u32)v194 + (u32)255u);
     store8(v152, v195);
@@ -29408,7 +30149,7 @@ L43:;
     v263 = load16(v262);
     v264 = (u16)((u32)v263 + (u32)16384u);
     v265 = (u8)((u32)v238 + (u32)255u);
-    f63(v22, v33, v36, a1, v264, v265);
+    f64(v22, v33, v36, a1, v264, v265);
     goto L44;
 L44:;
     memory_cpy(v23, v22, 64u);
@@ -29509,7 +30250,7 @@ L58:;
     v16 = 0u; goto L60;
 L59:;
     v307 = (u64)v284;
-    v308 = ADDRESS(c238) + v307 * 4u;
+    v308 = ADDRESS(c244) + v307 * 4u;
     v309 = load32(v308);
     v16 = v309; goto L60;
 L60:;
@@ -29535,7 +30276,7 @@ u32 portable_ptpm_clock_handle(address a0, u16 a1, address a2, u64 a3, address a
     v10 = a4 == 0u;
     v11 = v10 ? 4096u : 0u;
     v12 = a4 + v11 * 1u;
-    v13 = f64(a0, a1, v9, a3, v12, a5, a6);
+    v13 = f65(a0, a1, v9, a3, v12, a5, a6);
     return v13;
 }
 
@@ -29595,12 +30336,12 @@ L3:;
     store8(v22, 1u);
     v32 = a0 + 9u * 1u;
     memory_set(v32, 0u, 7u);
-    v33 = f64(a0, a1, v16, a3, v19, a5, a6);
+    v33 = f65(a0, a1, v16, a3, v19, a5, a6);
     v34 = v33 == 5u;
     if (v34) { goto L5; }
     else { v10 = v33; goto L10; }
 L4:;
-    v35 = f82(a0, a1, v16, a3, v19, a5, a6, a7);
+    v35 = f83(a0, a1, v16, a3, v19, a5, a6, a7);
     v10 = v35; goto L10;
 L5:;
     memory_set(v11, 0u, 12u);
@@ -29628,7 +30369,7 @@ L7:;
     memory_set(v32, 0u, 7u);
     v8 = 0u; v9 = 0u; goto L9;
 L8:;
-    f83(v11, v43, v12);
+    f84(v11, v43, v12);
     store64(v36, 1u);
     store_address(v40, v43);
     store_address(a0, v36);
@@ -29687,13 +30428,13 @@ L2:;
     memory_set(v23, 0u, 7u);
     goto L4;
 L3:;
-    f85(v9, v21, a1, v12, a3);
+    f86(v9, v21, a1, v12, a3);
     v24 = load8(v9);
     v25 = v24 == 0u;
     if (v25) { goto L5; }
     else { goto L14; }
 L4:;
-    v26 = f84(a0, a1, v12, a3, a4);
+    v26 = f85(a0, a1, v12, a3, a4);
     v8 = v26; goto L53;
 L5:;
     v27 = v9 + 8u * 1u;
@@ -30039,7 +30780,7 @@ L17:;
     memory_move(v83, v8, 80u);
     goto L19;
 L18:;
-    f75(v83, v8, v77);
+    f76(v83, v8, v77);
     goto L19;
 L19:;
     v84 = v80 + 8u * 1u;
@@ -30078,195 +30819,132 @@ L24:;
 }
 
 u32 portable_ptpm_clock_handle_said(address a0, u16 a1, address a2, u64 a3, address a4, address a5, u64 a6, address a7, address a8) {
-    u8 v9, v20, v23, v29, v30, v31, v34, v36, v40, v41, v43, v46, v48, v49, v52, v53;
-    u8 v54, v58, v59, v60, v85, v86, v91, v92, v99, v100, v102, v103, v105, v107;
-    u32 v10, v11, v93, v94, v104;
-    address v12, v13, v14, v15, v16, v17, v18, v19, v22, v25, v26, v27, v28, v32, v35, v37;
-    address v42, v51, v55, v56, v57, v61, v63, v64, v65, v66, v67, v68, v69, v70, v71, v72;
-    address v73, v74, v75, v76, v77, v78, v79, v80, v81, v82, v83, v87, v89, v90, v95, v97;
-    address v98, v101, v108;
-    u64 v21, v24, v33, v38, v50, v88, v96, v106, v109;
-    u16 v39, v44, v45, v47, v62, v84;
-    u64 block0[163];
-    u64 block1[162];
-    u64 block2[5];
-    u64 block3[6];
-    u64 block4[3];
-    u64 block5[55];
-    u64 block6[55];
-    u64 block7[2];
+    u8 v9, v17, v20, v26, v27, v28, v31, v33, v37, v38, v40, v43, v45, v46, v49, v50;
+    u8 v51, v53, v54, v59, v60, v67, v68, v70, v71, v73, v75;
+    u32 v10, v11, v61, v62, v72;
+    address v12, v13, v14, v15, v16, v19, v22, v23, v24, v25, v29, v32, v34, v39, v48, v52;
+    address v55, v57, v58, v63, v65, v66, v69, v76;
+    u64 v18, v21, v30, v35, v47, v56, v64, v74, v77;
+    u16 v36, v41, v42, v44;
+    u64 block0[6];
+    u64 block1[3];
+    u64 block2[55];
+    u64 block3[55];
+    u64 block4[2];
     v12 = ADDRESS(block0);
     v13 = ADDRESS(block1);
     v14 = ADDRESS(block2);
     v15 = ADDRESS(block3);
     v16 = ADDRESS(block4);
-    v17 = ADDRESS(block5);
-    v18 = ADDRESS(block6);
-    v19 = ADDRESS(block7);
-    v20 = a2 == 0u;
+    v17 = a2 == 0u;
+    v18 = v17 ? 4096u : 0u;
+    v19 = a2 + v18 * 1u;
+    v20 = a5 == 0u;
     v21 = v20 ? 4096u : 0u;
-    v22 = a2 + v21 * 1u;
-    v23 = a5 == 0u;
-    v24 = v23 ? 4096u : 0u;
-    v25 = a5 + v24 * 1u;
+    v22 = a5 + v21 * 1u;
     store64(a7, 0u);
     store32(a8, 0u);
-    v26 = a8 + 4u * 1u;
-    store64(v26, 0u);
-    v27 = load_address(a0);
-    v28 = a0 + 8u * 1u;
-    v29 = load8(v28);
+    v23 = a8 + 4u * 1u;
+    store64(v23, 0u);
+    v24 = load_address(a0);
+    v25 = a0 + 8u * 1u;
+    v26 = load8(v25);
     memory_set(a0, 0u, 16u);
-    v30 = (u8)((v29) & UINT64_C(1));
-    if (v30) { goto L1; }
+    v27 = (u8)((v26) & UINT64_C(1));
+    if (v27) { goto L1; }
     else { goto L30; }
 L1:;
-    v31 = load8(v27);
-    v32 = v27 + 8u * 1u;
-    v33 = load64(v32);
-    memory_set(v27, 0u, 16u);
-    v34 = v31 == 1u;
-    v35 = (address)v33;
-    if (v34) { goto L2; }
+    v28 = load8(v24);
+    v29 = v24 + 8u * 1u;
+    v30 = load64(v29);
+    memory_set(v24, 0u, 16u);
+    v31 = v28 == 1u;
+    v32 = (address)v30;
+    if (v31) { goto L2; }
     else { goto L29; }
 L2:;
-    memory_set(v18, 0u, 440u);
-    memory_set(v19, 0u, 12u);
+    memory_set(v15, 0u, 440u);
+    memory_set(v16, 0u, 12u);
     store64(a7, 0u);
     store32(a8, 0u);
-    store64(v26, 0u);
-    f31(v18, v35);
-    memory_cpy(v17, v18, 440u);
-    memory_set(v16, 0u, 24u);
-    v36 = a1 == 0u;
-    if (v36) { goto L27; }
+    store64(v23, 0u);
+    f31(v15, v32);
+    memory_cpy(v14, v15, 440u);
+    memory_set(v13, 0u, 24u);
+    v33 = a1 == 0u;
+    if (v33) { goto L27; }
     else { goto L3; }
 L3:;
-    v37 = v35 + 432u * 1u;
-    v38 = load64(v37);
-    v39 = (u16)(v38);
-    v40 = a1 > v39;
-    if (v40) { goto L27; }
+    v34 = v32 + 432u * 1u;
+    v35 = load64(v34);
+    v36 = (u16)(v35);
+    v37 = a1 > v36;
+    if (v37) { goto L27; }
     else { goto L4; }
 L4:;
-    v41 = a6 < 15u;
-    if (v41) { goto L26; }
+    v38 = a6 < 15u;
+    if (v38) { goto L26; }
     else { goto L5; }
 L5:;
-    v42 = a4 + 4u * 1u;
-    v43 = load8(v42);
-    switch (v43) {
+    v39 = a4 + 4u * 1u;
+    v40 = load8(v39);
+    switch (v40) {
     case 0u: goto L7;
     case 1u: goto L6;
     default: goto L25;
     }
 L6:;
-    v44 = load16(a4);
-    v45 = (u16)((u32)v44 + (u32)2u);
-    v46 = v45 < 9u;
-    v47 = (u16)((u32)449u >> (v45 & 15u));
-    v48 = (u8)((v47) & UINT64_C(1));
-    v49 = v46 ? v48 : 0u;
-    if (v49) { goto L8; }
+    v41 = load16(a4);
+    v42 = (u16)((u32)v41 + (u32)2u);
+    v43 = v42 < 9u;
+    v44 = (u16)((u32)449u >> (v42 & 15u));
+    v45 = (u8)((v44) & UINT64_C(1));
+    v46 = v43 ? v45 : 0u;
+    if (v46) { goto L8; }
     else { goto L25; }
 L7:;
     v9 = 0u; goto L10;
 L8:;
-    v50 = (u64)v45;
-    v51 = ADDRESS(c237) + v50 * 1u;
-    v52 = load8(v51);
-    f49(v15, v35, v22, a3);
-    v53 = load8(v15);
-    v54 = v53 == 1u;
-    if (v54) { goto L9; }
+    v47 = (u64)v42;
+    v48 = ADDRESS(c241) + v47 * 1u;
+    v49 = load8(v48);
+    f50(v12, v32, v19, a3);
+    v50 = load8(v12);
+    v51 = v50 == 1u;
+    if (v51) { goto L9; }
     else { v9 = 0u; goto L10; }
 L9:;
-    v55 = v15 + 8u * 1u;
-    memory_cpy(v14, v55, 40u);
-    v56 = v14 + 16u * 1u;
-    v57 = v12 + 1296u * 1u;
-    store64(v57, 0u);
-    v58 = load8(v56);
-    v59 = v58 > 2u;
-    v60 = v59 ? 4u : 2u;
-    v61 = v14 + 18u * 1u;
-    v62 = load16(v61);
-    store8(v12, v60);
-    v63 = v12 + 1u * 1u;
-    store8(v63, 0u);
-    v64 = v12 + 2u * 1u;
-    store16(v64, v62);
-    v65 = v12 + 4u * 1u;
-    store32(v65, 0u);
-    v66 = v12 + 8u * 1u;
-    store64(v66, 0u);
-    v67 = v12 + 16u * 1u;
-    store8(v67, 1u);
-    v68 = v12 + 17u * 1u;
-    memory_set(v68, 0u, 159u);
-    v69 = v12 + 176u * 1u;
-    store8(v69, 1u);
-    v70 = v12 + 177u * 1u;
-    memory_set(v70, 0u, 159u);
-    v71 = v12 + 336u * 1u;
-    store8(v71, 1u);
-    v72 = v12 + 337u * 1u;
-    memory_set(v72, 0u, 159u);
-    v73 = v12 + 496u * 1u;
-    store8(v73, 1u);
-    v74 = v12 + 497u * 1u;
-    memory_set(v74, 0u, 159u);
-    v75 = v12 + 656u * 1u;
-    store8(v75, 1u);
-    v76 = v12 + 657u * 1u;
-    memory_set(v76, 0u, 159u);
-    v77 = v12 + 816u * 1u;
-    store8(v77, 1u);
-    v78 = v12 + 817u * 1u;
-    memory_set(v78, 0u, 159u);
-    v79 = v12 + 976u * 1u;
-    store8(v79, 1u);
-    v80 = v12 + 977u * 1u;
-    memory_set(v80, 0u, 159u);
-    v81 = v12 + 1136u * 1u;
-    store8(v81, 1u);
-    v82 = v12 + 1137u * 1u;
-    memory_set(v82, 0u, 159u);
-    store8(v57, v52);
-    f87(v35, v56, v12);
-    memory_cpy(v13, v12, 1296u);
-    v83 = v14 + 10u * 1u;
-    v84 = load16(v83);
-    f34(v35, v55, v84, v56, v13);
+    v52 = v12 + 8u * 1u;
+    f88(v32, v52, v49);
     v9 = 1u; goto L10;
 L10:;
-    f67(v16, v35, a1, v22, a3, v25, a6);
-    v85 = load8(v16);
-    v86 = v85 == 0u;
-    if (v86) { goto L11; }
+    f68(v13, v32, a1, v19, a3, v22, a6);
+    v53 = load8(v13);
+    v54 = v53 == 0u;
+    if (v54) { goto L11; }
     else { goto L13; }
 L11:;
-    v87 = v16 + 16u * 1u;
-    v88 = load64(v87);
+    v55 = v13 + 16u * 1u;
+    v56 = load64(v55);
     if (v9) { goto L12; }
     else { goto L14; }
 L12:;
-    store64(a7, v88);
-    f83(v19, v35, v17);
-    memory_cpy(a8, v19, 12u);
+    store64(a7, v56);
+    f84(v16, v32, v14);
+    memory_cpy(a8, v16, 12u);
     goto L19;
 L13:;
     TRAP;
     UNREACHABLE;
 L14:;
-    v89 = v16 + 8u * 1u;
-    v90 = v16 + 9u * 1u;
-    v91 = load8(v90);
-    v92 = load8(v89);
-    store64(a7, v88);
-    f83(v19, v35, v17);
-    memory_cpy(a8, v19, 12u);
-    switch (v92) {
+    v57 = v13 + 8u * 1u;
+    v58 = v13 + 9u * 1u;
+    v59 = load8(v58);
+    v60 = load8(v57);
+    store64(a7, v56);
+    f84(v16, v32, v14);
+    memory_cpy(a8, v16, 12u);
+    switch (v60) {
     case 0u: goto L15;
     case 9u: goto L23;
     case 1u: v10 = 1u; goto L28;
@@ -30280,9 +30958,9 @@ L14:;
     default: goto L24;
     }
 L15:;
-    v93 = (u32)v91;
-    v94 = (u32)((u32)v93 + (u32)16u);
-    v10 = v94; goto L28;
+    v61 = (u32)v59;
+    v62 = (u32)((u32)v61 + (u32)16u);
+    v10 = v62; goto L28;
 L16:;
     v10 = 2u; goto L28;
 L17:;
@@ -30308,58 +30986,58 @@ L26:;
 L27:;
     v10 = 33u; goto L28;
 L28:;
-    store64(v27, 1u);
-    store_address(v32, v35);
-    store_address(a0, v27);
-    store8(v28, 1u);
-    v95 = a0 + 9u * 1u;
-    memory_set(v95, 0u, 7u);
+    store64(v24, 1u);
+    store_address(v29, v32);
+    store_address(a0, v24);
+    store8(v25, 1u);
+    v63 = a0 + 9u * 1u;
+    memory_set(v63, 0u, 7u);
     v11 = v10; goto L35;
 L29:;
-    v96 = (u64)v31;
-    store64(v27, v96);
-    store_address(v32, v35);
-    store_address(a0, v27);
-    store8(v28, 1u);
-    v97 = a0 + 9u * 1u;
-    memory_set(v97, 0u, 7u);
-    v98 = a4 + 4u * 1u;
-    v99 = load8(v98);
-    v100 = v99 == 0u;
-    if (v100) { goto L31; }
+    v64 = (u64)v28;
+    store64(v24, v64);
+    store_address(v29, v32);
+    store_address(a0, v24);
+    store8(v25, 1u);
+    v65 = a0 + 9u * 1u;
+    memory_set(v65, 0u, 7u);
+    v66 = a4 + 4u * 1u;
+    v67 = load8(v66);
+    v68 = v67 == 0u;
+    if (v68) { goto L31; }
     else { goto L32; }
 L30:;
-    v101 = a4 + 4u * 1u;
-    v102 = load8(v101);
-    v103 = v102 == 0u;
-    if (v103) { goto L31; }
+    v69 = a4 + 4u * 1u;
+    v70 = load8(v69);
+    v71 = v70 == 0u;
+    if (v71) { goto L31; }
     else { v11 = 32u; goto L35; }
 L31:;
-    v104 = f82(a0, a1, v22, a3, v25, a6, a7, a8);
-    v11 = v104; goto L35;
+    v72 = f83(a0, a1, v19, a3, v22, a6, a7, a8);
+    v11 = v72; goto L35;
 L32:;
     memory_set(a0, 0u, 16u);
-    v105 = load8(v27);
-    v106 = load64(v32);
-    memory_set(v27, 0u, 16u);
-    v107 = v105 == 4u;
-    v108 = (address)v106;
-    if (v107) { goto L34; }
+    v73 = load8(v24);
+    v74 = load64(v29);
+    memory_set(v24, 0u, 16u);
+    v75 = v73 == 4u;
+    v76 = (address)v74;
+    if (v75) { goto L34; }
     else { goto L33; }
 L33:;
-    v109 = (u64)v105;
-    store64(v27, v109);
-    store_address(v32, v108);
-    store_address(a0, v27);
-    store8(v28, 1u);
-    memory_set(v97, 0u, 7u);
+    v77 = (u64)v73;
+    store64(v24, v77);
+    store_address(v29, v76);
+    store_address(a0, v24);
+    store8(v25, 1u);
+    memory_set(v65, 0u, 7u);
     v11 = 32u; goto L35;
 L34:;
-    store64(v27, 4u);
-    store_address(v32, v108);
-    store_address(a0, v27);
-    store8(v28, 1u);
-    memory_set(v97, 0u, 7u);
+    store64(v24, 4u);
+    store_address(v29, v76);
+    store_address(a0, v24);
+    store8(v25, 1u);
+    memory_set(v65, 0u, 7u);
     v11 = 122u; goto L35;
 L35:;
     return v11;
@@ -30457,6 +31135,174 @@ L8:;
     return v1;
 }
 
+u32 portable_ptpm_clock_set(address a0, u8 a1, u16 a2, u16 a3, address a4, u64 a5, address a6, address a7) {
+    u64 v8, v17, v26, v29, v37, v40, v50, v51, v58, v61, v71, v74;
+    u32 v9, v10, v11, v12, v63, v76;
+    address v13, v14, v15, v18, v19, v20, v21, v25, v28, v32, v36, v39, v41, v44, v45, v48;
+    address v49, v52, v53, v55, v59, v62, v64, v65, v66, v69, v72, v75, v77;
+    u8 v16, v22, v23, v24, v27, v30, v31, v33, v34, v35, v38, v42, v43, v46, v47, v54;
+    u8 v56, v57, v67, v68, v70;
+    u16 v60, v73;
+    u64 block0[2];
+    u64 block1[2];
+    u64 block2[2];
+    v13 = ADDRESS(block0);
+    v14 = ADDRESS(block1);
+    v15 = ADDRESS(block2);
+    v16 = a4 == 0u;
+    v17 = v16 ? 4096u : 0u;
+    v18 = a4 + v17 * 1u;
+    memory_set(v15, 0u, 16u);
+    store32(a6, 0u);
+    v19 = a6 + 4u * 1u;
+    store64(v19, 0u);
+    store16(a7, 0u);
+    v20 = load_address(a0);
+    v21 = a0 + 8u * 1u;
+    v22 = load8(v21);
+    memory_set(a0, 0u, 16u);
+    v23 = (u8)((v22) & UINT64_C(1));
+    if (v23) { goto L1; }
+    else { goto L4; }
+L1:;
+    v24 = load8(v20);
+    v25 = v20 + 8u * 1u;
+    v26 = load64(v25);
+    memory_set(v20, 0u, 16u);
+    v27 = v24 == 1u;
+    v28 = (address)v26;
+    if (v27) { goto L3; }
+    else { goto L2; }
+L2:;
+    v29 = (u64)v24;
+    store64(v20, v29);
+    store_address(v25, v28);
+    store_address(a0, v20);
+    store8(v21, 1u);
+    goto L4;
+L3:;
+    f92(v15, v28, a1, a2, a3, v18, a5);
+    v30 = load8(v15);
+    v31 = v30 == 0u;
+    if (v31) { goto L16; }
+    else { goto L17; }
+L4:;
+    store32(a6, 0u);
+    store64(v19, 0u);
+    store16(a7, 0u);
+    v32 = load_address(a0);
+    v33 = load8(v21);
+    memory_set(a0, 0u, 16u);
+    v34 = (u8)((v33) & UINT64_C(1));
+    if (v34) { goto L5; }
+    else { v10 = 32u; goto L15; }
+L5:;
+    v35 = load8(v32);
+    v36 = v32 + 8u * 1u;
+    v37 = load64(v36);
+    memory_set(v32, 0u, 16u);
+    v38 = v35 == 4u;
+    v39 = (address)v37;
+    if (v38) { goto L7; }
+    else { goto L6; }
+L6:;
+    v40 = (u64)v35;
+    v8 = v40; v9 = 32u; goto L14;
+L7:;
+    memory_set(v13, 0u, 16u);
+    v41 = load_address(v39);
+    f92(v13, v41, a1, a2, a3, v18, a5);
+    v42 = load8(v13);
+    v43 = v42 == 0u;
+    if (v43) { goto L8; }
+    else { goto L11; }
+L8:;
+    v44 = v13 + 4u * 1u;
+    v45 = v39 + 16u * 1u;
+    v46 = load8(v45);
+    v47 = v46 == 0u;
+    if (v47) { goto L9; }
+    else { goto L10; }
+L9:;
+    store16(v45, 1u);
+    v48 = v39 + 18u * 1u;
+    memory_set(v48, 0u, 18u);
+    goto L10;
+L10:;
+    v49 = v39 + 8u * 1u;
+    v50 = load64(v49);
+    v51 = (u64)((u64)v50 + (u64)1u);
+    store64(v49, v51);
+    v52 = v14 + 1u * 1u;
+    memory_cpy(v52, v44, 12u);
+    memory_cpy(a6, v52, 12u);
+    v8 = 4u; v9 = 0u; goto L14;
+L11:;
+    v53 = v13 + 2u * 1u;
+    v54 = load8(v53);
+    v55 = v13 + 1u * 1u;
+    v56 = load8(v55);
+    v57 = v56 == 3u;
+    if (v57) { goto L12; }
+    else { goto L13; }
+L12:;
+    v58 = (u64)v54;
+    v59 = ADDRESS(c242) + v58 * 2u;
+    v60 = load16(v59);
+    store16(a7, v60);
+    v8 = 4u; v9 = 26u; goto L14;
+L13:;
+    store16(a7, 0u);
+    v61 = (u64)v56;
+    v62 = ADDRESS(c243) + v61 * 4u;
+    v63 = load32(v62);
+    v8 = 4u; v9 = v63; goto L14;
+L14:;
+    store64(v32, v8);
+    store_address(v36, v39);
+    store_address(a0, v32);
+    store8(v21, 1u);
+    v64 = a0 + 9u * 1u;
+    memory_set(v64, 0u, 7u);
+    v10 = v9; goto L15;
+L15:;
+    v12 = v10; goto L21;
+L16:;
+    v65 = v15 + 4u * 1u;
+    memory_cpy(a6, v65, 12u);
+    v11 = 0u; goto L20;
+L17:;
+    v66 = v15 + 1u * 1u;
+    v67 = load8(v66);
+    v68 = v67 == 3u;
+    if (v68) { goto L18; }
+    else { goto L19; }
+L18:;
+    v69 = v15 + 2u * 1u;
+    v70 = load8(v69);
+    v71 = (u64)v70;
+    v72 = ADDRESS(c242) + v71 * 2u;
+    v73 = load16(v72);
+    store16(a7, v73);
+    v11 = 26u; goto L20;
+L19:;
+    store16(a7, 0u);
+    v74 = (u64)v67;
+    v75 = ADDRESS(c243) + v74 * 4u;
+    v76 = load32(v75);
+    v11 = v76; goto L20;
+L20:;
+    store64(v20, 1u);
+    store_address(v25, v28);
+    store_address(a0, v20);
+    store8(v21, 1u);
+    v77 = a0 + 9u * 1u;
+    memory_set(v77, 0u, 7u);
+    v12 = v11; goto L21;
+L21:;
+    return v12;
+}
+
 u32 portable_ptpm_session_begin(address a0, u8 a1, u16 a2, u16 a3, address a4, u64 a5) {
     u64 v6, v10, v18, v21, v34, v45;
     u32 v7, v8, v41, v42, v47;
@@ -30489,7 +31335,7 @@ L2:;
 L3:;
     v22 = a1 < 4u;
     v23 = v22 ? a1 : 2u;
-    v24 = f59(v20, v23, a2, 1u, a3, v11, a5);
+    v24 = f60(v20, v23, a2, 1u, a3, v11, a5);
     v25 = v24.m0;
     v26 = v25 == 0u;
     if (v26) { goto L4; }
@@ -30526,7 +31372,7 @@ L6:;
 L7:;
     v44 = v24.m1;
     v45 = (u64)v44;
-    v46 = ADDRESS(c238) + v45 * 4u;
+    v46 = ADDRESS(c244) + v45 * 4u;
     v47 = load32(v46);
     v6 = 2u; v7 = v47; goto L8;
 L8:;
@@ -30616,7 +31462,7 @@ L8:;
     store_address(v44, v15);
     v45 = v12 + 16u * 1u;
     store64(v45, a5);
-    v46 = f58(v24, v12);
+    v46 = f59(v24, v12);
     v47 = v46.m0;
     v48 = v46.m1;
     v49 = v47 == 0u;
@@ -30658,7 +31504,7 @@ L12:;
     else { goto L13; }
 L13:;
     v69 = (u64)v8;
-    v70 = ADDRESS(c238) + v69 * 4u;
+    v70 = ADDRESS(c244) + v69 * 4u;
     v71 = load32(v70);
     v9 = 2u; v10 = v71; goto L14;
 L14:;
@@ -30778,7 +31624,7 @@ L2:;
     v3 = v19; v4 = 37u; goto L18;
 L3:;
     memory_set(v6, 0u, 56u);
-    f62(v6, v18, v9, a2);
+    f63(v6, v18, v9, a2);
     v20 = load8(v6);
     v21 = v6 + 16u * 1u;
     v22 = load64(v21);
@@ -31184,7 +32030,7 @@ L8:;
     store_address(v73, v56);
     v74 = v7 + 48u * 1u;
     store64(v74, v58);
-    f56(v7, v29);
+    f57(v7, v29);
     v75 = load8(v33);
     v76 = (u8)((u32)v75 + (u32)255u);
     store8(v33, v76);
@@ -32065,7 +32911,7 @@ L41:;
     if (v573) { goto L42; }
     else { v16 = v450; v17 = v449; goto L44; }
 L42:;
-    v574 = f90(v106);
+    v574 = f93(v106);
     v575 = v574 == 0u;
     if (v575) { goto L43; }
     else { goto L50; }
