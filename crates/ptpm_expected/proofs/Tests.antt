@@ -1,5 +1,5 @@
 -- Tests of all elements of a list, or of any, after a map and of a set.
-use Rattle.std.proofs.Common.{◌≡◌, ◌∙◌, ◌++◌, ◌&&◌, ◌||◌, Bool, true, false, cond, List, [], ◌∷◌, ap, refl, sym, append_assoc}
+use Rattle.std.proofs.Common.{◌≡◌, ◌∙◌, ◌++◌, ◌&&◌, ◌||◌, Bool, true, false, cond, List, [], ◌∷◌, ap, map, refl, sym, append_assoc}
 use Rattle.std.proofs.lemmas.Bool.{and_from, and_parts}
 use Rattle.std.proofs.lemmas.List.Folds.{list_all-append, list_any-append}
 use Rattle.std.specs.BTreeSet.{insert_key}
@@ -44,7 +44,7 @@ all_weaker p q h (x ∷ xs) passed =
 
 pub or_this : (a b : Bool) → a ≡ true → (a || b) ≡ true
 or_this true b h = refl
-or_this false b h = h
+or_this false b h = cc
 
 pub or_that : (a b : Bool) → b ≡ true → (a || b) ≡ true
 or_that true b h = refl
@@ -64,6 +64,10 @@ pub any_flat : {A B : Type 0} (p : B → Bool) (f : A → List B) (xs : List A) 
 any_flat p f [] = refl
 any_flat p f (x ∷ xs) = list_any-append p (f x) (flat_map f xs) ∙ ap (λ b. list_any p (f x) || b) (any_flat p f xs)
 
+pub any_map : {A B : Type 0} (p : B → Bool) (f : A → B) (xs : List A) → list_any p (map f xs) ≡ list_any (λ x. p (f x)) xs
+any_map p f [] = refl
+any_map p f (x ∷ xs) = ap (λ b. p (f x) || b) (any_map p f xs)
+
 pub any_left : {B : Type 0} (p : B → Bool) (xs ys : List B) → list_any p xs ≡ true → list_any p (xs ++ ys) ≡ true
 any_left p xs ys h = list_any-append p xs ys ∙ or_this (list_any p xs) (list_any p ys) h
 
@@ -79,13 +83,13 @@ all_among same h (x ∷ xs) =
     (all_weaker (λ y. list_any (same y) xs) (λ y. same y x || list_any (same y) xs) (λ y among. or_that (same y x) (list_any (same y) xs) among) xs
     (all_among same h xs))
 
-pub flat_flat : {A B C : Type 0} (g : B → List C) (f : A → List B) (xs : List A) → flat_map g (flat_map f xs) ≡ flat_map (λ x. flat_map g (f x)) xs
-flat_flat g f [] = refl
-flat_flat g f (x ∷ xs) = flat_append g (f x) (flat_map f xs) ∙ ap (λ ys. flat_map g (f x) ++ ys) (flat_flat g f xs)
-
 pub flat_append : {B C : Type 0} (g : B → List C) (xs ys : List B) → flat_map g (xs ++ ys) ≡ flat_map g xs ++ flat_map g ys
 flat_append g [] ys = refl
 flat_append g (x ∷ xs) ys = ap (λ zs. g x ++ zs) (flat_append g xs ys) ∙ sym (append_assoc (g x) (flat_map g xs) (flat_map g ys))
+
+pub flat_flat : {A B C : Type 0} (g : B → List C) (f : A → List B) (xs : List A) → flat_map g (flat_map f xs) ≡ flat_map (λ x. flat_map g (f x)) xs
+flat_flat g f [] = refl
+flat_flat g f (x ∷ xs) = flat_append g (f x) (flat_map f xs) ∙ ap (λ ys. flat_map g (f x) ++ ys) (flat_flat g f xs)
 
 -- each element gives itself
 pub flat_same : {A : Type 0} (f : A → List A) → ((x : A) → f x ≡ x ∷ []) → (xs : List A) → flat_map f xs ≡ xs

@@ -1,11 +1,11 @@
 //! The findings of a site that is held to an inventory.
 
-ghost use Rattle.std.specs.Prelude.{◌≡◌, ◌++◌, IfOk, OnOk, filter};
-ghost use Rattle.std.specs.List.{list_any};
-ghost use Rattle.std.specs.List.Sorted.{IsSortedByKey};
+ghost use Rattle.std.specs.Prelude.{◌≡◌, ◌++◌, List, OnOk, filter};
+ghost use Rattle.std.specs.List.Sorted.{IsPermutation, IsSortedByKey, IsStableByKey};
+ghost use Rattle.ptpm_site.specs.declared.finding.Finding.{Finding};
 ghost use Rattle.ptpm_site.specs.Site.{site_answers};
 ghost use Rattle.ptpm_expected.specs.Held.{IsHeld};
-ghost use Rattle.ptpm_expected.specs.HeldToInventory.{is_allowed, stays, told_with_inventory};
+ghost use Rattle.ptpm_expected.specs.HeldToInventory.{stays, told_with_inventory};
 ghost use Rattle.ptpm_expected.specs.InventoryFindings.{told_by_inventory};
 ghost use Rattle.ptpm_expected.specs.Order.{finding_key};
 ghost use Rattle.ptpm_expected.specs.Telling.{told_all};
@@ -29,12 +29,17 @@ pub fn hold_to_inventory<'a>(
     findings: &mut Vec<Finding<'a>>,
 ) -> Result<(), AllocError>
     requires { sources.now ≡ (site_answers site.now).clocks }
+    ensures told { OnOk result ((judged : List Finding)
+        × (told_all judged ≡ told_with_inventory (site_answers site.now) inventory.now.entries.items findings.old.items)
+        × IsPermutation judged findings.new.items
+        × IsStableByKey finding_key ⟦<FindingKey as Ord>⟧.cmp judged findings.new.items) }
     ensures sorted { OnOk result (IsSortedByKey finding_key ⟦<FindingKey as Ord>⟧.cmp findings.new.items) }
 {
     let held = Held::of(alloc, site, inventory.entries.as_slice())?;
     keep_what_stays(&held, findings);
     judge(alloc, &held, sources, findings)?;
-    put_in_order(findings)
+    put_in_order(findings)?;
+    Ok(())
 }
 
 /// Takes away what the inventory allows.
@@ -60,5 +65,6 @@ fn judge<'a>(
     let (site, entries) = (held.site, held.entries);
     judge_entries(alloc, site, entries, sources, findings)?;
     judge_absent(alloc, site, entries, &held.named, findings)?;
-    judge_unexpected(alloc, site, entries, &held.named, sources, findings)
+    judge_unexpected(alloc, site, entries, &held.named, sources, findings)?;
+    Ok(())
 }

@@ -1,7 +1,9 @@
 //! How a site is not as an inventory wants it.
 
 ghost use Rattle.std.specs.Prelude.{◌≡◌, ◌++◌, IfOk, OnOk, map};
-ghost use Rattle.std.specs.List.{flat_map};
+ghost use Rattle.std.specs.Cmp.Lexicographic.{pointwise};
+ghost use Rattle.std.specs.List.{flat_map, list_any};
+ghost use Rattle.ptpm_codec.specs.Identity.{same_clock};
 ghost use Rattle.ptpm_site.specs.Site.{site_answers};
 ghost use Rattle.ptpm_expected.specs.InventoryFindings.{are_leading, entry_told, first_of, leaders_told, member_told, member_told_in};
 ghost use Rattle.ptpm_expected.specs.Leaders.{leaders_among};
@@ -122,7 +124,21 @@ fn judge_leaders<'a>(
 fn are_leading(leading: &[ClockIdentity], choices: &[Vec<ClockIdentity>]) -> bool
     ensures { result ≡ are_leading leading.now (map (λ clocks. clocks.items) choices.now) }
 {
-    choices.iter().any(|clocks| clocks.as_slice() == leading)
+    is_one_of(leading, choices)
+}
+
+fn is_one_of(leading: &[ClockIdentity], choices: &[Vec<ClockIdentity>]) -> bool
+    ensures { result ≡ list_any (λ clocks. pointwise same_clock clocks.items leading.now) choices.now }
+{
+    choices
+        .iter()
+        .any(|clocks| are_same(clocks.as_slice(), leading))
+}
+
+fn are_same(clocks: &[ClockIdentity], leading: &[ClockIdentity]) -> bool
+    ensures { result ≡ pointwise same_clock clocks.now leading.now }
+{
+    clocks == leading
 }
 
 /// The first of the clocks that lead, or an identity of zeros.

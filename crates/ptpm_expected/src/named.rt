@@ -7,7 +7,7 @@ ghost use Rattle.std.specs.Ordering.{nat_cmp};
 ghost use Rattle.ptpm_site.specs.declared.source.Source.{Source};
 ghost use Rattle.ptpm_site.specs.Answers.{source_cmp};
 ghost use Rattle.ptpm_expected.specs.Named.{IsOf};
-ghost use Rattle.ptpm_expected.specs.Naming.{all_named_as, in_domain_of, is_closed, is_named, is_named_as, is_named_so, named_by};
+ghost use Rattle.ptpm_expected.specs.Naming.{all_named_as, closed_in, in_domain_of, is_closed, is_named, is_named_as, is_named_so, named_by};
 
 use crate::inventory::{Entry, Presence, Rule};
 use ptpm_codec::ClockIdentity;
@@ -77,10 +77,21 @@ fn clock_set(
     ensures has { IfOk result (λ set. (s : Source) → contains source_cmp set s ≡ is_named_as naming entries.now s) }
 {
     let mut set = BTreeSet::new(alloc);
-    for entry in entries {
-        add_named(entry, naming, &mut set)?;
-    }
+    add_all_named(entries, naming, &mut set)?;
     Ok(set)
+}
+
+fn add_all_named(
+    entries: &[Entry],
+    naming: Naming,
+    set: &mut BTreeSet<Source>,
+) -> Result<(), AllocError>
+    ensures { OnOk result (keys set.new ≡ fold (insert_key source_cmp) (keys set.old) (flat_map (named_by naming) entries.now)) }
+{
+    for entry in entries {
+        add_named(entry, naming, set)?;
+    }
+    Ok(())
 }
 
 /// Adds the clocks that an entry names in this way.
@@ -158,10 +169,17 @@ fn domain_set(alloc: Global, entries: &[Entry]) -> Result<BTreeSet<u8>, AllocErr
     ensures { IfOk result (λ set. (d : ℕ) → contains nat_cmp set d ≡ is_closed entries.now d) }
 {
     let mut set = BTreeSet::new(alloc);
+    add_closed(entries, &mut set)?;
+    Ok(set)
+}
+
+fn add_closed(entries: &[Entry], set: &mut BTreeSet<u8>) -> Result<(), AllocError>
+    ensures { OnOk result (keys set.new ≡ fold (insert_key nat_cmp) (keys set.old) (flat_map closed_in entries.now)) }
+{
     for entry in entries {
         if matches!(entry.rule, Rule::Only) {
             set.insert(entry.domain)?;
         }
     }
-    Ok(set)
+    Ok(())
 }

@@ -8,7 +8,7 @@ use ptpm_site::source::Source;
 use std::alloc::AllocError;
 
 /// Adds a finding after all earlier ones.
-#[tactic(auto, using(crate::proofs::Telling::told_more))]
+#[tactic(auto, using(crate::proofs::Told::told_more))]
 pub(crate) fn tell<'a>(
     findings: &mut Vec<Finding<'a>>,
     source: Source,

@@ -6,6 +6,7 @@ ghost use Rattle.std.specs.List.{flat_map, fold};
 ghost use Rattle.std.specs.Ordering.{nat_cmp};
 ghost use Rattle.ptpm_site.specs.Members.{value_of};
 ghost use Rattle.ptpm_site.specs.Site.{site_answers};
+ghost use Rattle.ptpm_expected.specs.InventoryFindings.{told_by_inventory};
 ghost use Rattle.ptpm_expected.specs.Meeting.{is_met, meets};
 ghost use Rattle.ptpm_expected.specs.Senders.{announcing};
 ghost use Rattle.ptpm_expected.specs.Writing.{clock_lines, clock_lines_in, domain_lines, excuse_in, leader_lines, line_of_rule, lines_of, member_line, port_lines, written};
@@ -44,9 +45,10 @@ const PORT_MEMBERS: [Member; 6] = [
 ];
 
 /// The inventory of a site: of each domain who leads, that no other clock is there, and its clocks. A clock that announces and is
-/// not seen is optional.
+/// not seen is optional. By this inventory nothing is found of the site.
 pub fn inventory_of(alloc: Global, site: &Site) -> Result<Inventory, AllocError>
-    ensures { IfOk result (λ inventory. lines_of (site_answers site.now) inventory.entries.items ≡ written (site_answers site.now)) }
+    ensures lines { IfOk result (λ inventory. lines_of (site_answers site.now) inventory.entries.items ≡ written (site_answers site.now)) }
+    ensures law { IfOk result (λ inventory. told_by_inventory (site_answers site.now) inventory.entries.items ≡ []) }
 {
     let entries = entries_of(alloc, site)?;
     Ok(Inventory { entries })
@@ -108,7 +110,7 @@ fn add_domain(
 }
 
 /// Adds a line. `site` is that which it is of.
-#[tactic(auto, using(crate::proofs::Writing::lines_more))]
+#[tactic(auto, using(crate::proofs::Lines::lines_more))]
 fn add_entry(
     site: &Site,
     domain: u8,
