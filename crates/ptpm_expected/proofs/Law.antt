@@ -77,7 +77,7 @@ module _ (t : SiteAnswers) where
   unfolding lines_of
   all_closed entries = (λ i. flat_map (λ e. closes_line e.domain e.rule i) entries) ∙ sym (flat_map-map line_closes (line_of t) entries)
 
-  -- ---- a line that holds tells nothing, and demands only what is seen
+  -- ---- nothing is found by a line that holds, and it demands only what is seen
 
   fits : Line → Bool
   fits (Leads d choices) = are_leading (leaders_among t d t.clocks) choices
@@ -276,7 +276,7 @@ module _ (t : SiteAnswers) (known : (s : Source) → t.seen s ≡ list_any (same
       (all_made (fits t) (excuse_in t d) (λ s. all_if (fits t) _ (Excuses s ∷ []) (λ k. refl)) (announcing t)))
       (all_flat t.seen (fits t) (clock_lines_in t d) (λ s h. all_if (fits t) _ (clock_lines t s) (λ k. clock_fits s h)) t.clocks all_seen)
 
-  pub all_fit : list_all (fits t) (written t) ≡ true
+  all_fit : list_all (fits t) (written t) ≡ true
   unfolding written
   all_fit = all_made (fits t) (domain_lines t) domain_fits (domains t)
 

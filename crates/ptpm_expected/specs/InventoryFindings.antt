@@ -70,7 +70,7 @@ rule_told site domain (rule.Member clock wanted) = member_told site wanted (in_d
 rule_told site domain (rule.EachMember wanted) = flat_map (member_told_in site domain wanted) site.clocks
 rule_told site domain _ = []
 
--- what a line tells
+-- what is found by a line
 abbrev pub entry_told : SiteAnswers → Entry → List Told
 entry_told site e = rule_told site e.domain e.rule
 

@@ -1,4 +1,4 @@
--- What a finding tells by an inventory, with lists for its texts and vectors.
+-- What a finding says by an inventory, with lists for its texts and vectors.
 use Rattle.std.specs.Prelude.{ℕ, List, Option, map}
 use Rattle.std.specs.Option.{option_map}
 use Rattle.ptpm_codec.specs.declared.identity.ClockIdentity.{ClockIdentity}

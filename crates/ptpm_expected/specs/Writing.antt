@@ -88,8 +88,11 @@ domain_lines site domain =
     ++ flat_map (clock_lines_in site domain) site.clocks
 
 -- the domains that have clocks, ascending
+abbrev pub domain_of : Source → List ℕ
+domain_of s = s.domain ∷ []
+
 unfoldable pub domains : SiteAnswers → List ℕ
-domains site = fold (insert_key nat_cmp) [] (map (λ s. s.domain) site.clocks)
+domains site = fold (insert_key nat_cmp) [] (flat_map domain_of site.clocks)
 
 unfoldable pub written : SiteAnswers → List Line
 written site = flat_map (domain_lines site) (domains site)

@@ -1,4 +1,4 @@
-//! Findings by an inventory, with a contract by what each tells.
+//! Findings by an inventory, with a contract by what each says.
 
 ghost use Rattle.std.specs.Prelude.{◌≡◌, ◌++◌, [], ◌∷◌, OnOk};
 ghost use Rattle.ptpm_expected.specs.Telling.{tells, told, told_all};

@@ -1,6 +1,6 @@
 //! The inventory of a site as it is.
 
-ghost use Rattle.std.specs.Prelude.{◌≡◌, ◌++◌, [], ◌∷◌, IfOk, OnOk, true, map};
+ghost use Rattle.std.specs.Prelude.{◌≡◌, ◌++◌, [], ◌∷◌, IfOk, OnOk, true};
 ghost use Rattle.std.specs.BTreeSet.{insert_key, keys};
 ghost use Rattle.std.specs.List.{flat_map, fold};
 ghost use Rattle.std.specs.Ordering.{nat_cmp};
@@ -9,7 +9,7 @@ ghost use Rattle.ptpm_site.specs.Site.{site_answers};
 ghost use Rattle.ptpm_expected.specs.InventoryFindings.{told_by_inventory};
 ghost use Rattle.ptpm_expected.specs.Meeting.{is_met, meets};
 ghost use Rattle.ptpm_expected.specs.Senders.{announcing};
-ghost use Rattle.ptpm_expected.specs.Writing.{clock_lines, clock_lines_in, domain_lines, excuse_in, leader_lines, line_of_rule, lines_of, member_line, port_lines, written};
+ghost use Rattle.ptpm_expected.specs.Writing.{clock_lines, clock_lines_in, domain_lines, domain_of, excuse_in, leader_lines, line_of_rule, lines_of, member_line, port_lines, written};
 
 use crate::inventory::{Entry, Inventory, MemberRule, Presence, Rule};
 use crate::judging_inventory::leading_in;
@@ -54,58 +54,91 @@ pub fn inventory_of(alloc: Global, site: &Site) -> Result<Inventory, AllocError>
     Ok(Inventory { entries })
 }
 
-#[tactic(auto, unfolding(crate::specs::Writing::written, crate::specs::Writing::domains))]
+#[tactic(auto, unfolding(crate::specs::Writing::written, crate::specs::Writing::domains, crate::specs::Writing::lines_of))]
 fn entries_of(alloc: Global, site: &Site) -> Result<Vec<Entry>, AllocError>
     ensures { IfOk result (λ entries. lines_of (site_answers site.now) entries.items ≡ written (site_answers site.now)) }
 {
     let sources = site.sources(alloc)?;
-    let announcing = announcing(alloc, site)?;
+    let senders = announcing(alloc, site)?;
     let domains = domains_of(alloc, sources.as_slice())?;
+    let (sources, senders) = (sources.as_slice(), senders.as_slice());
     let mut entries = Vec::new(alloc);
-    for domain in domains.as_slice() {
-        add_domain(alloc, site, *domain, sources.as_slice(), announcing.as_slice(), &mut entries)?;
-    }
+    add_domains(alloc, site, domains.as_slice(), sources, senders, &mut entries)?;
     Ok(entries)
 }
 
 /// The domains of these clocks, ascending.
 fn domains_of(alloc: Global, sources: &[Source]) -> Result<Vec<u8>, AllocError>
-    ensures { IfOk result (λ found. found.items ≡ fold (insert_key nat_cmp) [] (map (λ s. s.domain) sources.now)) }
+    ensures { IfOk result (λ found. found.items ≡ fold (insert_key nat_cmp) [] (flat_map domain_of sources.now)) }
 {
     let set = domain_set(alloc, sources)?;
     set.iter().copied().collect(alloc)
 }
 
 fn domain_set(alloc: Global, sources: &[Source]) -> Result<BTreeSet<u8>, AllocError>
-    ensures { IfOk result (λ set. keys set ≡ fold (insert_key nat_cmp) [] (map (λ s. s.domain) sources.now)) }
+    ensures { IfOk result (λ set. keys set ≡ fold (insert_key nat_cmp) [] (flat_map domain_of sources.now)) }
 {
     let mut set = BTreeSet::new(alloc);
-    for source in sources {
-        set.insert(source.domain)?;
-    }
+    add_domains_of(sources, &mut set)?;
     Ok(set)
 }
 
-/// Adds who leads in a domain, if anyone does, that each clock is named, the clocks that announce and are not seen, and those that
-/// are. `sources` has all clocks, and `announcing` those that announce.
+fn add_domains_of(sources: &[Source], set: &mut BTreeSet<u8>) -> Result<(), AllocError>
+    ensures { OnOk result (keys set.new ≡ fold (insert_key nat_cmp) (keys set.old) (flat_map domain_of sources.now)) }
+{
+    for source in sources {
+        add_domain_of(*source, set)?;
+    }
+    Ok(())
+}
+
+fn add_domain_of(source: Source, set: &mut BTreeSet<u8>) -> Result<(), AllocError>
+    ensures { OnOk result (keys set.new ≡ fold (insert_key nat_cmp) (keys set.old) (domain_of source)) }
+{
+    set.insert(source.domain)?;
+    Ok(())
+}
+
+/// Adds the lines of these domains. `sources` has all clocks, and `senders` those that announce.
+fn add_domains(
+    alloc: Global,
+    site: &Site,
+    domains: &[u8],
+    sources: &[Source],
+    senders: &[Source],
+    entries: &mut Vec<Entry>,
+) -> Result<(), AllocError>
+    requires sources { sources.now ≡ (site_answers site.now).clocks }
+    requires senders { senders.now ≡ announcing (site_answers site.now) }
+    ensures { OnOk result (lines_of (site_answers site.now) entries.new.items
+        ≡ lines_of (site_answers site.now) entries.old.items ++ flat_map (domain_lines (site_answers site.now)) domains.now) }
+{
+    for domain in domains {
+        add_domain(alloc, site, *domain, sources, senders, entries)?;
+    }
+    Ok(())
+}
+
+/// Adds the lines of a domain: who leads, if anyone does, that each clock is named, and its clocks. `sources` has all clocks, and
+/// `senders` those that announce.
 #[tactic(auto, unfolding(crate::specs::Writing::domain_lines))]
 fn add_domain(
     alloc: Global,
     site: &Site,
     domain: u8,
     sources: &[Source],
-    announcing: &[Source],
+    senders: &[Source],
     entries: &mut Vec<Entry>,
 ) -> Result<(), AllocError>
     requires sources { sources.now ≡ (site_answers site.now).clocks }
-    requires announcing { announcing.now ≡ announcing (site_answers site.now) }
+    requires senders { senders.now ≡ announcing (site_answers site.now) }
     ensures { OnOk result (lines_of (site_answers site.now) entries.new.items
         ≡ lines_of (site_answers site.now) entries.old.items ++ domain_lines (site_answers site.now) domain) }
 {
     let leading = leading_in(alloc, site, domain, sources)?;
     add_leaders(alloc, site, domain, leading, entries)?;
     add_entry(site, domain, Rule::Only, entries)?;
-    add_excused(site, domain, announcing, entries)?;
+    add_excused(site, domain, senders, entries)?;
     add_clocks(alloc, site, domain, sources, entries)
 }
 
@@ -147,13 +180,13 @@ fn add_leaders(
 fn add_excused(
     site: &Site,
     domain: u8,
-    announcing: &[Source],
+    senders: &[Source],
     entries: &mut Vec<Entry>,
 ) -> Result<(), AllocError>
     ensures { OnOk result (lines_of (site_answers site.now) entries.new.items
-        ≡ lines_of (site_answers site.now) entries.old.items ++ flat_map (excuse_in (site_answers site.now) domain) announcing.now) }
+        ≡ lines_of (site_answers site.now) entries.old.items ++ flat_map (excuse_in (site_answers site.now) domain) senders.now) }
 {
-    for source in announcing {
+    for source in senders {
         if source.domain == domain && !site.is_seen(*source) {
             let rule = Rule::Clock(source.clock, Presence::Optional);
             add_entry(site, domain, rule, entries)?;

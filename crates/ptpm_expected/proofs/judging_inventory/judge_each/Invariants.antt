@@ -1,4 +1,4 @@
--- What the rule tells of the clocks so far is found.
+-- What is found by the rule at the clocks so far is there.
 use Rattle.std.proofs.Common.{◌≡◌, ◌++◌, take}
 use Rattle.std.specs.List.{flat_map}
 use Rattle.ptpm_site.specs.Site.{site_answers}

@@ -8,4 +8,4 @@ use Rattle.ptpm_expected.proofs.writing.add_excused.Given as goal
 abbrev pub invariant-loop-source : goal.invariant-loop-source
 invariant-loop-source l =
     lines_of (site_answers l.site) l.entries.items
-    ≡ lines_of (site_answers l.site) l.fn.entries.items ++ flat_map (excuse_in (site_answers l.site) l.domain) (take l.source-index l.announcing)
+    ≡ lines_of (site_answers l.site) l.fn.entries.items ++ flat_map (excuse_in (site_answers l.site) l.domain) (take l.source-index l.senders)
