@@ -1,9 +1,7 @@
 -- The findings of a site that is held to an inventory.
-use Rattle.std.specs.Prelude.{◌≡◌, ◌++◌, ◌==◌, ◌&&◌, Bool, true, false, not, List, filter}
+use Rattle.std.specs.Prelude.{◌++◌, ◌==◌, ◌&&◌, Bool, true, false, not, List, filter}
 use Rattle.std.specs.List.{list_any}
-use Rattle.std.specs.List.Sorted.{IsPermutation, IsStableByKey}
 use Rattle.ptpm_codec.specs.Identity.{same_clock}
-use Rattle.ptpm_codec.specs.declared.identity.ClockIdentity.{ClockIdentity}
 use Rattle.ptpm_site.specs.declared.finding.Finding.{Finding}
 use Rattle.ptpm_site.specs.declared.finding.What.{What}
 use Rattle.ptpm_site.specs.declared.finding.What.TheVariants as what

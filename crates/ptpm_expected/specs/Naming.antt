@@ -1,18 +1,11 @@
 -- Which clocks an inventory names, and how.
-use Rattle.std.specs.Prelude.{ℕ, ◌==◌, ◌&&◌, ◌||◌, Bool, true, false, not, List, [], ◌∷◌, Option, Some, None, map, string_bytes, if◌then◌else◌}
+use Rattle.std.specs.Prelude.{ℕ, ◌==◌, ◌||◌, Bool, true, false, List, [], ◌∷◌, map, if◌then◌else◌}
 use Rattle.std.specs.BTreeSet.{insert_key}
 use Rattle.std.specs.List.{flat_map, fold, list_any}
-use Rattle.std.specs.Option.{option_or}
-use Rattle.ptpm_codec.specs.Identity.{same_clock}
 use Rattle.ptpm_codec.specs.declared.identity.ClockIdentity.{ClockIdentity}
-use Rattle.ptpm_site.specs.declared.expected.Wanted.{Wanted}
-use Rattle.ptpm_site.specs.declared.expected.Wanted.TheVariants as wanted
-use Rattle.ptpm_site.specs.declared.member.Member.{Member}
-use Rattle.ptpm_site.specs.declared.member.Member.TheVariants as member
 use Rattle.ptpm_site.specs.declared.source.Source.{Source}
 use Rattle.ptpm_site.specs.Answers.{same_source, source_cmp}
 use Rattle.ptpm_expected.specs.declared.inventory.Entry.{Entry}
-use Rattle.ptpm_expected.specs.declared.inventory.MemberRule.{MemberRule}
 use Rattle.ptpm_expected.specs.declared.inventory.Presence.{Presence}
 use Rattle.ptpm_expected.specs.declared.inventory.Presence.TheVariants as presence
 use Rattle.ptpm_expected.specs.declared.inventory.Rule.{Rule}

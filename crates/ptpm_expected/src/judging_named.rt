@@ -31,7 +31,14 @@ pub(crate) fn judge_absent<'a>(
 {
     let descriptions = Descriptions::of(alloc, entries)?;
     let demanded: Vec<Source> = named.demanded.iter().copied().collect(alloc)?;
-    judge_all_absent(site, entries, named, &descriptions, demanded.as_slice(), findings)
+    judge_all_absent(
+        site,
+        entries,
+        named,
+        &descriptions,
+        demanded.as_slice(),
+        findings,
+    )
 }
 
 fn judge_all_absent<'a>(

@@ -125,11 +125,7 @@ fn is_named_so(naming: Naming, presence: Presence) -> bool
     }
 }
 
-fn add_clock(
-    domain: u8,
-    clock: ClockIdentity,
-    set: &mut BTreeSet<Source>,
-) -> Result<(), AllocError>
+fn add_clock(domain: u8, clock: ClockIdentity, set: &mut BTreeSet<Source>) -> Result<(), AllocError>
     ensures { OnOk result (keys set.new ≡ insert_key source_cmp (keys set.old) (in_domain_of domain clock)) }
 {
     set.insert(Source { domain, clock })?;

@@ -63,7 +63,14 @@ fn entries_of(alloc: Global, site: &Site) -> Result<Vec<Entry>, AllocError>
     let domains = domains_of(alloc, sources.as_slice())?;
     let (sources, senders) = (sources.as_slice(), senders.as_slice());
     let mut entries = Vec::new(alloc);
-    add_domains(alloc, site, domains.as_slice(), sources, senders, &mut entries)?;
+    add_domains(
+        alloc,
+        site,
+        domains.as_slice(),
+        sources,
+        senders,
+        &mut entries,
+    )?;
     Ok(entries)
 }
 
@@ -282,7 +289,12 @@ fn add_member(
     match rule_value(site, source, port, member) {
         Some(value) => {
             let rule = rule_of(alloc, port, member, &value)?;
-            add_entry(site, source.domain, Rule::Member(source.clock, rule), entries)
+            add_entry(
+                site,
+                source.domain,
+                Rule::Member(source.clock, rule),
+                entries,
+            )
         }
         None => Ok(()),
     }

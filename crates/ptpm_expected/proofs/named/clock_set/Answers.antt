@@ -1,5 +1,5 @@
 -- The set has the clocks that the entries name in this way, and no others.
-use Rattle.std.proofs.Common.{◌≡◌, ◌∙◌, [], ap}
+use Rattle.std.proofs.Common.{◌∙◌, ap}
 use Rattle.std.specs.BTreeSet.{insert_key, keys}
 use Rattle.std.specs.List.{flat_map, fold}
 use Rattle.ptpm_site.specs.Answers.{source_cmp}

@@ -1,5 +1,5 @@
 -- What is kept is of the inventory and of those that send.
-use Rattle.std.proofs.Common.{◌≡◌, ◌∙◌, [], ap}
+use Rattle.std.proofs.Common.{◌∙◌, [], ap}
 use Rattle.std.specs.BTreeSet.{insert_key, keys}
 use Rattle.std.specs.List.{fold}
 use Rattle.ptpm_site.specs.Answers.{source_cmp}
