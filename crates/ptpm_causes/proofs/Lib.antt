@@ -1,0 +1,3 @@
+pub mod Knowing
+pub mod Rooted
+pub mod Rules
