@@ -90,8 +90,9 @@ module _ (site : SiteAnswers) (known : Knowledge) (k : Key) where
   said_stands [] so_far h = inl h
   said_stands (f ∷ fs) so_far h =
       elim (said_stands fs (heard site known k so_far f) h) [
-        inl e ↦ elim (heard_stands f so_far (has_key site k f) refl e) [ inl g ↦ inl g | inr w ↦ inr (any_first (stands f) (list_any stands fs) w) ]
-      | inr w ↦ inr (any_rest (stands f) (list_any stands fs) w) ]
+        | inl e ↦ elim (heard_stands f so_far (has_key site k f) refl e) [ inl g ↦ inl g | inr w ↦ inr (any_first (stands f) (list_any stands fs) w) ]
+        | inr w ↦ inr (any_rest (stands f) (list_any stands fs) w)
+      ]
 
   -- a name that findings have says something
   heard_some : (f : Finding) (so_far : Option (Option Cause)) (b : Bool) → (b || is_some so_far) ≡ true
@@ -150,16 +151,17 @@ module _ (site : SiteAnswers) (findings : List Finding) where
     is_there : known.among c ≡ true
     ends : flat (next (key c)) ≡ None
 
-  pub ends_within : (n : ℕ) (c : Cause) → known.among c ≡ true → rank c.kind ≤ n → Ends (last_within next n c)
+  ends_within : (n : ℕ) (c : Cause) → known.among c ≡ true → rank c.kind ≤ n → Ends (last_within next n c)
   unfolding last_within
   ends_within zero c h l = at (flat (next (key c))) refl where
     at : (o : Option Cause) → flat (next (key c)) ≡ o → Ends c
     at None e = record { is_there = h; ends = e }
     at (Some d) e = let w = onward c d e in absurd (omega (arith, w.falls))
-  ends_within (suc n) c h l = at (flat (next (key c))) refl where
-    at : (o : Option Cause) → flat (next (key c)) ≡ o → Ends (elim o [ None ↦ c | Some d ↦ last_within next n d ])
-    at None e = record { is_there = h; ends = e }
-    at (Some d) e = let w = onward c d e in ends_within n d w.is_there (omega (arith, w.falls))
+  ends_within (suc n) c h l = at (flat (next (key c))) refl (λ d w. ends_within n d w.is_there (omega (arith, w.falls))) where
+    at : (o : Option Cause) → flat (next (key c)) ≡ o → ((d : Cause) → Onward c d → Ends (last_within next n d))
+        → Ends (elim o [ None ↦ c | Some d ↦ last_within next n d ])
+    at None e k = record { is_there = h; ends = e }
+    at (Some d) e k = k d (onward c d e)
 
   -- ---- a finding at the end of a chain is printed
 
@@ -176,17 +178,19 @@ module _ (site : SiteAnswers) (findings : List Finding) where
       same : (b : Bool) → option_map_or (λ c. is_eq (key_cmp (key c) (key r))) (cond b (Some (named f)) None) false ≡ true → same_cause (named f) r ≡ true
       same true e = e
       same false e = cc
+
       both : (a b : Bool) → a ≡ true → b ≡ true → (a && b) ≡ true
       both true b e g = g
       both false b e g = cc
 
   any_rooted : (r : Cause) (fs : List Finding) → list_any (stands site known (key r)) fs ≡ true → list_any (is_root site findings r) fs ≡ true
   any_rooted r [] h = h
-  any_rooted r (f ∷ fs) h = at (stands site known (key r) f) refl h where
-    at : (b : Bool) → stands site known (key r) f ≡ b → (b || list_any (stands site known (key r)) fs) ≡ true
-        → (is_root site findings r f || list_any (is_root site findings r) fs) ≡ true
-    at true e g = any_first site known (key r) (is_root site findings r f) (list_any (is_root site findings r) fs) (rooted r f e)
-    at false e g = any_rest site known (key r) (is_root site findings r f) (list_any (is_root site findings r) fs) (any_rooted r fs g)
+  any_rooted r (f ∷ fs) h = at (stands site known (key r) f) refl (any_rooted r fs) h where
+    at : (b : Bool) → stands site known (key r) f ≡ b
+        → (list_any (stands site known (key r)) fs ≡ true → list_any (is_root site findings r) fs ≡ true)
+        → (b || list_any (stands site known (key r)) fs) ≡ true → (is_root site findings r f || list_any (is_root site findings r) fs) ≡ true
+    at true e k g = any_first site known (key r) (is_root site findings r f) (list_any (is_root site findings r) fs) (rooted r f e)
+    at false e k g = any_rest site known (key r) (is_root site findings r f) (list_any (is_root site findings r) fs) (k g)
 
   or_none : (b : Bool) → b ≡ true → (b || false) ≡ true
   or_none true h = refl

@@ -112,7 +112,7 @@ there known [] = refl
 there known (c ∷ cs) = there_at known.among known.among c (find known.among cs) (known.among c) refl (there known cs)
 
 there_masterless : (site : SiteAnswers) (known : Knowledge) (s : Source) (why : Masterless) → holds known.among (masterless_cause site known s why) ≡ true
-there_masterless site known s (masterless.Lost g) = 
+there_masterless site known s (masterless.Lost g) =
     of_follower known s known.among site g (there known (at kinds.Intervals s ∷ at kinds.PortState s ∷ [])) (λ u. there known (lost_causes u)) (there known (at kinds.ParentNotSeen s ∷ []))
 there_masterless site known s _ = refl
 
@@ -133,7 +133,7 @@ reason_there site known s (what.Absent x) = there known (at kinds.Gone s ∷ [])
 reason_there site known s (what.NotAsExpected unmet) = there_unmet known s unmet
 reason_there site known s what.TwoGrandmasters = there known (at kinds.IdentityTwice s ∷ [])
 reason_there site known s (what.NoMaster why) = there_masterless site known s why
-reason_there site known s (what.GrandmasterNotSeen clock) = 
+reason_there site known s (what.GrandmasterNotSeen clock) =
     of_grandmaster known s known.among site (beside s clock) (there known (unseen_causes (beside s clock))) (λ u. there known (silent_causes u))
 reason_there site known s (what.ParentNotSeen port) = there known (parent_causes (beside s port.clock))
 reason_there site known s (what.Steps x) = there known (at kinds.IdentityTwice s ∷ [])
@@ -141,7 +141,7 @@ reason_there site known s (what.GrandmasterDiffers x) = there known (at kinds.Id
 reason_there site known s (what.NotLocked port x) = there known (at kinds.Intervals s ∷ [])
 reason_there site known s (what.OffByUtc how) = there_offset site known s how
 reason_there site known s (what.Degraded x) = there known (at kinds.TwoGrandmasters s ∷ [])
-reason_there site known s (what.GrandmasterChanged change) = 
+reason_there site known s (what.GrandmasterChanged change) =
     if_holds known.among (is_by_itself known s change) (first_of known (at kinds.Intervals s ∷ at kinds.NotLocked s ∷ at kinds.NoMaster s ∷ [])) None (there known (at kinds.Intervals s ∷ at kinds.NotLocked s ∷ at kinds.NoMaster s ∷ [])) refl
 reason_there site known s (what.Changed port change) =
     of_change known s known.among site change.member (there known (at kinds.IdentityTwice s ∷ [])) (λ g. there known (at kinds.GrandmasterChanged g ∷ at kinds.GrandmasterChanged s ∷ []))

@@ -73,8 +73,8 @@ follower_cause site known s grandmaster = option_or (option_or
     (first_of known (at kinds.Intervals s ∷ at kinds.PortState s ∷ []))
     (first_of known (lost_causes (beside s grandmaster))))
     (option_and_then (λ p. option_or
-        (first_of known (lost_causes (beside s p.clock)))
-        (parent_lost known s (beside s p.clock))) (followed site s))
+    (first_of known (lost_causes (beside s p.clock)))
+    (parent_lost known s (beside s p.clock))) (followed site s))
 
 -- a clock that names another
 abbrev pub masterless_cause : SiteAnswers → Knowledge → Source → Masterless → Option Cause
@@ -113,8 +113,8 @@ given_cause known s m grandmaster is_own =
 abbrev pub change_cause : SiteAnswers → Knowledge → Source → Member → Option Cause
 change_cause site known s m = option_or (first_of known (at kinds.IdentityTwice s ∷ []))
     (option_and_then (λ p. option_or
-        (moved_cause known s m (beside s p.grandmaster))
-        (given_cause known s m (beside s p.grandmaster) (is_own_grandmaster site s))) (site.parent s))
+    (moved_cause known s m (beside s p.grandmaster))
+    (given_cause known s m (beside s p.grandmaster) (is_own_grandmaster site s))) (site.parent s))
 
 -- ---- the rest
 

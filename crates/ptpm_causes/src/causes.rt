@@ -45,12 +45,7 @@ fn last_causes(
     Ok(causes)
 }
 
-fn last_cause(
-    site: &Site,
-    found: &Found,
-    chains: &Chains,
-    finding: &Finding<'_>,
-) -> Option<Cause>
+fn last_cause(site: &Site, found: &Found, chains: &Chains, finding: &Finding<'_>) -> Option<Cause>
     ensures { result ≡ option_map (last_of (kept chains.now)) (reason (site_answers site.now) (known_by found.now) finding.now) }
 {
     Some(chains.last_of(found.reason(site, finding)?))

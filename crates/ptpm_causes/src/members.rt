@@ -28,7 +28,9 @@ fn is_of_grandmaster(member: Member) -> bool
 {
     matches!(
         member,
-        Member::GrandmasterPriority1 | Member::GrandmasterClockQuality | Member::GrandmasterPriority2
+        Member::GrandmasterPriority1
+            | Member::GrandmasterClockQuality
+            | Member::GrandmasterPriority2
     )
 }
 

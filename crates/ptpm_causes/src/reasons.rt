@@ -124,8 +124,7 @@ impl Found {
             return Some(cause);
         }
         let parent = source.beside(site.followed(source)?.clock);
-        self.lost_cause(parent)
-            .or(self.parent_lost(source, parent))
+        self.lost_cause(parent).or(self.parent_lost(source, parent))
     }
 
     fn masterless_cause(&self, site: &Site, source: Source, why: Masterless) -> Option<Cause>
