@@ -1,4 +1,4 @@
--- The name of a finding at the clock where its line stands, and which findings others may follow from.
+-- The name of a finding at the clock at which it is printed, and which findings others may follow from.
 use Rattle.std.specs.Prelude.{Bool, true, false, Option, Some, None, if◌then◌else◌}
 use Rattle.std.specs.declared.cmp.Ordering.{Ordering}
 use Rattle.std.specs.Option.{option_map_or}

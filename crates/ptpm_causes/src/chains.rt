@@ -74,7 +74,7 @@ impl Chains {
         self.onward.get(&cause.key()).copied()?
     }
 
-    /// The last of a chain, within so many steps.
+    /// The last of a chain, within this number of steps.
     #[tactic(auto, unfolding(crate::specs::Chains::last_within))]
     fn last_within(&self, steps: u8, cause: Cause) -> Cause
         ensures { result ≡ last_within (kept self.now) steps cause }

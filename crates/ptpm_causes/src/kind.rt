@@ -7,7 +7,7 @@ use ptpm_site::finding::What;
 use ptpm_site::leading::Degradation;
 use ptpm_site::unseen::Absence;
 
-/// A name that findings have. Each stands after those that it may follow from.
+/// A name that findings have. Each comes after those that it may follow from.
 #[derive(Clone, Copy, PartialEq, Eq)]
 pub enum Kind {
     Gone,
