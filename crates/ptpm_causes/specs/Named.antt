@@ -15,7 +15,6 @@ use Rattle.ptpm_site.specs.SiteAnswers.{SiteAnswers}
 use Rattle.ptpm_site.specs.Stay.{is_faulty}
 use Rattle.ptpm_causes.specs.declared.cause.Cause.{Cause}
 use Rattle.ptpm_causes.specs.declared.cause.Key.{Key}
-use Rattle.ptpm_causes.specs.declared.kind.Kind.{Kind}
 use Rattle.ptpm_causes.specs.Kinds.{kind_of, rank}
 
 -- a grandmaster that is not seen has the line, and not the clock that names it

@@ -1,11 +1,11 @@
 //! The last cause of a chain of causes.
 
-ghost use Rattle.std.specs.Prelude.{◌≡◌, IfOk, OnOk, if◌then◌else◌, option_and_then};
+ghost use Rattle.std.specs.Prelude.{◌≡◌, IfOk, OnOk, if◌then◌else◌};
 ghost use Rattle.std.specs.BTreeMap.{get};
 ghost use Rattle.std.specs.Ordering.{is_eq};
 ghost use Rattle.ptpm_site.specs.Site.{site_answers};
 ghost use Rattle.ptpm_causes.specs.declared.cause.Key.{Key};
-ghost use Rattle.ptpm_causes.specs.Chains.{agreed, flat, heard, kept, last_of, last_within, said};
+ghost use Rattle.ptpm_causes.specs.Chains.{agreed, flat, kept, last_of, last_within, said};
 ghost use Rattle.ptpm_causes.specs.Found.{known_by};
 ghost use Rattle.ptpm_causes.specs.Named.{key, key_cmp};
 
