@@ -115,9 +115,10 @@ by_other : (id : OtherId) (octets : List ℕ) → is_whole_other id octets ≡ t
 unfolding is_whole_other is_clock_description
 by_other ids.ClockDescription octets whole =
     let p = and_parts (nat_le 2 (length octets)) _ whole in
-    let two : 2 ≤ length octets = leb-true 2 (length octets) p.0 in
-    (record { within = omega arith; value = record { low = omega arith; high = omega arith; room = two } },
-    (record { within = omega arith; value = omega arith }, (record { within = omega arith; value = omega arith }, (record { within = omega arith; value = omega arith }, (record { within = omega arith; value = omega arith }, (record { within = omega arith; value = omega arith }, (record { within = omega arith; value = omega arith }, (record { within = omega arith; value = omega arith }, (record { within = omega arith; value = omega arith }, (record { within = omega arith; value = omega arith }, tt))))))))))
+    let two : 2 ≤ length octets = leb-true 2 (length octets) p.0 in (
+      record { within = omega arith; value = record { low = omega arith; high = omega arith; room = two } },
+      (record { within = omega arith; value = omega arith }, (record { within = omega arith; value = omega arith }, (record { within = omega arith; value = omega arith }, (record { within = omega arith; value = omega arith }, (record { within = omega arith; value = omega arith }, (record { within = omega arith; value = omega arith }, (record { within = omega arith; value = omega arith }, (record { within = omega arith; value = omega arith }, (record { within = omega arith; value = omega arith }, tt))))))))),
+    )
 by_other ids.Time octets whole = by_other_size ids.Time octets whole refl
 by_other ids.TraceabilityProperties octets whole = by_other_size ids.TraceabilityProperties octets whole refl
 by_other ids.TimescaleProperties octets whole = by_other_size ids.TimescaleProperties octets whole refl
@@ -127,11 +128,16 @@ by_other ids.GrandmasterSettings octets whole = by_other_size ids.GrandmasterSet
 by_other ids.PortDataSet octets whole = by_other_size ids.PortDataSet octets whole refl
 by_other ids.PortProperties octets whole =
     let p = and_parts (nat_le 12 (length octets)) _ whole in
-    let long : 12 ≤ length octets = leb-true 12 (length octets) p.0 in
-    (record { within = omega arith; value = omega (arith, length-drop 0 octets) },
-    (record { within = omega arith; value = omega (arith, length-drop 10 octets) },
-    (record { within = omega arith; value = omega (arith, length-drop 11 octets) },
-    (record { within = long; value = p.1 }, tt))))
+    let long : 12 ≤ length octets = leb-true 12 (length octets) p.0 in (
+      record { within = omega arith; value = omega (arith, length-drop 0 octets) },
+      (
+        record { within = omega arith; value = omega (arith, length-drop 10 octets) },
+        (
+          record { within = omega arith; value = omega (arith, length-drop 11 octets) },
+          (record { within = long; value = p.1 }, tt),
+        ),
+      ),
+    )
 by_other ids.PortStatistics octets whole = by_other_size ids.PortStatistics octets whole refl
 
 pub placed_in_other : (id : OtherId) (octets : List ℕ) → is_whole_other id octets ≡ true → All (IsPlaced octets) (other_fields id)

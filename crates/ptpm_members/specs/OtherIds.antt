@@ -1,6 +1,7 @@
 -- Ids outside this profile's table that other clocks have: five of the standard (IEEE 1588-2019, 15.5.2.3, table 59) and five of
 -- linuxptp. Their dataFields are only read. The tables are those of the program.
 use Rattle.std.specs.Prelude.{ℕ, ◌%◌, ◌==◌, nat_le, Bool, ◌&&◌, if◌then◌else◌, List, [], ◌∷◌, length, drop, Option, Some, None, codes, find}
+use Rattle.std.specs.Str.{str_eq_ignore_ascii_case}
 use Rattle.ptpm_codec.specs.PtpText.{is_ptp_text}
 use Rattle.ptpm_members.specs.declared.forms.Field.{Field}
 use Rattle.ptpm_members.specs.declared.other_ids.OtherId.{OtherId}
@@ -40,6 +41,13 @@ other_name ids.GrandmasterSettings = codes "GRANDMASTER_SETTINGS_NP"
 other_name ids.PortDataSet = codes "PORT_DATA_SET_NP"
 other_name ids.PortProperties = codes "PORT_PROPERTIES_NP"
 other_name ids.PortStatistics = codes "PORT_STATS_NP"
+
+-- the first of these with a name, in either case
+abbrev pub other_named_in : List ℕ → List OtherId → Option OtherId
+other_named_in name ids = find (λ id. str_eq_ignore_ascii_case name (other_name id)) ids
+
+unfoldable pub other_named : List ℕ → Option OtherId
+other_named name = other_named_in name other_ids
 
 abbrev pub other_fields : OtherId → List Field
 other_fields ids.ClockDescription = CLOCK_DESCRIPTION

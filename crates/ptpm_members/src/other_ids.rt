@@ -1,7 +1,8 @@
 //! Ids outside this profile's table that other clocks have. Their dataFields are only read.
 
 ghost use Rattle.std.specs.Prelude.{◌≡◌};
-ghost use Rattle.ptpm_members.specs.OtherIds.{is_whole_other, other_fields, other_name, other_of, other_size};
+ghost use Rattle.std.specs.Str.{str_eq_ignore_ascii_case};
+ghost use Rattle.ptpm_members.specs.OtherIds.{is_whole_other, other_fields, other_name, other_named, other_number, other_of, other_size};
 
 use crate::description::{DescriptionPart, is_clock_description};
 use crate::forms::Form::{
@@ -39,6 +40,20 @@ pub enum OtherId {
     PortStatistics,
 }
 
+/// All of them, by their numbers.
+pub static OTHER_IDS: [OtherId; 10] = [
+    OtherId::ClockDescription,
+    OtherId::Time,
+    OtherId::TraceabilityProperties,
+    OtherId::TimescaleProperties,
+    OtherId::PathTraceList,
+    OtherId::TimeStatus,
+    OtherId::GrandmasterSettings,
+    OtherId::PortDataSet,
+    OtherId::PortProperties,
+    OtherId::PortStatistics,
+];
+
 impl OtherId {
     /// The one with this number.
     #[tactic(auto, unfolding(crate::specs::OtherIds::other_of))]
@@ -57,6 +72,43 @@ impl OtherId {
             0xc004 => Some(OtherId::PortProperties),
             0xc005 => Some(OtherId::PortStatistics),
             _ => None,
+        }
+    }
+
+    /// The one of a name, in either case.
+    pub fn named(name: &str) -> Option<OtherId>
+        ensures { result ≡ other_named name.now }
+    {
+        for id in &OTHER_IDS {
+            if id.has_name(name) {
+                return Some(*id);
+            }
+        }
+        None
+    }
+
+    /// Whether a text is its name, in either case.
+    fn has_name(self, name: &str) -> bool
+        ensures { result ≡ str_eq_ignore_ascii_case name.now (other_name self) }
+    {
+        name.eq_ignore_ascii_case(self.name())
+    }
+
+    /// Its number.
+    pub fn number(self) -> u16
+        ensures { result ≡ other_number self }
+    {
+        match self {
+            OtherId::ClockDescription => 0x0001,
+            OtherId::Time => 0x200f,
+            OtherId::TraceabilityProperties => 0x2012,
+            OtherId::TimescaleProperties => 0x2013,
+            OtherId::PathTraceList => 0x2015,
+            OtherId::TimeStatus => 0xc000,
+            OtherId::GrandmasterSettings => 0xc001,
+            OtherId::PortDataSet => 0xc002,
+            OtherId::PortProperties => 0xc004,
+            OtherId::PortStatistics => 0xc005,
         }
     }
 
