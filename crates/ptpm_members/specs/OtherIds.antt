@@ -1,8 +1,10 @@
 -- Ids outside this profile's table that other clocks have: five of the standard (IEEE 1588-2019, 15.5.2.3, table 59) and five of
 -- linuxptp. Their dataFields are only read. The tables are those of the program.
-use Rattle.std.specs.Prelude.{ℕ, ◌%◌, ◌==◌, nat_le, Bool, ◌&&◌, if◌then◌else◌, List, [], ◌∷◌, length, drop, Option, Some, None, codes, find}
+use Rattle.std.specs.Prelude.{ℕ, ◌%◌, ◌==◌, nat_le, Bool, ◌&&◌, if◌then◌else◌, List, [], ◌∷◌, length, drop, Option, Some, None, codes, find, option_map}
+use Rattle.std.specs.Option.{option_or}
 use Rattle.std.specs.Str.{str_eq_ignore_ascii_case}
 use Rattle.ptpm_codec.specs.PtpText.{is_ptp_text}
+use Rattle.ptpm_data.specs.ManagementId.{row_of}
 use Rattle.ptpm_members.specs.declared.forms.Field.{Field}
 use Rattle.ptpm_members.specs.declared.other_ids.OtherId.{OtherId}
 use Rattle.ptpm_members.specs.declared.other_ids.OtherId.TheVariants as ids
@@ -41,6 +43,10 @@ other_name ids.GrandmasterSettings = codes "GRANDMASTER_SETTINGS_NP"
 other_name ids.PortDataSet = codes "PORT_DATA_SET_NP"
 other_name ids.PortProperties = codes "PORT_PROPERTIES_NP"
 other_name ids.PortStatistics = codes "PORT_STATS_NP"
+
+-- the name of an id: one of this profile's table, or one that is only read
+abbrev pub name_of_id : ℕ → Option (List ℕ)
+name_of_id id = option_or (option_map (λ row. row.name) (row_of id)) (option_map other_name (other_of id))
 
 -- the first of these with a name, in either case
 abbrev pub other_named_in : List ℕ → List OtherId → Option OtherId

@@ -26,7 +26,7 @@ pub use names::Member;
 pub use number_names::{
     mechanism_name, mechanism_name_of, state_name, state_name_of, timestamping_name_of,
 };
-pub use other_ids::{OTHER_IDS, OtherId};
+pub use other_ids::{OTHER_IDS, OtherId, id_name};
 pub use parsing::{ParseFault, parse};
 pub use tables::fields;
 pub use text_sink::TextSink;

@@ -1,8 +1,8 @@
 //! Ids outside this profile's table that other clocks have. Their dataFields are only read.
 
-ghost use Rattle.std.specs.Prelude.{◌≡◌};
+ghost use Rattle.std.specs.Prelude.{◌≡◌, option_map};
 ghost use Rattle.std.specs.Str.{str_eq_ignore_ascii_case};
-ghost use Rattle.ptpm_members.specs.OtherIds.{is_whole_other, other_fields, other_name, other_named, other_number, other_of, other_size};
+ghost use Rattle.ptpm_members.specs.OtherIds.{is_whole_other, name_of_id, other_fields, other_name, other_named, other_number, other_of, other_size};
 
 use crate::description::{DescriptionPart, is_clock_description};
 use crate::forms::Form::{
@@ -23,7 +23,7 @@ use crate::names::Member::{
     SentSignaling, SentSync, TimeBaseIndicator,
 };
 use ptpm_codec::is_ptp_text;
-use ptpm_data::Member as DataSetMember;
+use ptpm_data::{Member as DataSetMember, row};
 
 /// A management id that only other clocks answer: five of the standard (15.5.2.3, table 59) and five of linuxptp.
 #[derive(Clone, Copy, Debug, PartialEq, Eq)]
@@ -159,6 +159,26 @@ impl OtherId {
             OtherId::PortProperties => octets.len() >= 12 && is_ptp_text(octets.split_at(12).1),
             _ => octets.len() == other_size(self),
         }
+    }
+}
+
+/// The name of an id: one of this profile's table, or one that is only read.
+pub fn id_name(id: u16) -> Option<&'static str>
+    ensures { option_map (λ name. name.now) result ≡ name_of_id id }
+{
+    match row(id) {
+        Some(row) => Some(row.name),
+        None => name_of_other(id),
+    }
+}
+
+/// The name of an id that is only read.
+fn name_of_other(id: u16) -> Option<&'static str>
+    ensures { option_map (λ name. name.now) result ≡ option_map other_name (other_of id) }
+{
+    match OtherId::of(id) {
+        Some(other) => Some(other.name()),
+        None => None,
     }
 }
 
