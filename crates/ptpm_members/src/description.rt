@@ -9,9 +9,9 @@ ghost use Rattle.ptpm_members.specs.Description.{behind_counted, behind_text, co
 pub enum DescriptionPart {
     PhysicalLayerProtocol,
     PhysicalAddress,
-    /// The networkProtocol of the protocolAddress (5.3.6).
+    /// networkProtocol of protocolAddress (5.3.6).
     NetworkProtocol,
-    /// The addressField of the protocolAddress.
+    /// addressField of protocolAddress.
     AddressField,
     ManufacturerIdentity,
     ProductDescription,

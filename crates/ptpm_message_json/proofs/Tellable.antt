@@ -80,7 +80,6 @@ if_whole : (whole : Bool) (octets : List ℕ) (fs : List Field) → (whole ≡ t
 if_whole true octets fs there = there refl
 if_whole false octets fs there = tt
 
-
 -- one id that is only read has a ClockQuality
 by_other : (id : OtherId) (octets : List ℕ) → is_whole_other id octets ≡ true → AllByRecursion (HasItsQuality octets) (other_fields id)
 unfolding is_whole_other
