@@ -45,7 +45,7 @@ pub judged-asked : (c : Clock) (s : State) (v : Message)
     → judged c s v ≡ verdicts.AnsweredNew
 judged-asked c s v y = (asked-parts c s v y).0
 
-is_get-true : (action : Action) → is_get action ≡ true → action ≡ actions.Get
+pub is_get-true : (action : Action) → is_get action ≡ true → action ≡ actions.Get
 is_get-true actions.Get e = refl
 is_get-true _ e = absurd (false≢true e)
 
@@ -119,7 +119,7 @@ turn_said-forwards c s say ingress datagram =
 
 -- ---- what is given is the answer
 
-lacked_row : (q : RequestValue) → is_lacked q ≡ true → row_of q.id ≡ None
+pub lacked_row : (q : RequestValue) → is_lacked q ≡ true → row_of q.id ≡ None
 lacked_row q lacked = from_is_none (row_of q.id) (and_parts _ _ lacked).1
 
 pub given_kept : (c : Clock) (s : State) (ingress : ℕ) (datagram octets : List ℕ) (v : Message)

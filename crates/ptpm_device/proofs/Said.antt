@@ -1,9 +1,10 @@
--- A request that is kept with the device's reply is a repeat by then, and is answered as one. A value that is not kept is sent in
--- place of the clock's own answer.
-use Rattle.std.proofs.Common.{arith, ◌≡◌, ℕ, ◌<◌, ◌≤◌, ◌-◌, ◌+◌, ◌%◌, ◌++◌, List, [], ◌∷◌, take, is_some, nat_le, if◌then◌else◌, Option, Some, None, Ok, Bool, true, false, length, refl, sym, ◌∙◌, ap, subst, ⊎_elim}
+-- A request that is kept with the device's reply is a repeat by then, and is answered as one. A value that is not kept is sent
+-- after the copies that are passed on.
+use Rattle.std.proofs.Common.{arith, ◌≡◌, ℕ, ◌<◌, ◌≤◌, ◌-◌, ◌+◌, ◌%◌, ◌++◌, List, [], ◌∷◌, take, is_some, nat_le, if◌then◌else◌, map, Option, Some, None, Ok, Bool, true, false, length, refl, sym, ◌∙◌, ap, subst, ⊎_elim}
 use Rattle.std.specs.Prelude.{IfSome}
-use Rattle.std.proofs.lemmas.Bool.{and_from, and_parts, cases_Bool, cond-true, false≢true, true≢false}
+use Rattle.std.proofs.lemmas.Bool.{and_from, and_parts, cases_Bool, cond-false, cond-true, false≢true, true≢false}
 use Rattle.std.proofs.lemmas.Option.{cond_some}
+use Rattle.std.proofs.lemmas.List.{length-append, length-map, take-append-le, take-length}
 use Rattle.std.proofs.lemmas.List.Elements.{All-cons, All-nil}
 use Rattle.std.specs.List.{All}
 use Rattle.std.specs.FinMap.{get}
@@ -12,12 +13,16 @@ use Rattle.ptpm_codec.specs.declared.error.ErrorId.TheVariants.{NoSuchId, Respon
 use Rattle.ptpm_codec.specs.declared.message.Action.{Action}
 use Rattle.ptpm_codec.specs.declared.message.Action.TheVariants as actions
 use Rattle.ptpm_codec.specs.declared.message.Message.{Message}
-use Rattle.ptpm_codec.specs.Message.{IsDataField, IsRequestAction}
+use Rattle.ptpm_codec.specs.declared.identity.ClockIdentity.{ClockIdentity}
+use Rattle.ptpm_codec.specs.declared.message.Body.TheVariants as bodies
+use Rattle.ptpm_codec.specs.Canonical.{canonical}
+use Rattle.ptpm_codec.specs.Envelope.{sent_with}
+use Rattle.ptpm_codec.specs.Message.{IsDataField, IsRequestAction, action_of, id_of, reply_action}
 use Rattle.ptpm_codec.specs.Reading.{message_of}
 use Rattle.ptpm_data.specs.Changes.{IsTargetPort}
 use Rattle.ptpm_data.specs.ManagementId.{RowValue, is_of_port, row_of}
 use Rattle.ptpm_data.specs.Members.{DataSetsValue}
-use Rattle.ptpm_data.specs.Replies.{is_get, read_reply_to, reply_of}
+use Rattle.ptpm_data.specs.Replies.{answer, answerers, is_get, read_refusal, read_reply_to, reply_of}
 use Rattle.ptpm_data.specs.Reply.{Answer, Outcome, Refused, ReplyValue, Value}
 use Rattle.ptpm_data.specs.Request.{RequestValue}
 use Rattle.ptpm_data.proofs.Answering.{reply_of-unlisted}
@@ -25,7 +30,8 @@ use Rattle.ptpm_table.specs.declared.heard.Heard.{Heard}
 use Rattle.ptpm_table.specs.declared.reply_table.Look.TheVariants as looks
 use Rattle.ptpm_table.specs.Entries.{Entry, FitsAnswer, FitsCount, FitsOutcome, FitsRequest, is_known}
 use Rattle.ptpm_table.specs.Numbering.{look_at}
-use Rattle.ptpm_table.specs.Rendering.{rendered}
+use Rattle.ptpm_table.specs.Rendering.{rendered, reply_message}
+use Rattle.ptpm_table.specs.Sending.{empty_reply}
 use Rattle.ptpm_agent.specs.declared.verdict.Verdict.{Verdict}
 use Rattle.ptpm_agent.specs.declared.verdict.Verdict.TheVariants as verdicts
 use Rattle.ptpm_agent.specs.Addressing.{heard_of, request_of}
@@ -35,10 +41,10 @@ use Rattle.ptpm_agent.specs.Turn.{Clock, NumberedRequest, State, Turned, judged,
 use Rattle.ptpm_agent.proofs.Entries.{get-insert_same}
 use Rattle.ptpm_agent.proofs.Fitting.{may_judge_action, may_judge_port}
 use Rattle.ptpm_agent.proofs.Turns.{CopyParts, forwarded-copy, judged-copy, new_parts, turn-message}
-use Rattle.ptpm_device.specs.Asking.{asked, is_lacked, is_new, wanted_new}
-use Rattle.ptpm_device.specs.Saying.{Gives, Objects, Say, after_reply, asks_lacked, asks_lacked_by, given, given_by, new_said, objected_by, reply_given, reply_said, turn_said, unnumbered_said}
-use Rattle.ptpm_device.proofs.WhenAsked.{AskedParts, WantedParts, asked_parts, not_wanted_new, wanted_parts}
-use Rattle.ptpm_device.proofs.Judged.{asked-parts, given_told, judged-asked, lacked_row, objection_not_asked}
+use Rattle.ptpm_device.specs.Asking.{asked, is_lacked, is_new, is_unnumbered, is_wanted_once, wanted_new, wanted_once}
+use Rattle.ptpm_device.specs.Saying.{Gives, Objects, Say, after_reply, given, given_by, new_said, objected_by, reply_given, reply_said, turn_said, unnumbered_said}
+use Rattle.ptpm_device.proofs.WhenAsked.{AskedParts, WantedParts, asked_parts, not_wanted_new, wanted_once-read, wanted_parts}
+use Rattle.ptpm_device.proofs.Judged.{asked-parts, given_told, is_get-true, judged-asked, lacked_row, objection_not_asked}
 use Rattle.ptpm_device.proofs.New.{look_at-kept}
 use Rattle.ptpm_device.proofs.Steps.{turn_said-each, turn_said-new}
 
@@ -292,42 +298,7 @@ turned_kept c s octets ingress datagram after kept w out next some small clock i
     kept_at c s (wanted_new c s datagram) octets ingress datagram w out next refl some small
     (moved_turn c after kept (given_by s (wanted_new c s datagram) octets) ingress datagram w out next clock is turned)
 
--- ---- a value that is not kept, after the clock's own turn
-
--- the state is that of before, if nothing was kept
-pub unkept_turn : (c : Clock) (s : State) (octets : List ℕ) (ingress : ℕ) (datagram : List ℕ)
-    (after : Clock) (kept : State) (w : Verdict) (out : List (ℕ × List ℕ)) (next : State)
-    → is_some (wanted_new c s datagram) ≡ false
-    → after ≡ c
-    → kept ≡ given_by s (wanted_new c s datagram) octets
-    → IsTurned (turn after kept ingress datagram) w out next
-    → IsTurned (turn c s ingress datagram) w out next
-unkept_turn c s octets ingress datagram after kept w out next other clock is turned =
-    let none : wanted_new c s datagram ≡ None = none_of (wanted_new c s datagram) other in
-    moved_turn c after kept s ingress datagram w out next clock (is ∙ ap (λ (o : Option NumberedRequest). given_by s o octets) none) turned
-
--- a GET of an id that clocks lack, by the datagram
-pub record LackedParts (datagram : List ℕ) : Type 0 where
-  pub message : Message
-  pub read : message_of datagram ≡ Some message
-  pub lacked : is_lacked (request_of message) ≡ true
-
-lacked_from : (datagram : List ℕ) (o : Option Message)
-    → message_of datagram ≡ o
-    → asks_lacked_by o ≡ true
-    → LackedParts datagram
-lacked_from datagram None read e = absurd (false≢true e)
-lacked_from datagram (Some v) read e = record { message = v; read = read; lacked = e }
-
-pub lacked_parts : (datagram : List ℕ) → asks_lacked datagram ≡ true → LackedParts datagram
-unfolding asks_lacked
-lacked_parts datagram e = lacked_from datagram (message_of datagram) refl e
-
-pub lacked-read : (datagram : List ℕ) (v : Message)
-    → message_of datagram ≡ Some v
-    → asks_lacked datagram ≡ is_lacked (request_of v)
-unfolding asks_lacked
-lacked-read datagram v read = ap asks_lacked_by read
+-- ---- a value for which it is not asked
 
 lacked_if : (q : RequestValue) (most : ℕ) (octets : List ℕ) (reply : ReplyValue)
     → (if is_lacked q then Some (reply_given most q octets) else None) ≡ Some reply
@@ -336,12 +307,14 @@ lacked_if q most octets reply said = (cond_some (is_lacked q) (reply_given most 
 
 -- any other turn is the clock's own
 pub turned_ungiven : (c : Clock) (s : State) (octets : List ℕ) (ingress : ℕ) (datagram : List ℕ)
-    (w : Verdict) (out : List (ℕ × List ℕ)) (next : State)
+    (after : Clock) (kept : State) (w : Verdict) (out : List (ℕ × List ℕ)) (next : State)
     → is_some (wanted_new c s datagram) ≡ false
-    → (w ≡ verdicts.AnsweredUnnumbered → asks_lacked datagram ≡ true → ⊥)
-    → IsTurned (turn c s ingress datagram) w out next
+    → wanted_once c s datagram ≡ false
+    → after ≡ c
+    → kept ≡ given_by s (wanted_new c s datagram) octets
+    → IsTurned (turn after kept ingress datagram) w out next
     → IsTurned (turn_said c s (Gives octets) ingress datagram) w out next
-turned_ungiven c s octets ingress datagram w out next other untold turned =
+turned_ungiven c s octets ingress datagram after kept w out next other once clock is turned =
     let none : wanted_new c s datagram ≡ None = none_of (wanted_new c s datagram) other in
     let own : turn_said c s (Gives octets) ingress datagram ≡ turn c s ingress datagram =
     turn_said-each (λ (t : Turned). t ≡ turn c s ingress datagram) c s (Gives octets) ingress datagram refl
@@ -350,30 +323,53 @@ turned_ungiven c s octets ingress datagram w out next other untold turned =
     absurd (true≢false (sym (and_from _ _ (ap is_new new) lacked) ∙ not_wanted_new c s datagram v read none)))
     (λ v reply read unnumbered told.
     let lacked : is_lacked (request_of v) ≡ true = lacked_if (request_of v) 1418 octets reply told in
-    absurd (untold
-    (turned.verdict_is ∙ (ap (λ (t : Turned). t.verdict) (turn-message c s ingress datagram v read) ∙ unnumbered))
-    (lacked-read datagram v read ∙ lacked))) in
-    subst (λ (u : Turned). IsTurned u w out next) (sym own) turned
+    absurd (true≢false (sym (and_from _ _ (ap is_unnumbered unnumbered) lacked) ∙ (sym (wanted_once-read c s datagram v read) ∙ once)))) in
+    subst (λ (u : Turned). IsTurned u w out next) (sym own)
+    (moved_turn c after kept s ingress datagram w out next clock (is ∙ ap (λ (o : Option NumberedRequest). given_by s o octets) none) turned)
 
--- the clock's own answer is one message
-one_refusal : (c : Clock) (d : DataSetsValue) (ingress : ℕ) (heard : Heard) (q : RequestValue)
-    → is_lacked q ≡ true
-    → length (rendered c.identity heard (read_reply_to q d) ingress) ≡ 1
-unfolding read_reply_to rendered
-one_refusal c d ingress heard q lacked =
-    let none : row_of q.id ≡ None = lacked_row q lacked in
-    ?
+-- ---- a value that is not kept
 
--- all but the last
-all_but_last : (xs ys : List (ℕ × List ℕ)) → length ys ≡ 1 → take (length (xs ++ ys) - 1) (xs ++ ys) ≡ xs
-all_but_last xs ys one = ?
+is_unnumbered-true : (w : Verdict) → is_unnumbered w ≡ true → w ≡ verdicts.AnsweredUnnumbered
+is_unnumbered-true verdicts.AnsweredUnnumbered e = refl
+is_unnumbered-true _ e = absurd (false≢true e)
 
-pub turned_told : (c : Clock) (s : State) (octets : List ℕ) (ingress : ℕ) (datagram : List ℕ) (v : Message)
-    (w : Verdict) (out sent : List (ℕ × List ℕ)) (next : State)
+-- the copies that are passed on, and then the value
+pub turned_once : (c : Clock) (s : State) (octets : List ℕ) (ingress : ℕ) (datagram : List ℕ) (v : Message)
+    (out : List (ℕ × List ℕ))
     → message_of datagram ≡ Some v
+    → is_wanted_once c s v ≡ true
+    → out ≡ forwarded c.identity ingress s.sets datagram
+    ++ rendered c.identity (heard_of v) (reply_given 1418 (request_of v) octets) ingress
+    → IsTurned (turn_said c s (Gives octets) ingress datagram) verdicts.AnsweredUnnumbered out s
+turned_once c s octets ingress datagram v out read wanted is =
+    let p = and_parts _ _ wanted in
+    subst (λ (u : Turned). IsTurned u verdicts.AnsweredUnnumbered out s)
+    (sym (given_told c s ingress datagram octets v read (is_unnumbered-true (judged c s v) p.0) p.1))
+    (record { verdict_is = refl; outbox_is = is; sets_are = refl; entries_are = refl })
+
+-- ---- the message of a value, as code writes it
+
+lacked_action : (q : RequestValue) → is_lacked q ≡ true → q.action ≡ actions.Get
+lacked_action q lacked = is_get-true q.action (and_parts _ _ lacked).0
+
+pub lacked_request : (q : RequestValue) → is_lacked q ≡ true → IsRequestAction q.action
+lacked_request q lacked = subst IsRequestAction (sym (lacked_action q lacked)) (grind arith)
+
+pub rendered_given : (me : ClockIdentity) (v draft : Message) (octets : List ℕ) (ingress : ℕ)
     → is_lacked (request_of v) ≡ true
-    → w ≡ verdicts.AnsweredUnnumbered
-    → IsTurned (turn c s ingress datagram) w out next
-    → sent ≡ take (length out - 1) out ++ rendered c.identity (heard_of v) (reply_given 1418 (request_of v) octets) ingress
-    → IsTurned (turn_said c s (Gives octets) ingress datagram) w sent next
-turned_told c s octets ingress datagram v w out sent next read lacked unnumbered turned is = ?
+    → IsDataField octets
+    → draft ≡ empty_reply me (heard_of v) actions.Response (id_of v.body) ingress
+    → (ingress, canonical (sent_with draft ingress (bodies.Answer actions.Response (id_of v.body) octets))) ∷ []
+    ≡ rendered me (heard_of v) (reply_given 1418 (request_of v) octets) ingress
+unfolding rendered
+rendered_given me v draft octets ingress lacked field same =
+    let small : nat_le (length octets) 1418 ≡ true = grind arith in
+    let one : given 1418 octets ≡ Value octets = cond-true _ _ _ small in
+    let response : actions.Response ≡ reply_action (action_of v.body) = sym (ap reply_action (lacked_action (request_of v) lacked)) in
+    ap (λ (m : Message). (ingress, canonical (sent_with m ingress (bodies.Answer actions.Response (id_of v.body) octets))) ∷ []) same
+    ∙ (λ i. (ingress, canonical (reply_message me (heard_of v) (response i) (id_of v.body) ingress (record { port = None; outcome = sym one i }))) ∷ [])
+
+pub wanted_once_lacked : (c : Clock) (s : State) (v : Message)
+    → is_wanted_once c s v ≡ true
+    → is_lacked (request_of v) ≡ true
+wanted_once_lacked c s v wanted = (and_parts _ _ wanted).1

@@ -19,7 +19,7 @@ use Rattle.ptpm_agent.specs.declared.verdict.Verdict.TheVariants as verdicts
 use Rattle.ptpm_agent.specs.Addressing.{is_addressed, is_for_this_clock, is_numbered, is_own, is_request, names_port, request_of}
 use Rattle.ptpm_agent.specs.Turn.{Clock, NumberedRequest, State, is_accepted_repeat, is_in_domain, is_repeat, judged, look, numbered_from, verdict_at}
 use Rattle.ptpm_agent.proofs.Turns.{judged-copy, judged-each, judged-request, message_of-reading, new_parts}
-use Rattle.ptpm_device.specs.Asking.{asked, asked_by, is_asked, is_change, is_here, is_lacked, is_new, is_permitted, is_reached, is_read, is_wanted, is_wanted_new, wanted, wanted_by, wanted_new, wanted_new_by}
+use Rattle.ptpm_device.specs.Asking.{asked, asked_by, is_asked, is_change, is_here, is_lacked, is_new, is_permitted, is_reached, is_read, is_unnumbered, is_wanted, is_wanted_new, is_wanted_once, wanted, wanted_by, wanted_new, wanted_new_by, wanted_once, wanted_once_by}
 use Rattle.ptpm_device.proofs.New.{is_new-true}
 
 -- a new request is here
@@ -285,7 +285,54 @@ pub away-not_wanted_new : (c : Clock) (s : State) (v : Message)
     → is_wanted_new c s v ≡ false
 away-not_wanted_new c s v away = and_left _ _ (new_read (judged c s v) (unread_away c s v away))
 
+abbrev pub is_unknown_look : Look → Bool
+is_unknown_look looks.Unknown = true
+is_unknown_look _ = false
+
+unnumbered_at : (l : Look) → is_unnumbered (verdict_at l) ≡ is_unknown_look l
+unnumbered_at looks.Unknown = refl
+unnumbered_at _ = refl
+
+pub is_unknown_look-other : (l : Look) → (l ≡ looks.Unknown → ⊥) → is_unknown_look l ≡ false
+is_unknown_look-other looks.Unknown other = absurd (other refl)
+is_unknown_look-other _ other = refl
+
+pub is_wanted_once-reached : (c : Clock) (s : State) (v : Message) (l : Look)
+    → is_lacked (request_of v) ≡ true
+    → is_reached c s v ≡ true
+    → l ≡ look c s v
+    → is_wanted_once c s v ≡ is_unknown_look l
+is_wanted_once-reached c s v l lacked reached look =
+    and_true (is_unnumbered (judged c s v)) (is_lacked (request_of v)) lacked
+    ∙ (ap is_unnumbered (reached-judged c s v reached lacked ∙ ap verdict_at (sym look)) ∙ unnumbered_at l)
+
+pub unlacked-not_wanted_once : (c : Clock) (s : State) (v : Message)
+    → is_lacked (request_of v) ≡ false
+    → is_wanted_once c s v ≡ false
+unlacked-not_wanted_once c s v unlacked = and_right (is_unnumbered (judged c s v)) (is_lacked (request_of v)) unlacked
+
+unnumbered_read : (w : Verdict) → is_read w ≡ false → is_unnumbered w ≡ false
+unnumbered_read verdicts.AnsweredUnnumbered e = e
+unnumbered_read _ e = refl
+
+pub away-not_wanted_once : (c : Clock) (s : State) (v : Message)
+    → is_reached c s v ≡ false
+    → is_wanted_once c s v ≡ false
+away-not_wanted_once c s v away = and_left _ _ (unnumbered_read (judged c s v) (unread_away c s v away))
+
 -- ---- in a datagram
+
+pub wanted_once-unread : (c : Clock) (s : State) (datagram : List ℕ) (cause : DecodeError)
+    → reading datagram ≡ Err cause
+    → wanted_once c s datagram ≡ false
+unfolding wanted_once message_of
+wanted_once-unread c s datagram cause read = grind arith
+
+pub wanted_once-read : (c : Clock) (s : State) (datagram : List ℕ) (v : Message)
+    → message_of datagram ≡ Some v
+    → wanted_once c s datagram ≡ is_wanted_once c s v
+unfolding wanted_once
+wanted_once-read c s datagram v read = ap (wanted_once_by c s) read
 
 pub wanted-unread : (c : Clock) (s : State) (datagram : List ℕ) (cause : DecodeError)
     → reading datagram ≡ Err cause

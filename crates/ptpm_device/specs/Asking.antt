@@ -88,6 +88,23 @@ wanted_new_by c s (Some v) = if is_wanted_new c s v then Some (numbered_from v) 
 unfoldable pub wanted_new : Clock → State → List ℕ → Option NumberedRequest
 wanted_new c s datagram = wanted_new_by c s (message_of datagram)
 
+-- ---- a value whose answer it doesn't keep
+
+-- it is asked for by a request without a number
+abbrev pub is_unnumbered : Verdict → Bool
+is_unnumbered verdicts.AnsweredUnnumbered = true
+is_unnumbered _ = false
+
+abbrev pub is_wanted_once : Clock → State → Message → Bool
+is_wanted_once c s v = is_unnumbered (judged c s v) && is_lacked (request_of v)
+
+abbrev pub wanted_once_by : Clock → State → Option Message → Bool
+wanted_once_by c s None = false
+wanted_once_by c s (Some v) = is_wanted_once c s v
+
+unfoldable pub wanted_once : Clock → State → List ℕ → Bool
+wanted_once c s datagram = wanted_once_by c s (message_of datagram)
+
 -- ---- as code
 
 -- what a device is asked, against the definitions

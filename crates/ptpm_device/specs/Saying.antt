@@ -1,5 +1,5 @@
 -- One turn of a clock with what its device says of it (this project's profile).
-use Rattle.std.specs.Prelude.{ℕ, nat_le, Bool, false, List, [], ◌∷◌, length, if◌then◌else◌, Option, Some, None}
+use Rattle.std.specs.Prelude.{ℕ, nat_le, Bool, List, [], ◌∷◌, length, if◌then◌else◌, Option, Some, None}
 use Rattle.std.specs.FinMap.{insert}
 use Rattle.ptpm_codec.specs.declared.error.ErrorId.{ErrorId}
 use Rattle.ptpm_codec.specs.declared.error.ErrorId.TheVariants.{ResponseTooBig}
@@ -54,14 +54,6 @@ abbrev pub reply_told : RequestValue → Say → Option ReplyValue
 reply_told q Agrees = None
 reply_told q (Objects error) = None
 reply_told q (Gives octets) = if is_lacked q then Some (reply_given 1418 q octets) else None
-
--- a datagram that is a GET of an id that clocks lack
-abbrev pub asks_lacked_by : Option Message → Bool
-asks_lacked_by None = false
-asks_lacked_by (Some v) = is_lacked (request_of v)
-
-unfoldable pub asks_lacked : List ℕ → Bool
-asks_lacked datagram = asks_lacked_by (message_of datagram)
 
 -- how many octets of what is given are answered at most, by the verdict
 abbrev pub most_given : Verdict → ℕ

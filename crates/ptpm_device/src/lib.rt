@@ -6,10 +6,11 @@
 mod asking;
 mod changing;
 mod laws;
+mod passing;
 mod refusing;
 mod saying;
 
 pub use asking::{Asked, ask, ask_value, is_change};
 pub use changing::change_here;
 pub use laws::{at_most_once_decided, device_judged_last, given_is_answered, silent_device};
-pub use saying::{asks_lacked, keep_value, object, send_value};
+pub use saying::{answer_value, keep_value, object};

@@ -1,23 +1,23 @@
 //! What a clock's device says of a datagram. What it says of a new request is kept before the clock's own turn, and is then what
-//! that turn answers. A value that is not kept is sent after the turn, in place of the clock's own answer.
+//! that turn answers. A value that is not kept is sent in place of the clock's own turn.
 
-ghost use Rattle.std.specs.Prelude.{◌≡◌, ◌<◌, ◌^◌, ◌≤◌, ◌+◌, ◌++◌, IfSome, None, Some, IsTrue, is_some, length};
+ghost use Rattle.std.specs.Prelude.{◌≡◌, ◌<◌, ◌^◌, ◌++◌, [], IfSome, IsTrue, Some, false, is_some, length};
 ghost use Rattle.std.specs.FinMap as fin;
-ghost use Rattle.ptpm_codec.specs.declared.message.Message.{Message};
 ghost use Rattle.ptpm_codec.specs.Message.{IsDataField, IsRequestAction};
-ghost use Rattle.ptpm_codec.specs.Reading.{message_of};
 ghost use Rattle.ptpm_data.specs.Changes.{IsTargetPort};
+ghost use Rattle.ptpm_data.specs.Members.{HasPort};
 ghost use Rattle.ptpm_data.specs.Replies.{reply_of};
-ghost use Rattle.ptpm_table.specs.Entries.{FitsRequest, is_known};
+ghost use Rattle.ptpm_table.specs.Entries.{is_known};
 ghost use Rattle.ptpm_table.specs.Rendering.{rendered};
 ghost use Rattle.ptpm_agent.specs.Addressing.{heard_of, request_of};
-ghost use Rattle.ptpm_agent.specs.Agent.{clock_of, state_of};
-ghost use Rattle.ptpm_device.specs.Asking.{asked, is_lacked, is_wanted_new, wanted_new};
-ghost use Rattle.ptpm_device.specs.Saying.{after_reply, asks_lacked, given_by, objected_by, reply_given};
+ghost use Rattle.ptpm_agent.specs.Agent.{IsTurned, clock_of, state_of};
+ghost use Rattle.ptpm_device.specs.Asking.{asked, is_lacked, is_wanted_new, is_wanted_once, wanted_new, wanted_once};
+ghost use Rattle.ptpm_device.specs.Saying.{Gives, after_reply, given_by, objected_by, reply_given, turn_said};
 
 use crate::asking::{Asked, ask, asked_by, is_lacked, is_reached, look, request_of};
+use crate::passing::pass_on;
 use crate::refusing::Refusing;
-use ptpm_agent::Agent;
+use ptpm_agent::{Agent, Verdict};
 use ptpm_codec::{Action, Draft, DraftBody, Envelope, ErrorId, PortIdentity, View, view};
 use ptpm_data::{Answers, DataSets, Reply, Request, data_sets_law};
 use ptpm_table::{Look, Outgoing, ReplyTable, SureTable};
@@ -77,48 +77,67 @@ pub fn keep_value<T: SureTable + Drop>(
     }
 }
 
-/// Whether a datagram is a GET of an id that clocks lack.
-pub fn asks_lacked(datagram: &[u8]) -> bool
-    ensures { result ≡ asks_lacked datagram.now }
-{
-    match view(datagram) {
-        Ok(message) => is_lacked(&request_of(&message)),
-        Err(_) => false,
-    }
-}
-
-/// Sends the value that the device gives as the answer to a datagram that came in at this port. Nothing of it is kept. Takes no
-/// memory.
-pub fn send_value<T: ReplyTable + Drop, O: Outgoing>(
+/// Answers a GET of an id that the clock lacks with the value that the device gives, if it would be answered and its answer would not
+/// be kept: all but a manager's new one. The copies of it that the clock passes on are sent first. Answers whether that was so.
+/// Otherwise nothing is sent. No clock is changed by such a GET. Takes no memory.
+pub fn answer_value<T: ReplyTable + Drop, O: Outgoing>(
     agent: &Agent<T>,
     ingress: u16,
     datagram: &[u8],
     octets: &[u8],
     out: &mut O,
-)
-    requires room { length (O.sent out.old) < 15 }
+) -> bool
+    requires port { HasPort ingress agent.now.sets }
+    requires empty { O.sent out.old ≡ [] }
     requires octets { IsDataField octets.now }
-    ensures sent { (v : Message) → message_of datagram.now ≡ Some v → IsTrue (is_lacked (request_of v)) →
-        O.sent out.new ≡ O.sent out.old ++ rendered (clock_of T.owner agent.now).identity (heard_of v)
-        (reply_given 1418 (request_of v) octets.now) ingress }
-    ensures few { length (O.sent out.new) ≤ length (O.sent out.old) + 1 }
+    ensures wanted { result ≡ wanted_once
+        (clock_of T.owner agent.now) (state_of T.entries agent.now) datagram.now }
+    ensures turned { IsTrue result → IsTurned (turn_said
+        (clock_of T.owner agent.now) (state_of T.entries agent.now) (Gives octets.now)
+        ingress datagram.now)
+        Verdict.AnsweredUnnumbered (O.sent out.new) (state_of T.entries agent.now) }
+    ensures unsent { result ≡ false → out.new ≡ out.old }
     ensures grown { O.grown out.old out.new }
 {
-    let Ok(message) = view(datagram) else {
-        return;
+    let message = match view(datagram) {
+        Ok(message) => message,
+        Err(_) => return false,
     };
-    let hops = message.starting_hops().saturating_sub(message.hops());
-    let clock = agent.table().clock();
-    let id = message.id();
+    if !is_wanted_once(agent, &message) {
+        return false;
+    }
+    pass_on(agent, ingress, datagram, &message, out);
+    send_value(agent, ingress, &message, octets, out);
+    true
+}
+
+/// Sends a value as the answer to a GET that came in at this port. Takes no memory.
+fn send_value<T: ReplyTable + Drop, O: Outgoing>(
+    agent: &Agent<T>,
+    ingress: u16,
+    get: &View<'_>,
+    octets: &[u8],
+    out: &mut O,
+)
+    requires room { length (O.sent out.old) < 15 }
+    requires lacked { IsTrue (is_lacked (request_of get.now)) }
+    requires octets { IsDataField octets.now }
+    ensures sent { O.sent out.new ≡ O.sent out.old
+        ++ rendered (clock_of T.owner agent.now).identity (heard_of get.now)
+        (reply_given 1418 (request_of get.now) octets.now) ingress }
+    ensures grown { O.grown out.old out.new }
+{
+    let hops = get.starting_hops().saturating_sub(get.hops());
+    let id = get.id();
     let draft = Draft {
         sdo: 0,
-        domain: message.domain(),
+        domain: get.domain(),
         source: PortIdentity {
-            clock,
+            clock: agent.table().clock(),
             port: ingress,
         },
-        number: message.number(),
-        target: message.source(),
+        number: get.number(),
+        target: get.source(),
         starting_hops: hops,
         hops,
         body: DraftBody::Answer {
@@ -130,6 +149,23 @@ pub fn send_value<T: ReplyTable + Drop, O: Outgoing>(
     let mut envelope = Envelope::blank();
     envelope.address(&draft, id);
     out.push_answer(ingress, &envelope, ingress, octets);
+}
+
+/// Whether it is a GET of an id that the clock lacks, without a number.
+fn is_wanted_once<T: ReplyTable + Drop>(agent: &Agent<T>, message: &View<'_>) -> bool
+    ensures { result ≡ is_wanted_once
+        (clock_of T.owner agent.now) (state_of T.entries agent.now) message.now }
+{
+    if !is_lacked(&request_of(message)) {
+        return false;
+    }
+    if !is_reached(agent, message) {
+        return false;
+    }
+    match look(agent, message) {
+        Look::Unknown => true,
+        _ => false,
+    }
 }
 
 /// The GET of a datagram, if it is a manager's new one of an id that the clock lacks.

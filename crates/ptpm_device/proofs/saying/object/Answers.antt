@@ -1,6 +1,6 @@
 use Rattle.std.proofs.Common.{arith, sym}
 use Rattle.ptpm_agent.specs.Agent.{clock_of, state_of}
-use Rattle.ptpm_device.proofs.Objected.{change_parts}
+use Rattle.ptpm_device.proofs.Said.{change_parts}
 use Rattle.ptpm_device.proofs.saying.object.Goals as goal
 
 pub refuse-requires-clause-known : goal.refuse-requires-clause-known
