@@ -19,8 +19,8 @@ use crate::kept::Hosted;
 use crate::withholding;
 use ptpm_data::ChangedMembers;
 use ptpm_host::{
-    ASKED_CHANGE, ASKED_VALUE, Asking, CANT_OBJECT, HostedClock, NO_CLOCK, Question, Say, Sent, handle_number,
-    said_number, verdict_number,
+    ASKED_CHANGE, ASKED_VALUE, Asking, CANT_OBJECT, HostedClock, NO_CLOCK, Question, Say, Sent,
+    handle_number, said_number, verdict_number,
 };
 use std::alloc::Global;
 

@@ -1,10 +1,9 @@
 -- A request that is kept with the device's reply is a repeat by then, and is answered as one. A value that is not kept is sent
 -- after the copies that are passed on.
-use Rattle.std.proofs.Common.{arith, ◌≡◌, ℕ, ◌<◌, ◌≤◌, ◌-◌, ◌+◌, ◌%◌, ◌++◌, List, [], ◌∷◌, take, is_some, nat_le, if◌then◌else◌, map, Option, Some, None, Ok, Bool, true, false, length, refl, sym, ◌∙◌, ap, subst, ⊎_elim}
+use Rattle.std.proofs.Common.{arith, ◌≡◌, ℕ, ◌<◌, ◌≤◌, ◌-◌, ◌+◌, ◌%◌, ◌++◌, List, [], ◌∷◌, is_none, is_some, nat_le, if◌then◌else◌, map, Option, Some, None, Ok, Bool, true, false, length, refl, sym, ◌∙◌, ap, subst, ⊎_elim}
 use Rattle.std.specs.Prelude.{IfSome}
 use Rattle.std.proofs.lemmas.Bool.{and_from, and_parts, cases_Bool, cond-false, cond-true, false≢true, true≢false}
 use Rattle.std.proofs.lemmas.Option.{cond_some}
-use Rattle.std.proofs.lemmas.List.{length-append, length-map, take-append-le, take-length}
 use Rattle.std.proofs.lemmas.List.Elements.{All-cons, All-nil}
 use Rattle.std.specs.List.{All}
 use Rattle.std.specs.FinMap.{get}
@@ -41,7 +40,7 @@ use Rattle.ptpm_agent.specs.Turn.{Clock, NumberedRequest, State, Turned, judged,
 use Rattle.ptpm_agent.proofs.Entries.{get-insert_same}
 use Rattle.ptpm_agent.proofs.Fitting.{may_judge_action, may_judge_port}
 use Rattle.ptpm_agent.proofs.Turns.{CopyParts, forwarded-copy, judged-copy, new_parts, turn-message}
-use Rattle.ptpm_device.specs.Asking.{asked, is_lacked, is_new, is_unnumbered, is_wanted_once, wanted_new, wanted_once}
+use Rattle.ptpm_device.specs.Asking.{asked, is_lacked, is_new, is_permitted, is_unnumbered, is_wanted_once, wanted_new, wanted_once}
 use Rattle.ptpm_device.specs.Saying.{Gives, Objects, Say, after_reply, given, given_by, new_said, objected_by, reply_given, reply_said, turn_said, unnumbered_said}
 use Rattle.ptpm_device.proofs.WhenAsked.{AskedParts, WantedParts, asked_parts, not_wanted_new, wanted_once-read, wanted_parts}
 use Rattle.ptpm_device.proofs.Judged.{asked-parts, given_told, is_get-true, judged-asked, lacked_row, objection_not_asked}
@@ -232,7 +231,7 @@ objected_at c s (Some r) error ingress datagram w out next e some small turned =
     let p : AskedParts c s datagram r = asked_parts c s datagram r e in
     let v : Message = p.message in
     let q = asked-parts c s v p.asked in
-    let permitted = grind arith in
+    let permitted : is_permitted c v.source (request_of v) ≡ true = and_from _ _ q.1.0 (ap is_none q.1.1) in
     turned_replied c s (Objects error) ingress datagram v (reply_of (request_of v) (Some error) s.sets) w out next p.read q.0
     (subst (λ (x : NumberedRequest). x.number < 65536) p.same small)
     (cond-true _ _ _ permitted)
@@ -355,18 +354,19 @@ lacked_action q lacked = is_get-true q.action (and_parts _ _ lacked).0
 pub lacked_request : (q : RequestValue) → is_lacked q ≡ true → IsRequestAction q.action
 lacked_request q lacked = subst IsRequestAction (sym (lacked_action q lacked)) (grind arith)
 
-pub rendered_given : (me : ClockIdentity) (v draft : Message) (octets : List ℕ) (ingress : ℕ)
+pub rendered_given : (me : ClockIdentity) (v draft : Message) (id : ℕ) (octets : List ℕ) (ingress : ℕ)
     → is_lacked (request_of v) ≡ true
     → IsDataField octets
+    → id ≡ id_of v.body
     → draft ≡ empty_reply me (heard_of v) actions.Response (id_of v.body) ingress
-    → (ingress, canonical (sent_with draft ingress (bodies.Answer actions.Response (id_of v.body) octets))) ∷ []
+    → (ingress, canonical (sent_with draft ingress (bodies.Answer actions.Response id octets))) ∷ []
     ≡ rendered me (heard_of v) (reply_given 1418 (request_of v) octets) ingress
 unfolding rendered
-rendered_given me v draft octets ingress lacked field same =
+rendered_given me v draft id octets ingress lacked field named same =
     let small : nat_le (length octets) 1418 ≡ true = grind arith in
     let one : given 1418 octets ≡ Value octets = cond-true _ _ _ small in
     let response : actions.Response ≡ reply_action (action_of v.body) = sym (ap reply_action (lacked_action (request_of v) lacked)) in
-    ap (λ (m : Message). (ingress, canonical (sent_with m ingress (bodies.Answer actions.Response (id_of v.body) octets))) ∷ []) same
+    (λ i. (ingress, canonical (sent_with (same i) ingress (bodies.Answer actions.Response (named i) octets))) ∷ [])
     ∙ (λ i. (ingress, canonical (reply_message me (heard_of v) (response i) (id_of v.body) ingress (record { port = None; outcome = sym one i }))) ∷ [])
 
 pub wanted_once_lacked : (c : Clock) (s : State) (v : Message)

@@ -213,13 +213,13 @@ decides_as_own : (first : PortIdentity → ℕ) (c : Clock) (s : State) (h : His
 decides_as_own first c s h x say k t none turns =
     let due : due_decided c h k say ≡ due_reply c h k = ap (λ (o : Option ReplyValue). option_or o (due_reply c h k)) none in
     record {
-  stands = subst (λ (u : State). StandsAt first u (after_decision c h k say)) (sym (ap (λ (u : Turned). u.next) t))
-      (subst (λ (o : Option ReplyValue). StandsAt first (turn c s x.ingress x.datagram).next (after_reply_to c h k o)) (sym none) turns.stands);
-  replies = ap (λ (u : Turned). u.replies) t
-      ∙ (turns.replies ∙ sym (ap (due_messages c k) due));
-  forwards = ap (λ (u : Turned). u.forwards) t ∙ turns.forwards;
-  stays = λ j. ap (λ (u : Turned). u.next) t ∙ turns.stays j;
-}
+      stands = subst (λ (u : State). StandsAt first u (after_decision c h k say)) (sym (ap (λ (u : Turned). u.next) t))
+          (subst (λ (o : Option ReplyValue). StandsAt first (turn c s x.ingress x.datagram).next (after_reply_to c h k o)) (sym none) turns.stands);
+      replies = ap (λ (u : Turned). u.replies) t
+          ∙ (turns.replies ∙ sym (ap (due_messages c k) due));
+      forwards = ap (λ (u : Turned). u.forwards) t ∙ turns.forwards;
+      stays = λ j. ap (λ (u : Turned). u.next) t ∙ turns.stays j;
+    }
 
 -- the device makes the reply
 decides_as_replied : (first : PortIdentity → ℕ) (c : Clock) (s : State) (h : History) (x : Delivery)

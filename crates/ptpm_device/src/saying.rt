@@ -51,11 +51,7 @@ pub fn object<T: SureTable + Drop>(agent: &mut Agent<T>, datagram: &[u8], error:
 /// Keeps a manager's new GET with the value that the device gives, if the clock lacks the id. Answers whether that was so. A value
 /// of more than 130 octets is too big to be kept: RESPONSE_TOO_BIG is then the answer. What the clock then sends for the datagram
 /// is that answer, and the turn was that of a new request. Otherwise nothing changes. Takes no memory.
-pub fn keep_value<T: SureTable + Drop>(
-    agent: &mut Agent<T>,
-    datagram: &[u8],
-    octets: &[u8],
-) -> bool
+pub fn keep_value<T: SureTable + Drop>(agent: &mut Agent<T>, datagram: &[u8], octets: &[u8]) -> bool
     requires octets { IsDataField octets.now }
     ensures wanted { result ≡ is_some
         (wanted_new (clock_of T.owner agent.old) (state_of T.entries agent.old) datagram.now) }

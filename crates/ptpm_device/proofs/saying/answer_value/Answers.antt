@@ -1,10 +1,12 @@
 use Rattle.std.proofs.Common.{arith, ◌≡◌, ◌++◌, Some, true, false, sym, ◌∙◌, ap, subst, List, ℕ}
 use Rattle.ptpm_codec.specs.declared.message.Message.{Message}
 use Rattle.ptpm_codec.specs.Reading.{message_of}
-use Rattle.ptpm_agent.specs.Addressing.{request_of}
+use Rattle.ptpm_table.specs.Rendering.{rendered}
+use Rattle.ptpm_agent.specs.Addressing.{heard_of, request_of}
 use Rattle.ptpm_agent.specs.Agent.{clock_of, state_of}
 use Rattle.ptpm_agent.proofs.Turns.{message_of-reading}
-use Rattle.ptpm_device.specs.Asking.{is_lacked, is_wanted_once, wanted_once}
+use Rattle.ptpm_device.specs.Asking.{is_wanted_once}
+use Rattle.ptpm_device.specs.Saying.{reply_given}
 use Rattle.ptpm_device.proofs.Said.{turned_once, wanted_once_lacked}
 use Rattle.ptpm_device.proofs.WhenAsked.{wanted_once-read, wanted_once-unread}
 use Rattle.ptpm_device.proofs.saying.answer_value.Goals as goal
@@ -47,7 +49,7 @@ returns-clause-turned g c = λ told.
     let read : message_of c.args.datagram.now ≡ Some v = message_of-reading c.args.datagram.now v (sym c.view.ensures.exact ∙ c.in-Ok.is) in
     let yes : is_wanted_once clock state v ≡ true = cc in
     turned_once clock state c.args.octets.now c.args.ingress c.args.datagram.now v _ read yes
-    (c.send_value.ensures.sent ∙ ap (λ (xs : List (ℕ × List ℕ)). xs ++ _) c.pass_on.ensures.copies)
+    (c.send_value.ensures.sent ∙ ap (λ (xs : List (ℕ × List ℕ)). xs ++ rendered clock.identity (heard_of v) (reply_given 1418 (request_of v) c.args.octets.now) c.args.ingress) c.pass_on.ensures.copies)
 
 pub returns-clause-grown : goal.returns-clause-grown
 returns-clause-grown g c =

@@ -4,7 +4,7 @@ use Rattle.ptpm_agent.specs.Addressing.{request_of}
 use Rattle.ptpm_agent.specs.Agent.{clock_of, state_of}
 use Rattle.ptpm_agent.specs.Turn.{look}
 use Rattle.ptpm_device.specs.Asking.{is_lacked, is_reached}
-use Rattle.ptpm_device.proofs.WhenAsked.{away-not_wanted_new, is_unknown_look-other, is_wanted_once-reached}
+use Rattle.ptpm_device.proofs.WhenAsked.{away-not_wanted_once, is_unknown_look-other, is_wanted_once-reached}
 use Rattle.ptpm_device.proofs.saying.is_wanted_once.Goals as goal
 
 pub returns-then-not-is_reached : goal.returns-then-not-is_reached
@@ -12,7 +12,7 @@ returns-then-not-is_reached g c =
     let clock = clock_of g.T.ReplyTable.owner c.args.agent.now in
     let state = state_of g.T.ReplyTable.entries c.args.agent.now in
     let away : is_reached clock state c.args.message.now ≡ false = cc in
-    sym (away-not_wanted_new clock state c.args.message.now away)
+    sym (away-not_wanted_once clock state c.args.message.now away)
 
 pub returns-in-Unknown : goal.returns-in-Unknown
 returns-in-Unknown g c =
