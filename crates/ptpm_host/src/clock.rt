@@ -43,19 +43,6 @@ pub struct Handled {
     pub count: usize,
 }
 
-impl Handled {
-    /// The same, of a new request.
-    pub(crate) fn as_new(self) -> Handled
-        ensures verdict { result.verdict ≡ Verdict.AnsweredNew }
-        ensures count { result.count ≡ self.count }
-    {
-        Handled {
-            verdict: Verdict::AnsweredNew,
-            count: self.count,
-        }
-    }
-}
-
 impl HostedClock {
     /// A clock that has heard nothing yet, with these values and these managers. It keeps the block of its managers' slots; other
     /// memory is taken only for the call.

@@ -137,7 +137,10 @@ impl HostedClock {
         let objected = object(&mut self.agent, datagram, error);
         let handled = self.take_turn(port, datagram, room);
         if objected {
-            return handled.as_new();
+            return Handled {
+                verdict: Verdict::AnsweredNew,
+                count: handled.count,
+            };
         }
         handled
     }
@@ -173,7 +176,10 @@ impl HostedClock {
         let is_kept = keep_value(&mut self.agent, datagram, octets);
         let handled = self.take_turn(port, datagram, room);
         if is_kept {
-            return handled.as_new();
+            return Handled {
+                verdict: Verdict::AnsweredNew,
+                count: handled.count,
+            };
         }
         handled
     }
