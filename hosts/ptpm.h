@@ -247,20 +247,20 @@ enum {
     PTPM_CHANGED_LOG_MIN_PDELAY = PTPM_CHANGED_PORT_LOG_MIN_PDELAY
 };
 
-/* What a device is asked to do (ptpm_clock_ask). All zeros if it is nothing. */
+/* What a device is asked (ptpm_clock_ask): to carry out a SET or a COMMAND, or for the value of a GET. All zeros if it is nothing. */
 struct ptpm_question {
     uint8_t manager[8];                 /* sourcePortIdentity of the request: the clock, and the port */
     uint16_t manager_port;
     uint16_t number;                    /* sequenceId */
     uint16_t id;                        /* managementId */
     uint16_t port;                      /* portNumber of the target; 0xFFFF is every port */
-    uint16_t size;                      /* of the dataField; 0 for a COMMAND */
-    uint8_t action;                     /* PTPM_SET or PTPM_COMMAND */
-    uint8_t octets[130];                /* the dataField, and zeros after it */
+    uint16_t size;                      /* of the dataField of a SET; 0 for a GET and a COMMAND */
+    uint8_t action;                     /* PTPM_GET, PTPM_SET or PTPM_COMMAND */
+    uint8_t octets[130];                /* the dataField of a SET, and zeros after it */
 };
 
-/* What a device says of a request. Any other kind is refused with PTPM_BAD_SAY; 2 is reserved. */
-enum { PTPM_AGREES = 0, PTPM_OBJECTS = 1 };
+/* What a device says of a request. Any other kind is refused with PTPM_BAD_SAY. */
+enum { PTPM_AGREES = 0, PTPM_OBJECTS = 1, PTPM_GIVES = 2 };
 
 /* The errors that a device may give (15.5.4.3). */
 enum {
@@ -270,9 +270,9 @@ enum {
 /* What a device says of a datagram (ptpm_clock_handle_said). All zeros: it agrees, or has nothing to say. */
 struct ptpm_say {
     uint16_t error;                     /* with PTPM_OBJECTS: one of the four */
-    uint16_t size;                      /* reserved: it does not count */
-    uint8_t kind;                       /* PTPM_AGREES or PTPM_OBJECTS */
-    uint8_t octets[1418];               /* reserved, too */
+    uint16_t size;                      /* with PTPM_GIVES: of the dataField, even, and 1,418 at most */
+    uint8_t kind;                       /* PTPM_AGREES, PTPM_OBJECTS or PTPM_GIVES */
+    uint8_t octets[1418];               /* with PTPM_GIVES: the dataField */
 };
 
 /* The values that the hardware of a device has, of an id at a port (ptpm_limits_say). They are values of the first octet of the
@@ -558,14 +558,15 @@ __extension__ enum PTPM_FOUR_OCTETS(ptpm_handled) {
     PTPM_HANDLE_NO_ROOM = PTPM_NO_ROOM, /* for fewer than PTPM_MOST_SENT messages */
     PTPM_HANDLE_NO_MEMORY = PTPM_NO_MEMORY,
     PTPM_HANDLE_UNSAVED = PTPM_UNSAVED,
-    PTPM_BAD_SAY = 121,                 /* it is of another kind, or has an error that no device gives */
-    PTPM_CANT_OBJECT = 122              /* a clock that saves (ptpm_clock_saving) takes no objection */
+    PTPM_BAD_SAY = 121,                 /* it is of another kind, has an error that no device gives, or gives what is no dataField */
+    PTPM_CANT_OBJECT = 122              /* a clock that saves (ptpm_clock_saving) takes no objection, and no value */
 };
 
 /* ptpm_clock_ask. */
 __extension__ enum PTPM_FOUR_OCTETS(ptpm_asking) {
     PTPM_ASKED_NOTHING = 0,
     PTPM_ASKED_CHANGE = 29,             /* a new SET or COMMAND of a manager, which the clock itself does not refuse */
+    PTPM_ASKED_VALUE = 30,              /* a GET that would be answered, of an id that the clock lacks */
     PTPM_ASKING_NO_CLOCK = PTPM_NO_CLOCK,
     PTPM_ASKING_NO_PORT = PTPM_NO_PORT
 };
@@ -878,17 +879,19 @@ enum ptpm_handled ptpm_clock_handle_changed(struct ptpm_clock *clock, uint16_t p
 /* Says what a datagram would have the device do, if it came in now at this port. Nothing changes. Between this call and
    ptpm_clock_handle_said anything may happen: that call judges the datagram again.
    Takes:   the port, counted from 1; size octets.
-   Returns: PTPM_ASKED_CHANGE; PTPM_ASKED_NOTHING for any other datagram; or PTPM_NO_CLOCK or PTPM_NO_PORT. A clock that saves
-            (ptpm_clock_saving) asks nothing while something is unsaved.
-   Writes:  *asked; all zeros unless PTPM_ASKED_CHANGE is returned.
-   Caller:  writes the change to its hardware, if that can do it. It does so in a way that may be done twice. If power fails before
-            the clock is saved, the request comes again, and is new. */
+   Returns: PTPM_ASKED_CHANGE or PTPM_ASKED_VALUE; PTPM_ASKED_NOTHING for any other datagram; or PTPM_NO_CLOCK or PTPM_NO_PORT. A
+            clock that saves (ptpm_clock_saving) asks nothing while something is unsaved.
+   Writes:  *asked; all zeros unless one of the first two is returned.
+   Caller:  writes a change to its hardware, if that can do it. It does so in a way that may be done twice. If power fails before
+            the clock is saved, the request comes again, and is new. It looks a value up in a list of its own. */
 enum ptpm_asking ptpm_clock_ask(const struct ptpm_clock *clock, uint16_t port, const uint8_t *datagram, size_t size,
                                 struct ptpm_question *asked);
 
 /* Like ptpm_clock_handle_changed, with what the device says. If it objects where ptpm_clock_ask would return PTPM_ASKED_CHANGE, the
-   request is answered and kept with that error, and no member changes. Each later copy gets that answer. If the device is not
-   asked, what it says does not count.
+   request is answered and kept with that error, and no member changes. If it gives a value where ptpm_clock_ask would return
+   PTPM_ASKED_VALUE, this is the answer of the clock. To the GET of a manager it has 130 octets at most, since it is kept; a longer
+   one is answered with RESPONSE_TOO_BIG (1), and that is kept. To any other GET it has 1,418 at most, and nothing is kept. Each later
+   copy of what is kept gets that answer. If the device is not asked, what it says does not count.
    Takes:   what ptpm_clock_handle_changed takes, and *say.
    Returns: what ptpm_clock_handle returns; or PTPM_BAD_SAY after PTPM_NO_CLOCK, PTPM_NO_PORT and PTPM_NO_ROOM. A clock that saves
             (ptpm_clock_saving) refuses anything but PTPM_AGREES with PTPM_CANT_OBJECT, before any other reason.
