@@ -1379,6 +1379,12 @@ uint32_t ptpm_id_at(size_t place);
    Writes:  as many octets from text on: the name, with no zero after it. */
 size_t ptpm_id_name(uint16_t id, char *text, size_t room);
 
+/* The same three for the managementIds that other clocks have and this profile lacks, and whose dataFields ptpm_field_text writes by
+   their members: five of the standard, such as CLOCK_DESCRIPTION, and five of linuxptp, such as TIME_STATUS_NP. */
+uint32_t ptpm_other_id_named(const char *name, size_t size);
+uint32_t ptpm_other_id_at(size_t place);
+size_t ptpm_other_id_name(uint16_t id, char *text, size_t room);
+
 /* Gives the name of the number that a call returned, such as NO_ROOM for PTPM_NO_ROOM. 0 has none, since each call returns it.
    Takes:   the number; and room octets, for which PTPM_MOST_NAME is enough.
    Returns: how many octets the name has; 0 if the number has none, or room is too small for the whole name.
@@ -1393,11 +1399,12 @@ size_t ptpm_answer_name(uint32_t number, char *text, size_t room);
 size_t ptpm_error_name(uint16_t error, char *text, size_t room);
 
 /* The most octets that ptpm_field_text writes, of a dataField that a message can have. */
-enum { PTPM_MOST_FIELD_TEXT = 2843 };
+enum { PTPM_MOST_FIELD_TEXT = 5065 };
 
 /* Gives the members of a dataField as text, one per line: its name in the standard (15.5.3), a space and its value, such as
    "priority1 128". How each kind of value is written is in docs/ptpm.md. There is only one line if the octets are no dataField
-   of the id, or it has no member. That is "value" and the octets in hexadecimal, or "value -" for none.
+   of the id, or it has no member. That is "value" and the octets in hexadecimal, or "value -" for none. The id may be one of
+   ptpm_other_id_at too.
    Takes:   the managementId; a dataField of size octets; and room octets, for which PTPM_MOST_FIELD_TEXT is enough.
    Returns: how many octets the lines have; 0 if room is too small for all of them.
    Writes:  as many octets from text on: each line with its newline, and no zero after the last. If it returns 0, anything may be

@@ -471,7 +471,7 @@ PTPM_NO_ID = 65536
 
 # The greatest counts and sizes.
 PTPM_MOST_NAME = 27
-PTPM_MOST_FIELD_TEXT = 2843
+PTPM_MOST_FIELD_TEXT = 5065
 
 
 class ptpm_clock(Structure):
@@ -872,6 +872,9 @@ CALLS: Dict[str, Tuple[Any, List[Any]]] = {
     "ptpm_id_named": (c_uint32, [c_char_p, c_size_t]),
     "ptpm_id_at": (c_uint32, [c_size_t]),
     "ptpm_id_name": (c_size_t, [c_uint16, POINTER(c_char), c_size_t]),
+    "ptpm_other_id_named": (c_uint32, [c_char_p, c_size_t]),
+    "ptpm_other_id_at": (c_uint32, [c_size_t]),
+    "ptpm_other_id_name": (c_size_t, [c_uint16, POINTER(c_char), c_size_t]),
     "ptpm_answer_name": (c_size_t, [c_uint32, POINTER(c_char), c_size_t]),
     "ptpm_error_name": (c_size_t, [c_uint16, POINTER(c_char), c_size_t]),
     "ptpm_field_text": (c_size_t, [c_uint16, c_char_p, c_size_t, POINTER(c_char), c_size_t]),

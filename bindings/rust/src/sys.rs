@@ -521,6 +521,9 @@ extern "C" {
     pub fn ptpm_id_named(name: *const c_char, size: usize) -> u32;
     pub fn ptpm_id_at(place: usize) -> u32;
     pub fn ptpm_id_name(id: u16, text: *mut c_char, room: usize) -> usize;
+    pub fn ptpm_other_id_named(name: *const c_char, size: usize) -> u32;
+    pub fn ptpm_other_id_at(place: usize) -> u32;
+    pub fn ptpm_other_id_name(id: u16, text: *mut c_char, room: usize) -> usize;
     pub fn ptpm_answer_name(number: u32, text: *mut c_char, room: usize) -> usize;
     pub fn ptpm_error_name(error: u16, text: *mut c_char, room: usize) -> usize;
     pub fn ptpm_field_text(id: u16, octets: *const u8, size: usize, text: *mut c_char, room: usize) -> usize;
