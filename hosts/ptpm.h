@@ -808,8 +808,8 @@ static inline bool ptpm_is_refusal(uint32_t answer) { return answer >= 32; }
 uint32_t ptpm_version(void);
 
 /* Compares the sizes of a caller's structs with those of the library, so that a header of another version is found.
-   Takes:   count sizes: those that ptpm_header_agrees below passes, in its order. ptpm_question, ptpm_say and ptpm_limit are not
-            among them.
+   Takes:   count sizes: those that ptpm_header_agrees below passes, in its order; or the first 18 of them, as an earlier header of
+            this version does.
    Returns: PTPM_STARTED if the library has these structs, of these sizes; or PTPM_OTHER_SIZES. */
 enum ptpm_started ptpm_sizes_agree(const size_t *sizes, size_t count);
 
@@ -820,7 +820,8 @@ static inline enum ptpm_started ptpm_header_agrees(void) {
         sizeof(struct ptpm_observed_clock), sizeof(struct ptpm_observed_port), sizeof(struct ptpm_manager_settings),
         sizeof(struct ptpm_sent), sizeof(struct ptpm_changed), sizeof(struct ptpm_session), sizeof(struct ptpm_session_settings),
         sizeof(struct ptpm_survey), sizeof(struct ptpm_survey_settings), sizeof(struct ptpm_source), sizeof(struct ptpm_passed_on),
-        sizeof(struct ptpm_rate), sizeof(struct ptpm_asker), sizeof(struct ptpm_asker_settings), sizeof(struct ptpm_handed)
+        sizeof(struct ptpm_rate), sizeof(struct ptpm_asker), sizeof(struct ptpm_asker_settings), sizeof(struct ptpm_handed),
+        sizeof(struct ptpm_question), sizeof(struct ptpm_say), sizeof(struct ptpm_limit)
     };
     return ptpm_sizes_agree(sizes, sizeof sizes / sizeof *sizes);
 }

@@ -901,4 +901,7 @@ STRUCTS: List[Type[Structure]] = [
     ptpm_asker,
     ptpm_asker_settings,
     ptpm_handed,
+    ptpm_question,
+    ptpm_say,
+    ptpm_limit,
 ]
