@@ -423,6 +423,9 @@ PTPM_HAS_SIZE(ptpm_handed, 24);
 enum { PTPM_MOST_SENT = 15, PTPM_MOST_READ = 130, PTPM_MOST_OCTETS = 1472, PTPM_SESSION_IMAGE_OCTETS = 1478 };
 enum { PTPM_CLOCK_IMAGE_OCTETS = 27185 };
 
+/* The most octets of the image of a clock with so many ports and managers: PTPM_CLOCK_IMAGE_OCTETS with the most of each. */
+#define PTPM_CLOCK_IMAGE_BOUND(ports, managers) (217 + 15 * (ports) + 1678 * (managers))
+
 /* How many octets a seal has. It comes after an image. */
 enum { PTPM_SEAL_OCTETS = 16 };
 
@@ -947,7 +950,8 @@ enum ptpm_read ptpm_clock_read(const struct ptpm_clock *clock, uint16_t id, uint
 /* Makes the clock's image: what a host saves before it sends the messages of an answer PTPM_ANSWERED_NEW. From it the clock
    continues after a restart. It has the clock's data sets, the latest request of each manager and the reply to it. The managers
    and what each of them may change are not in it.
-   Takes:   room octets; PTPM_CLOCK_IMAGE_OCTETS are enough for every clock.
+   Takes:   room octets; PTPM_CLOCK_IMAGE_OCTETS are enough for every clock, and PTPM_CLOCK_IMAGE_BOUND octets for one with so many
+            ports and managers.
    Returns: PTPM_SAVED, or why not.
    Writes:  *size, and that number of octets from octets on: the image. If the call is refused, *size is 0 and no octet is written. */
 enum ptpm_saved ptpm_clock_image(const struct ptpm_clock *clock, uint8_t *octets, size_t room, size_t *size);

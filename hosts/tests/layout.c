@@ -55,6 +55,8 @@ static uint32_t handle(uint16_t port, const char *text) {
     return ptpm_clock_handle(&clock_held, port, octets, size, sent, PTPM_MOST_SENT, &count);
 }
 
+_Static_assert(PTPM_CLOCK_IMAGE_BOUND(8, 16) == PTPM_CLOCK_IMAGE_OCTETS, "the image of the largest clock");
+
 /* The library is of this header's version, and has its structs. */
 static void header(void) {
     size_t sizes[] = { 16, 216, 16, 88, 16, 12, 1476, 12, 16, 26, 16, 16, 10, 196616, 24, 16, 36, 24, 150, 1424, 36, 0 },
