@@ -423,6 +423,9 @@ PTPM_HAS_SIZE(ptpm_handed, 24);
 enum { PTPM_MOST_SENT = 15, PTPM_MOST_READ = 130, PTPM_MOST_OCTETS = 1472, PTPM_SESSION_IMAGE_OCTETS = 1478 };
 enum { PTPM_CLOCK_IMAGE_OCTETS = 27185 };
 
+/* The most octets of the image of a clock with so many ports and managers: PTPM_CLOCK_IMAGE_OCTETS with the most of each. */
+#define PTPM_CLOCK_IMAGE_BOUND(ports, managers) (217 + 15 * (ports) + 1678 * (managers))
+
 /* How many octets a seal has. It comes after an image. */
 enum { PTPM_SEAL_OCTETS = 16 };
 
@@ -808,8 +811,8 @@ static inline bool ptpm_is_refusal(uint32_t answer) { return answer >= 32; }
 uint32_t ptpm_version(void);
 
 /* Compares the sizes of a caller's structs with those of the library, so that a header of another version is found.
-   Takes:   count sizes: those that ptpm_header_agrees below passes, in its order. ptpm_question, ptpm_say and ptpm_limit are not
-            among them.
+   Takes:   count sizes: those that ptpm_header_agrees below passes, in its order; or the first 18 of them, as an earlier header of
+            this version does.
    Returns: PTPM_STARTED if the library has these structs, of these sizes; or PTPM_OTHER_SIZES. */
 enum ptpm_started ptpm_sizes_agree(const size_t *sizes, size_t count);
 
@@ -820,7 +823,8 @@ static inline enum ptpm_started ptpm_header_agrees(void) {
         sizeof(struct ptpm_observed_clock), sizeof(struct ptpm_observed_port), sizeof(struct ptpm_manager_settings),
         sizeof(struct ptpm_sent), sizeof(struct ptpm_changed), sizeof(struct ptpm_session), sizeof(struct ptpm_session_settings),
         sizeof(struct ptpm_survey), sizeof(struct ptpm_survey_settings), sizeof(struct ptpm_source), sizeof(struct ptpm_passed_on),
-        sizeof(struct ptpm_rate), sizeof(struct ptpm_asker), sizeof(struct ptpm_asker_settings), sizeof(struct ptpm_handed)
+        sizeof(struct ptpm_rate), sizeof(struct ptpm_asker), sizeof(struct ptpm_asker_settings), sizeof(struct ptpm_handed),
+        sizeof(struct ptpm_question), sizeof(struct ptpm_say), sizeof(struct ptpm_limit)
     };
     return ptpm_sizes_agree(sizes, sizeof sizes / sizeof *sizes);
 }
@@ -946,7 +950,8 @@ enum ptpm_read ptpm_clock_read(const struct ptpm_clock *clock, uint16_t id, uint
 /* Makes the clock's image: what a host saves before it sends the messages of an answer PTPM_ANSWERED_NEW. From it the clock
    continues after a restart. It has the clock's data sets, the latest request of each manager and the reply to it. The managers
    and what each of them may change are not in it.
-   Takes:   room octets; PTPM_CLOCK_IMAGE_OCTETS are enough for every clock.
+   Takes:   room octets; PTPM_CLOCK_IMAGE_OCTETS are enough for every clock, and PTPM_CLOCK_IMAGE_BOUND octets for one with so many
+            ports and managers.
    Returns: PTPM_SAVED, or why not.
    Writes:  *size, and that number of octets from octets on: the image. If the call is refused, *size is 0 and no octet is written. */
 enum ptpm_saved ptpm_clock_image(const struct ptpm_clock *clock, uint8_t *octets, size_t room, size_t *size);

@@ -904,4 +904,7 @@ STRUCTS: List[Type[Structure]] = [
     ptpm_asker,
     ptpm_asker_settings,
     ptpm_handed,
+    ptpm_question,
+    ptpm_say,
+    ptpm_limit,
 ]

@@ -10,7 +10,7 @@ from . import _header as header
 from ._library import Handle, library
 from .answers import HandleAnswer, done, judged, written
 from .changed import Changed
-from .device import Asked, ChangeRefused, Objection, say_of
+from .device import Asked, ChangeRefused, Say, say_of
 from .identity import Identity, IdentityLike
 from .ids import Action, IdLike, id_of
 from .observation import ObservedClock, ObservedPort

@@ -545,7 +545,7 @@ pub const fn ptpm_is_refusal(answer: u32) -> bool {
 }
 
 /// The sizes of these structs, in their order.
-const SIZES: [usize; 18] = [
+const SIZES: [usize; 21] = [
     size_of::<ptpm_clock>(),
     size_of::<ptpm_clock_settings>(),
     size_of::<ptpm_port_settings>(),
@@ -564,6 +564,9 @@ const SIZES: [usize; 18] = [
     size_of::<ptpm_asker>(),
     size_of::<ptpm_asker_settings>(),
     size_of::<ptpm_handed>(),
+    size_of::<ptpm_question>(),
+    size_of::<ptpm_say>(),
+    size_of::<ptpm_limit>(),
 ];
 
 /// Compares these declarations with the library that is linked.
