@@ -12,6 +12,8 @@ use Rattle.ptpm_data.specs.Start.{start_fault, start_of, started, unless}
 use Rattle.ptpm_data.specs.declared.start.StartError.{StartError}
 use Rattle.ptpm_script.specs.declared.net_error.NetError.{NetError}
 use Rattle.ptpm_script.specs.declared.net_error.NetError.TheVariants.{BadClock, BadShape, NoSuchName, NotToml, TooLong, TooMany, Twice}
+use Rattle.ptpm_script.specs.declared.network.End.{End}
+use Rattle.ptpm_script.specs.declared.network.NetworkSession.{NetworkSession}
 use Rattle.ptpm_script.specs.Entries.{ClockEntryValue}
 use Rattle.ptpm_script.specs.NetworkFile.{FileValue, file_of}
 use Rattle.ptpm_script.specs.NetworkText.{all_ends, all_ports, and_then, clock_of, clock_place, end_by_place, given, has_like, has_own_ports, has_too_many, has_twice, if_started, is_clock, link_of, map_all, network_of, network_of_file, placed, same_end, same_name_or_clock, same_name_or_identity, same_number, session_at, session_of}
@@ -43,19 +45,15 @@ first_append_is xs ys a b h k = first-append xs ys ∙ ap (λ o. option_or o (fi
 
 -- ---- the refusal of what is made of a list is that of the first element of which nothing is made
 
-then_err : {A B : Type 0} (r : Result A NetError) (next : A → Result B NetError) (rest : Option NetError)
-    → ((a : A) → result_err (next a) ≡ rest)
-    → result_err (and_then r next) ≡ option_or (result_err r) rest
-then_err (Ok a) next rest h = h a
-then_err (Err e) next rest h = refl
-
-ok_err : {A B : Type 0} (r : Result A NetError) (made : A → B) → result_err (and_then r (λ a. Ok (made a))) ≡ result_err r
-ok_err (Ok a) made = refl
-ok_err (Err e) made = refl
+made_err : {B : Type 0} (r : Result B NetError) (rs : Result (List B) NetError)
+    → result_err (and_then r (λ b. and_then rs (λ found. Ok (b ∷ found)))) ≡ option_or (result_err r) (result_err rs)
+made_err (Err e) rs = refl
+made_err (Ok b) (Err e) = refl
+made_err (Ok b) (Ok bs) = refl
 
 next_err : {A B : Type 0} (make : A → Result B NetError) (x : A) (xs : List A)
     → result_err (map_all make (x ∷ xs)) ≡ option_or (result_err (make x)) (result_err (map_all make xs))
-next_err make x xs = then_err (make x) _ (result_err (map_all make xs)) (λ b. ok_err (map_all make xs) (λ found. b ∷ found))
+next_err make x xs = made_err (make x) (map_all make xs)
 
 when_or : (a b : Bool) (e : NetError) → option_or (when a e) (when b e) ≡ when (a || b) e
 when_or true b e = refl
@@ -135,16 +133,24 @@ clocks_err (c ∷ cs) (h ∷ hs) beside once own =
 
 -- ---- a file whose document has a meaning
 
+abbrev placed_if : Result (List (List End)) NetError → Result (List NetworkSession) NetError → Result (List ClockValue) NetError → Result NetworkValue NetError
+placed_if ls ss cs =
+    and_then ls (λ links. and_then ss (λ sessions. and_then cs (λ clocks. Ok (record { clocks = clocks; sessions = sessions; links = links }))))
+
+parts_err : (ls : Result (List (List End)) NetError) (ss : Result (List NetworkSession) NetError) (cs : Result (List ClockValue) NetError)
+    → result_err (placed_if ls ss cs) ≡ option_or (result_err ls) (option_or (result_err ss) (result_err cs))
+parts_err (Err e) ss cs = refl
+parts_err (Ok links) (Err e) cs = refl
+parts_err (Ok links) (Ok sessions) (Err e) = refl
+parts_err (Ok links) (Ok sessions) (Ok clocks) = refl
+
 placed_err : (f : FileValue)
     → result_err (placed f)
     ≡ option_or (result_err (map_all (link_of f.clocks f.sessions) f.links))
     (option_or (result_err (map_all (session_of f.clocks) f.sessions)) (result_err (map_all clock_of f.clocks)))
 unfolding placed
 placed_err f =
-    let ss = map_all (session_of f.clocks) f.sessions in
-    let cs = map_all clock_of f.clocks in
-    then_err (map_all (link_of f.clocks f.sessions) f.links) _ (option_or (result_err ss) (result_err cs))
-    (λ links. then_err ss _ (result_err cs) (λ sessions. ok_err cs (λ clocks. record { clocks = clocks; sessions = sessions; links = links })))
+    parts_err (map_all (link_of f.clocks f.sessions) f.links) (map_all (session_of f.clocks) f.sessions) (map_all clock_of f.clocks)
 
 either : (a b : Bool) (e : NetError) (o : Option NetError) → option_or (when a e) (option_or (when b e) o) ≡ option_or (when (b || a) e) o
 either true true e o = refl
@@ -210,42 +216,57 @@ once_is f h =
     let c = or_parts _ _ b.0 in
     (or_parts _ _ c.0).0
 
--- the refusals that the parts of what is found are of
-record AreOf (ms : Members) (a b c d e : Option NetError) : Type 0 where
-  shape : first_refusal (shape_marks ms) ≡ a
-  limits : first_refusal (limit_marks ms (sessions_of ms)) ≡ b
-  repeats : first_refusal (repeat_marks (clocks_of ms) (sessions_of ms) (ends_of ms)) ≡ c
-  names : first_refusal (name_marks (clocks_of ms) (sessions_of ms) (ends_of ms)) ≡ d
-  starts : first_refusal (flat_map clock_start_marks (clocks_of ms)) ≡ e
+-- the refusals that the first of each part is of
+abbrev limits_in : Members → Option NetError
+limits_in ms = first_refusal (limit_marks ms (sessions_of ms))
 
-first_in_file : (ms : Members) (a b c d e : Option NetError) → AreOf ms a b c d e
+abbrev repeats_in : Members → Option NetError
+repeats_in ms = first_refusal (repeat_marks (clocks_of ms) (sessions_of ms) (ends_of ms))
+
+abbrev names_in : Members → Option NetError
+names_in ms = first_refusal (name_marks (clocks_of ms) (sessions_of ms) (ends_of ms))
+
+abbrev starts_in : Members → Option NetError
+starts_in ms = first_refusal (flat_map clock_start_marks (clocks_of ms))
+
+first_in_file : (ms : Members) (a b c d e : Option NetError)
+    → first_refusal (shape_marks ms) ≡ a
+    → limits_in ms ≡ b
+    → repeats_in ms ≡ c
+    → names_in ms ≡ d
+    → starts_in ms ≡ e
     → first_refusal (file_marks ms) ≡ option_or (option_or (option_or (option_or a b) c) d) e
 unfolding file_marks start_marks
-first_in_file ms a b c d e k =
-    first_append_is _ _ _ e
-    (first_append_is _ _ _ d
-    (first_append_is _ _ _ c (first_append_is _ _ a b k.shape k.limits) k.repeats)
-    k.names)
-    k.starts
+first_in_file ms a b c d e shape limits repeats names starts =
+    let s = shape_marks ms in
+    let l = limit_marks ms (sessions_of ms) in
+    let r = repeat_marks (clocks_of ms) (sessions_of ms) (ends_of ms) in
+    let n = name_marks (clocks_of ms) (sessions_of ms) (ends_of ms) in
+    let t = flat_map clock_start_marks (clocks_of ms) in
+    first_append_is (s ++ l ++ r ++ n) t (option_or (option_or (option_or a b) c) d) e
+    (first_append_is (s ++ l ++ r) n (option_or (option_or a b) c) d
+    (first_append_is (s ++ l) r (option_or a b) c (first_append_is s l a b shape limits) repeats)
+    names)
+    starts
 
-limits_first : (ms : Members) (f : FileValue) (many : Bool) → IsFile ms f → has_too_many f ≡ many
-    → first_refusal (limit_marks ms (sessions_of ms)) ≡ when many TooMany
-limits_first ms f many k is = first-when TooMany _ many (limits-found ms f k ∙ is) (limits-of ms (sessions_of ms))
+limits_first : (ms : Members) (f : FileValue) (many : Bool) → IsFile ms f → has_too_many f ≡ many → limits_in ms ≡ when many TooMany
+limits_first ms f many k is = first-when TooMany (limit_marks ms (sessions_of ms)) many (limits-found ms f k ∙ is) (limits-of ms (sessions_of ms))
 
-repeats_first : (ms : Members) (f : FileValue) (twice : Bool) → Held ms f → has_twice f ≡ twice
-    → first_refusal (repeat_marks (clocks_of ms) (sessions_of ms) (ends_of ms)) ≡ when twice Twice
+repeats_first : (ms : Members) (f : FileValue) (twice : Bool) → Held ms f → has_twice f ≡ twice → repeats_in ms ≡ when twice Twice
 repeats_first ms f twice h is =
-    first-when Twice _ twice
+    first-when Twice (repeat_marks (clocks_of ms) (sessions_of ms) (ends_of ms)) twice
     (repeats-found f.clocks (clocks_of ms) f.sessions (sessions_of ms) (all_ends f.links) (ends_of ms) h.clocks h.sessions h.ends ∙ twice_is f ∙ is)
     (repeats-of (clocks_of ms) (sessions_of ms) (ends_of ms))
 
+-- a target or an end is not there
+abbrev no_names : FileValue → Bool → Bool
+no_names f own = not own || list_any (no_target f.clocks) f.sessions || list_any (no_end f.clocks f.sessions) (all_ends f.links)
+
 names_first : (ms : Members) (f : FileValue) (own : Bool) → Held ms f → list_all has_own_ports f.clocks ≡ own
-    → first_refusal (name_marks (clocks_of ms) (sessions_of ms) (ends_of ms))
-    ≡ when (not own || list_any (no_target f.clocks) f.sessions || list_any (no_end f.clocks f.sessions) (all_ends f.links)) NoSuchName
+    → names_in ms ≡ when (no_names f own) NoSuchName
 names_first ms f own h is =
-    first-when NoSuchName _ _
-    (names-found f.clocks (clocks_of ms) f.sessions (sessions_of ms) (all_ends f.links) (ends_of ms) h.clocks h.sessions h.ends
-    ∙ ap (λ b. not b || list_any (no_target f.clocks) f.sessions || list_any (no_end f.clocks f.sessions) (all_ends f.links)) is)
+    first-when NoSuchName (name_marks (clocks_of ms) (sessions_of ms) (ends_of ms)) (no_names f own)
+    (names-found f.clocks (clocks_of ms) f.sessions (sessions_of ms) (all_ends f.links) (ends_of ms) h.clocks h.sessions h.ends ∙ ap (no_names f) is)
     (names-of (clocks_of ms) (sessions_of ms) (ends_of ms))
 
 abbrev AnswersTo : Members → FileValue → Type 0
@@ -259,19 +280,13 @@ file_own : (ms : Members) (f : FileValue) (own : Bool) → IsFile ms f
     → AnswersTo ms f
 file_own ms f false k shape few once there =
     let h = held ms f k few in
-    first_in_file ms None None None (Some NoSuchName) _
-    (record { shape = shape; limits = limits_first ms f false k few; repeats = repeats_first ms f false h once; names = names_first ms f false h there; starts = refl })
+    first_in_file ms None None None (Some NoSuchName) (starts_in ms) shape (limits_first ms f false k few) (repeats_first ms f false h once)
+    (names_first ms f false h there) refl
     ∙ sym (ap result_err (network_by f false false false few once there))
 file_own ms f true k shape few once there =
     let h = held ms f k few in
-    first_in_file ms None None None _ _
-    (record {
-      shape = shape;
-      limits = limits_first ms f false k few;
-      repeats = repeats_first ms f false h once;
-      names = names_first ms f true h there;
-      starts = clocks_err f.clocks (clocks_of ms) h.clocks (once_is f once) there;
-    })
+    first_in_file ms None None None (when (no_names f true) NoSuchName) (result_err (map_all clock_of f.clocks)) shape (limits_first ms f false k few)
+    (repeats_first ms f false h once) (names_first ms f true h there) (clocks_err f.clocks (clocks_of ms) h.clocks (once_is f once) there)
     ∙ sym (names_placed f) ∙ sym (ap result_err (network_by f false false true few once there))
 
 file_twice : (ms : Members) (f : FileValue) (twice : Bool) → IsFile ms f
@@ -281,8 +296,8 @@ file_twice : (ms : Members) (f : FileValue) (twice : Bool) → IsFile ms f
     → AnswersTo ms f
 file_twice ms f false k shape few is = file_own ms f (list_all has_own_ports f.clocks) k shape few is refl
 file_twice ms f true k shape few is =
-    first_in_file ms None None (Some Twice) _ _
-    (record { shape = shape; limits = limits_first ms f false k few; repeats = repeats_first ms f true (held ms f k few) is; names = refl; starts = refl })
+    first_in_file ms None None (Some Twice) (names_in ms) (starts_in ms) shape (limits_first ms f false k few)
+    (repeats_first ms f true (held ms f k few) is) refl refl
     ∙ sym (ap result_err (network_by f false true (list_all has_own_ports f.clocks) few is refl))
 
 file_many : (ms : Members) (f : FileValue) (many : Bool) → IsFile ms f
@@ -291,19 +306,17 @@ file_many : (ms : Members) (f : FileValue) (many : Bool) → IsFile ms f
     → AnswersTo ms f
 file_many ms f false k shape is = file_twice ms f (has_twice f) k shape is refl
 file_many ms f true k shape is =
-    first_in_file ms None (Some TooMany) _ _ _
-    (record { shape = shape; limits = limits_first ms f true k is; repeats = refl; names = refl; starts = refl })
+    first_in_file ms None (Some TooMany) (repeats_in ms) (names_in ms) (starts_in ms) shape (limits_first ms f true k is) refl refl refl
     ∙ sym (ap result_err (network_by f true (has_twice f) (list_all has_own_ports f.clocks) is refl refl))
 
 -- ---- a document
 
 shape_first : (ms : Members) (o : Option FileValue) → file_of ms ≡ o → first_refusal (shape_marks ms) ≡ when (not (is_some o)) BadShape
-shape_first ms o is = first-when BadShape (shape_marks ms) _ (shape-found ms ∙ ap (λ x. not (is_some x)) is) (shape-of ms)
+shape_first ms o is = first-when BadShape (shape_marks ms) (not (is_some o)) (shape-found ms ∙ ap (λ x. not (is_some x)) is) (shape-of ms)
 
 file_case : (ms : Members) (o : Option FileValue) → file_of ms ≡ o
     → first_refusal (file_marks ms) ≡ result_err (and_then (given o BadShape) network_of_file)
-file_case ms None is =
-    first_in_file ms (Some BadShape) _ _ _ _ (record { shape = shape_first ms None is; limits = refl; repeats = refl; names = refl; starts = refl })
+file_case ms None is = first_in_file ms (Some BadShape) (limits_in ms) (repeats_in ms) (names_in ms) (starts_in ms) (shape_first ms None is) refl refl refl refl
 file_case ms (Some f) is = file_many ms f (has_too_many f) (file-parts ms f is) (shape_first ms (Some f) is) refl
 
 -- ---- a text
