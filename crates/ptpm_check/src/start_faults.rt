@@ -191,7 +191,7 @@ fn fails_by_leaps(start: &ClockStart) -> bool
     clock_fails(&clock)
 }
 
-/// Adds a fault for each member of a clock's ports that is out of its range, of the tables that have a rank up to this.
+/// Adds a fault for each member of a clock's ports that is out of its range. It looks at tables that have a rank up to this.
 #[tactic(auto, unfolding(crate::specs::StartFaults::ports_start_marks))]
 fn add_ports<'a>(
     faults: &mut Vec<Fault<'a>>,
