@@ -187,8 +187,7 @@ there count [] [] beside within few = tt
 there count [] (d ∷ ds) beside within few = absurd beside
 there count (p ∷ ps) [] beside within few = absurd beside
 there count (p ∷ ps) (d ∷ ds) beside within few =
-    let parts = and_parts (is_there count p) (list_all (is_there count) ps) within in
-    (
+    let parts = and_parts (is_there count p) (list_all (is_there count) ps) within in (
       record {
         port = beside.0;
         high = leb-true p.number count (and_parts (nat_le 1 p.number) (nat_le p.number count) parts.0).1;

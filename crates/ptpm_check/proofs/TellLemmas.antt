@@ -1,5 +1,5 @@
 -- Which start's fault some marks tell of: the first is of it, and there are none if there is none.
-use Rattle.std.proofs.Common.{◌≡◌, ℕ, Bool, true, false, if◌then◌else◌, List, [], ◌∷◌, ◌++◌, Option, Some, None, refl, ap, sym, subst, ◌∙◌, is_some, option_map}
+use Rattle.std.proofs.Common.{◌≡◌, ℕ, Bool, true, false, if◌then◌else◌, List, ◌++◌, Option, Some, None, refl, ap, sym, subst, ◌∙◌, is_some, option_map}
 use Rattle.std.specs.Option.{option_or}
 use Rattle.toml.specs.Data.{Data, Members, get_member}
 use Rattle.ptpm_data.specs.declared.start.StartError.{StartError}
