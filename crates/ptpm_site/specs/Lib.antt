@@ -27,6 +27,7 @@ pub mod Members
 pub mod Messages
 pub mod Octets
 pub mod Open
+pub mod Origins
 pub mod Parents
 pub mod PortStates
 pub mod Reach

@@ -6,6 +6,7 @@ ghost use Rattle.ptpm_site.specs.Heard.{get_in, heard_in, heard_of, is_of_sender
 
 use crate::answer::{Request, request_of, source_of};
 use crate::asked::Asked;
+use crate::origin::Origin;
 use crate::source::Source;
 use ptpm_codec::{Action, ClockIdentity, PortIdentity, View, port_identity_at, view};
 
@@ -59,6 +60,8 @@ pub enum Heard {
     Answered(Travel),
     /// An Announce, Sync or Follow_Up.
     Sent(Sender),
+    /// What time its sender had.
+    Timed(Origin),
 }
 
 impl Heard {
@@ -143,7 +146,7 @@ fn is_of_sender(kind: u8) -> bool
 }
 
 /// The clock that sends an Announce, a Sync or a Follow_Up with sdoId 0 (13.3).
-fn sender_in(datagram: &[u8]) -> Option<Sender>
+pub fn sender_in(datagram: &[u8]) -> Option<Sender>
     ensures { result ≡ sender_in datagram.now }
 {
     if datagram.len() < 34 {

@@ -42,6 +42,7 @@ pub mod loops;
 mod marks;
 pub mod member;
 mod numbers;
+pub mod origin;
 pub mod parents;
 pub mod picture;
 pub mod port_groups;

@@ -261,6 +261,9 @@ fn write_off_by_utc<W: fmt::Write>(how: &OffByUtc, f: &mut fmt::Formatter<W>) ->
         OffByUtc::Followers(count) => {
             write!(f, " each of the {count} clocks that follow it says so")
         }
+        OffByUtc::Origin(_) => {
+            f.write_str(" its time is UTC by the clock of this host, and it says ptpTimescale true")
+        }
     }
 }
 
