@@ -39,5 +39,6 @@ pub mod Staying
 pub mod TaiAndUtc
 pub mod Tree
 pub mod TwoOffsets
+pub mod Unasked
 pub mod Unseen
 pub mod Walks

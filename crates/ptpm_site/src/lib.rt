@@ -59,5 +59,6 @@ pub mod tai_and_utc;
 pub mod tree;
 pub mod tree_builder;
 pub mod two_offsets;
+mod unasked;
 pub mod unseen;
 mod walks;

@@ -71,6 +71,7 @@ fn put_values(
             "message",
             text_value(alloc, kind_name(*kind))?,
         ),
+        What::NotAsked(clocks) => put(map, alloc, "clocks", Value::from(*clocks)),
         What::NoMaster(why) => put_masterless(alloc, map, why),
         What::GrandmasterNotSeen(clock) => put(
             map,

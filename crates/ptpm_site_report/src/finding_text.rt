@@ -56,6 +56,7 @@ impl fmt::Display for Said<'_> {
             What::Profile(outside) => write!(f, " {}", OutsideText(*outside)),
             What::Gone => f.write_str(" answers no more"),
             What::Unseen(unseen) => write_unseen(unseen, f),
+            What::NotAsked(clocks) => write!(f, " {clocks} clocks send here"),
             What::Absent(None) | What::Unexpected | What::TwoGrandmasters => Ok(()),
             What::NoMaster(why) => write_masterless(why, f),
             What::GrandmasterNotSeen(clock) => write!(f, " {clock}"),
