@@ -30,7 +30,7 @@ pub data Say : Type 0 where
 
 -- ---- what is answered by it
 
--- the octets, if they are at most so many
+-- the octets, if there are no more than that
 abbrev pub given : ℕ → List ℕ → Outcome
 given most octets = if nat_le (length octets) most then Value octets else Refused ResponseTooBig
 
