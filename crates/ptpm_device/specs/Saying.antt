@@ -1,5 +1,5 @@
 -- One turn of a clock with what its device says of it (this project's profile).
-use Rattle.std.specs.Prelude.{ℕ, nat_le, Bool, List, [], ◌∷◌, length, if◌then◌else◌, Option, Some, None}
+use Rattle.std.specs.Prelude.{ℕ, nat_le, List, [], ◌∷◌, length, if◌then◌else◌, Option, Some, None}
 use Rattle.std.specs.FinMap.{insert}
 use Rattle.ptpm_codec.specs.declared.error.ErrorId.{ErrorId}
 use Rattle.ptpm_codec.specs.declared.error.ErrorId.TheVariants.{ResponseTooBig}
