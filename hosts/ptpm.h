@@ -423,7 +423,7 @@ PTPM_HAS_SIZE(ptpm_handed, 24);
 enum { PTPM_MOST_SENT = 15, PTPM_MOST_READ = 130, PTPM_MOST_OCTETS = 1472, PTPM_SESSION_IMAGE_OCTETS = 1478 };
 enum { PTPM_CLOCK_IMAGE_OCTETS = 27185 };
 
-/* The most octets of the image of a clock with so many ports and managers: PTPM_CLOCK_IMAGE_OCTETS with the most of each. */
+/* The most octets of the image of a clock with this number of ports, and this of managers. */
 #define PTPM_CLOCK_IMAGE_BOUND(ports, managers) (217 + 15 * (ports) + 1678 * (managers))
 
 /* How many octets a seal has. It comes after an image. */
@@ -893,7 +893,7 @@ enum ptpm_asking ptpm_clock_ask(const struct ptpm_clock *clock, uint16_t port, c
 
 /* Like ptpm_clock_handle_changed, with what the device says. If it objects where ptpm_clock_ask would return PTPM_ASKED_CHANGE, the
    request is answered and kept with that error, and no member changes. If it gives a value where ptpm_clock_ask would return
-   PTPM_ASKED_VALUE, this is the answer of the clock. To the GET of a manager it has 130 octets at most, since it is kept; a longer
+   PTPM_ASKED_VALUE, this is the answer of the clock. To the GET of a manager it has 130 octets at most, since it is kept. A longer
    one is answered with RESPONSE_TOO_BIG (1), and that is kept. To any other GET it has 1,418 at most, and nothing is kept. Each later
    copy of what is kept gets that answer. If the device is not asked, what it says does not count.
    Takes:   what ptpm_clock_handle_changed takes, and *say.
@@ -950,8 +950,8 @@ enum ptpm_read ptpm_clock_read(const struct ptpm_clock *clock, uint16_t id, uint
 /* Makes the clock's image: what a host saves before it sends the messages of an answer PTPM_ANSWERED_NEW. From it the clock
    continues after a restart. It has the clock's data sets, the latest request of each manager and the reply to it. The managers
    and what each of them may change are not in it.
-   Takes:   room octets; PTPM_CLOCK_IMAGE_OCTETS are enough for every clock, and PTPM_CLOCK_IMAGE_BOUND octets for one with so many
-            ports and managers.
+   Takes:   room octets; PTPM_CLOCK_IMAGE_OCTETS are enough for every clock, and PTPM_CLOCK_IMAGE_BOUND for one whose ports and
+            managers are known.
    Returns: PTPM_SAVED, or why not.
    Writes:  *size, and that number of octets from octets on: the image. If the call is refused, *size is 0 and no octet is written. */
 enum ptpm_saved ptpm_clock_image(const struct ptpm_clock *clock, uint8_t *octets, size_t room, size_t *size);

@@ -26,8 +26,9 @@ struct source {
                                            have no empty line, and `taken` were the latest text */
 };
 
-/* Opens a file to be read, without waiting, and what it is; -1 if it can't, by errno. A file that not everybody may read has to be
-   one that this program, root or its owner may choose: in a folder of others its name may lead to a file that they can't read. */
+/* Opens a file to be read, without waiting, and what it is; -1 if it can't, by errno. If not everybody may read
+   it, it has to be one that this program, root or its owner may choose. In a folder of others its name may lead to a file that
+   they can't read. */
 int open_to_read(const char *path, struct stat *found);
 
 /* Opens it, and returns what is to be polled. Ends the program with status 2 if there is no such file or pipe. */

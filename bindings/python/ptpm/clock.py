@@ -94,9 +94,9 @@ class Clock(Handle):
         self.close()
 
     def ask(self, port: int, octets: bytes) -> Optional[Asked]:
-        """What a datagram would have the device do, if it came in now at this port: carry out a new SET or COMMAND of a manager, which
-        the clock itself does not refuse, or give the value of a GET that would be answered, of an id that the clock lacks. It is
-        nothing for any other datagram. Nothing changes."""
+        """What a datagram would have the device do, if it came in now at this port. It is to carry out a new SET or COMMAND of a
+        manager, which the clock itself does not refuse. Or it is to give the value of an id that the clock lacks, to a GET that would
+        be answered. It is nothing for any other datagram. Nothing changes."""
         question = header.ptpm_question()
         datagram = bytes(octets)
         came_in = (port_number(port), datagram, len(datagram))
@@ -107,7 +107,7 @@ class Clock(Handle):
         """Judges a datagram that came in at a port, counted from 1, and carries its request out. What is to be sent is the port and
         the octets of each message. If the device objects where it is asked (ask), the request is answered and kept with that
         error, and no member changes. If it gives a value where it is asked for one, this is the answer. To the GET of a manager it
-        has 130 octets at most, since it is kept; a longer one is answered with RESPONSE_TOO_BIG, and that is kept."""
+        has 130 octets at most, since it is kept. A longer one is answered with RESPONSE_TOO_BIG, and that is kept."""
         count = ctypes.c_size_t()
         changed = header.ptpm_changed()
         datagram = bytes(octets)

@@ -56,9 +56,9 @@ class Limit:
 
 @dataclass(frozen=True)
 class Asked:
-    """What a device is asked: to carry out a new SET or COMMAND of a manager, which the clock itself does not refuse; or for the
-    value of a GET that would be answered, of an id that the clock lacks. A GET and a COMMAND have no octets. The port 0xFFFF is
-    every port."""
+    """What a device is asked: to carry out a new SET or COMMAND of a manager, which the clock itself does not refuse. Or it is asked
+    for the value of an id that the clock lacks, by a GET that would be answered. A GET and a COMMAND have no octets. The port 0xFFFF
+    is every port."""
 
     manager: PortIdentity
     number: int

@@ -15,8 +15,8 @@ use core::ops::RangeInclusive;
 /// The most octets of the dataField of a SET that a device is asked about.
 const MOST_ASKED: usize = 130;
 
-/// What a device is asked: to carry out a new SET or COMMAND of a manager, which the clock itself does not refuse; or for the value
-/// of a GET that would be answered, of an id that the clock lacks.
+/// What a device is asked: to carry out a new SET or COMMAND of a manager, which the clock itself does not refuse. Or it is asked for
+/// the value of an id that the clock lacks, by a GET that would be answered.
 #[derive(Clone, Copy)]
 pub struct Asked {
     question: sys::ptpm_question,
@@ -182,9 +182,9 @@ impl Say<'_> {
 }
 
 impl Clock {
-    /// What a datagram would have the device do, if it came in now at this port: carry out a new SET or COMMAND of a manager, which
-    /// the clock itself does not refuse, or give the value of a GET that would be answered, of an id that the clock lacks. It is
-    /// nothing for any other datagram. Nothing changes.
+    /// What a datagram would have the device do, if it came in now at this port. It is to carry out a new SET or COMMAND of a manager,
+    /// which the clock itself does not refuse. Or it is to give the value of an id that the clock lacks, to a GET that would be
+    /// answered. It is nothing for any other datagram. Nothing changes.
     ///
     /// # Errors
     ///
@@ -206,9 +206,9 @@ impl Clock {
         Ok(matches!(number, sys::PTPM_ASKED_CHANGE | sys::PTPM_ASKED_VALUE).then_some(Asked { question }))
     }
 
-    /// Does what [`Clock::handle_changed`] does, with what the device says. If it objects where [`Clock::ask`] would ask it to carry
-    /// out a change, the request is answered and kept with that error, and no member changes. If it gives a value where
-    /// [`Clock::ask`] would ask for one, this is the answer. To the GET of a manager it has 130 octets at most, since it is kept; a
+    /// Does what [`Clock::handle_changed`] does, with what the device says. If it objects to a change about which [`Clock::ask`] would
+    /// ask it, the request is answered and kept with that error, and no member changes. If it gives a value for which
+    /// [`Clock::ask`] would ask it, this is the answer. To the GET of a manager it has 130 octets at most, since it is kept. A
     /// longer one is answered with RESPONSE_TOO_BIG, and that is kept. Each later copy of what is kept gets that answer. If the
     /// device is not asked, what it says does not count.
     ///

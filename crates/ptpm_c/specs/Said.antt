@@ -23,8 +23,8 @@ asked_of c datagram = asked (clock_in c) (state_in c) datagram
 abbrev pub wanted_of : HostedClock → List ℕ → Option NumberedRequest
 wanted_of c datagram = wanted (clock_in c) (state_in c) datagram
 
--- The number says whether it is asked, and the place what: to carry out the first, if there is one, and else for the value of the
--- second.
+-- The number says whether it is asked, and the place what. It is to carry out the first, if there is one. Else it is asked for the
+-- value of the second.
 abbrev pub AsksIn : Option NumberedRequest → Option NumberedRequest → ℕ → Question → Type 0
 AsksIn None None number place = (number ≡ 0) × AsksNothing place
 AsksIn None (Some r) number place = (number ≡ asked_value) × IsWanted r place

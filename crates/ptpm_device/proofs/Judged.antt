@@ -1,6 +1,6 @@
 -- Where a device is asked, and that what it says moves neither the verdict nor what is passed on.
-use Rattle.std.proofs.Common.{◌≡◌, ℕ, is_none, ◌&&◌, if◌then◌else◌, List, [], Option, Some, None, Ok, Bool, true, false, length, refl, sym, ◌∙◌, ap, subst, ⊎_elim}
-use Rattle.std.proofs.lemmas.Bool.{and_from, and_parts, cases_Bool, cond-true, false≢true, true≢false}
+use Rattle.std.proofs.Common.{◌≡◌, ℕ, is_none, ◌&&◌, if◌then◌else◌, List, Option, Some, None, true, refl, sym, ◌∙◌, ap}
+use Rattle.std.proofs.lemmas.Bool.{and_from, and_parts, cond-true, false≢true, true≢false}
 use Rattle.std.proofs.lemmas.Option.{cond_some, none-some}
 use Rattle.ptpm_codec.specs.declared.error.ErrorId.{ErrorId}
 use Rattle.ptpm_codec.specs.declared.message.Action.{Action}
@@ -17,11 +17,10 @@ use Rattle.ptpm_table.specs.Rendering.{rendered}
 use Rattle.ptpm_agent.specs.declared.verdict.Verdict.{Verdict}
 use Rattle.ptpm_agent.specs.declared.verdict.Verdict.TheVariants as verdicts
 use Rattle.ptpm_agent.specs.Addressing.{heard_of, request_of}
-use Rattle.ptpm_agent.specs.Forwarding.{forwarded}
 use Rattle.ptpm_agent.specs.Turn.{Clock, State, Turned, judged, next_by, numbered_from, turn}
 use Rattle.ptpm_agent.proofs.Turns.{forwarded-copy, new_parts, turn-message}
 use Rattle.ptpm_device.specs.Asking.{asked, is_asked, is_change, is_lacked, is_new, is_permitted, is_read, is_wanted, is_wanted_new, wanted}
-use Rattle.ptpm_device.specs.Saying.{Gives, Objects, Say, after_reply, most_given, new_said, reply_given, reply_said, reply_told, turn_said, unnumbered_said}
+use Rattle.ptpm_device.specs.Saying.{Gives, Objects, Say, after_reply, most_given, new_said, reply_given, reply_said, turn_said, unnumbered_said}
 use Rattle.ptpm_device.proofs.WhenAsked.{not_asked, not_wanted}
 use Rattle.ptpm_device.proofs.New.{is_new-true}
 use Rattle.ptpm_device.proofs.Steps.{turn_said-each, turn_said-new, turn_said-unnumbered}

@@ -1,15 +1,13 @@
 -- A request that is kept with the device's reply is a repeat by then, and is answered as one. A value that is not kept is sent
 -- after the copies that are passed on.
-use Rattle.std.proofs.Common.{arith, ◌≡◌, ℕ, ◌<◌, ◌≤◌, ◌-◌, ◌+◌, ◌%◌, ◌++◌, List, [], ◌∷◌, is_none, is_some, nat_le, if◌then◌else◌, map, Option, Some, None, Ok, Bool, true, false, length, refl, sym, ◌∙◌, ap, subst, ⊎_elim}
+use Rattle.std.proofs.Common.{arith, ◌≡◌, ℕ, ◌<◌, ◌%◌, ◌++◌, List, [], ◌∷◌, is_none, is_some, nat_le, if◌then◌else◌, Option, Some, None, Ok, Bool, true, false, length, refl, sym, ◌∙◌, ap, subst}
 use Rattle.std.specs.Prelude.{IfSome}
-use Rattle.std.proofs.lemmas.Bool.{and_from, and_parts, cases_Bool, cond-false, cond-true, false≢true, true≢false}
+use Rattle.std.proofs.lemmas.Bool.{and_from, and_parts, cond-true, false≢true, true≢false}
 use Rattle.std.proofs.lemmas.Option.{cond_some}
 use Rattle.std.proofs.lemmas.List.Elements.{All-cons, All-nil}
 use Rattle.std.specs.List.{All}
 use Rattle.std.specs.FinMap.{get}
 use Rattle.ptpm_codec.specs.declared.error.ErrorId.{ErrorId}
-use Rattle.ptpm_codec.specs.declared.error.ErrorId.TheVariants.{NoSuchId, ResponseTooBig}
-use Rattle.ptpm_codec.specs.declared.message.Action.{Action}
 use Rattle.ptpm_codec.specs.declared.message.Action.TheVariants as actions
 use Rattle.ptpm_codec.specs.declared.message.Message.{Message}
 use Rattle.ptpm_codec.specs.declared.identity.ClockIdentity.{ClockIdentity}
@@ -19,13 +17,10 @@ use Rattle.ptpm_codec.specs.Envelope.{sent_with}
 use Rattle.ptpm_codec.specs.Message.{IsDataField, IsRequestAction, action_of, id_of, reply_action}
 use Rattle.ptpm_codec.specs.Reading.{message_of}
 use Rattle.ptpm_data.specs.Changes.{IsTargetPort}
-use Rattle.ptpm_data.specs.ManagementId.{RowValue, is_of_port, row_of}
-use Rattle.ptpm_data.specs.Members.{DataSetsValue}
-use Rattle.ptpm_data.specs.Replies.{answer, answerers, is_get, read_refusal, read_reply_to, reply_of}
-use Rattle.ptpm_data.specs.Reply.{Answer, Outcome, Refused, ReplyValue, Value}
+use Rattle.ptpm_data.specs.ManagementId.{is_of_port, row_of}
+use Rattle.ptpm_data.specs.Replies.{is_get, reply_of}
+use Rattle.ptpm_data.specs.Reply.{ReplyValue, Value}
 use Rattle.ptpm_data.specs.Request.{RequestValue}
-use Rattle.ptpm_data.proofs.Answering.{reply_of-unlisted}
-use Rattle.ptpm_table.specs.declared.heard.Heard.{Heard}
 use Rattle.ptpm_table.specs.declared.reply_table.Look.TheVariants as looks
 use Rattle.ptpm_table.specs.Entries.{Entry, FitsAnswer, FitsCount, FitsOutcome, FitsRequest, is_known}
 use Rattle.ptpm_table.specs.Numbering.{look_at}
@@ -36,12 +31,12 @@ use Rattle.ptpm_agent.specs.declared.verdict.Verdict.TheVariants as verdicts
 use Rattle.ptpm_agent.specs.Addressing.{heard_of, request_of}
 use Rattle.ptpm_agent.specs.Agent.{IsTurned}
 use Rattle.ptpm_agent.specs.Forwarding.{forwarded}
-use Rattle.ptpm_agent.specs.Turn.{Clock, NumberedRequest, State, Turned, judged, kept_reply_of, next_by, numbered_from, outbox_of, reply_by, reply_messages, turn, turn_by}
+use Rattle.ptpm_agent.specs.Turn.{Clock, NumberedRequest, State, Turned, judged, kept_reply_of, next_by, numbered_from, reply_by, reply_messages, turn, turn_by}
 use Rattle.ptpm_agent.proofs.Entries.{get-insert_same}
 use Rattle.ptpm_agent.proofs.Fitting.{may_judge_action, may_judge_port}
 use Rattle.ptpm_agent.proofs.Turns.{CopyParts, forwarded-copy, judged-copy, new_parts, turn-message}
 use Rattle.ptpm_device.specs.Asking.{asked, is_lacked, is_new, is_permitted, is_unnumbered, is_wanted_once, wanted_new, wanted_once}
-use Rattle.ptpm_device.specs.Saying.{Gives, Objects, Say, after_reply, given, given_by, new_said, objected_by, reply_given, reply_said, turn_said, unnumbered_said}
+use Rattle.ptpm_device.specs.Saying.{Gives, Objects, Say, after_reply, given, given_by, objected_by, reply_given, reply_said, turn_said}
 use Rattle.ptpm_device.proofs.WhenAsked.{AskedParts, WantedParts, asked_parts, not_wanted_new, wanted_once-read, wanted_parts}
 use Rattle.ptpm_device.proofs.Judged.{asked-parts, given_told, is_get-true, judged-asked, lacked_row, objection_not_asked}
 use Rattle.ptpm_device.proofs.New.{look_at-kept}

@@ -1,5 +1,5 @@
 -- One delivery at a clock whose device has a say.
-use Rattle.std.proofs.Common.{arith, ◌≡◌, ℕ, ◌<◌, List, [], ◌∷◌, ◌++◌, Option, Some, None, Ok, Result, Bool, true, false, length, cond, if◌then◌else◌, refl, sym, ◌∙◌, ap, subst, ⊎_elim}
+use Rattle.std.proofs.Common.{arith, ◌≡◌, ℕ, ◌<◌, List, [], Option, Some, None, Bool, true, false, length, refl, sym, ◌∙◌, ap, subst, ⊎_elim}
 use Rattle.std.proofs.lemmas.Bool.{cases_Bool, cond-true, cond-false, true≢false, false≢true}
 use Rattle.std.specs.FinMap.{get, insert}
 use Rattle.std.specs.Option.{option_or}
@@ -10,8 +10,6 @@ use Rattle.ptpm_codec.specs.Reading.{message_of}
 use Rattle.ptpm_codec.proofs.IdentityLaws.{same_identity-true}
 use Rattle.ptpm_data.specs.Members.{DataSetsValue}
 use Rattle.ptpm_data.specs.Reply.{ReplyValue}
-use Rattle.ptpm_table.specs.declared.reply_table.Look.{Look}
-use Rattle.ptpm_table.specs.declared.reply_table.Look.TheVariants as looks
 use Rattle.ptpm_table.specs.declared.serial.Serial.{Serial}
 use Rattle.ptpm_table.specs.declared.serial.Serial.TheVariants.{Newer, Older, Same}
 use Rattle.ptpm_table.specs.Entries.{Entry}
@@ -22,7 +20,7 @@ use Rattle.ptpm_agent.specs.declared.verdict.Verdict.{Verdict}
 use Rattle.ptpm_agent.specs.declared.verdict.Verdict.TheVariants as verdicts
 use Rattle.ptpm_agent.specs.Addressing.{request_of}
 use Rattle.ptpm_agent.specs.Laws.{IsKept, IsLatest, StandsAt, due_messages}
-use Rattle.ptpm_agent.specs.Once.{Delivery, History, RequestCopy, after_copy, copy_from, copy_of, due_reply, greatest, is_copy, joins, kept_reply}
+use Rattle.ptpm_agent.specs.Once.{Delivery, History, RequestCopy, after_copy, copy_from, copy_of, due_reply, greatest, is_copy, joins}
 use Rattle.ptpm_agent.specs.Turn.{Clock, State, Turned, judged, next_by, numbered_from, turn, verdict_at}
 use Rattle.ptpm_agent.specs.Window.{IsInTime, IsNumbered}
 use Rattle.ptpm_agent.proofs.AtMostOnce.{TurnsAs, delivers_copy, no_copy, turn-no_copy, turns_as}
@@ -30,7 +28,7 @@ use Rattle.ptpm_agent.proofs.Entries.{get-insert_other, get-insert_same, greates
 use Rattle.ptpm_agent.proofs.Turns.{copy_parts, is_copy-new, judged-copy, turn-message}
 use Rattle.ptpm_device.specs.Asking.{is_new}
 use Rattle.ptpm_device.specs.Decided.{after_decision, after_reply_to, due_decided, replied_copy, reply_decided}
-use Rattle.ptpm_device.specs.Saying.{Agrees, Gives, Objects, Say, after_reply, new_said, reply_said, reply_told, said_at, said_by, turn_said, unnumbered_said}
+use Rattle.ptpm_device.specs.Saying.{Agrees, Say, after_reply, new_said, reply_said, reply_told, said_at, said_by, turn_said, unnumbered_said}
 use Rattle.ptpm_device.proofs.New.{is_new-joins, is_new-true}
 
 -- ---- a turn

@@ -1,10 +1,8 @@
 -- When a device is asked: what the code tests, against the verdict.
-use Rattle.std.proofs.Common.{arith, ◌≡◌, ℕ, ◌==◌, ◌&&◌, ◌||◌, not, is_none, if◌then◌else◌, List, Option, Some, None, Result, Ok, Err, Bool, true, false, length, refl, sym, ◌∙◌, ap, ⊎_elim}
-use Rattle.std.proofs.lemmas.Bool.{and_from, and_left, and_parts, and_right, cases_Bool, or_cases, or_left, not-true, true≢false, false≢true, cond-true}
+use Rattle.std.proofs.Common.{arith, ◌≡◌, ℕ, ◌==◌, ◌&&◌, not, is_none, if◌then◌else◌, List, Option, Some, None, Ok, Err, Bool, true, false, length, refl, sym, ◌∙◌, ap, ⊎_elim}
+use Rattle.std.proofs.lemmas.Bool.{and_from, and_left, and_parts, and_right, cases_Bool, or_cases, or_left, not-true, true≢false, false≢true}
 use Rattle.std.proofs.lemmas.Option.{cond_some, none-some}
 use Rattle.std.specs.FinMap.{get}
-use Rattle.ptpm_codec.specs.declared.message.Action.{Action}
-use Rattle.ptpm_codec.specs.declared.message.Action.TheVariants as actions
 use Rattle.ptpm_codec.specs.declared.message.Message.{Message}
 use Rattle.ptpm_codec.specs.declared.error.DecodeError.{DecodeError}
 use Rattle.ptpm_codec.specs.Message.{action_of}
@@ -16,8 +14,8 @@ use Rattle.ptpm_table.specs.Entries.{is_known}
 use Rattle.ptpm_table.specs.Numbering.{look_at, look_of}
 use Rattle.ptpm_agent.specs.declared.verdict.Verdict.{Verdict}
 use Rattle.ptpm_agent.specs.declared.verdict.Verdict.TheVariants as verdicts
-use Rattle.ptpm_agent.specs.Addressing.{is_addressed, is_for_this_clock, is_numbered, is_own, is_request, names_port, request_of}
-use Rattle.ptpm_agent.specs.Turn.{Clock, NumberedRequest, State, is_accepted_repeat, is_in_domain, is_repeat, judged, look, numbered_from, verdict_at}
+use Rattle.ptpm_agent.specs.Addressing.{is_for_this_clock, is_numbered, is_own, is_request, names_port, request_of}
+use Rattle.ptpm_agent.specs.Turn.{Clock, NumberedRequest, State, is_accepted_repeat, is_repeat, judged, look, numbered_from, verdict_at}
 use Rattle.ptpm_agent.proofs.Turns.{judged-copy, judged-each, judged-request, message_of-reading, new_parts}
 use Rattle.ptpm_device.specs.Asking.{asked, asked_by, is_asked, is_change, is_here, is_lacked, is_new, is_permitted, is_reached, is_read, is_unnumbered, is_wanted, is_wanted_new, is_wanted_once, wanted, wanted_by, wanted_new, wanted_new_by, wanted_once, wanted_once_by}
 use Rattle.ptpm_device.proofs.New.{is_new-true}

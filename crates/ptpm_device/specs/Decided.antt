@@ -1,6 +1,6 @@
 -- At-most-once execution at a clock whose device has a say (this project's profile). Each accepted request is applied once, or
--- answered once by the device: refused with an error of its choice, or with the value of an id that the clock lacks. Each copy
--- of it gets that one reply.
+-- answered once by the device. That is an error of its choice, or the value of an id that the clock lacks. Each copy of it gets that
+-- one reply.
 use Rattle.std.specs.Prelude.{◌≡◌, ℕ, if◌then◌else◌, List, [], ◌∷◌, Option, Some, None}
 use Rattle.std.specs.Option.{option_or}
 use Rattle.ptpm_codec.specs.declared.identity.PortIdentity.{PortIdentity}
@@ -69,8 +69,8 @@ history_after c ports h (Delivered x say) = after_arrival c h (copy_of c ports x
 history_after c ports h (Observed o seen) = moved_history o seen h
 history_after c ports h (Changed q) = changed_history q h
 
--- of happenings in their order, each accepted request applied or answered once, in order of first acceptance, and each
--- observation and each change at the device in its place
+-- Of happenings in their order, each accepted request applied or answered once, in order of first acceptance. Each observation and
+-- each change at the device is in its place.
 abbrev pub decided_in_place : Clock → ℕ → History → List Happening → History
 decided_in_place c ports h [] = h
 decided_in_place c ports h (x ∷ xs) = decided_in_place c ports (history_after c ports h x) xs

@@ -1,5 +1,5 @@
 -- One turn of a clock with what its device says of it (this project's profile).
-use Rattle.std.specs.Prelude.{ℕ, nat_le, Bool, List, [], ◌∷◌, length, if◌then◌else◌, Option, Some, None}
+use Rattle.std.specs.Prelude.{ℕ, nat_le, List, [], ◌∷◌, length, if◌then◌else◌, Option, Some, None}
 use Rattle.std.specs.FinMap.{insert}
 use Rattle.ptpm_codec.specs.declared.error.ErrorId.{ErrorId}
 use Rattle.ptpm_codec.specs.declared.error.ErrorId.TheVariants.{ResponseTooBig}
@@ -30,7 +30,7 @@ pub data Say : Type 0 where
 
 -- ---- what is answered by it
 
--- the octets, if they are at most so many
+-- the octets, if there are no more than that
 abbrev pub given : ℕ → List ℕ → Outcome
 given most octets = if nat_le (length octets) most then Value octets else Refused ResponseTooBig
 

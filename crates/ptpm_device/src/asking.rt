@@ -54,8 +54,8 @@ pub fn ask<'a, T: ReplyTable + Drop>(agent: &Agent<T>, datagram: &'a [u8]) -> Op
     Some(asked_by(&message))
 }
 
-/// What a datagram would have the clock's device give, if it came in now at a port of the clock: the value of a GET that would be
-/// answered, of an id that the clock lacks. None for any other datagram. Changes nothing, and takes no memory.
+/// The GET of a datagram whose value the clock's device is asked for, if it came in now at a port of the clock. It would be answered,
+/// and is of an id that the clock lacks. None for any other datagram. Changes nothing, and takes no memory.
 pub fn ask_value<'a, T: ReplyTable + Drop>(
     agent: &Agent<T>,
     datagram: &'a [u8],

@@ -25,8 +25,8 @@ ghost use Rattle.ptpm_device.specs.Saying.{Agrees, Gives, Objects, Say, after_re
 /// copy of a manager's request come in time. Then:
 /// - the data sets are those after the accepted requests, in order of first acceptance. Each observation and each change at the
 ///   device is in its place. Each request is applied once, or answered once by the device, and then it changes nothing;
-/// - each copy is sent the reply that is due to it, and nothing else is sent for it. That is the error of the device if it
-///   refused the request, and the value that it gave if it gave one, whatever it says of a later copy;
+/// - each copy is sent the reply that is due to it, and nothing else is sent for it. If the device answered the request, that is its
+///   error or its value, whatever it says of a later copy;
 /// - a copy of a request that is not newly accepted changes neither data sets nor entries.
 pub fn at_most_once_decided()
     ensures sets { (c : Clock) (first : PortIdentity → ℕ) (d : DataSetsValue)
@@ -56,8 +56,8 @@ pub fn at_most_once_decided()
 {}
 
 /// The device is asked to carry out nothing but a new SET or COMMAND that the clock itself does not refuse. It is asked for the
-/// value of nothing but a GET that is answered, of an id that the clock lacks. What it says to anything else doesn't count: not an
-/// objection to what it is not asked to carry out, nor a value of what it is not asked for. Whatever it says, the verdict and what
+/// value of nothing but a GET that is answered, of an id that the clock lacks. An objection to anything else doesn't
+/// count, nor does a value of anything else. Whatever it says, the verdict and what
 /// is passed on are those of the clock without a device.
 pub fn device_judged_last()
     ensures asked { (c : Clock) (s : State) (v : Message) → is_asked c s v ≡ true →
@@ -80,9 +80,9 @@ pub fn device_judged_last()
         (turn_said c s say ingress datagram).forwards ≡ (turn c s ingress datagram).forwards }
 {}
 
-/// What the device gives is the answer, where it is asked for a value: one RESPONSE of the clock. To a manager's numbered GET it
-/// has 130 octets at most, since it is kept; of more than that the answer is RESPONSE_TOO_BIG, and this is kept. To any other GET it
-/// has 1,418 at most. The data sets stay.
+/// If the device is asked for a value, what it gives is the answer: one RESPONSE of the clock. To a manager's numbered GET it has 130
+/// octets at most, since it is kept. Of more than that the answer is RESPONSE_TOO_BIG, and this is kept. To any other GET it has
+/// 1,418 at most. The data sets stay.
 pub fn given_is_answered()
     ensures answer { (c : Clock) (s : State) (ingress : ℕ) (datagram octets : List ℕ) (v : Message) →
         message_of datagram ≡ Some v → is_wanted c s v ≡ true →

@@ -1,5 +1,4 @@
-//! A clock whose device has a say (this project's profile): what a datagram would have the device do or give, and a turn with what
-//! it says. A device that says nothing leaves the clock as it is without this crate. The device's owner may also ask for a change
+//! A clock whose device has a say (this project's profile): what it is asked about a datagram, and a turn with what it says. A device that says nothing leaves the clock as it is without this crate. The device's owner may also ask for a change
 //! at the device itself.
 #![tactic(auto)]
 

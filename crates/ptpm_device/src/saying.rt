@@ -73,8 +73,7 @@ pub fn keep_value<T: SureTable + Drop>(agent: &mut Agent<T>, datagram: &[u8], oc
     }
 }
 
-/// Answers a GET of an id that the clock lacks with the value that the device gives, if it would be answered and its answer would not
-/// be kept: all but a manager's new one. The copies of it that the clock passes on are sent first. Answers whether that was so.
+/// Answers a GET without a number, of an id that the clock lacks, with the value that the device gives. The copies of it that the clock passes on are sent first. Answers whether that was so.
 /// Otherwise nothing is sent. No clock is changed by such a GET. Takes no memory.
 pub fn answer_value<T: ReplyTable + Drop, O: Outgoing>(
     agent: &Agent<T>,
@@ -219,7 +218,7 @@ fn refuse<T: SureTable + Drop>(agent: &mut Agent<T>, change: &Asked<'_>, error: 
     agent.keep_again(&change.manager, change.number, &change.request, &reply);
 }
 
-/// Keeps a GET with the value that the device gives as its reply. Never inlined, as `refuse`.
+/// Keeps a GET with the value that the device gives as its reply. Never inlined, like `refuse`.
 #[inline(never)]
 fn keep<T: SureTable + Drop>(agent: &mut Agent<T>, get: &Asked<'_>, octets: &[u8])
     requires known { IsTrue (is_known get.now.manager (T.owner agent.old.table).managers) }

@@ -33,7 +33,7 @@ pub record AsksNothing (a : Question) : Type 0 where
   pub action : a.action ≡ 0
   pub size : a.size ≡ 0
 
--- a GET, of which the dataField says nothing
+-- this GET; its dataField says nothing
 pub record IsWanted (r : NumberedRequest) (a : Question) : Type 0 where
   pub manager : a.manager ≡ r.manager.clock.0
   pub manager_port : a.manager_port ≡ r.manager.port

@@ -24,8 +24,8 @@ use ptpm_table::Outgoing;
 
 impl HostedClock {
     /// What a datagram would have the clock's device do, if it came in now at this port. It is to carry out a new SET or COMMAND of
-    /// a manager, which the clock itself does not refuse; or to give the value of a GET that would be answered, of an id that the
-    /// clock lacks. It is nothing for any other datagram. Changes nothing, and takes no memory.
+    /// a manager, which the clock itself does not refuse. Or it is to give the value of an id that the clock lacks, to a GET that
+    /// would be answered. It is nothing for any other datagram. Changes nothing, and takes no memory.
     pub fn ask(&self, port: u16, datagram: &[u8]) -> Result<Asking, HandleRefusal>
         ensures asked { IfOk result (Answers
             (asked (clock_in self.now) (state_in self.now) datagram.now)
@@ -47,7 +47,7 @@ impl HostedClock {
 
     /// Does what `handle` does, with what the clock's device says. What it says counts where `ask` says that the device is asked.
     /// If it objects, the request is kept and answered with its error, and the data sets stay. If it gives a value, this is the
-    /// answer; it is kept for a manager's new GET, and RESPONSE_TOO_BIG is, if it is too big for that. If the call is refused,
+    /// answer. It is kept for a manager's new GET. If it is too big for that, RESPONSE_TOO_BIG is. If the call is refused,
     /// nothing changes. Takes no memory.
     #[tactic(auto, using(crate::specs::OutboxLaws::kept_by_none))]
     pub fn handle_said(
@@ -184,8 +184,8 @@ impl HostedClock {
         handled
     }
 
-    /// Answers a GET of an id that the clock lacks with a value of which nothing is kept, if it is a GET without a number. Answers
-    /// how many messages are sent; none, and nothing is sent, for any other datagram.
+    /// Answers a GET without a number, of an id that the clock lacks, with this value. Returns how many messages are sent. For any
+    /// other datagram it is none, and nothing is sent.
     fn answer_value(
         &self,
         port: u16,

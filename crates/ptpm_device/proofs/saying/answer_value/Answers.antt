@@ -1,5 +1,4 @@
-use Rattle.std.proofs.Common.{arith, ◌≡◌, ◌++◌, Some, true, false, sym, ◌∙◌, ap, subst, List, ℕ}
-use Rattle.ptpm_codec.specs.declared.message.Message.{Message}
+use Rattle.std.proofs.Common.{◌≡◌, ◌++◌, Some, true, false, sym, ◌∙◌, ap, List, ℕ}
 use Rattle.ptpm_codec.specs.Reading.{message_of}
 use Rattle.ptpm_table.specs.Rendering.{rendered}
 use Rattle.ptpm_agent.specs.Addressing.{heard_of, request_of}

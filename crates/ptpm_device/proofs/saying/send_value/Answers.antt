@@ -1,4 +1,4 @@
-use Rattle.std.proofs.Common.{arith, ◌≡◌, ◌∷◌, ◌++◌, ◌∙◌, [], ap, List, ℕ}
+use Rattle.std.proofs.Common.{arith, ◌≡◌, ◌++◌, ◌∙◌, [], ap, List, ℕ}
 use Rattle.ptpm_codec.specs.declared.identity.ClockIdentity.{ClockIdentity}
 use Rattle.ptpm_codec.specs.declared.message.Action.TheVariants as actions
 use Rattle.ptpm_codec.specs.declared.message.Body.TheVariants as bodies
