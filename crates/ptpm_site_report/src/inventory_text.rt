@@ -16,7 +16,7 @@ pub fn write_inventory<R: Read + Drop, O: Write>(
     reader: R,
     out: &mut O,
 ) -> Result<Conclusion, Fault> {
-    let (site, _) = read_shown(alloc, reader)?;
+    let site = read_shown(alloc, reader)?.site;
     let inventory = inventory_of(alloc, &site).map_err(|_| Fault::OutOfMemory)?;
     print_inventory(&inventory, out)?;
     Ok(if site.is_empty() {
