@@ -1,5 +1,5 @@
 -- The clocks that send by themselves.
-use Rattle.std.specs.Prelude.{◌==◌, Bool, true, List, [], ◌∷◌, if◌then◌else◌}
+use Rattle.std.specs.Prelude.{◌==◌, Bool, not, List, [], ◌∷◌, if◌then◌else◌}
 use Rattle.std.specs.BTreeSet.{insert_key}
 use Rattle.std.specs.List.{filter_map, flat_map, fold, list_any}
 use Rattle.ptpm_site.specs.declared.heard.Heard.{Heard}
@@ -11,9 +11,9 @@ use Rattle.ptpm_site.specs.SiteAnswers.{SiteAnswers}
 use Rattle.ptpm_expected.specs.declared.senders.Sending.{Sending}
 use Rattle.ptpm_expected.specs.declared.senders.Sending.TheVariants as sending
 
--- Announce has messageType 11
+-- Announce has messageType 11, and Delay_Req 1, which no port in MASTER sends
 abbrev pub is_sent_so : Sending → Sender → Bool
-is_sent_so sending.Any x = true
+is_sent_so sending.OfMaster x = not (x.kind == 1)
 is_sent_so sending.Announce x = x.kind == 11
 
 abbrev pub sender_of : Sending → Sender → List Source
@@ -29,4 +29,4 @@ announcing site = fold (insert_key source_cmp) [] (senders_of sending.Announce s
 
 -- a clock is heard: it sends Announce, Sync or Follow_Up
 abbrev pub is_heard : SiteAnswers → Source → Bool
-is_heard site s = list_any (same_source s) (senders_of sending.Any site.heard)
+is_heard site s = list_any (same_source s) (senders_of sending.OfMaster site.heard)

@@ -42,7 +42,7 @@ impl<'a> Held<'a> {
             site,
             entries,
             named: Named::of(alloc, entries)?,
-            heard: sender_set(alloc, site.all_heard(), Sending::Any)?,
+            heard: sender_set(alloc, site.all_heard(), Sending::OfMaster)?,
         })
     }
 

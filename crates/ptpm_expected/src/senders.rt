@@ -8,7 +8,7 @@ ghost use Rattle.ptpm_site.specs.Site.{site_answers};
 ghost use Rattle.ptpm_expected.specs.Senders.{announcing, is_sent_so, sender_of, senders_of};
 
 use ptpm_site::evidence::senders;
-use ptpm_site::heard::{ANNOUNCE, Heard, Sender};
+use ptpm_site::heard::{ANNOUNCE, DELAY_REQ, Heard, Sender};
 use ptpm_site::site::Site;
 use ptpm_site::source::Source;
 use std::alloc::{AllocError, Global};
@@ -17,8 +17,8 @@ use std::collections::BTreeSet;
 /// What a clock sends by itself.
 #[derive(Clone, Copy)]
 pub(crate) enum Sending {
-    /// Announce, Sync or Follow_Up.
-    Any,
+    /// Announce, Sync or Follow_Up, which a port in MASTER sends.
+    OfMaster,
     /// Announce.
     Announce,
 }
@@ -68,7 +68,7 @@ fn is_sent_so(sending: Sending, sender: &Sender) -> bool
     ensures { result ≡ is_sent_so sending sender.now }
 {
     match sending {
-        Sending::Any => true,
+        Sending::OfMaster => sender.kind != DELAY_REQ,
         Sending::Announce => sender.kind == ANNOUNCE,
     }
 }

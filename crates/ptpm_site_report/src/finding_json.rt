@@ -3,7 +3,7 @@
 use crate::expected_json::{put_other_leaders, put_outside, put_unmet};
 use crate::expected_text::clock_of;
 use crate::json::{identity_value, member_value, port_value, quality_value, text_value};
-use crate::seconds::whole_seconds;
+use crate::seconds::{NanosecondSeconds, whole_seconds};
 use ptpm_data::PortState;
 use ptpm_site::announcing::Seldom;
 use ptpm_site::changes::Change;
@@ -71,6 +71,7 @@ fn put_values(
             "message",
             text_value(alloc, kind_name(*kind))?,
         ),
+        What::NotAsked(clocks) => put(map, alloc, "clocks", Value::from(*clocks)),
         What::NoMaster(why) => put_masterless(alloc, map, why),
         What::GrandmasterNotSeen(clock) => put(
             map,
@@ -270,8 +271,18 @@ fn put_off_by_utc(
             put(map, alloc, "clocks", Value::from(*count))?;
             "followers"
         }
+        OffByUtc::Origin(origin) => {
+            put(map, alloc, "origin", time_value(alloc, origin.time)?)?;
+            put(map, alloc, "at", time_value(alloc, origin.at)?)?;
+            "origin"
+        }
     };
     put(map, alloc, "reason", text_value(alloc, reason)?)
+}
+
+/// Nanoseconds as a text of seconds.
+fn time_value(alloc: Global, nanoseconds: u64) -> Result<Value, AllocError> {
+    Ok(Value::String(format!(in alloc; "{}", NanosecondSeconds(nanoseconds))?))
 }
 
 fn put_untraceable(

@@ -2,7 +2,7 @@
 
 use crate::nagios::{Plugin, Standing};
 use crate::names::Names;
-use crate::site_lines::read_shown;
+use crate::site_lines::{SiteLines, read_shown};
 use ptpm_commands::Fault;
 use ptpm_expected::expectations::{Expectations, picture_of};
 use ptpm_site::left_out::LeftOut;
@@ -32,7 +32,12 @@ pub fn report_standing_expected<R: Read + Drop, O: Write>(
     reader: R,
     out: &mut O,
 ) -> Result<Standing, Fault> {
-    let (site, left_out) = read_shown(alloc, reader)?;
+    let SiteLines {
+        site,
+        left_out,
+        is_synchronised,
+    } = read_shown(alloc, reader)?;
+    let limits = limits.at_host(is_synchronised);
     standing_of(alloc, limits, expectations, names, &site, left_out, out)
 }
 

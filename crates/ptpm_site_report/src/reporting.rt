@@ -10,7 +10,7 @@ use crate::json::Object;
 use crate::names::Names;
 use crate::openmetrics::Metrics;
 use crate::page::print_page;
-use crate::site_lines::read_shown;
+use crate::site_lines::{SiteLines, read_shown};
 use crate::text::Sheet;
 use ptpm_commands::Fault;
 use ptpm_expected::expectations::{Expectations, picture_of};
@@ -41,6 +41,16 @@ pub enum Form {
 pub struct Options {
     pub form: Form,
     pub limits: Limits,
+}
+
+impl Options {
+    /// The same, at a host whose clock has the right time or has not.
+    fn at_host(self, is_synchronised: bool) -> Options {
+        Options {
+            form: self.form,
+            limits: self.limits.at_host(is_synchronised),
+        }
+    }
 }
 
 /// What came of it.
@@ -93,7 +103,12 @@ pub fn report_named<R: Read + Drop, O: Write>(
     reader: R,
     out: &mut O,
 ) -> Result<Conclusion, Fault> {
-    let (site, left_out) = read_shown(alloc, reader)?;
+    let SiteLines {
+        site,
+        left_out,
+        is_synchronised,
+    } = read_shown(alloc, reader)?;
+    let options = options.at_host(is_synchronised);
     report_of(alloc, options, names, &site, left_out, out)
 }
 
@@ -106,7 +121,12 @@ pub fn report_expected<R: Read + Drop, O: Write>(
     reader: R,
     out: &mut O,
 ) -> Result<Conclusion, Fault> {
-    let (site, left_out) = read_shown(alloc, reader)?;
+    let SiteLines {
+        site,
+        left_out,
+        is_synchronised,
+    } = read_shown(alloc, reader)?;
+    let options = options.at_host(is_synchronised);
     report_held(alloc, options, expectations, names, &site, left_out, out)
 }
 

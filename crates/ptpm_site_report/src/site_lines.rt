@@ -1,6 +1,6 @@
 //! The answers among lines of datagrams.
 
-use crate::line_words::at_of;
+use crate::line_words::{at_of, synchronised_in};
 use ptpm_commands::Fault;
 use ptpm_commands::lines::Lines;
 use ptpm_site::left_out::LeftOut;
@@ -8,32 +8,46 @@ use ptpm_site::site::Site;
 use std::alloc::Global;
 use std::io::Read;
 
-/// What is shown of the site of a reader's lines: no more than there is room for, and without the clocks that are gone. And how much
-/// there is no room for.
-pub(crate) fn read_shown<R: Read + Drop>(
-    alloc: Global,
-    reader: R,
-) -> Result<(Site, LeftOut), Fault> {
-    let mut site = read_site(alloc, reader)?;
-    let left_out = site.keep_first();
-    site.drop_gone(alloc).map_err(|_| Fault::OutOfMemory)?;
-    Ok((site, left_out))
+/// What lines say.
+#[derive(Drop)]
+pub(crate) struct SiteLines {
+    pub(crate) site: Site,
+    /// How much of it is left out.
+    pub(crate) left_out: LeftOut,
+    /// Whether the last note `#ptpm` says that the clock of the host that asked was right.
+    pub(crate) is_synchronised: bool,
 }
 
-/// The site that the answers among a reader's lines make. A datagram that is no answer to one of the six is passed over; a
-/// line that is no datagram in hexadecimal is a fault.
-fn read_site<R: Read + Drop>(alloc: Global, reader: R) -> Result<Site, Fault> {
+/// What is shown of the site of a reader's lines: no more than there is room for, and without the clocks that are gone. And what the
+/// lines say beside.
+pub(crate) fn read_shown<R: Read + Drop>(alloc: Global, reader: R) -> Result<SiteLines, Fault> {
+    let (mut site, is_synchronised) = read_site(alloc, reader)?;
+    let left_out = site.keep_first();
+    site.drop_gone(alloc).map_err(|_| Fault::OutOfMemory)?;
+    Ok(SiteLines {
+        site,
+        left_out,
+        is_synchronised,
+    })
+}
+
+/// The site that the answers among a reader's lines make, and whether the clock of the host that asked was right. A datagram that is
+/// no answer to one of the six is passed over; a line that is no datagram in hexadecimal is a fault.
+fn read_site<R: Read + Drop>(alloc: Global, reader: R) -> Result<(Site, bool), Fault> {
     let mut lines = Lines::new(alloc, reader)?;
     let mut site = Site::new(alloc);
+    let mut is_synchronised = false;
     for number in 1..u64::MAX {
         if !lines.read(number)? {
             break;
         }
+        let line = lines.text(number)?;
         if let Some(datagram) = lines.datagram(alloc, number)? {
-            let at = at_of(lines.text(number)?);
-            site.take_datagram_at(alloc, at, datagram.as_slice())
+            site.take_datagram_at(alloc, at_of(line), datagram.as_slice())
                 .map_err(|_| Fault::OutOfMemory)?;
+        } else if let Some(says) = synchronised_in(line) {
+            is_synchronised = says;
         }
     }
-    Ok(site)
+    Ok((site, is_synchronised))
 }

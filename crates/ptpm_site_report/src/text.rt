@@ -1,6 +1,7 @@
 //! A site as text: for each domain its tree, a line a clock, and then the findings, one a line.
 
 use crate::columns::{Columns, Widths, print_spaces};
+use crate::expected_text::clock_of;
 use crate::finding_text::Words;
 use crate::grandmaster_line::GrandmasterLine;
 use crate::names::Names;
@@ -44,6 +45,8 @@ impl Sheet<'_, '_> {
         }
         if !self.0.site.is_empty() || !self.0.findings.is_empty() {
             self.print_findings(alloc, out)?;
+        } else {
+            self.print_open(out)?;
         }
         let notes = notes_of(alloc, self.0).map_err(|_| Fault::OutOfMemory)?;
         for note in notes.as_slice() {
@@ -75,7 +78,10 @@ impl Sheet<'_, '_> {
         writeln!(out, "open: {}", unsettled.len())?;
         for finding in unsettled {
             write!(out, "{}", Words(finding))?;
-            self.print_description(finding.source, out)?;
+            match clock_of(finding) {
+                Some(_) => self.print_description(finding.source, out)?,
+                None => writeln!(out)?,
+            }
         }
         Ok(())
     }

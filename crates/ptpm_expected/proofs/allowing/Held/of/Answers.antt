@@ -12,6 +12,6 @@ use Rattle.ptpm_expected.proofs.allowing.Held.of.Goals as goal
 pub returns-clause-held : goal.returns-clause-held
 returns-clause-held c = record {
   named = c.in_ok-of.ensures;
-  heard = sources_kept (senders_of sending.Any (site_answers c.args.site.now).heard) (keys c.in_ok-sender_set.field-0)
-      (c.in_ok-sender_set.ensures ∙ ap (λ heard. fold (insert_key source_cmp) [] (senders_of sending.Any heard)) c.all_heard.ensures);
+  heard = sources_kept (senders_of sending.OfMaster (site_answers c.args.site.now).heard) (keys c.in_ok-sender_set.field-0)
+      (c.in_ok-sender_set.ensures ∙ ap (λ heard. fold (insert_key source_cmp) [] (senders_of sending.OfMaster heard)) c.all_heard.ensures);
 }
