@@ -1,5 +1,4 @@
 #define _GNU_SOURCE
-#define _GNU_SOURCE
 #include "status.h"
 #include "asking.h"
 #include "collect.h"
