@@ -160,6 +160,13 @@ static void look_twice(struct look *look, const struct task *task, struct domain
     *look = second;
 }
 
+/* A clock of this look that is missing from the next one is asked there by itself. */
+static void keep_clocks(void) {
+    count_before = seen_count();
+    for (size_t i = 0; i < count_before; i++) clocks_before[i] = *seen_clock(i);
+    expect_clocks(clocks_before, count_before);
+}
+
 /* Puts the lines of an earlier look before those of this one, if there is room for both. */
 static void join_lines(struct look *look, const struct look *earlier) {
     size_t size = earlier->size + look->size;
@@ -181,6 +188,7 @@ static void look_until_decided(struct look *look, const struct task *task, struc
         show_progress("something is open; another look in %d s", BEFORE_SECOND_LOOK / 1000);
         listen_for_domains(domains, task, BEFORE_SECOND_LOOK);
         if (stopped) return;
+        keep_clocks();
         look_at_site(&next, task, domains, look);
         leave_out_passing(&next.report, &look->report);
         if (look->size > 0) join_lines(&next, look);
@@ -249,33 +257,28 @@ static bool was_seen(const struct seen_clock *clock) {
 }
 
 /* Prints which clocks came since the look before. Those that went have a finding. */
-static void print_clocks(const char *lead) {
+static void print_clocks(const char *lead, bool is_json) {
     char clock[IDENTITY_TEXT];
     for (size_t i = 0; i < seen_count(); i++) {
-        if (was_seen(seen_clock(i))) continue;
-        write_identity(clock, seen_clock(i)->identity);
-        printf("%s+ %u %s answers\n", lead, seen_clock(i)->domain, clock);
+        const struct seen_clock *seen = seen_clock(i);
+        if (was_seen(seen)) continue;
+        write_identity(clock, seen->identity);
+        if (!is_json) printf("%s+ %u %s answers\n", lead, seen->domain, clock);
+        else printf("{%s\"event\":\"came\",\"domainNumber\":%u,\"clockIdentity\":\"%s\",\"finding\":null}\n", lead, seen->domain, clock);
     }
 }
 
-static void keep_clocks(void) {
-    count_before = seen_count();
-    for (size_t i = 0; i < count_before; i++) clocks_before[i] = *seen_clock(i);
-    expect_clocks(clocks_before, count_before);
-}
-
-/* What differs from the look before, each line after the time. */
+/* What differs from the look before, each line after the time. In JSON the look comes before that. */
 static void print_difference(const struct look *look, const struct look *earlier, const struct task *task) {
     char lead[TIME_TEXT];
     time_t now = time(NULL);
     struct tm parts;
-    strftime(lead, sizeof lead, "%F %T ", localtime_r(&now, &parts));
+    if (task->is_json) strftime(lead, sizeof lead, "\"time\":\"%FT%TZ\",", gmtime_r(&now, &parts));
+    else strftime(lead, sizeof lead, "%F %T ", localtime_r(&now, &parts));
     clear_progress();
-    if (task->is_json || task->site.output != NULL) {
-        print_look(look, task);
-        return;
-    }
-    print_clocks(lead);
+    if (task->is_json || task->site.output != NULL) print_look(look, task);
+    if (task->site.output != NULL) return;
+    print_clocks(lead, task->is_json);
     print_changes(stdout, lead, &look->report, &earlier->report, is_coloured());
 }
 
