@@ -84,7 +84,7 @@ static size_t sum_of_followers(const char *at, const char *end) {
     return sum;
 }
 
-/* What follows from a finding is counted behind its words, before the description. */
+/* What follows from a finding is counted after its words, before the description. */
 static void read_followers(struct finding *finding) {
     static const char so_too[] = "; so too: ", quoted[] = " \"";
     const char *at = finding->whole.at, *end = at + finding->whole.size;
