@@ -19,6 +19,9 @@ static const char *const passing[] = {
 static const char *const changes[] = { "changed", "grandmaster_changed" };
 static const char *const moving[] = { "not_locked", "port_state", "off_by_utc", "offset", "delay" };
 
+/* Findings that more than one look shows. */
+static const char *const over_time[] = { "not_locked", "port_state", "intervals", "identity_twice" };
+
 /* What is open and stays so, whatever the time. */
 static const char *const lasting[] = { "not_asked", "mute" };
 
@@ -240,13 +243,6 @@ bool has_finding_named(const struct report *report, const char *name) {
     return false;
 }
 
-bool has_passing_finding(const struct report *report) {
-    for (size_t i = 0; i < report->count; i++) {
-        if (is_passing(&report->findings[i])) return true;
-    }
-    return false;
-}
-
 static int compare_pieces(const struct piece *one, const struct piece *other) {
     size_t least = one->size < other->size ? one->size : other->size;
     int order = memcmp(one->at, other->at, least);
@@ -320,10 +316,27 @@ bool has_open(const struct report *report) {
     return report->is_json ? has_open_object(report->text, end) : has_open_line(report->tail.at, end);
 }
 
+bool is_over_time(const struct report *report) {
+    for (size_t i = 0; i < report->count; i++) {
+        if (is_one_of(&report->findings[i], over_time, sizeof over_time / sizeof *over_time)) return true;
+    }
+    return has_open(report);
+}
+
 void leave_out_changes(struct report *report) {
     for (size_t i = 0; i < report->count; i++) {
         if (is_change(&report->findings[i])) report->findings[i].is_left_out = true;
     }
+}
+
+bool has_passing_finding(const struct report *report, const struct report *earlier) {
+    struct sorted keys = earlier == NULL ? (struct sorted){ 0 } : sort_findings(earlier, by_key, true);
+    bool has_one = false;
+    for (size_t i = 0; i < report->count && !has_one; i++) {
+        has_one = is_passing(&report->findings[i]) && !has_finding(&keys, &report->findings[i]);
+    }
+    free(keys.at);
+    return has_one;
 }
 
 void leave_out_passing(struct report *report, const struct report *earlier) {
@@ -409,14 +422,14 @@ static void print_change(FILE *to, const char *lead, char sign, const struct fin
 }
 
 /* Prints the findings of a report that another lacks. A finding with other values counts as another, unless its values are
-   other ones each time. Of those that report a change it prints all that came, and none that went. */
+   other ones each time. Of those that report a change it prints none that went. */
 static void print_lacking(FILE *to, const char *lead, char sign, const struct report *report, const struct report *other,
                           const char *colour) {
     struct sorted kinds = sort_findings(other, by_kind, false), texts = sort_findings(other, by_text, false);
     for (size_t i = 0; i < report->count; i++) {
         const struct finding *finding = &report->findings[i];
         const struct sorted *same = is_moving(finding) ? &kinds : &texts;
-        bool is_in_other = is_change(finding) ? sign == '-' : has_finding(same, finding);
+        bool is_in_other = has_finding(same, finding) || (is_change(finding) && sign == '-');
         if (finding->is_left_out || finding->has_cause || is_in_other) continue;
         if (report->is_json) print_event(to, lead, sign, finding);
         else print_change(to, lead, sign, finding, colour);

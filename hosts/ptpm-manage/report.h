@@ -34,8 +34,12 @@ void free_report(struct report *report);
 /* Whether a report has a finding of this name. */
 bool has_finding_named(const struct report *report, const char *name);
 
-/* Whether a report has a finding that may be only momentary: while a change goes through a site its clocks do not agree. */
-bool has_passing_finding(const struct report *report);
+/* Whether a report has a finding that may be only momentary, and whose key is not in an earlier one, if there is one. While a change
+   goes through a site its clocks do not agree. */
+bool has_passing_finding(const struct report *report, const struct report *earlier);
+
+/* Whether something is open that only time decides, or was found so. A later look shows it only beside the earlier ones. */
+bool is_over_time(const struct report *report);
 
 /* Whether something is open that only time decides. */
 bool has_open(const struct report *report);

@@ -76,17 +76,25 @@ static bool is_of_absent_clock(const char *line, size_t size) {
     return read_octets(&domain_text, &domain, 1) == 1 && read_octets(&clock_text, clock, 8) == 8 && !is_seen(domain, clock);
 }
 
-/* Keeps only those answers of an earlier look whose clocks did not answer in the latest one. So they stay gone until they do. */
-static void leave_absent(struct look *look) {
-    size_t left = 0;
-    for (size_t at = 0, next; at < look->size; at = next) {
+/* Of the first lines of earlier looks, this many octets, keeps only the answers of clocks that did not answer in the latest one. So
+   they stay gone until they do. */
+static void leave_absent(struct look *look, size_t older) {
+    size_t left = 0, at = 0;
+    for (size_t next; at < older; at = next) {
         const char *end = memchr(look->lines + at, '\n', look->size - at);
         next = end == NULL ? look->size : (size_t)(end - look->lines) + 1;
         if (!is_of_absent_clock(look->lines + at, next - at)) continue;
         memmove(look->lines + left, look->lines + at, next - at);
         left += next - at;
     }
-    look->size = left;
+    if (look->size > at) memmove(look->lines + left, look->lines + at, look->size - at);
+    look->size = left + look->size - at;
+}
+
+/* How many octets of the lines of earlier looks the next one needs no more: those of the older half if there are too many. */
+static size_t not_needed(const struct look *earlier, const struct look *latest) {
+    if (!is_over_time(&latest->report)) return earlier->size;
+    return earlier->size > MOST_KEPT_LINES / 2 ? earlier->size / 2 : 0;
 }
 
 /* Whether a socket may be made beside it. */
@@ -144,11 +152,12 @@ static int look_at_site(struct look *look, const struct task *task, const struct
     return look->status;
 }
 
-/* Looks at the site. If a change may be on its way through it, it looks a second time. Then of such findings only those are
-   left that both looks have. */
+/* Looks at the site. If a change may be on its way through it, which the look before did not show, it looks a second time. Then of
+   such findings only those are left that both looks have. */
 static void look_twice(struct look *look, const struct task *task, struct domains *domains, struct look *earlier) {
     look_at_site(look, task, domains, earlier);
-    if (stopped || task->site.is_once || look->status != FINDINGS || !has_passing_finding(&look->report)) return;
+    if (stopped || task->site.is_once || look->status != FINDINGS) return;
+    if (!has_passing_finding(&look->report, earlier == NULL ? NULL : &earlier->report)) return;
     struct look second;
     show_progress("findings: %zu; a second look in %d s", look->report.count, BEFORE_SECOND_LOOK / 1000);
     listen_for_domains(domains, task, BEFORE_SECOND_LOOK);
@@ -304,7 +313,7 @@ static int watch(struct look *earlier, const struct task *task, struct domains *
         }
         print_difference(&look, earlier, task);
         keep_clocks();
-        if (!has_open(&look.report) || earlier->size > MOST_KEPT_LINES / 2) leave_absent(earlier);
+        leave_absent(earlier, not_needed(earlier, &look));
         if (earlier->size > 0) join_lines(&look, earlier);
         free_look(earlier);
         *earlier = look;
