@@ -1,11 +1,11 @@
 //! The answers among lines of datagrams.
 
-use crate::line_words::{at_of, synchronised_in};
+use crate::line_words::{at_of, synchronised_in, value_of};
 use ptpm_commands::Fault;
 use ptpm_commands::lines::Lines;
 use ptpm_site::left_out::LeftOut;
 use ptpm_site::site::Site;
-use std::alloc::Global;
+use std::alloc::{AllocError, Global};
 use std::io::Read;
 
 /// What lines say.
@@ -43,11 +43,28 @@ fn read_site<R: Read + Drop>(alloc: Global, reader: R) -> Result<(Site, bool), F
         }
         let line = lines.text(number)?;
         if let Some(datagram) = lines.datagram(alloc, number)? {
-            site.take_datagram_at(alloc, at_of(line), datagram.as_slice())
+            take_line(alloc, &mut site, line, datagram.as_slice())
                 .map_err(|_| Fault::OutOfMemory)?;
         } else if let Some(says) = synchronised_in(line) {
             is_synchronised = says;
         }
     }
     Ok((site, is_synchronised))
+}
+
+/// Takes the datagram of a line, and the words before it. A line that says no interface counts as one of an interface without a name.
+fn take_line(
+    alloc: Global,
+    site: &mut Site,
+    line: &str,
+    datagram: &[u8],
+) -> Result<(), AllocError> {
+    site.take_datagram_at(alloc, at_of(line), datagram)?;
+    match value_of(line, "from=") {
+        Some(from) => {
+            let on = value_of(line, "on=").unwrap_or("");
+            site.take_arrival(alloc, from, on, datagram)
+        }
+        None => Ok(()),
+    }
 }
