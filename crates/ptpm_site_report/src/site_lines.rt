@@ -43,8 +43,7 @@ fn read_site<R: Read + Drop>(alloc: Global, reader: R) -> Result<(Site, bool), F
         }
         let line = lines.text(number)?;
         if let Some(datagram) = lines.datagram(alloc, number)? {
-            take_line(alloc, &mut site, line, datagram.as_slice())
-                .map_err(|_| Fault::OutOfMemory)?;
+            take_line(alloc, &mut site, line, datagram.as_slice()).map_err(|_| Fault::OutOfMemory)?;
         } else if let Some(says) = synchronised_in(line) {
             is_synchronised = says;
         }
