@@ -171,8 +171,8 @@ static const char *program_path(void) {
 
 /* An id and the file of its value, which are two words. */
 static void take_value(struct options *options, char *const *rest) {
-    long id = id_named(optarg);
-    if (id < 0) refuse_command_line("--give %s: it takes a managementId, such as 0001", optarg);
+    long id = read_id_named(optarg);
+    if (id < 0) refuse_command_line("--give %s: it takes a managementId, such as CLOCK_DESCRIPTION", optarg);
     if (id_name((uint16_t)id) != NULL) refuse_command_line("--give %s: the clock has a value of its own", optarg);
     if (rest[optind] == NULL) refuse_command_line("--give %s: the file of its value is missing", optarg);
     if (options->value_count == VALUES) refuse_command_line("--give: 64 ids at most");
