@@ -1376,8 +1376,8 @@ uint32_t ptpm_id_at(size_t place);
    Writes:  as many octets from text on: the name, with no zero after it. */
 size_t ptpm_id_name(uint16_t id, char *text, size_t room);
 
-/* The same three for the managementIds that other clocks have and this profile lacks, and whose dataFields ptpm_field_text writes by
-   their members: five of the standard, such as CLOCK_DESCRIPTION, and five of linuxptp, such as TIME_STATUS_NP. */
+/* The same three for managementIds that other clocks have and this profile lacks. ptpm_field_text writes their dataFields by their
+   members. Five are of the standard, such as CLOCK_DESCRIPTION, and five of linuxptp, such as TIME_STATUS_NP. */
 uint32_t ptpm_other_id_named(const char *name, size_t size);
 uint32_t ptpm_other_id_at(size_t place);
 size_t ptpm_other_id_name(uint16_t id, char *text, size_t room);
