@@ -1396,7 +1396,7 @@ size_t ptpm_answer_name(uint32_t number, char *text, size_t room);
 size_t ptpm_error_name(uint16_t error, char *text, size_t room);
 
 /* The most octets that ptpm_field_text writes, of a dataField that a message can have. */
-enum { PTPM_MOST_FIELD_TEXT = 5065 };
+enum { PTPM_MOST_FIELD_TEXT = 5034 };
 
 /* Gives the members of a dataField as text, one per line: its name in the standard (15.5.3), a space and its value, such as
    "priority1 128". How each kind of value is written is in docs/ptpm.md. There is only one line if the octets are no dataField
