@@ -1384,8 +1384,8 @@ uint32_t ptpm_id_at(size_t place);
    Writes:  as many octets from text on: the name, with no zero after it. */
 size_t ptpm_id_name(uint16_t id, char *text, size_t room);
 
-/* The same three for the managementIds that other clocks have and this profile lacks, and whose dataFields ptpm_field_text writes by
-   their members: five of the standard, such as CLOCK_DESCRIPTION, and five of linuxptp, such as TIME_STATUS_NP. */
+/* The same three for managementIds that other clocks have and this profile lacks. ptpm_field_text writes their dataFields by their
+   members. Five are of the standard, such as CLOCK_DESCRIPTION, and five of linuxptp, such as TIME_STATUS_NP. */
 uint32_t ptpm_other_id_named(const char *name, size_t size);
 uint32_t ptpm_other_id_at(size_t place);
 size_t ptpm_other_id_name(uint16_t id, char *text, size_t room);
@@ -1404,7 +1404,7 @@ size_t ptpm_answer_name(uint32_t number, char *text, size_t room);
 size_t ptpm_error_name(uint16_t error, char *text, size_t room);
 
 /* The most octets that ptpm_field_text writes, of a dataField that a message can have. */
-enum { PTPM_MOST_FIELD_TEXT = 5065 };
+enum { PTPM_MOST_FIELD_TEXT = 5034 };
 
 /* Gives the members of a dataField as text, one per line: its name in the standard (15.5.3), a space and its value, such as
    "priority1 128". How each kind of value is written is in docs/ptpm.md. There is only one line if the octets are no dataField

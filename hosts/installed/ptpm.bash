@@ -11,6 +11,11 @@ _ptpm_takes() { [[ $2 = -* ]] && "$1" --help 2>&1 < /dev/null | grep -qE -- "(^|
 
 _ptpm_ids() { ptpm ids 2> /dev/null | cut -d ' ' -f 2; }
 
+# Those that only other clocks answer.
+_ptpm_other_ids() {
+    ptpm-manage --help 2> /dev/null < /dev/null | sed -n '/^get and survey also/,/^$/p' | grep -oE '[A-Z][A-Z_]{3,}'
+}
+
 # Offers those of the words given that begin as the word at the cursor does, or as it does in capitals. They are compared as they
 # are, and not expanded: an interface may have any name.
 _ptpm_offer() {
@@ -76,7 +81,8 @@ _ptpm_manage() {
     local -a actions=(get set command survey collect status plan apply resume rollback)
     case $before,${COMP_WORDS[COMP_CWORD]} in
     *,-*) _ptpm_offer_lines < <(_ptpm_options ptpm-manage) ;;
-    get,* | set,* | command,* | survey,*) _ptpm_offer_lines < <(_ptpm_ids) ;;
+    get,* | survey,*) _ptpm_offer_lines < <(_ptpm_ids && _ptpm_other_ids) ;;
+    set,* | command,*) _ptpm_offer_lines < <(_ptpm_ids) ;;
     -i,* | --interface,*) _ptpm_offer_interfaces ;;
     -p,* | --port,*) _ptpm_offer all ;;
     rollback,*) _ptpm_offer_applies ;;

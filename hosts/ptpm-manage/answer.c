@@ -124,6 +124,13 @@ static bool is_number_with_name(const struct member *member) {
     return is_one_of(member, numbers);
 }
 
+/* Whether the member is a clockIdentity or a portIdentity. A number may have as many digits. */
+static bool is_identity(const struct member *member) {
+    static const char last[] = "Identity";
+    size_t size = strlen(member->name);
+    return size >= sizeof last - 1 && strcmp(member->name + size - (sizeof last - 1), last) == 0;
+}
+
 /* Words with a space between two of them, as an array. */
 static void print_words_as_json(FILE *to, const char *value) {
     fputs("[\"", to);
@@ -149,7 +156,7 @@ static void print_identity_as_json(FILE *to, const char *value, const char *rest
 static void print_value_as_json(FILE *to, const struct member *member) {
     uint8_t identity[8];
     int64_t interval;
-    const char *value = member->value, *rest = identity_at(value, identity);
+    const char *value = member->value, *rest = is_identity(member) ? identity_at(value, identity) : NULL;
     if (is_number_with_name(member)) fprintf(to, "\"%s\"", word_of(member));
     else if (is_named(member, "pathSequence")) print_words_as_json(to, value);
     else if (is_in_hexadecimal(member)) fprintf(to, "\"%s\"", strcmp(value, "-") == 0 ? "" : value);

@@ -121,11 +121,11 @@ static const char help_end[] =
     "answered by another value than was asked, or a value has been changed by somebody else. 128 and its\n"
     "number: a signal ended it.\n";
 
-/* The names of all ids, in their order. */
-static void print_ids(void) {
+/* The names of all ids that a call gives, in their order. */
+static void print_ids(uint32_t id_at(size_t place)) {
     int column = WIDTH;
-    for (size_t place = 0; ptpm_id_at(place) != PTPM_NO_ID; place++) {
-        const char *name = id_name((uint16_t)ptpm_id_at(place));
+    for (size_t place = 0; id_at(place) != PTPM_NO_ID; place++) {
+        const char *name = read_id_name((uint16_t)id_at(place));
         int size = (int)strlen(name) + 1;
         if (column + size > WIDTH) column = printf("\n ") - 1;
         column += size;
@@ -139,7 +139,9 @@ static _Noreturn void help(void) {
     fputs(site_text, stdout);
     fputs(asking_text, stdout);
     printf("ID, in either case, or four hexadecimal digits:");
-    print_ids();
+    print_ids(ptpm_id_at);
+    printf("\n\nget and survey also take these, which no clock of ptpm answers:");
+    print_ids(ptpm_other_id_at);
     printf("\n\n%s", help_end);
     exit(fflush(stdout) == 0 ? 0 : 4);
 }

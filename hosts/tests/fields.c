@@ -128,8 +128,26 @@ static void ids(void) {
     check(members == sizeof sole / sizeof *sole + 2 && empty == 3 && read_only == 5, "the ids that are tried here");
 }
 
+/* The longest text: a CLOCK_DESCRIPTION (15.5.3.1.2) that fills a message, with four texts of no printable octet. The rest is the
+   physicalAddress, so that the addressField is a minus sign. */
+static void longest_text(void) {
+    enum { CLOCK_DESCRIPTION = 1, MOST_OCTETS = 1418, TEXT = 255, ADDRESS = 376 };
+    static char text[PTPM_MOST_FIELD_TEXT];
+    static uint8_t octets[MOST_OCTETS];
+    uint8_t *at = octets + 2;
+    memset(octets, 0xff, sizeof octets);
+    at += 1 + TEXT;
+    *at++ = ADDRESS >> 8;
+    *at++ = ADDRESS & 0xff;
+    at += ADDRESS;
+    memset(at + 2, 0, 2);                   /* after networkProtocol there is no addressField */
+    size_t size = ptpm_field_text(CLOCK_DESCRIPTION, octets, sizeof octets, text, sizeof text);
+    check(size == PTPM_MOST_FIELD_TEXT && memcmp(text, "clockType 0xffff\n", 17) == 0, "the longest text has PTPM_MOST_FIELD_TEXT octets");
+}
+
 int main(void) {
     ids();
+    longest_text();
     sole_members();
     utc_properties();
     descriptions();

@@ -471,7 +471,7 @@ PTPM_NO_ID = 65536
 
 # The greatest counts and sizes.
 PTPM_MOST_NAME = 27
-PTPM_MOST_FIELD_TEXT = 5065
+PTPM_MOST_FIELD_TEXT = 5034
 
 
 class ptpm_clock(Structure):

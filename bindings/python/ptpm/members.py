@@ -3,23 +3,29 @@
 from __future__ import annotations
 
 import ctypes
+import re
 import unicodedata
 from decimal import Decimal
 from typing import Callable, Dict, Iterable, List, Mapping, NoReturn, Sequence, Tuple, Type, Union
 
 from . import _header as header
-from ._library import library
+from ._library import library, name_by
 from .identity import Identity, PortIdentity
 from .ids import ManagementId
 from .settings import DelayMechanism, PortState
 
-Member = Union[int, bool, str, Decimal, Identity, PortIdentity]
+Member = Union[int, bool, str, bytes, Decimal, Identity, PortIdentity, Tuple[Identity, ...]]
 
 # What a SET takes for a member: a number or a flag, or a text as it is printed.
 Value = Union[int, bool, str]
 DataField = Union[bytes, Value, Mapping[str, Value], None]
 
 MOST_TEXT = 128
+
+_ESCAPE = re.compile(rb"\\x(..)")
+
+# The members that are a PTPText (5.3.9).
+_TEXTS = ("userDescription", "physicalLayerProtocol", "productDescription", "revisionData", "interface")
 
 
 def _pairs(number: int, octets: bytes) -> List[Tuple[str, str]]:
@@ -40,6 +46,23 @@ def _named(kind: Union[Type[PortState], Type[DelayMechanism]]) -> Callable[[str]
     return lambda text: int(text, 0) if text[0].isdigit() else kind[text]
 
 
+def _text_octets(text: str) -> bytes:
+    """The octets of a text, in which the library has a backslash, an x and two digits for an octet."""
+    return _ESCAPE.sub(lambda escape: bytes.fromhex(escape[1].decode()), text.encode())
+
+
+def _text(text: str) -> str:
+    return _text_octets(text).decode("utf-8", "backslashreplace")
+
+
+def _octets(text: str) -> bytes:
+    return b"" if text == "-" else bytes.fromhex(text)
+
+
+def _identities(text: str) -> Tuple[Identity, ...]:
+    return tuple(map(Identity.of, text.split()))
+
+
 # How the value of a member of this name is read.
 _READERS: Dict[str, Callable[[str], Member]] = {
     "clockIdentity": Identity.of,
@@ -51,18 +74,18 @@ _READERS: Dict[str, Callable[[str], Member]] = {
     "meanLinkDelay": Decimal,
     "portState": _named(PortState),
     "delayMechanism": _named(DelayMechanism),
+    # Of ids that only other clocks have.
+    "gmIdentity": Identity.of,
+    "pathSequence": _identities,
+    "timestamping": lambda text: int(text, 0) if text[0].isdigit() else text,
+    **dict.fromkeys(("physicalAddress", "addressField", "manufacturerIdentity", "profileIdentity", "lastGmPhaseChange"), _octets),
+    **dict.fromkeys(_TEXTS, _text),
 }
 
 
 def _plain(text: str) -> Member:
     """A flag, or a number in decimal or in hexadecimal."""
     return text == "true" if text in ("true", "false") else int(text, 0)
-
-
-def _value(name: str, text: str, octets: bytes) -> Member:
-    if name == "userDescription":
-        return octets[1 : 1 + octets[0]].decode("utf-8", "backslashreplace")
-    return _READERS.get(name, _plain)(text)
 
 
 def members(number: int, octets: bytes) -> Dict[str, Member]:
@@ -72,7 +95,7 @@ def members(number: int, octets: bytes) -> Dict[str, Member]:
     {'stepsRemoved': 1, 'offsetFromMaster': Decimal('-0.5'), 'meanDelay': Decimal('0.0000152587890625')}
     """
     pairs = _pairs(number, octets)
-    return {name: _value(name, text, octets) for name, text in pairs} if _has_members(pairs) else {}
+    return {name: _READERS.get(name, _plain)(text) for name, text in pairs} if _has_members(pairs) else {}
 
 
 def _is_shown(character: str) -> bool:
@@ -93,11 +116,13 @@ def _shown_text(octets: bytes) -> str:
 def lines(number: int, octets: bytes) -> List[str]:
     """A line for each member, its name and its value; or the dataField in hexadecimal."""
     pairs = _pairs(number, octets)
-    return [f"{name} {_shown_text(octets[1 : 1 + octets[0]]) if name == 'userDescription' else text}" for name, text in pairs]
+    return [f"{name} {_shown_text(_text_octets(text)) if name in _TEXTS else text}" for name, text in pairs]
 
 
 def _zeros(number: int) -> List[Tuple[str, str]]:
-    """The members of an id, in the order of its dataField, with the values of one in which no bit is set."""
+    """The members of an id of this profile, in the order of its dataField, with the values of one in which no bit is set."""
+    if not name_by(library.ptpm_id_name, number):
+        return []
     for size in range(2, header.PTPM_MOST_READ, 2):
         pairs = _pairs(number, bytes(size))
         if _has_members(pairs):

@@ -299,6 +299,17 @@ class Texts(unittest.TestCase):
         self.assertEqual(ptpm.members(ptpm.ManagementId.PRIORITY1, bytes(4)), {})
         self.assertEqual(str(ptpm.Report(ptpm.ManagementId.PRIORITY1, bytes(4))), "value 00000000")
 
+    def test_members_of_ids_that_only_other_clocks_have(self) -> None:
+        # A CLOCK_DESCRIPTION (15.5.3.1.2) with a text that is no UTF-8, an address of four octets and one of none.
+        octets = bytes.fromhex("4000 0161 0004 0a000001 0001 0000 001b19 00 0262ff 00 00 001b19000100 00")
+        values = ptpm.members(1, octets)
+        self.assertEqual((values["clockType"], values["productDescription"], values["userDescription"]), (0x4000, "b\\xff", ""))
+        self.assertEqual((values["physicalAddress"], values["addressField"]), (bytes([10, 0, 0, 1]), b""))
+        path = ptpm.members(0x2015, bytes.fromhex("aabbccfffeddee01 0011223344556677"))["pathSequence"]
+        self.assertEqual(path, (ptpm.Identity.of("aabbccfffeddee01"), ptpm.Identity.of("0011223344556677")))
+        with self.assertRaisesRegex(ValueError, "as octets"):
+            ptpm.data_field(0x2013, 1)
+
     def test_values_have_the_types_of_their_members(self) -> None:
         octets = bytes.fromhex("4142434445464748" "0001" "0a" "ff" "0000000000018000" "01" "03" "00" "02" "02" "12")
         self.assertEqual(

@@ -16,8 +16,7 @@ id_name id = option_map (λ e. e.name) (row_of id)
 abbrev pub id_at : ℕ → Option ℕ
 id_at place = option_map (λ e. e.id) (slice_get id_table place)
 
--- an id that other clocks have and this profile lacks, and that is read by its members: its name, the one of a name, and the one at
--- a place
+-- ids that only other clocks have, and whose members are read: a name, the id of a name, and the id at a place
 abbrev pub other_id_name : ℕ → Option (List ℕ)
 other_id_name id = option_map other_name (other_of id)
 

@@ -3,7 +3,7 @@ use Rattle.std.specs.Prelude.{ℕ, ◌+◌, ◌*◌, ◌==◌, nat_le, Bool, ◌
 use Rattle.ptpm_members.specs.declared.description.DescriptionPart.{DescriptionPart}
 use Rattle.ptpm_members.specs.declared.description.DescriptionPart.TheVariants as parts
 
--- what is behind a text whose length comes first in an octet (5.3.9)
+-- what comes after a text whose length comes first in an octet (5.3.9)
 unfoldable pub behind_text : List ℕ → List ℕ
 behind_text [] = []
 behind_text (t ∷ xs) = drop t xs
@@ -14,7 +14,7 @@ counted [] = 0
 counted (a ∷ []) = 0
 counted (a ∷ b ∷ xs) = a * 256 + b
 
--- octets whose number comes first in two octets, and what is behind them
+-- octets whose number comes first in two octets, and what comes after them
 unfoldable pub counted_octets : List ℕ → List ℕ
 counted_octets octets = take (counted octets) (drop 2 octets)
 
@@ -35,7 +35,7 @@ network_on octets = behind_counted (physical_on octets)
 unfoldable pub manufacturer_on : List ℕ → List ℕ
 manufacturer_on octets = behind_counted (drop 2 (network_on octets))
 
--- behind three octets of the manufacturer and a reserved one
+-- after three octets of the manufacturer and a reserved one
 unfoldable pub product_on : List ℕ → List ℕ
 product_on octets = drop 4 (manufacturer_on octets)
 

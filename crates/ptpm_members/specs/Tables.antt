@@ -126,7 +126,7 @@ field_value f octets = form_value f.2 (drop f.1 octets)
 
 -- ---- what they are to say
 
--- the value of a member in data sets: of the clock, or of one of its ports; those of ids that are only read are not in them
+-- the value of a member in data sets: of the clock, or of one of its ports. The members of ids that are only read have none
 abbrev pub member_value : Member → Option ℕ → DataSetsValue → Option MemberValue
 member_value (members.DataSet member) None d = value_of (OfClock member) d
 member_value (members.DataSet member) (Some port) d = value_of (OfPort port member) d

@@ -20,7 +20,7 @@ pub enum DescriptionPart {
     ProfileIdentity,
 }
 
-/// Whether the octets are a CLOCK_DESCRIPTION: behind its texts and addresses there are the six octets of a profileIdentity, and
+/// Whether the octets are a CLOCK_DESCRIPTION: after its texts and addresses there are the six octets of a profileIdentity, and
 /// at most a pad octet.
 #[tactic(auto, unfolding(crate::specs::Description::is_clock_description))]
 pub(crate) fn is_clock_description(octets: &[u8]) -> bool
@@ -103,14 +103,14 @@ fn profile_on(octets: &[u8]) -> &[u8]
     behind_text(user_on(octets))
 }
 
-/// What is behind the first octets; nothing if there are fewer.
+/// What comes after the first octets; nothing if there are fewer.
 pub(crate) fn behind(count: usize, octets: &[u8]) -> &[u8]
     ensures { result.now ≡ drop count octets.now }
 {
     octets.get(count..).unwrap_or(&[])
 }
 
-/// What is behind a text whose length comes first in an octet (5.3.9).
+/// What comes after a text whose length comes first in an octet (5.3.9).
 #[tactic(auto, unfolding(crate::specs::Description::behind_text))]
 fn behind_text(octets: &[u8]) -> &[u8]
     ensures { result.now ≡ behind_text octets.now }
@@ -121,7 +121,7 @@ fn behind_text(octets: &[u8]) -> &[u8]
     }
 }
 
-/// What is behind octets whose number comes first in two octets.
+/// What comes after octets whose number comes first in two octets.
 #[tactic(auto, unfolding(crate::specs::Description::behind_counted))]
 fn behind_counted(octets: &[u8]) -> &[u8]
     ensures { result.now ≡ behind_counted octets.now }

@@ -36,6 +36,26 @@ static void run_id_name(char *words) {
     say_name(ptpm_id_name(id, (char *)room, octets));
 }
 
+/* `other-id NAME`, `other-id-name ID` and `other-ids`: the same for the ids that other clocks have. */
+static void run_other_id(char *words) {
+    uint32_t id = ptpm_other_id_named(words == NULL ? "" : words, words == NULL ? 0 : strlen(words));
+    if (id == PTPM_NO_ID) say("-\n");
+    else say("%04x\n", id);
+}
+
+static void run_other_id_name(char *words) {
+    size_t octets = next_room(&words, PTPM_MOST_NAME);
+    uint16_t id = next_hex(&words);
+    clear_room();
+    say_name(ptpm_other_id_name(id, (char *)room, octets));
+}
+
+static void run_other_ids(char *words) {
+    (void)words;
+    for (size_t place = 0; ptpm_other_id_at(place) != PTPM_NO_ID; place++) say("%s%04x", place == 0 ? "" : " ", ptpm_other_id_at(place));
+    say("\n");
+}
+
 static void run_answer_name(char *words) {
     clear_room();
     say_name(ptpm_answer_name((uint32_t)next_number(&words, 0), (char *)room, PTPM_MOST_NAME));
@@ -119,6 +139,7 @@ static void run_tokens(char *words) {
 
 const struct command text_commands[] = {
     { "id", run_id }, { "id-of", run_id_of }, { "id-name", run_id_name }, { "answer-name", run_answer_name }, { "error-name", run_error_name },
+    { "other-id", run_other_id }, { "other-id-name", run_other_id_name }, { "other-ids", run_other_ids },
     { "ids", run_ids }, { "text", run_text }, { "parse", run_parse }, { "raw", run_raw }, { "first", run_first },
     { "bucket", run_bucket }, { "tokens", run_tokens }, { NULL, NULL },
 };

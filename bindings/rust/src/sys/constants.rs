@@ -446,4 +446,4 @@ pub const PTPM_NO_ID: u32 = 65536;
 
 // The greatest counts and sizes.
 pub const PTPM_MOST_NAME: usize = 27;
-pub const PTPM_MOST_FIELD_TEXT: usize = 5065;
+pub const PTPM_MOST_FIELD_TEXT: usize = 5034;
