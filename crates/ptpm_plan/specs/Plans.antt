@@ -19,5 +19,5 @@ change_at place s (verdicts.Changes before after) = Some (record {
 change_at place s _ = None
 
 -- the change that a row is, if its member changes
-abbrev pub change_of : Row → Option Change
+unfoldable pub change_of : Row → Option Change
 change_of r = change_at r.place r.subject r.verdict

@@ -105,6 +105,7 @@ fn changes_of(alloc: Global, rows: &[Row]) -> Result<Vec<Change>, AllocError>
 }
 
 /// The change that a row is.
+#[tactic(auto, unfolding(crate::specs::Plans::change_of))]
 fn change_of(row: &Row) -> Option<Change>
     ensures { result ≡ change_of row.now }
 {
