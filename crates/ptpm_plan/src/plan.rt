@@ -1,7 +1,8 @@
 //! A plan: what becomes of each member that a file asks for, and the changes in the order in which they are asked.
 
-ghost use Rattle.std.specs.Prelude.{◌≡◌, [], IfOk, fold};
+ghost use Rattle.std.specs.Prelude.{◌≡◌, ◌++◌, [], IfOk, OnOk, fold};
 ghost use Rattle.std.specs.List.{filter_map};
+ghost use Rattle.std.specs.Option.{option_to_list};
 ghost use Rattle.ptpm_plan.specs.Asking.{rows_of_file, unnamed_of};
 ghost use Rattle.ptpm_plan.specs.Plans.{change_of};
 ghost use Rattle.ptpm_plan.specs.Rows.{with_row};
@@ -101,7 +102,21 @@ fn all_unnamed(
 fn changes_of(alloc: Global, rows: &[Row]) -> Result<Vec<Change>, AllocError>
     ensures { IfOk result (λ v. v.items ≡ filter_map change_of rows.now) }
 {
-    rows.iter().filter_map(|row| change_of(row)).collect(alloc)
+    let mut changes = Vec::new(alloc);
+    for row in rows {
+        add_change(row, &mut changes)?;
+    }
+    Ok(changes)
+}
+
+/// Adds the change that a row is, if it is one.
+fn add_change(row: &Row, changes: &mut Vec<Change>) -> Result<(), AllocError>
+    ensures { OnOk result (changes.new.items ≡ changes.old.items ++ option_to_list (change_of row.now)) }
+{
+    if let Some(change) = change_of(row) {
+        changes.push(change)?;
+    }
+    Ok(())
 }
 
 /// The change that a row is.
