@@ -191,6 +191,11 @@ pub(crate) const ALL: [FindingName; 35] = [
     },
 ];
 
+/// The place of a name among all; none if it is no finding's.
+pub(crate) fn rank_of(name: &str) -> Option<usize> {
+    ALL.iter().position(|one| one.name == name)
+}
+
 /// What is wrong with a clock that has a finding of this name, in words.
 pub(crate) fn meaning_of(name: &str) -> &'static str {
     for one in &ALL {

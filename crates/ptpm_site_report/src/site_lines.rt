@@ -1,6 +1,8 @@
 //! The answers among lines of datagrams.
 
+use crate::asked_domains::{AskedDomain, asked_domains};
 use crate::line_words::at_of;
+use crate::span::Span;
 use ptpm_commands::Fault;
 use ptpm_commands::lines::Lines;
 use ptpm_site::left_out::LeftOut;
@@ -8,21 +10,40 @@ use ptpm_site::site::Site;
 use std::alloc::Global;
 use std::io::Read;
 
-/// What is shown of the site of a reader's lines: no more than there is room for, and without the clocks that are gone. And how much
-/// there is no room for.
-pub(crate) fn read_shown<R: Read + Drop>(
-    alloc: Global,
-    reader: R,
-) -> Result<(Site, LeftOut), Fault> {
-    let mut site = read_site(alloc, reader)?;
-    let left_out = site.keep_first();
-    site.drop_gone(alloc).map_err(|_| Fault::OutOfMemory)?;
-    Ok((site, left_out))
+/// What lines show of a site.
+#[derive(Drop)]
+pub(crate) struct ShownSite {
+    /// No more clocks and ports than there is room for, and no clocks that are gone.
+    pub(crate) site: Site,
+    /// How much there is no room for.
+    pub(crate) left_out: LeftOut,
+    pub(crate) asked: Vec<AskedDomain>,
+    /// When the datagrams came. `None` if no line says it.
+    pub(crate) span: Option<Span>,
 }
 
-/// The site that the answers among a reader's lines make. A datagram that is no answer to one of the six is passed over; a
-/// line that is no datagram in hexadecimal is a fault.
-fn read_site<R: Read + Drop>(alloc: Global, reader: R) -> Result<Site, Fault> {
+/// What is shown of the site of a reader's lines.
+pub(crate) fn read_shown<R: Read + Drop>(alloc: Global, reader: R) -> Result<ShownSite, Fault> {
+    let mut span = None;
+    let mut site = read_site(alloc, reader, &mut span)?;
+    let asked = asked_domains(alloc, site.all_heard()).map_err(|_| Fault::OutOfMemory)?;
+    let left_out = site.keep_first();
+    site.drop_gone(alloc).map_err(|_| Fault::OutOfMemory)?;
+    Ok(ShownSite {
+        site,
+        left_out,
+        asked,
+        span,
+    })
+}
+
+/// The site that the answers among a reader's lines make, and when their datagrams came. A datagram that is no answer to one of
+/// the six is passed over; a line that is no datagram in hexadecimal is a fault.
+fn read_site<R: Read + Drop>(
+    alloc: Global,
+    reader: R,
+    span: &mut Option<Span>,
+) -> Result<Site, Fault> {
     let mut lines = Lines::new(alloc, reader)?;
     let mut site = Site::new(alloc);
     for number in 1..u64::MAX {
@@ -31,6 +52,7 @@ fn read_site<R: Read + Drop>(alloc: Global, reader: R) -> Result<Site, Fault> {
         }
         if let Some(datagram) = lines.datagram(alloc, number)? {
             let at = at_of(lines.text(number)?);
+            *span = Span::with(*span, at);
             site.take_datagram_at(alloc, at, datagram.as_slice())
                 .map_err(|_| Fault::OutOfMemory)?;
         }
