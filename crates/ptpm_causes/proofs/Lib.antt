@@ -1,0 +1,4 @@
+pub mod Answered
+pub mod Knowing
+pub mod Rooted
+pub mod Rules

@@ -1,0 +1,6 @@
+pub mod Chains
+pub mod Found
+pub mod Kinds
+pub mod Members
+pub mod Named
+pub mod Reasons

@@ -1,0 +1,88 @@
+//! The name of a finding at the clock where its line stands.
+
+ghost use Rattle.std.specs.Prelude.{◌≡◌};
+ghost use Rattle.ptpm_site.specs.Site.{site_answers};
+ghost use Rattle.ptpm_causes.specs.Named.{cause_in, is_of_giver, key, may_cause, named, place_of};
+
+use crate::kind::{Kind, kind_of};
+use ptpm_site::finding::{Finding, What};
+use ptpm_site::site::Site;
+use ptpm_site::source::Source;
+use ptpm_site::stay::is_faulty;
+use ptpm_site::tai_and_utc::OffByUtc;
+
+/// The name of a finding, and the clock at which it is printed.
+#[derive(Clone, Copy, PartialEq, Eq)]
+pub struct Cause {
+    pub kind: Kind,
+    pub source: Source,
+}
+
+/// By what causes are told apart.
+#[derive(Clone, Copy, PartialEq, Eq, PartialOrd, Ord)]
+pub(crate) struct Key {
+    rank: u8,
+    source: Source,
+}
+
+impl Cause {
+    pub(crate) fn key(self) -> Key
+        ensures { result ≡ key self }
+    {
+        Key {
+            rank: self.kind.rank(),
+            source: self.source,
+        }
+    }
+}
+
+/// The clock at which a finding is printed: a grandmaster that is not seen, in place of the clock that names it.
+fn place_of(source: Source, what: &What<'_>) -> Source
+    ensures { result ≡ place_of source what.now }
+{
+    match what {
+        What::GrandmasterNotSeen(clock) => source.beside(*clock),
+        _ => source,
+    }
+}
+
+/// The finding's own name and the clock at which its line stands.
+pub fn named(finding: &Finding<'_>) -> Cause
+    ensures { result ≡ named finding.now }
+{
+    Cause {
+        kind: kind_of(&finding.what),
+        source: place_of(finding.source, &finding.what),
+    }
+}
+
+/// Whether it shows at the clock that gives the wrong time to others.
+fn is_of_giver(how: OffByUtc) -> bool
+    ensures { result ≡ is_of_giver how }
+{
+    !matches!(how, OffByUtc::Offset(_))
+}
+
+/// Whether others may follow from what is wrong with a clock.
+fn may_cause(site: &Site, source: Source, what: &What<'_>) -> bool
+    ensures { result ≡ may_cause (site_answers site.now) source what.now }
+{
+    match what {
+        What::PortState(_, stay) => is_faulty(stay.state),
+        What::NotAsExpected(_) => false,
+        What::OffByUtc(how) => is_of_giver(*how),
+        What::Changed(..) => site.is_own_grandmaster(source),
+        _ => true,
+    }
+}
+
+/// The name under which others may follow from a finding.
+pub(crate) fn cause_in(site: &Site, finding: &Finding<'_>) -> Option<Cause>
+    ensures { result ≡ cause_in (site_answers site.now) finding.now }
+{
+    if may_cause(site, finding.source, &finding.what) {
+        Some(named(finding))
+    } else {
+        None
+    }
+}
