@@ -85,6 +85,11 @@ lines_in() { while IFS= read -r line; do grep -qF -- "$line" "$1" || echo "not i
 short() { sed 's/020000fffe0000/#/g'; }
 findings() { sed -n '/^"\{0,1\}findings/,$p' | sed '/^open: /,$d; s/ "clock"$//' | short; }
 
+# Of what `ptpm site --json` prints: each finding that follows, and from which.
+followers() {
+    short | sed -n 's/.*"because":{"clockIdentity":"\([^"]*\)","finding":"\([^"]*\)"},"clockIdentity":"\([^"]*\)".*"finding":"\([^"]*\)".*/\4 \3 < \2 \1/p'
+}
+
 # play NETWORK: runs the events on standard input in a network of data/ and prints what each did. Its trace is then in the file
 # trace.
 play() { { cat "data/$1.network" && echo %% && cat; } | ptpm run > trace && outcomes < trace; }

@@ -142,7 +142,7 @@ reason_there site known s (what.NotLocked port x) = there known (at kinds.Interv
 reason_there site known s (what.OffByUtc how) = there_offset site known s how
 reason_there site known s (what.Degraded x) = there known (at kinds.TwoGrandmasters s ∷ [])
 reason_there site known s (what.GrandmasterChanged change) =
-    if_holds known.among (is_by_itself known s change) (first_of known (at kinds.Intervals s ∷ at kinds.NotLocked s ∷ at kinds.NoMaster s ∷ [])) None (there known (at kinds.Intervals s ∷ at kinds.NotLocked s ∷ at kinds.NoMaster s ∷ [])) refl
+    if_holds known.among (is_by_itself known s change) (first_of known (at kinds.Intervals s ∷ at kinds.NoMaster s ∷ at kinds.NotLocked s ∷ [])) None (there known (at kinds.Intervals s ∷ at kinds.NoMaster s ∷ at kinds.NotLocked s ∷ [])) refl
 reason_there site known s (what.Changed port change) =
     of_change known s known.among site change.member (there known (at kinds.IdentityTwice s ∷ [])) (λ g. there known (at kinds.GrandmasterChanged g ∷ at kinds.GrandmasterChanged s ∷ []))
     (there known (at kinds.Holdover s ∷ at kinds.Degraded s ∷ at kinds.FreeRunning s ∷ [])) (λ g h. there known (at kinds.Changed g ∷ []))
@@ -190,7 +190,7 @@ reason_falls site known s (what.NotLocked port x) h = passes (below 11) known (a
 reason_falls site known s (what.OffByUtc how) h = falls_offset site known s how h
 reason_falls site known s (what.Degraded x) h = falls_degraded known s x.degradation
 reason_falls site known s (what.GrandmasterChanged change) h =
-    if_holds (below 15) (is_by_itself known s change) (first_of known (at kinds.Intervals s ∷ at kinds.NotLocked s ∷ at kinds.NoMaster s ∷ [])) None (passes (below 15) known (at kinds.Intervals s ∷ at kinds.NotLocked s ∷ at kinds.NoMaster s ∷ []) refl) refl
+    if_holds (below 15) (is_by_itself known s change) (first_of known (at kinds.Intervals s ∷ at kinds.NoMaster s ∷ at kinds.NotLocked s ∷ [])) None (passes (below 15) known (at kinds.Intervals s ∷ at kinds.NoMaster s ∷ at kinds.NotLocked s ∷ []) refl) refl
 reason_falls site known s (what.Changed port change) h =
     of_change known s (below 16) site change.member (passes (below 16) known (at kinds.IdentityTwice s ∷ []) refl) (λ g. passes (below 16) known (at kinds.GrandmasterChanged g ∷ at kinds.GrandmasterChanged s ∷ []) refl)
     (passes (below 16) known (at kinds.Holdover s ∷ at kinds.Degraded s ∷ at kinds.FreeRunning s ∷ []) refl) (λ g k. differ (is_own_grandmaster site s) h k)

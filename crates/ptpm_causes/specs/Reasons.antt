@@ -91,7 +91,7 @@ is_by_itself known s change =
 abbrev pub handover_cause : Knowledge → Source → GrandmasterChange → Option Cause
 handover_cause known s change =
     if is_by_itself known s change
-    then first_of known (at kinds.Intervals s ∷ at kinds.NotLocked s ∷ at kinds.NoMaster s ∷ []) else None
+    then first_of known (at kinds.Intervals s ∷ at kinds.NoMaster s ∷ at kinds.NotLocked s ∷ []) else None
 
 -- by a change of its grandmaster, shown at that one or at the clock
 abbrev pub moved_cause : Knowledge → Source → Member → Source → Option Cause

@@ -151,8 +151,8 @@ impl Found {
         if self.is_by_itself(source, change) {
             self.first_of(&[
                 at(Kind::Intervals, source),
-                at(Kind::NotLocked, source),
                 at(Kind::NoMaster, source),
+                at(Kind::NotLocked, source),
             ])
         } else {
             None
