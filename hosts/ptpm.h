@@ -247,20 +247,20 @@ enum {
     PTPM_CHANGED_LOG_MIN_PDELAY = PTPM_CHANGED_PORT_LOG_MIN_PDELAY
 };
 
-/* What a device is asked to do (ptpm_clock_ask). All zeros if it is nothing. */
+/* What a device is asked (ptpm_clock_ask): to carry out a SET or a COMMAND, or for the value of a GET. All zeros if it is nothing. */
 struct ptpm_question {
     uint8_t manager[8];                 /* sourcePortIdentity of the request: the clock, and the port */
     uint16_t manager_port;
     uint16_t number;                    /* sequenceId */
     uint16_t id;                        /* managementId */
     uint16_t port;                      /* portNumber of the target; 0xFFFF is every port */
-    uint16_t size;                      /* of the dataField; 0 for a COMMAND */
-    uint8_t action;                     /* PTPM_SET or PTPM_COMMAND */
-    uint8_t octets[130];                /* the dataField, and zeros after it */
+    uint16_t size;                      /* of the dataField of a SET; 0 for a GET and a COMMAND */
+    uint8_t action;                     /* PTPM_GET, PTPM_SET or PTPM_COMMAND */
+    uint8_t octets[130];                /* the dataField of a SET, and zeros after it */
 };
 
-/* What a device says of a request. Any other kind is refused with PTPM_BAD_SAY; 2 is reserved. */
-enum { PTPM_AGREES = 0, PTPM_OBJECTS = 1 };
+/* What a device says of a request. Any other kind is refused with PTPM_BAD_SAY. */
+enum { PTPM_AGREES = 0, PTPM_OBJECTS = 1, PTPM_GIVES = 2 };
 
 /* The errors that a device may give (15.5.4.3). */
 enum {
@@ -270,9 +270,9 @@ enum {
 /* What a device says of a datagram (ptpm_clock_handle_said). All zeros: it agrees, or has nothing to say. */
 struct ptpm_say {
     uint16_t error;                     /* with PTPM_OBJECTS: one of the four */
-    uint16_t size;                      /* reserved: it does not count */
-    uint8_t kind;                       /* PTPM_AGREES or PTPM_OBJECTS */
-    uint8_t octets[1418];               /* reserved, too */
+    uint16_t size;                      /* with PTPM_GIVES: of the dataField, even, and 1,418 at most */
+    uint8_t kind;                       /* PTPM_AGREES, PTPM_OBJECTS or PTPM_GIVES */
+    uint8_t octets[1418];               /* with PTPM_GIVES: the dataField */
 };
 
 /* The values that the hardware of a device has, of an id at a port (ptpm_limits_say). They are values of the first octet of the
@@ -423,6 +423,9 @@ PTPM_HAS_SIZE(ptpm_handed, 24);
 enum { PTPM_MOST_SENT = 15, PTPM_MOST_READ = 130, PTPM_MOST_OCTETS = 1472, PTPM_SESSION_IMAGE_OCTETS = 1478 };
 enum { PTPM_CLOCK_IMAGE_OCTETS = 27185 };
 
+/* The most octets of the image of a clock with this number of ports, and this of managers. */
+#define PTPM_CLOCK_IMAGE_BOUND(ports, managers) (217 + 15 * (ports) + 1678 * (managers))
+
 /* How many octets a seal has. It comes after an image. */
 enum { PTPM_SEAL_OCTETS = 16 };
 
@@ -558,14 +561,15 @@ __extension__ enum PTPM_FOUR_OCTETS(ptpm_handled) {
     PTPM_HANDLE_NO_ROOM = PTPM_NO_ROOM, /* for fewer than PTPM_MOST_SENT messages */
     PTPM_HANDLE_NO_MEMORY = PTPM_NO_MEMORY,
     PTPM_HANDLE_UNSAVED = PTPM_UNSAVED,
-    PTPM_BAD_SAY = 121,                 /* it is of another kind, or has an error that no device gives */
-    PTPM_CANT_OBJECT = 122              /* a clock that saves (ptpm_clock_saving) takes no objection */
+    PTPM_BAD_SAY = 121,                 /* it is of another kind, has an error that no device gives, or gives what is no dataField */
+    PTPM_CANT_OBJECT = 122              /* a clock that saves (ptpm_clock_saving) takes no objection, and no value */
 };
 
 /* ptpm_clock_ask. */
 __extension__ enum PTPM_FOUR_OCTETS(ptpm_asking) {
     PTPM_ASKED_NOTHING = 0,
     PTPM_ASKED_CHANGE = 29,             /* a new SET or COMMAND of a manager, which the clock itself does not refuse */
+    PTPM_ASKED_VALUE = 30,              /* a GET that would be answered, of an id that the clock lacks */
     PTPM_ASKING_NO_CLOCK = PTPM_NO_CLOCK,
     PTPM_ASKING_NO_PORT = PTPM_NO_PORT
 };
@@ -807,8 +811,8 @@ static inline bool ptpm_is_refusal(uint32_t answer) { return answer >= 32; }
 uint32_t ptpm_version(void);
 
 /* Compares the sizes of a caller's structs with those of the library, so that a header of another version is found.
-   Takes:   count sizes: those that ptpm_header_agrees below passes, in its order. ptpm_question, ptpm_say and ptpm_limit are not
-            among them.
+   Takes:   count sizes: those that ptpm_header_agrees below passes, in its order; or the first 18 of them, as an earlier header of
+            this version does.
    Returns: PTPM_STARTED if the library has these structs, of these sizes; or PTPM_OTHER_SIZES. */
 enum ptpm_started ptpm_sizes_agree(const size_t *sizes, size_t count);
 
@@ -819,7 +823,8 @@ static inline enum ptpm_started ptpm_header_agrees(void) {
         sizeof(struct ptpm_observed_clock), sizeof(struct ptpm_observed_port), sizeof(struct ptpm_manager_settings),
         sizeof(struct ptpm_sent), sizeof(struct ptpm_changed), sizeof(struct ptpm_session), sizeof(struct ptpm_session_settings),
         sizeof(struct ptpm_survey), sizeof(struct ptpm_survey_settings), sizeof(struct ptpm_source), sizeof(struct ptpm_passed_on),
-        sizeof(struct ptpm_rate), sizeof(struct ptpm_asker), sizeof(struct ptpm_asker_settings), sizeof(struct ptpm_handed)
+        sizeof(struct ptpm_rate), sizeof(struct ptpm_asker), sizeof(struct ptpm_asker_settings), sizeof(struct ptpm_handed),
+        sizeof(struct ptpm_question), sizeof(struct ptpm_say), sizeof(struct ptpm_limit)
     };
     return ptpm_sizes_agree(sizes, sizeof sizes / sizeof *sizes);
 }
@@ -878,17 +883,19 @@ enum ptpm_handled ptpm_clock_handle_changed(struct ptpm_clock *clock, uint16_t p
 /* Says what a datagram would have the device do, if it came in now at this port. Nothing changes. Between this call and
    ptpm_clock_handle_said anything may happen: that call judges the datagram again.
    Takes:   the port, counted from 1; size octets.
-   Returns: PTPM_ASKED_CHANGE; PTPM_ASKED_NOTHING for any other datagram; or PTPM_NO_CLOCK or PTPM_NO_PORT. A clock that saves
-            (ptpm_clock_saving) asks nothing while something is unsaved.
-   Writes:  *asked; all zeros unless PTPM_ASKED_CHANGE is returned.
-   Caller:  writes the change to its hardware, if that can do it. It does so in a way that may be done twice. If power fails before
-            the clock is saved, the request comes again, and is new. */
+   Returns: PTPM_ASKED_CHANGE or PTPM_ASKED_VALUE; PTPM_ASKED_NOTHING for any other datagram; or PTPM_NO_CLOCK or PTPM_NO_PORT. A
+            clock that saves (ptpm_clock_saving) asks nothing while something is unsaved.
+   Writes:  *asked; all zeros unless one of the first two is returned.
+   Caller:  writes a change to its hardware, if that can do it. It does so in a way that may be done twice. If power fails before
+            the clock is saved, the request comes again, and is new. It looks a value up in a list of its own. */
 enum ptpm_asking ptpm_clock_ask(const struct ptpm_clock *clock, uint16_t port, const uint8_t *datagram, size_t size,
                                 struct ptpm_question *asked);
 
 /* Like ptpm_clock_handle_changed, with what the device says. If it objects where ptpm_clock_ask would return PTPM_ASKED_CHANGE, the
-   request is answered and kept with that error, and no member changes. Each later copy gets that answer. If the device is not
-   asked, what it says does not count.
+   request is answered and kept with that error, and no member changes. If it gives a value where ptpm_clock_ask would return
+   PTPM_ASKED_VALUE, this is the answer of the clock. To the GET of a manager it has 130 octets at most, since it is kept. A longer
+   one is answered with RESPONSE_TOO_BIG (1), and that is kept. To any other GET it has 1,418 at most, and nothing is kept. Each later
+   copy of what is kept gets that answer. If the device is not asked, what it says does not count.
    Takes:   what ptpm_clock_handle_changed takes, and *say.
    Returns: what ptpm_clock_handle returns; or PTPM_BAD_SAY after PTPM_NO_CLOCK, PTPM_NO_PORT and PTPM_NO_ROOM. A clock that saves
             (ptpm_clock_saving) refuses anything but PTPM_AGREES with PTPM_CANT_OBJECT, before any other reason.
@@ -943,7 +950,8 @@ enum ptpm_read ptpm_clock_read(const struct ptpm_clock *clock, uint16_t id, uint
 /* Makes the clock's image: what a host saves before it sends the messages of an answer PTPM_ANSWERED_NEW. From it the clock
    continues after a restart. It has the clock's data sets, the latest request of each manager and the reply to it. The managers
    and what each of them may change are not in it.
-   Takes:   room octets; PTPM_CLOCK_IMAGE_OCTETS are enough for every clock.
+   Takes:   room octets; PTPM_CLOCK_IMAGE_OCTETS are enough for every clock, and PTPM_CLOCK_IMAGE_BOUND for one whose ports and
+            managers are known.
    Returns: PTPM_SAVED, or why not.
    Writes:  *size, and that number of octets from octets on: the image. If the call is refused, *size is 0 and no octet is written. */
 enum ptpm_saved ptpm_clock_image(const struct ptpm_clock *clock, uint8_t *octets, size_t room, size_t *size);
@@ -1376,6 +1384,12 @@ uint32_t ptpm_id_at(size_t place);
    Writes:  as many octets from text on: the name, with no zero after it. */
 size_t ptpm_id_name(uint16_t id, char *text, size_t room);
 
+/* The same three for the managementIds that other clocks have and this profile lacks, and whose dataFields ptpm_field_text writes by
+   their members: five of the standard, such as CLOCK_DESCRIPTION, and five of linuxptp, such as TIME_STATUS_NP. */
+uint32_t ptpm_other_id_named(const char *name, size_t size);
+uint32_t ptpm_other_id_at(size_t place);
+size_t ptpm_other_id_name(uint16_t id, char *text, size_t room);
+
 /* Gives the name of the number that a call returned, such as NO_ROOM for PTPM_NO_ROOM. 0 has none, since each call returns it.
    Takes:   the number; and room octets, for which PTPM_MOST_NAME is enough.
    Returns: how many octets the name has; 0 if the number has none, or room is too small for the whole name.
@@ -1390,11 +1404,12 @@ size_t ptpm_answer_name(uint32_t number, char *text, size_t room);
 size_t ptpm_error_name(uint16_t error, char *text, size_t room);
 
 /* The most octets that ptpm_field_text writes, of a dataField that a message can have. */
-enum { PTPM_MOST_FIELD_TEXT = 2843 };
+enum { PTPM_MOST_FIELD_TEXT = 5065 };
 
 /* Gives the members of a dataField as text, one per line: its name in the standard (15.5.3), a space and its value, such as
    "priority1 128". How each kind of value is written is in docs/ptpm.md. There is only one line if the octets are no dataField
-   of the id, or it has no member. That is "value" and the octets in hexadecimal, or "value -" for none.
+   of the id, or it has no member. That is "value" and the octets in hexadecimal, or "value -" for none. The id may be one of
+   ptpm_other_id_at too.
    Takes:   the managementId; a dataField of size octets; and room octets, for which PTPM_MOST_FIELD_TEXT is enough.
    Returns: how many octets the lines have; 0 if room is too small for all of them.
    Writes:  as many octets from text on: each line with its newline, and no zero after the last. If it returns 0, anything may be

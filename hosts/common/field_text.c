@@ -7,6 +7,10 @@ void start_lines(struct field_lines *lines, uint16_t id, const uint8_t *octets, 
 }
 
 void start_members(struct field_lines *lines, uint16_t id) {
+    char name[PTPM_MOST_NAME];
+    *lines->text = '\0';
+    lines->rest = lines->text;
+    if (ptpm_id_name(id, name, sizeof name) == 0) return;
     static const uint8_t zeros[PTPM_MOST_READ];
     for (size_t size = 2; size < sizeof zeros; size += 2) {
         start_lines(lines, id, zeros, size);

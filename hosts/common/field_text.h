@@ -17,7 +17,8 @@ struct field_lines { char text[PTPM_MOST_FIELD_TEXT + 1], *rest; };
 /* Takes the members of a dataField. */
 void start_lines(struct field_lines *lines, uint16_t id, const uint8_t *octets, size_t size);
 
-/* Takes the members of an id, with the values of a dataField in which no bit is set. There is none if the id has no dataField. */
+/* Takes the members of an id of this profile, with the values of a dataField in which no bit is set. There is none if the id has no
+   dataField. */
 void start_members(struct field_lines *lines, uint16_t id);
 
 /* The next member; whether there is one. Its texts stay until the lines are started again. */

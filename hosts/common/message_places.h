@@ -17,6 +17,7 @@ enum {
     HOPS_AT = 45,               /* boundaryHops */
     ACTION_AT = 46,             /* actionField, in the lower half */
     TLV_AT = 48,                /* tlvType */
+    ID_AT = 52,                 /* managementId */
     FIELD_AT = 54,              /* dataField */
     LEAST_MESSAGE = FIELD_AT    /* how many octets a management message with one TLV has at least */
 };

@@ -21,6 +21,17 @@ const char *id_name(uint16_t id) {
     return *name != '\0' ? name : NULL;
 }
 
+long read_id_named(const char *text) {
+    uint32_t id = ptpm_other_id_named(text, strlen(text));
+    return id != PTPM_NO_ID ? (long)id : id_named(text);
+}
+
+const char *read_id_name(uint16_t id) {
+    static char name[PTPM_MOST_NAME + 1];
+    name[ptpm_other_id_name(id, name, PTPM_MOST_NAME)] = '\0';
+    return *name != '\0' ? name : id_name(id);
+}
+
 const char *error_name(uint16_t error) {
     static char name[PTPM_MOST_NAME + 1];
     name[ptpm_error_name(error, name, PTPM_MOST_NAME)] = '\0';

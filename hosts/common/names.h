@@ -12,6 +12,12 @@ long id_named(const char *text);
 /* The name of a managementId of this profile; NULL if it has none. */
 const char *id_name(uint16_t id);
 
+/* The same for a GET: also that of an id that only other clocks have, and whose dataField the library reads by its members. */
+long read_id_named(const char *text);
+
+/* The name of such an id too. */
+const char *read_id_name(uint16_t id);
+
 /* The name of a managementErrorId (15.5.4.3); NULL if the standard has none. */
 const char *error_name(uint16_t error);
 

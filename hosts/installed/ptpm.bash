@@ -95,11 +95,14 @@ _ptpm_manage() {
     esac
 }
 
-# What is no option is an interface, except the first, the clock's identity.
+# What is no option is an interface, except the first, the clock's identity, and the file that is the second word of --give.
 _ptpm_clock() {
     case ${COMP_WORDS[COMP_CWORD]} in
     -*) _ptpm_offer_lines < <(_ptpm_options ptpm-clock) ;;
-    *) _ptpm_takes ptpm-clock "${COMP_WORDS[COMP_CWORD - 1]}" || _ptpm_offer_interfaces ;;
+    *)
+        [[ $COMP_CWORD -gt 2 && ${COMP_WORDS[COMP_CWORD - 2]} = --give ]] ||
+            _ptpm_takes ptpm-clock "${COMP_WORDS[COMP_CWORD - 1]}" || _ptpm_offer_interfaces
+        ;;
     esac
 }
 

@@ -11,6 +11,7 @@
 #include "peers.h"
 #include "saving.h"
 #include "unicast.h"
+#include "values.h"
 #include "words.h"
 #include <errno.h>
 #include <stdbool.h>
@@ -155,11 +156,12 @@ static inline unsigned long hand_on(const struct heard *heard, const struct port
 }
 
 /* A turn with what the device says. A change that its program agreed to is not overtaken, since no other is taken meanwhile. */
-static enum ptpm_handled hand_in_said(uint16_t ingress, const struct heard *heard, const struct ptpm_say *say,
-                                      struct ptpm_sent *places, size_t *count, struct ptpm_changed *changed) {
-    enum ptpm_handled answer = ptpm_clock_handle_said(&clock_held, ingress, heard->octets, heard->size, say, places, PTPM_MOST_SENT,
-                                                      count, changed);
-    if (answer != PTPM_ANSWERED_NEW) say_at_times("a change that the device has decided is not made: %s", answer_name(answer));
+static enum ptpm_handled hand_in_said(struct ptpm_clock *clock, uint16_t ingress, const struct heard *heard,
+                                      const struct ptpm_say *say, struct ptpm_sent *places, size_t *count,
+                                      struct ptpm_changed *changed) {
+    enum ptpm_handled answer = ptpm_clock_handle_said(clock, ingress, heard->octets, heard->size, say, places, PTPM_MOST_SENT, count,
+                                                      changed);
+    if (say->kind != PTPM_GIVES && answer != PTPM_ANSWERED_NEW) say_at_times("a change that the device has decided is not made: %s", answer_name(answer));
     return answer;
 }
 
@@ -168,7 +170,7 @@ static unsigned long take_verbose_turn(const struct heard *heard, const struct p
                                        const struct ptpm_say *say, struct ptpm_sent *places) {
     struct ptpm_changed changed;
     size_t count, left;
-    enum ptpm_handled answer = say != NULL ? hand_in_said(ingress, heard, say, places, &count, &changed)
+    enum ptpm_handled answer = say != NULL ? hand_in_said(&clock_held, ingress, heard, say, places, &count, &changed)
                                            : ptpm_clock_handle_changed(&clock_held, ingress, heard->octets, heard->size, places,
                                                                        PTPM_MOST_SENT, &count, &changed);
     unsigned long lost = hand_on(heard, port, ingress, answer, places, count, &left);
@@ -202,9 +204,10 @@ static unsigned long take_turn(struct heard *heard, const struct port *port, con
         count_dropped(send_saved());
         places = places_to_send();
     }
-    if (options->is_verbose) return take_verbose_turn(heard, port, ingress, say, places);
     struct ptpm_clock *clock = is_saving ? &clock_before : &clock_held;
-    enum ptpm_handled answer = say != NULL ? hand_in_said(ingress, heard, say, places, &count, &changed)
+    if (has_values && say == NULL) say = value_to_give(clock, ingress, heard);
+    if (options->is_verbose) return take_verbose_turn(heard, port, ingress, say, places);
+    enum ptpm_handled answer = say != NULL ? hand_in_said(clock, ingress, heard, say, places, &count, &changed)
                                            : ptpm_clock_handle(clock, ingress, heard->octets, heard->size, places, PTPM_MOST_SENT,
                                                                &count);
     if (is_saving && answer == PTPM_ANSWERED_NEW) return count;         /* nobody is shown what is not saved */

@@ -24,6 +24,7 @@
 #include "service.h"
 #include "source.h"
 #include "unicast.h"
+#include "values.h"
 #include "waking.h"
 #include <errno.h>
 #include <stdbool.h>
@@ -182,6 +183,7 @@ int main(int argc, char **argv) {
     let_go_of_rights(&options.privileges, needs());
     if (options.source != NULL) source = open_source(&observations, options.source);
     start_device(&options);
+    start_values(&options);
     check_device_program();
     start_limits(&options.limits);
     filter_calls(&options.privileges);

@@ -1,6 +1,7 @@
 #define _GNU_SOURCE
 #include "options.h"
 #include "monotonic.h"
+#include "names.h"
 #include "output.h"
 #include "program.h"
 #include "words.h"
@@ -21,7 +22,7 @@ enum { SECOND = 1000, HOPS_AT_FIRST = 8, RATE_AT_FIRST = 1000, MANAGER_RATE_AT_F
        ASK_TIME_AT_FIRST = 10, MOST_ASK_TIME = 3600 };
 
 /* Options without a letter of their own. */
-enum { VERSION = 256, HOPS, RATE, MANAGER_RATE, NO_FORWARD, ANY_SOURCE, USER, UNIX_GROUP, UNIX_MODE, NO_FILTER, LIMITS, ASK, ASK_TIME };
+enum { VERSION = 256, HOPS, RATE, MANAGER_RATE, NO_FORWARD, ANY_SOURCE, USER, UNIX_GROUP, UNIX_MODE, NO_FILTER, LIMITS, ASK, ASK_TIME, GIVE };
 
 static const struct option names[] = {
     { "ipv6", no_argument, NULL, '6' }, { "ethernet", no_argument, NULL, '2' }, { "hops", required_argument, NULL, HOPS },
@@ -30,7 +31,7 @@ static const struct option names[] = {
     { "any-source", no_argument, NULL, ANY_SOURCE }, { "user", required_argument, NULL, USER },
     { "unix-group", required_argument, NULL, UNIX_GROUP }, { "unix-mode", required_argument, NULL, UNIX_MODE },
     { "limits", required_argument, NULL, LIMITS }, { "ask", required_argument, NULL, ASK },
-    { "ask-time", required_argument, NULL, ASK_TIME },
+    { "ask-time", required_argument, NULL, ASK_TIME }, { "give", required_argument, NULL, GIVE },
     { "no-filter", no_argument, NULL, NO_FILTER }, { "state", required_argument, NULL, 's' }, { "help", no_argument, NULL, 'h' },
     { "version", no_argument, NULL, VERSION }, { NULL, 0, NULL, 0 },
 };
@@ -68,6 +69,8 @@ static const char help[] =
     "  --ask PROGRAM       a program of the device, which is run for each change that a manager asks for, and agrees by\n"
     "                      status 0. Its words are MANAGER NUMBER set|command ID NAME PORT|all OCTETS [MEMBER VALUE]..\n"
     "  --ask-time SECONDS  how long it may take (10); then the change counts as lost\n"
+    "  --give ID FILE      the octets of FILE are the answer to a GET of ID, which the clock itself lacks. ID is four\n"
+    "                      hexadecimal digits, such as 0001 of CLOCK_DESCRIPTION. FILE is read at each GET\n"
     "  -n SECONDS          it ends by itself then\n"
     "  -v                  a line for each datagram that it hears, and one for what it changed\n"
     "  --user NAME         the user that it becomes once its sockets are open. Root becomes ptpm if there is such a user,\n"
@@ -161,6 +164,19 @@ static const char *program_path(void) {
     return optarg;
 }
 
+/* An id and the file of its value, which are two words. */
+static void take_value(struct options *options, char *const *rest) {
+    long id = id_named(optarg);
+    if (id < 0) refuse_command_line("--give %s: it takes a managementId, such as 0001", optarg);
+    if (id_name((uint16_t)id) != NULL) refuse_command_line("--give %s: the clock has a value of its own", optarg);
+    if (rest[optind] == NULL) refuse_command_line("--give %s: the file of its value is missing", optarg);
+    if (options->value_count == VALUES) refuse_command_line("--give: 64 ids at most");
+    for (size_t i = 0; i < options->value_count; i++) {
+        if (options->values[i].id == id) refuse_command_line("--give %s: the id is given twice", optarg);
+    }
+    options->values[options->value_count++] = (struct value){ (uint16_t)id, rest[optind++] };
+}
+
 /* Options of what the host is to do. */
 static void take_limit(struct options *options, int option) {
     switch (option) {
@@ -180,8 +196,9 @@ static void take_limit(struct options *options, int option) {
     }
 }
 
-static void take_option(struct options *options, int option) {
+static void take_option(struct options *options, int option, char *const *words) {
     switch (option) {
+    case GIVE: take_value(options, words); break;
     case '2': options->transport = ETHERNET; break;
     case '6': options->transport = UDP_IPV6; break;
     case 'f': options->limits.is_passed_on_from_host = true; break;
@@ -247,7 +264,7 @@ void read_options(struct options *options, int argc, char **argv) {
     for (int option; (option = getopt_long(argc, argv, "26fu:m:d:s:o:n:vh", names, NULL)) != -1;) {
         has_two |= option == '2';
         has_six |= option == '6';
-        take_option(options, option);
+        take_option(options, option, argv);
     }
     if (optind == argc) refuse_command_line("the clock's identity is missing");
     const char *rest = identity_at(argv[optind], options->settings.identity);

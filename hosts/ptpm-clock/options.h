@@ -10,7 +10,10 @@
 #include <stdbool.h>
 #include <stdint.h>
 
-enum { MANAGERS = 16 };
+enum { MANAGERS = 16, VALUES = 64 };
+
+/* An id that the clock lacks, and the file that has its value. */
+struct value { uint16_t id; const char *path; };
 
 struct options {
     struct ptpm_clock_settings settings;
@@ -27,6 +30,8 @@ struct options {
     const char *limits_file;            /* the values that the hardware has, or NULL */
     const char *device_program;         /* the program that is asked for each change, or NULL, and how many seconds it may take */
     long device_seconds;
+    struct value values[VALUES];
+    size_t value_count;
     const char *source;                 /* what the clock observes: a file, a pipe, or NULL */
     bool is_verbose;                    /* a line for each datagram */
     int64_t end;                        /* when it ends by itself, in milliseconds; 0 if it doesn't */

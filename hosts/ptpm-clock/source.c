@@ -28,7 +28,7 @@ static bool is_readable(const char *path, int file, struct stat *found) {
     return (found->st_mode & S_IROTH) != 0 || (may_choose(&name, found) && may_choose(&parent, found));
 }
 
-static int open_file(const char *path, struct stat *found) {
+int open_to_read(const char *path, struct stat *found) {
     int file = open(path, O_RDONLY | O_NONBLOCK | O_CLOEXEC);
     if (file < 0 || is_readable(path, file, found)) return file;
     close(file);
@@ -64,7 +64,7 @@ static mode_t start_source(struct source *source, const char *path) {
     source->path = path;
     source->is_first = true;
     source->of_path.number = source->of_target.number = -1;
-    source->polled = open_file(path, &found);
+    source->polled = open_to_read(path, &found);
     if (source->polled < 0) give_up(path);
     source->is_pipe = S_ISFIFO(found.st_mode);
     return found.st_mode;
@@ -128,7 +128,7 @@ bool follow_source(struct source *source) {
 
 static void read_file(struct source *source) {
     struct stat found;
-    int file = open_file(source->path, &found);
+    int file = open_to_read(source->path, &found);
     ssize_t count = -1;
     size_t size = 0;
     while (file >= 0 && (count = read(file, source->held + size, SOURCE_ROOM - size)) > 0) size += (size_t)count;
@@ -148,7 +148,7 @@ static void read_file(struct source *source) {
 /* If another thing, or nothing, is at the path by now, there is nothing to poll any more. */
 static void open_again(struct source *source) {
     struct stat found;
-    int again = open_file(source->path, &found);
+    int again = open_to_read(source->path, &found);
     bool is_there = again >= 0 && S_ISFIFO(found.st_mode);
     if (!is_there) complain(source, "the pipe is gone, and nothing more is observed");
     if (!is_there && again >= 0) close(again);

@@ -5,6 +5,7 @@
 #include <limits.h>
 #include <stdbool.h>
 #include <stddef.h>
+#include <sys/stat.h>
 #include <sys/types.h>
 
 enum { SOURCE_ROOM = 65536 };
@@ -24,6 +25,11 @@ struct source {
     char held[SOURCE_ROOM + 1];         /* what has come in and is not taken yet: `size` octets from `first` on. `searched` of them
                                            have no empty line, and `taken` were the latest text */
 };
+
+/* Opens a file to be read, without waiting, and what it is; -1 if it can't, by errno. If not everybody may read
+   it, it has to be one that this program, root or its owner may choose. In a folder of others its name may lead to a file that
+   they can't read. */
+int open_to_read(const char *path, struct stat *found);
 
 /* Opens it, and returns what is to be polled. Ends the program with status 2 if there is no such file or pipe. */
 int open_source(struct source *source, const char *path);

@@ -29,7 +29,7 @@ void print_answer(FILE *to, const struct task *task, const char *lead, const str
 /* Who answers what: the head of the object. */
 static void print_source_as_json(FILE *to, const struct task *task, const struct ptpm_source *source) {
     char clock[IDENTITY_TEXT];
-    const char *id = id_name(task->id);
+    const char *id = read_id_name(task->id);
     write_identity(clock, source->clock);
     fprintf(to, "{\"domainNumber\":%u,\"clockIdentity\":\"%s\",\"portNumber\":", task->settings.domain, clock);
     if (source->port == 0) fputs("null", to);
@@ -70,22 +70,71 @@ void print_octets(FILE *to, const char *lead, const uint8_t *octets, size_t size
     putc('\n', to);
 }
 
+static bool is_one_of(const struct member *member, const char *const *names) {
+    while (*names != NULL && !is_named(member, *names)) names++;
+    return *names != NULL;
+}
+
 /* Whether the member is a text, a PTPText (5.3.9). Its characters are printed as the locale has them. */
-static bool is_text(const struct member *member) { return is_named(member, "userDescription"); }
+static bool is_text(const struct member *member) {
+    static const char *const texts[] = {
+        "userDescription", "physicalLayerProtocol", "productDescription", "revisionData", "interface", NULL,
+    };
+    return is_one_of(member, texts);
+}
+
+enum { MOST_TEXT = 255 };       /* octets of a PTPText */
+
+/* The octets of a text, in which the library has \x and two hexadecimal digits for an octet. How many they are. */
+static size_t text_octets(const char *value, uint8_t octets[MOST_TEXT]) {
+    size_t size = 0;
+    while (*value != '\0' && size < MOST_TEXT) {
+        bool is_escape = *value == '\\';
+        if (is_escape) value += 2;
+        if (!is_escape || read_octets(&value, octets + size, 1) == 0) octets[size] = (uint8_t)*value++;
+        size++;
+    }
+    return size;
+}
 
 void print_members(FILE *to, const char *lead, uint16_t id, const uint8_t *octets, size_t size) {
     struct field_lines lines;
     struct member member;
+    uint8_t text[MOST_TEXT];
     start_lines(&lines, id, octets, size);
     while (next_member(&lines, &member)) {
         fprintf(to, "%s%s ", lead, member.name);
-        if (is_text(&member)) print_text(to, octets + 1, octets[0]);
+        if (is_text(&member)) print_text(to, text, text_octets(member.value, text));
         else fputs(member.value, to);
         putc('\n', to);
     }
 }
 
-/* The standard's name of a state or a delayMechanism: the value, if it is a word, and else `reserved`. */
+/* Whether the member is octets, which come in hexadecimal, or - if there is none. */
+static bool is_in_hexadecimal(const struct member *member) {
+    static const char *const octets[] = {
+        "physicalAddress", "addressField", "manufacturerIdentity", "profileIdentity", "lastGmPhaseChange", NULL,
+    };
+    return is_one_of(member, octets);
+}
+
+/* Whether the member is a number with a name. */
+static bool is_number_with_name(const struct member *member) {
+    static const char *const numbers[] = { "portState", "delayMechanism", "timestamping", NULL };
+    return is_one_of(member, numbers);
+}
+
+/* Words with a space between two of them, as an array. */
+static void print_words_as_json(FILE *to, const char *value) {
+    fputs("[\"", to);
+    for (; *value != '\0'; value++) {
+        if (*value == ' ') fputs("\",\"", to);
+        else putc(*value, to);
+    }
+    fputs("\"]", to);
+}
+
+/* The name of a number: the value, if it is a word, and else `reserved`. */
 static const char *word_of(const struct member *member) {
     return *member->value >= '0' && *member->value <= '9' ? "reserved" : member->value;
 }
@@ -101,7 +150,9 @@ static void print_value_as_json(FILE *to, const struct member *member) {
     uint8_t identity[8];
     int64_t interval;
     const char *value = member->value, *rest = identity_at(value, identity);
-    if (is_named(member, "portState") || is_named(member, "delayMechanism")) fprintf(to, "\"%s\"", word_of(member));
+    if (is_number_with_name(member)) fprintf(to, "\"%s\"", word_of(member));
+    else if (is_named(member, "pathSequence")) print_words_as_json(to, value);
+    else if (is_in_hexadecimal(member)) fprintf(to, "\"%s\"", strcmp(value, "-") == 0 ? "" : value);
     else if (rest != NULL) print_identity_as_json(to, value, rest);
     else if (strncmp(value, "0x", 2) == 0) fprintf(to, "%llu", strtoull(value, NULL, 16));
     else if (strchr(value, '.') != NULL && read_interval(value, &interval)) fprintf(to, "%" PRId64, interval);
@@ -134,6 +185,7 @@ static size_t print_name_as_json(FILE *to, const char *name, bool is_first, size
 void print_members_as_json(FILE *to, const char *name, uint16_t id, const uint8_t *octets, size_t size) {
     struct field_lines lines;
     struct member member;
+    uint8_t text[MOST_TEXT];
     size_t structure = 0;
     start_lines(&lines, id, octets, size);
     for (bool is_first = true; next_member(&lines, &member); is_first = false) {
@@ -143,7 +195,7 @@ void print_members_as_json(FILE *to, const char *name, uint16_t id, const uint8_
         }
         if (is_first) fprintf(to, "\"%s\":{", name);
         structure = print_name_as_json(to, member.name, is_first, structure);
-        if (is_text(&member)) print_json_text(to, octets + 1, octets[0]);
+        if (is_text(&member)) print_json_text(to, text, text_octets(member.value, text));
         else print_value_as_json(to, &member);
     }
     fputs(structure > 0 ? "}}" : "}", to);

@@ -423,7 +423,8 @@ static void read_every_port(struct task *task, const struct words *words) {
 }
 
 static void read_id(struct task *task, const char *text) {
-    long id = id_named(text);
+    bool is_read = task->is_survey || task->action == PTPM_GET;
+    long id = is_read ? read_id_named(text) : id_named(text);
     if (id < 0) refuse("%s: it is neither a managementId of the list in ptpm-manage --help nor four hexadecimal digits", text);
     task->id = (uint16_t)id;
 }
@@ -439,7 +440,7 @@ static void read_octets_of(struct task *task, const char *text) {
     if (strlen(text) > 2 * MOST_FIELD) refuse("the dataField has over %d octets", MOST_FIELD);
     task->size = read_octets(&rest, task->octets, sizeof task->octets);
     if (*rest == '\0' && task->size % 2 == 0) return;
-    if (task->action == PTPM_GET && id_named(text) >= 0) refuse("get takes one managementId: %s is asked for by a run of its own", text);
+    if (task->action == PTPM_GET && read_id_named(text) >= 0) refuse("get takes one managementId: %s is asked for by a run of its own", text);
     refuse("%s: it is no even number of octets in hexadecimal%s", text, hint(task));
 }
 
@@ -598,7 +599,7 @@ void read_task(struct task *task, int argc, char **argv) {
 const char *task_words(const struct task *task) {
     static char words[64];
     char number[8];
-    const char *action = "", *id = id_name(task->id);
+    const char *action = "", *id = read_id_name(task->id);
     for (int i = 0; i < ACTIONS; i++) {
         if (actions[i].action == task->action) action = actions[i].name;
     }

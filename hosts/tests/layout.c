@@ -55,14 +55,18 @@ static uint32_t handle(uint16_t port, const char *text) {
     return ptpm_clock_handle(&clock_held, port, octets, size, sent, PTPM_MOST_SENT, &count);
 }
 
+_Static_assert(PTPM_CLOCK_IMAGE_BOUND(8, 16) == PTPM_CLOCK_IMAGE_OCTETS, "the image of the largest clock");
+
 /* The library is of this header's version, and has its structs. */
 static void header(void) {
-    size_t sizes[] = { 16, 216, 16, 88, 16, 12, 1476, 12, 16, 26, 16, 16, 10, 196616, 24, 16, 36, 24, 0 },
-           all = sizeof sizes / sizeof *sizes - 1;
+    size_t sizes[] = { 16, 216, 16, 88, 16, 12, 1476, 12, 16, 26, 16, 16, 10, 196616, 24, 16, 36, 24, 150, 1424, 36, 0 },
+           all = sizeof sizes / sizeof *sizes - 1, earlier = 18;
     check(ptpm_version() == PTPM_VERSION_NUMBER, "the version of the library");
     check(ptpm_header_agrees() == PTPM_STARTED && ptpm_sizes_agree(sizes, all) == PTPM_STARTED, "the sizes of the structs");
     check(ptpm_sizes_agree(sizes, all - 1) == PTPM_OTHER_SIZES && ptpm_sizes_agree(sizes, all + 1) == PTPM_OTHER_SIZES,
           "a struct fewer, and one more");
+    check(ptpm_sizes_agree(sizes, earlier) == PTPM_STARTED && ptpm_sizes_agree(sizes, earlier - 1) == PTPM_OTHER_SIZES,
+          "those of an earlier header");
     for (size_t i = 0; i < all; i++) {
         sizes[i] += 4;
         check(ptpm_sizes_agree(sizes, all) == PTPM_OTHER_SIZES, "a struct of another size");

@@ -19,7 +19,7 @@ from .asking import NoAnswer
 from .changed import Changed, ClockMembers, PortMembers
 from .clock import Clock, Handled
 from .data_sets import ClockQuality, CurrentDataSet, DefaultDataSet, ParentDataSet, PortDataSet, TimePropertiesDataSet
-from .device import Asked, ChangeRefused, Limit, Objection
+from .device import Asked, ChangeRefused, Gives, Limit, Objection, Say
 from .errors import PtpmError
 from .identity import Identity, PortIdentity
 from .ids import Action, ManagementId, error_name, id_name, id_of
@@ -43,10 +43,10 @@ from .transport import Transport, UdpTransport, UnixTransport
 __all__ = [
     "__version__", "Action", "answer_name", "ask_as_nobody", "Asked", "Changed", "ChangeRefused", "Clock", "ClockMembers",
     "ClockQuality", "ClockSettings", "CurrentDataSet", "DamagedFileError", "data_field", "DefaultDataSet", "DelayMechanism", "Domain",
-    "Error", "error_name", "Finding", "get", "HandleAnswer", "Handled", "id_name", "id_of", "Identity", "Limit", "ManagementId",
+    "Error", "error_name", "Finding", "get", "Gives", "HandleAnswer", "Handled", "id_name", "id_of", "Identity", "Limit", "ManagementId",
     "Manager", "members", "NoAnswer", "Objection", "ObservedClock", "ObservedGrandmaster", "ObservedPort", "OpenApplyError",
     "ParentDataSet", "PassedOn", "PortDataSet", "PortIdentity", "PortMembers", "PortSettings", "PortState", "PtpmError", "Rate", "read_site",
-    "Report", "Requests", "Rights", "SavingClock", "SavingSession", "Session", "SessionAnswer", "SessionFile", "SessionFileError",
+    "Report", "Requests", "Rights", "SavingClock", "SavingSession", "Say", "Session", "SessionAnswer", "SessionFile", "SessionFileError",
     "SessionSettings",
     "Site", "site", "SiteClock", "SiteError", "Survey", "survey", "SURVEY_PORT", "SurveyAnswer", "SurveySettings", "time_interval",
     "TimeInterval", "TimePropertiesDataSet", "Transport", "Turn", "UdpTransport", "UnixTransport", "usual_path",

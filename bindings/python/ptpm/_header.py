@@ -126,6 +126,7 @@ PTPM_CHANGED_LOG_MIN_PDELAY = 1 << 7
 # What a device says.
 PTPM_AGREES = 0
 PTPM_OBJECTS = 1
+PTPM_GIVES = 2
 
 # The errors that a device may give.
 PTPM_ERROR_WRONG_VALUE = 4
@@ -266,6 +267,7 @@ PTPM_CANT_OBJECT = 122
 # enum ptpm_asking.
 PTPM_ASKED_NOTHING = 0
 PTPM_ASKED_CHANGE = 29
+PTPM_ASKED_VALUE = 30
 PTPM_ASKING_NO_CLOCK = 32
 PTPM_ASKING_NO_PORT = 33
 
@@ -469,7 +471,7 @@ PTPM_NO_ID = 65536
 
 # The greatest counts and sizes.
 PTPM_MOST_NAME = 27
-PTPM_MOST_FIELD_TEXT = 2843
+PTPM_MOST_FIELD_TEXT = 5065
 
 
 class ptpm_clock(Structure):
@@ -870,6 +872,9 @@ CALLS: Dict[str, Tuple[Any, List[Any]]] = {
     "ptpm_id_named": (c_uint32, [c_char_p, c_size_t]),
     "ptpm_id_at": (c_uint32, [c_size_t]),
     "ptpm_id_name": (c_size_t, [c_uint16, POINTER(c_char), c_size_t]),
+    "ptpm_other_id_named": (c_uint32, [c_char_p, c_size_t]),
+    "ptpm_other_id_at": (c_uint32, [c_size_t]),
+    "ptpm_other_id_name": (c_size_t, [c_uint16, POINTER(c_char), c_size_t]),
     "ptpm_answer_name": (c_size_t, [c_uint32, POINTER(c_char), c_size_t]),
     "ptpm_error_name": (c_size_t, [c_uint16, POINTER(c_char), c_size_t]),
     "ptpm_field_text": (c_size_t, [c_uint16, c_char_p, c_size_t, POINTER(c_char), c_size_t]),
@@ -899,4 +904,7 @@ STRUCTS: List[Type[Structure]] = [
     ptpm_asker,
     ptpm_asker_settings,
     ptpm_handed,
+    ptpm_question,
+    ptpm_say,
+    ptpm_limit,
 ]

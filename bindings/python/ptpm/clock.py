@@ -10,7 +10,7 @@ from . import _header as header
 from ._library import Handle, library
 from .answers import HandleAnswer, done, judged, written
 from .changed import Changed
-from .device import Asked, ChangeRefused, Objection, say_of
+from .device import Asked, ChangeRefused, Say, say_of
 from .identity import Identity, IdentityLike
 from .ids import Action, IdLike, id_of
 from .observation import ObservedClock, ObservedPort
@@ -94,18 +94,20 @@ class Clock(Handle):
         self.close()
 
     def ask(self, port: int, octets: bytes) -> Optional[Asked]:
-        """What a datagram would have the device do, if it came in now at this port. It is nothing for any datagram but a new SET or
-        COMMAND of a manager, which the clock itself does not refuse. Nothing changes."""
+        """What a datagram would have the device do, if it came in now at this port. It is to carry out a new SET or COMMAND of a
+        manager, which the clock itself does not refuse. Or it is to give the value of an id that the clock lacks, to a GET that would
+        be answered. It is nothing for any other datagram. Nothing changes."""
         question = header.ptpm_question()
         datagram = bytes(octets)
         came_in = (port_number(port), datagram, len(datagram))
         asked = judged(self._call(library.ptpm_clock_ask, *came_in, ctypes.byref(question)))
-        return Asked.of_library(question) if asked == header.PTPM_ASKED_CHANGE else None
+        return Asked.of_library(question) if asked in (header.PTPM_ASKED_CHANGE, header.PTPM_ASKED_VALUE) else None
 
-    def handle(self, port: int, octets: bytes, say: Optional[Objection] = None) -> Handled:
+    def handle(self, port: int, octets: bytes, say: Optional[Say] = None) -> Handled:
         """Judges a datagram that came in at a port, counted from 1, and carries its request out. What is to be sent is the port and
         the octets of each message. If the device objects where it is asked (ask), the request is answered and kept with that
-        error, and no member changes."""
+        error, and no member changes. If it gives a value where it is asked for one, this is the answer. To the GET of a manager it
+        has 130 octets at most, since it is kept. A longer one is answered with RESPONSE_TOO_BIG, and that is kept."""
         count = ctypes.c_size_t()
         changed = header.ptpm_changed()
         datagram = bytes(octets)

@@ -5,7 +5,7 @@ from __future__ import annotations
 import ctypes
 from dataclasses import dataclass
 from enum import IntEnum
-from typing import Any, Optional, Sequence, Tuple
+from typing import Any, Optional, Sequence, Tuple, Union
 
 from . import _header as header
 from ._library import library
@@ -56,8 +56,9 @@ class Limit:
 
 @dataclass(frozen=True)
 class Asked:
-    """What a device is asked to do: a new SET or COMMAND of a manager, which the clock itself does not refuse. A COMMAND has no
-    octets. The port 0xFFFF is every port."""
+    """What a device is asked: to carry out a new SET or COMMAND of a manager, which the clock itself does not refuse. Or it is asked
+    for the value of an id that the clock lacks, by a GET that would be answered. A GET and a COMMAND have no octets. The port 0xFFFF
+    is every port."""
 
     manager: PortIdentity
     number: int
@@ -81,8 +82,25 @@ class Asked:
         return question
 
 
-def say_of(objection: Optional[Objection]) -> Any:
-    """What a device says, as the library takes it: it agrees if there is no objection."""
-    if objection is None:
+@dataclass(frozen=True)
+class Gives:
+    """The dataField that a device gives for an id that its clock lacks: an even number of octets, 1,418 at most."""
+
+    octets: bytes
+
+
+# What a device says: an objection, or a value.
+Say = Union[Objection, Gives]
+
+
+def say_of(said: Optional[Say]) -> Any:
+    """What a device says, as the library takes it: it agrees if it says nothing."""
+    if said is None:
         return header.ptpm_say(kind=header.PTPM_AGREES)
-    return header.ptpm_say(kind=header.PTPM_OBJECTS, error=Objection(objection))
+    if not isinstance(said, Gives):
+        return header.ptpm_say(kind=header.PTPM_OBJECTS, error=Objection(said))
+    octets = bytes(said.octets)
+    say = header.ptpm_say(kind=header.PTPM_GIVES, size=min(len(octets), 0xFFFF))
+    if len(octets) <= len(say.octets):
+        say.octets[: len(octets)] = octets
+    return say

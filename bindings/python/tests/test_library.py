@@ -73,6 +73,18 @@ class Clocks(unittest.TestCase):
             with self.assertRaises(ptpm.PtpmError):
                 asked.ask(3, set_interval)
 
+    def test_a_device_gives_a_value_that_the_clock_lacks(self) -> None:
+        with clock() as asked:
+            get = request(8, "aabbccfffeddee010001", 1, 0, "c000")
+            self.assertEqual(asked.ask(1, get), ptpm.Asked(ptpm.PortIdentity.of(MANAGER), 8, ptpm.Action.GET, 1, 0xC000, b""))
+            for octets in b"odd", bytes(1420):
+                with self.assertRaises(ptpm.PtpmError):
+                    asked.handle(1, get, say=ptpm.Gives(octets))
+            handled = asked.handle(1, get, say=ptpm.Gives(b"4711"))
+            self.assertEqual((handled.answer, bool(handled.changed)), (HandleAnswer.ANSWERED_NEW, False))
+            self.assertEqual(handled.messages[0][1][48:].hex(), "00010006c00034373131")  # MANAGEMENT, RESPONSE of c000
+            self.assertIsNone(asked.ask(1, get))
+
     def test_settings_have_their_places(self) -> None:
         with ptpm.Clock(ptpm.ClockSettings(CLOCK, **PLACES), [PORT]) as started:  # type: ignore[arg-type]
             for named, wanted in {

@@ -15,7 +15,8 @@ use core::ops::RangeInclusive;
 /// The most octets of the dataField of a SET that a device is asked about.
 const MOST_ASKED: usize = 130;
 
-/// What a device is asked to do: a new SET or COMMAND of a manager, which the clock itself does not refuse.
+/// What a device is asked: to carry out a new SET or COMMAND of a manager, which the clock itself does not refuse. Or it is asked for
+/// the value of an id that the clock lacks, by a GET that would be answered.
 #[derive(Clone, Copy)]
 pub struct Asked {
     question: sys::ptpm_question,
@@ -42,16 +43,16 @@ impl Asked {
         self.question.port
     }
 
-    /// A SET or a COMMAND.
+    /// A SET or a COMMAND to be carried out, or a GET whose value it is asked for.
     pub const fn action(&self) -> Action {
-        if self.question.action == sys::PTPM_COMMAND {
-            Action::Command
-        } else {
-            Action::Set
+        match self.question.action {
+            sys::PTPM_GET => Action::Get,
+            sys::PTPM_COMMAND => Action::Command,
+            _ => Action::Set,
         }
     }
 
-    /// The dataField of a SET. A COMMAND has none.
+    /// The dataField of a SET. A GET and a COMMAND have none.
     pub fn octets(&self) -> &[u8] {
         &self.question.octets[..usize::from(self.question.size)]
     }
@@ -142,34 +143,48 @@ impl fmt::Debug for Limit {
 
 /// What a device says of a datagram.
 #[derive(Clone, Copy, Debug, Default, PartialEq, Eq, Hash)]
-pub enum Say {
+pub enum Say<'a> {
     /// It agrees, or has nothing to say.
     #[default]
     Agrees,
     /// It can't do what it is asked.
     Objects(Objection),
+    /// The dataField of an id that the clock lacks: an even number of octets, 1,418 at most.
+    Gives(&'a [u8]),
 }
 
-impl From<Option<Objection>> for Say {
+impl From<Option<Objection>> for Say<'_> {
     fn from(objection: Option<Objection>) -> Self {
         objection.map_or(Self::Agrees, Self::Objects)
     }
 }
 
-impl Say {
+impl Say<'_> {
     /// What it says, as the library takes it.
-    const fn as_in_c(self) -> sys::ptpm_say {
-        let (kind, error) = match self {
-            Self::Agrees => (sys::PTPM_AGREES, 0),
-            Self::Objects(objection) => (sys::PTPM_OBJECTS, objection as u16),
-        };
-        sys::ptpm_say { error, size: 0, kind, octets: [0; 1418] }
+    fn as_in_c(self) -> sys::ptpm_say {
+        let mut say = sys::ptpm_say { error: 0, size: 0, kind: sys::PTPM_AGREES, octets: [0; 1418] };
+        match self {
+            Self::Agrees => {}
+            Self::Objects(objection) => {
+                say.kind = sys::PTPM_OBJECTS;
+                say.error = objection as u16;
+            }
+            Self::Gives(octets) => {
+                say.kind = sys::PTPM_GIVES;
+                say.size = u16::try_from(octets.len()).unwrap_or(u16::MAX);
+                if let Some(place) = say.octets.get_mut(..octets.len()) {
+                    place.copy_from_slice(octets);
+                }
+            }
+        }
+        say
     }
 }
 
 impl Clock {
-    /// What a datagram would have the device do, if it came in now at this port. It is nothing for any datagram but a new SET or
-    /// COMMAND of a manager, which the clock itself does not refuse. Nothing changes.
+    /// What a datagram would have the device do, if it came in now at this port. It is to carry out a new SET or COMMAND of a manager,
+    /// which the clock itself does not refuse. Or it is to give the value of an id that the clock lacks, to a GET that would be
+    /// answered. It is nothing for any other datagram. Nothing changes.
     ///
     /// # Errors
     ///
@@ -188,21 +203,23 @@ impl Clock {
         // SAFETY: the datagram may be read, and the question may be written.
         let number =
             judged(unsafe { sys::ptpm_clock_ask(self.handle_ref(), port, datagram.as_ptr(), datagram.len(), &mut question) })?;
-        Ok((number == sys::PTPM_ASKED_CHANGE).then_some(Asked { question }))
+        Ok(matches!(number, sys::PTPM_ASKED_CHANGE | sys::PTPM_ASKED_VALUE).then_some(Asked { question }))
     }
 
-    /// Does what [`Clock::handle_changed`] does, with what the device says. If it objects where [`Clock::ask`] would say what it is
-    /// asked, the request is answered and kept with that error, and no member changes. Each later copy gets that answer. If the
+    /// Does what [`Clock::handle_changed`] does, with what the device says. If it objects to a change about which [`Clock::ask`] would
+    /// ask it, the request is answered and kept with that error, and no member changes. If it gives a value for which
+    /// [`Clock::ask`] would ask it, this is the answer. To the GET of a manager it has 130 octets at most, since it is kept. A
+    /// longer one is answered with RESPONSE_TOO_BIG, and that is kept. Each later copy of what is kept gets that answer. If the
     /// device is not asked, what it says does not count.
     ///
     /// # Errors
     ///
-    /// As those of [`Clock::handle`].
+    /// As those of [`Clock::handle`]. [`Error::BadSay`]: it gives an odd number of octets, or more than 1,418.
     pub fn handle_said<'a>(
         &mut self,
         port: u16,
         datagram: &[u8],
-        say: Say,
+        say: Say<'_>,
         outbox: &'a mut Outbox,
     ) -> Result<(Turn<'a>, Changed), Error> {
         let mut count = MaybeUninit::uninit();

@@ -98,8 +98,8 @@ errors! {
     Unsaved = PTPM_UNSAVED, "something is not saved, and nothing is given out before it is";
     OtherImage = PTPM_OTHER_IMAGE, "it was changed since that image was made";
     NoAsker = PTPM_NO_ASKER, "the handle holds no asker";
-    BadSay = PTPM_BAD_SAY, "what a device says is of no kind, or has an error that no device gives";
-    CantObject = PTPM_CANT_OBJECT, "a clock that is saved before it gives anything out takes no objection";
+    BadSay = PTPM_BAD_SAY, "what a device says is of no kind, has an error that no device gives, or gives what is no dataField";
+    CantObject = PTPM_CANT_OBJECT, "a clock that is saved before it gives anything out takes no objection, and no value";
 }
 
 /// The number of a call that was done is 0, and every other one an error.

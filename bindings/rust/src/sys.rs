@@ -521,6 +521,9 @@ extern "C" {
     pub fn ptpm_id_named(name: *const c_char, size: usize) -> u32;
     pub fn ptpm_id_at(place: usize) -> u32;
     pub fn ptpm_id_name(id: u16, text: *mut c_char, room: usize) -> usize;
+    pub fn ptpm_other_id_named(name: *const c_char, size: usize) -> u32;
+    pub fn ptpm_other_id_at(place: usize) -> u32;
+    pub fn ptpm_other_id_name(id: u16, text: *mut c_char, room: usize) -> usize;
     pub fn ptpm_answer_name(number: u32, text: *mut c_char, room: usize) -> usize;
     pub fn ptpm_error_name(error: u16, text: *mut c_char, room: usize) -> usize;
     pub fn ptpm_field_text(id: u16, octets: *const u8, size: usize, text: *mut c_char, room: usize) -> usize;
@@ -542,7 +545,7 @@ pub const fn ptpm_is_refusal(answer: u32) -> bool {
 }
 
 /// The sizes of these structs, in their order.
-const SIZES: [usize; 18] = [
+const SIZES: [usize; 21] = [
     size_of::<ptpm_clock>(),
     size_of::<ptpm_clock_settings>(),
     size_of::<ptpm_port_settings>(),
@@ -561,6 +564,9 @@ const SIZES: [usize; 18] = [
     size_of::<ptpm_asker>(),
     size_of::<ptpm_asker_settings>(),
     size_of::<ptpm_handed>(),
+    size_of::<ptpm_question>(),
+    size_of::<ptpm_say>(),
+    size_of::<ptpm_limit>(),
 ];
 
 /// Compares these declarations with the library that is linked.

@@ -94,6 +94,21 @@ fn a_device_objects_to_a_value_that_it_lacks() {
 }
 
 #[test]
+fn a_device_gives_a_value_that_the_clock_lacks() {
+    let (mut clock, mut outbox) = (clock(), Outbox::boxed());
+    let get = request(8, "aabbccfffeddee010001", 1, 0, "c000");
+    let asked = clock.ask(1, &get).expect("the clock has the port").expect("the device is asked");
+    assert_eq!((asked.action(), asked.id(), asked.octets().len()), (Action::Get, ManagementId(0xc000), 0));
+    assert_eq!(clock.handle_said(1, &get, Say::Gives(b"odd"), &mut outbox).map(|_| ()), Err(Error::BadSay));
+    assert_eq!(clock.handle_said(1, &get, Say::Gives(&[0; 1420]), &mut outbox).map(|_| ()), Err(Error::BadSay));
+    let (turn, _) = clock.handle_said(1, &get, Say::Gives(b"4711"), &mut outbox).expect("it is judged");
+    assert_eq!(turn.handled(), Handled::AnsweredNew);
+    let (_, answer) = turn.messages.last().expect("it is answered");
+    assert_eq!(&answer[48..], octets("00010006c00034373131" /* MANAGEMENT, RESPONSE of c000 */));
+    assert!(clock.ask(1, &get).expect("the clock has the port").is_none());
+}
+
+#[test]
 fn messages_are_lent_from_the_outbox() {
     let (mut clock, mut outbox) = (clock(), Outbox::new());
     let other = request(7, "aabbccfffeddee02ffff", 1, 0, "2005");

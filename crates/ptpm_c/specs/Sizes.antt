@@ -1,6 +1,8 @@
--- The sizes of the structs of the header for C, in its order: 18 that calls take by pointers.
+-- The sizes of the structs of the header for C, in its order: 21 that calls take by pointers. The last three are of a device.
 use Rattle.std.specs.Prelude.{ℕ, List, [], ◌∷◌}
 
--- a handle is a pointer and a flag; a place for a message has its port, its size and 1,472 octets
+-- A handle is a pointer and a flag. A place for a message has its port, its size and 1,472 octets. What a device says has an error,
+-- a size, a kind and 1,418 octets.
 abbrev pub header_sizes : List ℕ
-header_sizes = 16 ∷ 216 ∷ 16 ∷ 88 ∷ 16 ∷ 12 ∷ 1476 ∷ 12 ∷ 16 ∷ 26 ∷ 16 ∷ 16 ∷ 10 ∷ 196616 ∷ 24 ∷ 16 ∷ 36 ∷ 24 ∷ []
+header_sizes = 16 ∷ 216 ∷ 16 ∷ 88 ∷ 16 ∷ 12 ∷ 1476 ∷ 12 ∷ 16 ∷ 26 ∷ 16 ∷ 16 ∷ 10 ∷ 196616 ∷ 24 ∷ 16 ∷ 36 ∷ 24 ∷ 150 ∷ 1424
+    ∷ 36 ∷ []

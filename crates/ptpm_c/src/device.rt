@@ -10,7 +10,7 @@ ghost use Rattle.ptpm_host.specs.Device.{AsksNothing};
 ghost use Rattle.ptpm_host.specs.Numbers.{cant_object, no_clock, verdict_number};
 ghost use Rattle.ptpm_host.specs.Withheld.{is_unsaved};
 ghost use Rattle.ptpm_c.specs.Held.{any_clock_held, clock_held, held, saving_clock_held};
-ghost use Rattle.ptpm_c.specs.Said.{AsksIn, RefusesSaid, TakesSaid, asked_of, why_not_said};
+ghost use Rattle.ptpm_c.specs.Said.{AsksIn, RefusesSaid, TakesSaid, asked_of, wanted_of, why_not_said};
 ghost use Rattle.ptpm_c.specs.Turned.{AreWritten, FindsNoClock, SendsNothing};
 ghost use Rattle.ptpm_c.specs.Withholding.{RefusesCall, TakesCall};
 
@@ -19,13 +19,13 @@ use crate::kept::Hosted;
 use crate::withholding;
 use ptpm_data::ChangedMembers;
 use ptpm_host::{
-    ASKED_CHANGE, CANT_OBJECT, HostedClock, NO_CLOCK, Question, Say, Sent, handle_number,
-    said_number, verdict_number,
+    ASKED_CHANGE, ASKED_VALUE, Asking, CANT_OBJECT, HostedClock, NO_CLOCK, Question, Say, Sent,
+    handle_number, said_number, verdict_number,
 };
 use std::alloc::Global;
 
-/// Says what a datagram would have the device do, if it came in now at this port. Answers the number of a change, 0 for nothing, or
-/// the number of the refusal. `asked` gets what the device is asked; all zeros if it is nothing. A clock that waits until it is
+/// Says what a datagram would have the device do, if it came in now at this port. Answers the number of a change or of a value, 0 for
+/// nothing, or the number of the refusal. `asked` gets what the device is asked; all zeros if it is nothing. A clock that waits until it is
 /// saved takes no datagram, and so asks nothing. Nothing changes. Takes no memory.
 #[unsafe(no_mangle)]
 pub extern "C" fn ptpm_clock_ask(
@@ -38,11 +38,12 @@ pub extern "C" fn ptpm_clock_ask(
     ensures asks { (c : HostedClock)
         → clock_held handle.old.keeping ≡ Some c
         → IsTrue (has_port port c.agent.sets)
-        → AsksIn (asked_of c datagram.now) result asked.new }
+        → AsksIn (asked_of c datagram.now) (wanted_of c datagram.now) result asked.new }
     ensures saving { (w : SavingClock)
         → saving_clock_held handle.old.keeping ≡ Some w
         → IsTrue (has_port port w.clock.value.agent.sets)
-        → AsksIn (if is_unsaved w.standing then None else asked_of w.clock.value datagram.now) result
+        → AsksIn (if is_unsaved w.standing then None else asked_of w.clock.value datagram.now)
+        (if is_unsaved w.standing then None else wanted_of w.clock.value datagram.now) result
         asked.new }
     ensures no_port { (c : HostedClock)
         → any_clock_held handle.old.keeping ≡ Some c
@@ -63,9 +64,13 @@ pub extern "C" fn ptpm_clock_ask(
         return NO_CLOCK;
     };
     match clock.ask(port, datagram) {
-        Ok(Some(change)) if !is_unsaved => {
+        Ok(Asking::Change(change)) if !is_unsaved => {
             *asked = change;
             ASKED_CHANGE
+        }
+        Ok(Asking::Value(get)) if !is_unsaved => {
+            *asked = get;
+            ASKED_VALUE
         }
         Ok(_) => 0,
         Err(refusal) => handle_number(refusal),
@@ -73,7 +78,7 @@ pub extern "C" fn ptpm_clock_ask(
 }
 
 /// Does what `ptpm_clock_handle_changed` does, with what the device says. If the device is not asked, that does not count. A clock
-/// that is saved before it gives anything out takes no objection. Takes no memory.
+/// that is saved before it gives anything out takes no objection and no value. Takes no memory.
 #[tactic(auto, using(ptpm_host::specs::OutboxLaws::kept_by_none))]
 #[unsafe(no_mangle)]
 pub extern "C" fn ptpm_clock_handle_said(
@@ -169,7 +174,7 @@ fn hand_in(
     }
 }
 
-/// Why a handle takes no objection: it holds a clock that is saved before it gives anything out, or no clock.
+/// Why a handle takes no objection and no value: it holds a clock that is saved before it gives anything out, or no clock.
 fn refuse_objection(alloc: Global, handle: &mut Handle) -> u32
     ensures held { held handle.new.keeping ≡ held handle.old.keeping }
     ensures saving { (w : SavingClock)

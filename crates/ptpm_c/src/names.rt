@@ -1,11 +1,15 @@
 //! Names for hosts in C: of managementIds, of what calls answer, and of managementErrorIds. No call here takes a handle or memory.
 
-ghost use Rattle.std.specs.Prelude.{◌≡◌, ◌≢◌, ℕ, Some, drop, length, take};
+ghost use Rattle.std.specs.Prelude.{◌≡◌, ◌≢◌, ℕ, IfNone, IfSome, Some, drop, length, take, true};
+ghost use Rattle.std.specs.Str.{is_utf8};
 ghost use Rattle.ptpm_host.specs.AnswerNames.{answer_name};
 ghost use Rattle.ptpm_host.specs.ErrorNames.{error_name};
-ghost use Rattle.ptpm_host.specs.Names.{capitals, id_name, name_within, no_id};
+ghost use Rattle.ptpm_host.specs.Names.{capitals, id_name, name_within, no_id, other_id_at, other_id_name, other_id_named};
 
-use ptpm_host::{NO_ID, answer_name, error_name, hand_out_name, id_name, id_named};
+use ptpm_host::{
+    NO_ID, answer_name, error_name, hand_out_name, id_name, id_named, other_id_at, other_id_name,
+    other_id_named,
+};
 
 /// The managementId that has this name of ASCII letters in either case, such as `PRIORITY1` or `priority1`. 65,536, which is no id,
 /// if no id has it.
@@ -29,6 +33,42 @@ pub extern "C" fn ptpm_id_name(id: u16, octets: &mut [u8]) -> usize
     ensures behind { drop result octets.new ≡ drop result octets.old }
 {
     hand_out_name(id_name(id), octets)
+}
+
+/// The managementId that other clocks have and this profile lacks, and that has this name of ASCII letters in either case. Its
+/// dataField is read by its members. 65,536, which is no id, if no such id has it.
+#[unsafe(no_mangle)]
+pub extern "C" fn ptpm_other_id_named(name: &[u8]) -> u32
+    ensures named { result ≢ no_id → other_id_named name.now ≡ Some result }
+    ensures found { is_utf8 name.now ≡ true → (id : ℕ) → other_id_named name.now ≡ Some id → result ≡ id }
+{
+    match other_id_named(name) {
+        Some(id) => u32::from(id),
+        None => NO_ID,
+    }
+}
+
+/// Leaves the name of such an id at the head of `octets`, and answers how many octets it has. That is 0 if it is no such id, or
+/// there is no room for the whole name. What follows it stays.
+#[unsafe(no_mangle)]
+pub extern "C" fn ptpm_other_id_name(id: u16, octets: &mut [u8]) -> usize
+    ensures size { result ≡ length (name_within (length octets.old) (other_id_name id)) }
+    ensures name { take result octets.new ≡ name_within (length octets.old) (other_id_name id) }
+    ensures behind { drop result octets.new ≡ drop result octets.old }
+{
+    hand_out_name(other_id_name(id), octets)
+}
+
+/// Such an id at this place of them, which are in ascending order and counted from 0. 65,536, which is no id, past the last.
+#[unsafe(no_mangle)]
+pub extern "C" fn ptpm_other_id_at(place: usize) -> u32
+    ensures found { IfSome (other_id_at place) (λ id. result ≡ id) }
+    ensures past { IfNone (other_id_at place) (result ≡ no_id) }
+{
+    match other_id_at(place) {
+        Some(id) => u32::from(id),
+        None => NO_ID,
+    }
 }
 
 /// Leaves the name of the number that a call answered at the head of `octets`, and answers how many octets it has. That is 0 if

@@ -1,11 +1,10 @@
 -- A chain of causes ends with a finding that follows from nothing.
-use Rattle.std.proofs.Common.{◌≡◌, ◌∙◌, ◌⊎◌, inl, inr, ◌&&◌, ◌||◌, ◌<◌, ◌≤◌, ◌==◌, ℕ, zero, suc, Bool, true, false, cond, not, is_some, is_none, IfSome, List, [], ◌∷◌, Option, Some, None, option_map, nat_lt, fold, map, length, get_or, refl, sym, ap, subst, arith, ltb-true}
+use Rattle.std.proofs.Common.{◌≡◌, ◌∙◌, ◌⊎◌, inl, inr, ◌&&◌, ◌||◌, ◌<◌, ◌≤◌, ℕ, zero, suc, Bool, true, false, cond, is_some, is_none, List, [], ◌∷◌, Option, Some, None, option_map, nat_lt, fold, map, get_or, refl, ap, subst, arith, ltb-true}
 use Rattle.std.proofs.lemmas.List.Elements.{All-map}
 use Rattle.std.specs.List.{All, list_any}
 use Rattle.std.specs.Option.{option_map_or}
 use Rattle.std.specs.Ordering.{is_eq, nat_cmp, ordering_then}
 use Rattle.std.specs.declared.cmp.Ordering.{Ordering}
-use Rattle.std.specs.declared.cmp.Ordering.TheVariants.{Less, Equal, Greater}
 use Rattle.ptpm_site.specs.declared.finding.Finding.{Finding}
 use Rattle.ptpm_site.specs.Answers.{source_cmp}
 use Rattle.ptpm_site.specs.SiteAnswers.{SiteAnswers}
@@ -14,8 +13,8 @@ use Rattle.ptpm_causes.specs.declared.cause.Key.{Key}
 use Rattle.ptpm_causes.specs.Chains.{IsPrinted, agreed, flat, follows_from, heard, is_root, last_of, last_within, said}
 use Rattle.ptpm_causes.specs.Found.{Knowledge, known_of}
 use Rattle.ptpm_causes.specs.Kinds.{kind_of, rank}
-use Rattle.ptpm_causes.specs.Named.{cause_in, has_key, is_cause, key, key_cmp, may_cause, named, same_cause}
-use Rattle.ptpm_causes.specs.Reasons.{reason, reason_of}
+use Rattle.ptpm_causes.specs.Named.{has_key, key, key_cmp, may_cause, named, same_cause}
+use Rattle.ptpm_causes.specs.Reasons.{reason}
 use Rattle.ptpm_causes.proofs.Rules.{and_both, below, holds, reason_falls, reason_there}
 
 -- ---- a finding of a name has the rank of the name

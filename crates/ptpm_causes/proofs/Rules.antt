@@ -1,5 +1,5 @@
 -- What holds of the causes that the rules answer: each is there, and has a lesser rank than what follows from it.
-use Rattle.std.proofs.Common.{◌≡◌, ◌&&◌, ℕ, Bool, true, false, cond, List, [], ◌∷◌, Option, Some, None, option_and_then, nat_lt, refl, sym, ap, find, if◌then◌else◌}
+use Rattle.std.proofs.Common.{◌≡◌, ◌&&◌, ℕ, Bool, true, false, cond, List, [], ◌∷◌, Option, Some, None, option_and_then, nat_lt, refl, find, if◌then◌else◌}
 use Rattle.std.specs.List.{list_all}
 use Rattle.std.specs.Option.{option_map_or, option_or}
 use Rattle.ptpm_codec.specs.declared.identity.ClockIdentity.{ClockIdentity}
@@ -18,13 +18,12 @@ use Rattle.ptpm_site.specs.Following.{beside, followed, is_own_grandmaster}
 use Rattle.ptpm_site.specs.Grandmasters.{in_domain}
 use Rattle.ptpm_site.specs.SiteAnswers.{SiteAnswers}
 use Rattle.ptpm_causes.specs.declared.cause.Cause.{Cause}
-use Rattle.ptpm_causes.specs.declared.kind.Kind.{Kind}
 use Rattle.ptpm_causes.specs.declared.kind.Kind.TheVariants as kinds
 use Rattle.ptpm_causes.specs.Found.{Knowledge}
 use Rattle.ptpm_causes.specs.Kinds.{degradation_kind, kind_of, rank}
 use Rattle.ptpm_causes.specs.Members.{is_by_handover, is_parent_identity, is_passed_on, is_quality}
 use Rattle.ptpm_causes.specs.Named.{may_cause}
-use Rattle.ptpm_causes.specs.Reasons.{at, change_cause, first_of, follower_cause, given_cause, grandmaster_cause, handover_cause, is_by_itself, lost_causes, masterless_cause, moved_cause, offset_cause, parent_causes, parent_lost, quality_cause, reason_of, silent_causes, unmet_cause, unseen_above, unseen_causes}
+use Rattle.ptpm_causes.specs.Reasons.{at, change_cause, first_of, follower_cause, given_cause, grandmaster_cause, is_by_itself, lost_causes, masterless_cause, moved_cause, offset_cause, parent_causes, parent_lost, quality_cause, reason_of, silent_causes, unmet_cause, unseen_above, unseen_causes}
 
 -- a cause passes a test, if there is one
 abbrev pub holds : (Cause → Bool) → Option Cause → Bool

@@ -33,7 +33,7 @@ abbrev pub flat : Option (Option Cause) → Option Cause
 flat None = None
 flat (Some o) = o
 
--- the last of a chain, within so many steps; `next` says from which a cause follows at once
+-- the last of a chain, within this number of steps; `next` says from which a cause follows at once
 unfoldable pub last_within : (Key → Option (Option Cause)) → ℕ → Cause → Cause
 last_within next zero c = c
 last_within next (suc n) c = elim (flat (next (key c))) [ None ↦ c | Some d ↦ last_within next n d ]

@@ -21,7 +21,7 @@ pub record Knowledge : Type 0 where
   pub among : Cause → Bool
   -- whether a clock's grandmaster changed: it has changed grandmasterIdentity
   pub moved : Source → Bool
-  -- where the lines stand that say that other clocks lead than an inventory wants
+  -- the clocks of the findings that say that other clocks lead than an inventory wants
   pub leaders : List Source
 
 abbrev pub is_grandmaster : Member → Bool

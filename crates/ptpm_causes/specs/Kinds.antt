@@ -46,6 +46,7 @@ rank kinds.BetterClock = 31
 rank kinds.Profile = 32
 rank kinds.Incomplete = 33
 rank kinds.OutOfReach = 34
+rank kinds.NotAsked = 35
 
 -- ---- the name of what is wrong
 
@@ -65,6 +66,7 @@ kind_of (what.NotAsExpected x) = kinds.NotAsExpected
 kind_of (what.OtherLeaders x) = kinds.NotAsExpected
 kind_of what.Gone = kinds.Gone
 kind_of (what.Unseen why) = absence_kind why
+kind_of (what.NotAsked x) = kinds.NotAsked
 kind_of what.TwoGrandmasters = kinds.TwoGrandmasters
 kind_of (what.NoMaster x) = kinds.NoMaster
 kind_of (what.GrandmasterNotSeen x) = kinds.GrandmasterNotSeen

@@ -1,4 +1,4 @@
--- The members of data sets of which the rules speak.
+-- The members of data sets that the rules name.
 use Rattle.std.specs.Prelude.{◌||◌, Bool, true, false}
 use Rattle.ptpm_site.specs.declared.member.Member.{Member}
 use Rattle.ptpm_site.specs.declared.member.Member.TheVariants as member

@@ -1,4 +1,4 @@
--- The name of a finding at the clock where its line stands, and which findings others may follow from.
+-- The name of a finding at the clock at which it is printed, and which findings others may follow from.
 use Rattle.std.specs.Prelude.{Bool, true, false, Option, Some, None, if◌then◌else◌}
 use Rattle.std.specs.declared.cmp.Ordering.{Ordering}
 use Rattle.std.specs.Option.{option_map_or}
@@ -15,7 +15,6 @@ use Rattle.ptpm_site.specs.SiteAnswers.{SiteAnswers}
 use Rattle.ptpm_site.specs.Stay.{is_faulty}
 use Rattle.ptpm_causes.specs.declared.cause.Cause.{Cause}
 use Rattle.ptpm_causes.specs.declared.cause.Key.{Key}
-use Rattle.ptpm_causes.specs.declared.kind.Kind.{Kind}
 use Rattle.ptpm_causes.specs.Kinds.{kind_of, rank}
 
 -- a grandmaster that is not seen has the line, and not the clock that names it

@@ -1,7 +1,7 @@
 -- From which findings a finding may follow, the first of them that is there (this project's profile).
-use Rattle.std.specs.Prelude.{ℕ, zero, suc, ◌==◌, ◌&&◌, ◌||◌, ◌++◌, Bool, true, false, not, is_some, List, [], ◌∷◌, Option, Some, None, if◌then◌else◌, option_and_then}
+use Rattle.std.specs.Prelude.{ℕ, zero, suc, ◌==◌, ◌&&◌, ◌||◌, Bool, is_some, List, [], ◌∷◌, Option, Some, None, if◌then◌else◌, option_and_then}
 use Rattle.std.specs.List.{find}
-use Rattle.std.specs.Option.{option_map, option_map_or, option_or}
+use Rattle.std.specs.Option.{option_or}
 use Rattle.ptpm_codec.specs.Identity.{same_clock}
 use Rattle.ptpm_codec.specs.declared.identity.ClockIdentity.{ClockIdentity}
 use Rattle.ptpm_site.specs.declared.expected.Unmet.{Unmet}
@@ -40,14 +40,14 @@ unseen_causes s = at kinds.Gone s ∷ at kinds.Absent s ∷ at kinds.Mute s ∷ 
 abbrev pub silent_causes : Source → List Cause
 silent_causes s = at kinds.Mute s ∷ at kinds.OwnHost s ∷ []
 
--- the first clock above another, by parents, that is not seen, within so many steps
+-- the first clock above another, by parents, that is not seen, within this number of steps
 unfoldable pub unseen_above : ℕ → SiteAnswers → Source → Option Source
 unseen_above zero site s = None
 unseen_above (suc n) site s = option_and_then (λ p.
     if site.seen (beside s p.clock) then unseen_above n site (beside s p.clock) else Some (beside s p.clock)) (followed site s)
 
--- that of the grandmaster itself, or of the clock at which the way to it is lost; an Announce of 255 steps or more is not
--- qualified (9.3.2.5), so no way is longer
+-- That of the grandmaster itself, or of the clock at which the way to it is lost. An Announce of 255 steps or more is not qualified
+-- (9.3.2.5). So no way is longer.
 abbrev pub grandmaster_cause : SiteAnswers → Knowledge → Source → Source → Option Cause
 grandmaster_cause site known s grandmaster =
     option_or (first_of known (unseen_causes grandmaster))

@@ -1,4 +1,4 @@
-//! The name of a finding at the clock where its line stands.
+//! The name of a finding, and the clock at which it is printed.
 
 ghost use Rattle.std.specs.Prelude.{◌≡◌};
 ghost use Rattle.ptpm_site.specs.Site.{site_answers};
@@ -18,7 +18,7 @@ pub struct Cause {
     pub source: Source,
 }
 
-/// By what causes are told apart.
+/// The key of a cause: two causes with one key are one.
 #[derive(Clone, Copy, PartialEq, Eq, PartialOrd, Ord)]
 pub(crate) struct Key {
     rank: u8,
@@ -46,7 +46,7 @@ fn place_of(source: Source, what: &What<'_>) -> Source
     }
 }
 
-/// The finding's own name and the clock at which its line stands.
+/// The finding's own name, and the clock at which it is printed.
 pub fn named(finding: &Finding<'_>) -> Cause
     ensures { result ≡ named finding.now }
 {

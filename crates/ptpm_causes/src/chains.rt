@@ -1,11 +1,11 @@
 //! The last cause of a chain of causes.
 
-ghost use Rattle.std.specs.Prelude.{◌≡◌, IfOk, OnOk, if◌then◌else◌, option_and_then};
+ghost use Rattle.std.specs.Prelude.{◌≡◌, IfOk, OnOk, if◌then◌else◌};
 ghost use Rattle.std.specs.BTreeMap.{get};
 ghost use Rattle.std.specs.Ordering.{is_eq};
 ghost use Rattle.ptpm_site.specs.Site.{site_answers};
 ghost use Rattle.ptpm_causes.specs.declared.cause.Key.{Key};
-ghost use Rattle.ptpm_causes.specs.Chains.{agreed, flat, heard, kept, last_of, last_within, said};
+ghost use Rattle.ptpm_causes.specs.Chains.{agreed, flat, kept, last_of, last_within, said};
 ghost use Rattle.ptpm_causes.specs.Found.{known_by};
 ghost use Rattle.ptpm_causes.specs.Named.{key, key_cmp};
 
@@ -74,7 +74,7 @@ impl Chains {
         self.onward.get(&cause.key()).copied()?
     }
 
-    /// The last of a chain, within so many steps.
+    /// The last of a chain, within this number of steps.
     #[tactic(auto, unfolding(crate::specs::Chains::last_within))]
     fn last_within(&self, steps: u8, cause: Cause) -> Cause
         ensures { result ≡ last_within (kept self.now) steps cause }

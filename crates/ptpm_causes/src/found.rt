@@ -27,7 +27,7 @@ pub(crate) struct Found {
     pub(crate) causes: BTreeSet<Key>,
     /// The clocks whose grandmaster changed: they have `changed` grandmasterIdentity.
     pub(crate) moved: BTreeSet<Source>,
-    /// Where the lines stand that say that other clocks lead than an inventory wants. A domain has one at most.
+    /// The clocks of the findings that say that other clocks lead than an inventory wants. A domain has one at most.
     pub(crate) leaders: Vec<Source>,
 }
 
@@ -63,7 +63,7 @@ impl Found {
         self.moved.contains(&source)
     }
 
-    /// Where the line stands that says that other clocks of a domain lead, if there is one.
+    /// The clock of the finding that other clocks of a domain lead, if there is one.
     pub(crate) fn leaders_of(&self, domain: u8) -> Option<Source>
         ensures { result ≡ find (in_domain domain) self.now.leaders.items }
     {
@@ -137,7 +137,7 @@ fn is_of_leaders(what: &What<'_>) -> bool
     matches!(what, What::OtherLeaders(_))
 }
 
-/// Where such a finding stands.
+/// The clock of such a finding.
 fn leaders_in(finding: &Finding<'_>) -> Option<Source>
     ensures { result ≡ leaders_in finding.now }
 {

@@ -7,7 +7,7 @@ use ptpm_site::finding::What;
 use ptpm_site::leading::Degradation;
 use ptpm_site::unseen::Absence;
 
-/// A name that findings have. Each stands after those that it may follow from.
+/// A name that findings have. Each comes after those that it may follow from.
 #[derive(Clone, Copy, PartialEq, Eq)]
 pub enum Kind {
     Gone,
@@ -45,6 +45,7 @@ pub enum Kind {
     Profile,
     Incomplete,
     OutOfReach,
+    NotAsked,
 }
 
 impl Kind {
@@ -86,6 +87,7 @@ impl Kind {
             Kind::Profile => "profile",
             Kind::Incomplete => "incomplete",
             Kind::OutOfReach => "out_of_reach",
+            Kind::NotAsked => "not_asked",
         }
     }
 
@@ -107,6 +109,7 @@ pub(crate) fn kind_of(what: &What<'_>) -> Kind
         What::NotAsExpected(_) | What::OtherLeaders(_) => Kind::NotAsExpected,
         What::Gone => Kind::Gone,
         What::Unseen(absence) => absence_kind(*absence),
+        What::NotAsked(_) => Kind::NotAsked,
         What::TwoGrandmasters => Kind::TwoGrandmasters,
         What::NoMaster(_) => Kind::NoMaster,
         What::GrandmasterNotSeen(_) => Kind::GrandmasterNotSeen,

@@ -1,4 +1,4 @@
-//! The members of data sets of which the rules speak.
+//! The members of data sets that the rules name.
 
 ghost use Rattle.std.specs.Prelude.{◌≡◌};
 ghost use Rattle.ptpm_causes.specs.Members.{is_by_handover, is_of_grandmaster, is_of_parent, is_of_time, is_parent_identity, is_passed_on, is_quality};

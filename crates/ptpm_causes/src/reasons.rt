@@ -28,7 +28,7 @@ fn at(kind: Kind, source: Source) -> Cause
     Cause { kind, source }
 }
 
-/// The first clock above another, by parents, that is not seen, within so many steps.
+/// The first clock above another, by parents, that is not seen, within this number of steps.
 #[tactic(auto, unfolding(crate::specs::Reasons::unseen_above))]
 fn unseen_above(steps: u8, site: &Site, source: Source) -> Option<Source>
     ensures { result ≡ unseen_above steps (site_answers site.now) source }
@@ -57,7 +57,7 @@ impl Found {
         ])
     }
 
-    /// That a clock which answers nothing stands on the way to a grandmaster.
+    /// That a clock on the way to a grandmaster answers nothing.
     fn silent_cause(&self, source: Source) -> Option<Cause>
         ensures { result ≡ first_of (known_by self.now) (silent_causes source) }
     {

@@ -7,12 +7,12 @@ use Rattle.ptpm_script.specs.Document.{KeyRule, end_of, passes}
 use Rattle.ptpm_script.specs.NetworkFile.{clock_rules, file_rules, link_rules, port_rules, session_rules}
 use Rattle.ptpm_script.specs.Values.{natural_at}
 use Rattle.ptpm_check.specs.declared.place.Array.TheVariants as arrays
-use Rattle.ptpm_check.specs.Heads.{ClockHeadValue, EndHeadValue, SessionHeadValue, items_at, items_in}
+use Rattle.ptpm_check.specs.Heads.{ClockHeadValue, EndHeadValue, SessionHeadValue, items_at, items_in, number_in}
 use Rattle.ptpm_check.specs.KeyFaults.{key_marks, members_marks, missing_keys, missing_marks, shape_mark, table_marks, wrong_keys, wrong_marks}
 use Rattle.ptpm_check.specs.LimitFaults.{count_marks, has_bad_size, is_crowded, limit_marks, link_size_marks, manager_marks, size_marks}
 use Rattle.ptpm_check.specs.Marks.{Spot, absent, at_item, at_key, each, each_after, in_file, in_port, in_table, many}
 use Rattle.ptpm_check.specs.NameFaults.{clock_past_ports, end_name_marks, is_no_clock, is_no_end, is_past, name_marks, past_members, past_port, past_ports, ports_of, target_marks}
-use Rattle.ptpm_check.specs.RepeatFaults.{clock_repeats, end_repeats, is_clock_identity, is_clock_name, is_number_of, is_same_end, is_session_identity, is_session_name, number_in, port_members_repeats, port_repeats, repeat_marks, session_repeats}
+use Rattle.ptpm_check.specs.RepeatFaults.{clock_repeats, end_repeats, is_clock_identity, is_clock_name, is_number_of, is_same_end, is_session_identity, is_session_name, port_members_repeats, port_repeats, repeat_marks, session_repeats}
 use Rattle.ptpm_check.specs.ShapeFaults.{clock_marks, end_marks, is_bad_right, link_marks, port_marks, ports_marks, right_in, right_marks, rights_marks, session_marks, shape_marks, version_marks}
 use Rattle.ptpm_check.proofs.MarkLemmas.{Of, of-after, of-append, of-each, of-flat, of-map, of-mark, of-value}
 

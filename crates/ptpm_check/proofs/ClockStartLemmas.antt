@@ -3,6 +3,7 @@ use Rattle.std.proofs.Common.{arith, ◌≡◌, ℕ, ◌==◌, nat_le, nat_lt, m
 use Rattle.std.specs.List.{list_all, range_with_len}
 use Rattle.std.specs.Option.{option_or}
 use Rattle.std.specs.Str.{chars, is_utf8}
+use Rattle.std.proofs.lemmas.Bool.{and_parts, leb-true}
 use Rattle.std.proofs.lemmas.Bool.Decides.{nat_tests}
 use Rattle.std.proofs.lemmas.List.FromFn.{length-map-range_with_len}
 use Rattle.std.proofs.lemmas.Slice.Eq.{bytes_eq-Decides}
@@ -25,15 +26,15 @@ use Rattle.ptpm_script.specs.Entries.{ClockEntryValue}
 use Rattle.ptpm_script.specs.NetworkFile.{clock_over, clock_rules, clock_start, port_entry}
 use Rattle.ptpm_script.specs.NetworkText.{all_ports, has_like, has_own_ports, has_ports, same_number, start_of_port}
 use Rattle.ptpm_script.specs.Values.{clock_at, description_at, flag_at, natural_at, text_at}
-use Rattle.ptpm_check.specs.Faults.{IsAmong}
+use Rattle.ptpm_check.specs.Faults.{first_refusal}
 use Rattle.ptpm_check.specs.Heads.{ClockHeadValue, items_at, list_of}
-use Rattle.ptpm_check.specs.Marks.{Mark, Spot, at_key, each, mark_if, value_mark}
-use Rattle.ptpm_check.specs.StartFaults.{clock_fails, clock_ranges, clock_start_marks, count_start_marks, fails, grandmaster_marks, has_octet, is_own_grandmaster, member_marks, only_accuracy, only_description, only_leaps, own_marks, own_marks_if, own_mark_if, port_start_marks, some_clock}
-use Rattle.ptpm_check.proofs.FoundLemmas.{found}
+use Rattle.ptpm_check.specs.Marks.{Mark, Spot, at_key, mark_if, value_mark}
+use Rattle.ptpm_check.specs.StartFaults.{clock_fails, clock_ranges, clock_start_marks, count_start_marks, fails, grandmaster_marks, has_octet, is_own_grandmaster, member_marks, only_accuracy, only_description, only_leaps, own_marks, own_marks_if, own_mark_if, ports_start_marks, some_clock}
 use Rattle.ptpm_check.proofs.HeadLemmas.{IsClock, IsPort, pairs-read, port-is}
+use Rattle.ptpm_check.proofs.MarkLemmas.{first-append}
 use Rattle.ptpm_check.proofs.PortStartLemmas.{count_one, default_starts, err_unless, natural_absent, ports-tell, ports_one, some_if}
 use Rattle.ptpm_check.proofs.TableLemmas.{fitting, key-there, whole_given}
-use Rattle.ptpm_check.proofs.TellLemmas.{Tells, among-left, or_none, or_or, tells-append, tells-value}
+use Rattle.ptpm_check.proofs.TellLemmas.{Tells, or_none, or_or, tells-append, tells-value}
 
 -- ---- the number of ports
 
@@ -171,7 +172,7 @@ unfolding value_mark
 own_absent own most spot key ms none no_number =
     subst (λ n. Tells (if not (unwrap_or n own == own) then Some GrandmasterDiffers else None) (own_mark_if (has_octet own n) spot key ms)) (sym no_number)
     (subst (λ b. Tells (if not b then Some GrandmasterDiffers else None) (mark_if (is_some (get_member key ms)) (BadClock GrandmasterDiffers) spot (at_key key))) (sym (same_accuracy own))
-    (ap (λ o. found (mark_if (is_some o) (BadClock GrandmasterDiffers) spot (at_key key))) none))
+    (ap (λ o. first_refusal (mark_if (is_some o) (BadClock GrandmasterDiffers) spot (at_key key))) none))
 
 own_case : (own most : ℕ) (spot : Spot) (key : List ℕ) (ms : Members) (o : Option Data)
     → is_shaped clock_rules ms ≡ true
@@ -305,22 +306,25 @@ unfolding clock_start_marks all_ports
 clock_case c h k once own (Some e) is =
     let count = count_start_marks h in
     let member = member_marks h.spot h.table in
-    let ports = each (port_start_marks h.number) 1 (items_at (codes "port") h.table) in
+    let ports = ports_start_marks 9 h.number (items_at (codes "port") h.table) in
     let rest = option_or (clock_fault c.start) (option_or (ports_fault (all_ports c)) (grandmaster_fault (default_data_set c.start) (parent_data_set c.start))) in
-    let told : IsAmong (BadClock e) count = subst (λ o. Tells o count) is (count_tells c h k) in
+    let told : first_refusal count ≡ Some (BadClock e) = subst (λ o. Tells o count) is (count_tells c h k) in
     subst (λ o. Tells (option_or o rest) (count ++ member ++ ports ++ grandmaster_marks h)) (sym is)
-    (among-left (BadClock e) (count ++ member ++ ports) (grandmaster_marks h)
-    (among-left (BadClock e) (count ++ member) ports (among-left (BadClock e) count member told)))
+    (first-append (count ++ member ++ ports) (grandmaster_marks h)
+    ∙ ap (λ o. option_or o (first_refusal (grandmaster_marks h))) (first-append (count ++ member) ports)
+    ∙ ap (λ o. option_or (option_or o (first_refusal ports)) (first_refusal (grandmaster_marks h))) (first-append count member)
+    ∙ ap (λ o. option_or (option_or (option_or o (first_refusal member)) (first_refusal ports)) (first_refusal (grandmaster_marks h))) told)
 clock_case c h k once own None is =
     let some = count_within c.count (sym (ap count_fault (ports_long c)) ∙ is) in
     let cf = count_fault (length (all_ports c)) in
     let kf = clock_fault c.start in
     let pf = ports_fault (all_ports c) in
     let gf = grandmaster_fault (default_data_set c.start) (parent_data_set c.start) in
-    let ports : Tells pf (each (port_start_marks h.number) 1 (items_at (codes "port") h.table)) =
-    subst (λ xs. Tells pf (each (port_start_marks h.number) 1 xs)) (sym k.ports_at)
-    (subst (λ n. Tells (ports_fault (map (start_of_port c.ports) (range_with_len 1 n))) (each (port_start_marks h.number) 1 (list_of k.ports))) (sym (count_all c.count some))
-    (ports-tell h.number c.count c.ports (list_of k.ports) (pairs-read port_entry IsPort port-is k.ports c.ports k.ports_read) once (own_ports c some own))) in
+    let ports : Tells pf (ports_start_marks 9 h.number (items_at (codes "port") h.table)) =
+    subst (λ xs. Tells pf (ports_start_marks 9 h.number xs)) (sym k.ports_at)
+    (subst (λ n. Tells (ports_fault (map (start_of_port c.ports) (range_with_len 1 n))) (ports_start_marks 9 h.number (list_of k.ports))) (sym (count_all c.count some))
+    (ports-tell h.number c.count c.ports (list_of k.ports) (pairs-read port_entry IsPort port-is k.ports c.ports k.ports_read) once (own_ports c some own)
+    (leb-true c.count 8 (and_parts (nat_le 1 c.count) (nat_le c.count 8) some).1))) in
     let member : Tells kf (member_marks h.spot h.table) =
     subst (λ s. Tells (clock_fault s) (member_marks h.spot h.table)) (sym k.start) (members_tell h.spot c.start.identity k.domain h.table (clock_one c h k)) in
     subst (λ o. Tells o (clock_start_marks h)) (or_or (option_or cf kf) pf gf ∙ or_or cf kf (option_or pf gf))

@@ -13,9 +13,6 @@ use Rattle.ptpm_check.specs.Marks.{each, each_after}
 pub or_same : (a b c d : Bool) → a ≡ b → c ≡ d → (a || c) ≡ (b || d)
 or_same a b c d h k = ap (λ x. x || c) h ∙ ap (λ x. b || x) k
 
-pub and_same : (a b c d : Bool) → a ≡ b → c ≡ d → (a && c) ≡ (b && d)
-and_same a b c d h k = ap (λ x. x && c) h ∙ ap (λ x. b && x) k
-
 pub or_both : (a b c d : Bool) → ((a || b) || (c || d)) ≡ ((a || c) || (b || d))
 or_both true b c d = refl
 or_both false true true d = refl
@@ -59,10 +56,6 @@ found-append (x ∷ xs) ys = refl
 pub found-map : {A B : Type 0} (f : A → B) (xs : List A) → found (map f xs) ≡ found xs
 found-map f [] = refl
 found-map f (x ∷ xs) = refl
-
-pub found-none : {A : Type 0} (xs : List A) → found xs ≡ false → xs ≡ []
-found-none [] h = refl
-found-none (x ∷ xs) h = cc
 
 pub found-each : {A B : Type 0} (of : ℕ → A → List B) (p : A → Bool)
     → ((n : ℕ) (x : A) → found (of n x) ≡ p x)

@@ -1,7 +1,5 @@
-pub mod SameRefusal
 pub mod ItemLemmas
 pub mod KeyLemmas
-pub mod LedLemmas
 pub mod EntryTypes
 pub mod FoundLemmas
 pub mod TableLemmas

@@ -1,8 +1,9 @@
 -- Marks that are there if a test holds, and which refusal the first of some marks is of.
-use Rattle.std.proofs.Common.{◌≡◌, ℕ, ◌+◌, Bool, true, false, List, [], ◌∷◌, ◌++◌, refl, ◌∙◌, is_some, flat_map, map}
+use Rattle.std.proofs.Common.{◌≡◌, ℕ, ◌+◌, Bool, true, false, if◌then◌else◌, List, [], ◌∷◌, ◌++◌, Option, Some, None, refl, ap, ◌∙◌, is_some, flat_map, map}
+use Rattle.std.specs.Option.{option_or}
 use Rattle.toml.specs.Data.{Members, get_member}
 use Rattle.ptpm_script.specs.declared.net_error.NetError.{NetError}
-use Rattle.ptpm_check.specs.Faults.{IsFirst}
+use Rattle.ptpm_check.specs.Faults.{first_refusal}
 use Rattle.ptpm_check.specs.Marks.{Mark, Part, Spot, at_key, each, each_after, mark_if, value_mark, value_mark_if}
 use Rattle.ptpm_check.proofs.FoundLemmas.{found}
 
@@ -57,14 +58,20 @@ pub of-flat : {A : Type 0} (class : NetError) (of : A → List Mark) (xs : List 
 of-flat class of [] h = tt
 of-flat class of (x ∷ xs) h = of-append class (of x) (flat_map of xs) (h x) (of-flat class of xs h)
 
-pub first-of : (class : NetError) (xs : List Mark) → found xs ≡ true → Of class xs → IsFirst class xs
-first-of class [] some h = cc
-first-of class (x ∷ xs) some h = h
+-- this refusal, if a test holds
+abbrev pub when : Bool → NetError → Option NetError
+when b e = if b then Some e else None
 
-pub first-left : (class : NetError) (xs ys : List Mark) → IsFirst class xs → IsFirst class (xs ++ ys)
-first-left class [] ys h = absurd h
-first-left class (x ∷ xs) ys h = h
+pub first-when : (class : NetError) (xs : List Mark) (b : Bool) → found xs ≡ b → Of class xs → first_refusal xs ≡ when b class
+first-when class [] true is of = cc
+first-when class [] false is of = refl
+first-when class (x ∷ xs) true is of = ap Some of
+first-when class (x ∷ xs) false is of = cc
 
-pub first-after : (class : NetError) (xs ys : List Mark) → found xs ≡ false → IsFirst class ys → IsFirst class (xs ++ ys)
-first-after class [] ys none h = h
-first-after class (x ∷ xs) ys none h = cc
+pub first-append : (xs ys : List Mark) → first_refusal (xs ++ ys) ≡ option_or (first_refusal xs) (first_refusal ys)
+first-append [] ys = refl
+first-append (x ∷ xs) ys = refl
+
+pub first-none : (xs : List Mark) → first_refusal xs ≡ None → xs ≡ []
+first-none [] h = refl
+first-none (x ∷ xs) h = cc

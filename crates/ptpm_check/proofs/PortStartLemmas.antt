@@ -1,11 +1,11 @@
 -- What is found of the start of ports tells why some port can't start.
-use Rattle.std.proofs.Common.{arith, ◌≡◌, ℕ, ◌+◌, ◌<◌, ◌≤◌, zero, suc, ℤ, pos, ◌==◌, nat_le, Bool, true, false, not, ◌&&◌, ◌||◌, if◌then◌else◌, List, [], ◌∷◌, ◌++◌, Option, Some, None, refl, ap, sym, subst, ◌∙◌, is_some, is_none, is_err, codes, eq-eqb, map, option_and_then, unwrap_or}
+use Rattle.std.proofs.Common.{arith, ◌≡◌, ℕ, ◌+◌, ◌<◌, ◌≤◌, zero, suc, ℤ, pos, ◌==◌, nat_le, Bool, true, false, not, ◌&&◌, if◌then◌else◌, List, [], ◌∷◌, ◌++◌, Option, Some, None, refl, ap, sym, subst, ◌∙◌, is_some, is_none, is_err, codes, flat_map, map, ne_eqb, option_and_then, option_map, unwrap_or}
 use Rattle.std.specs.List.{list_all, list_any, range_with_len}
 use Rattle.std.specs.Option.{option_or}
 use Rattle.std.specs.Str.{chars, is_utf8}
-use Rattle.std.proofs.lemmas.Bool.{and_parts, both_ways, eqb-false, eqb-true, leb-true, false_from_ne_true, or_from, or_left, or_parts, or_right}
-use Rattle.std.proofs.lemmas.Cmp.{nat_eq_equiv}
-use Rattle.toml.specs.Data.{Data, Members, as_integer, get_member}
+use Rattle.std.proofs.lemmas.Bool.{and_parts, eqb-true, leb-true, or_parts}
+use Rattle.std.proofs.lemmas.Bool.Decides.{nat_tests}
+use Rattle.toml.specs.Data.{Data, Members, as_integer, as_table, get_member}
 use Rattle.ptpm_data.specs.PortState.{state_of}
 use Rattle.ptpm_data.specs.Ranges.{is_description, is_in_range}
 use Rattle.ptpm_data.specs.ManagementId.{set_of}
@@ -20,13 +20,14 @@ use Rattle.ptpm_script.specs.declared.net_error.NetError.TheVariants.{BadClock}
 use Rattle.ptpm_script.specs.NetworkFile.{port_over, port_start}
 use Rattle.ptpm_script.specs.NetworkText.{has_like, same_number, start_of_port}
 use Rattle.ptpm_script.specs.Values.{natural_at, natural_up_to, signed_at, signed_up_to}
-use Rattle.ptpm_check.specs.Faults.{IsAmong}
-use Rattle.ptpm_check.specs.Marks.{Spot, each, in_port}
-use Rattle.ptpm_check.specs.StartFaults.{fails, port_fails, port_member_marks, port_ranges, port_start_marks, port_start_members, some_clock}
+use Rattle.ptpm_check.specs.Faults.{first_refusal}
+use Rattle.ptpm_check.specs.Heads.{members_number}
+use Rattle.ptpm_check.specs.Marks.{Mark, Spot, each, in_port}
+use Rattle.ptpm_check.specs.StartFaults.{fails, port_fails, port_member_marks, port_ranges, port_start_marks, port_start_members, ports_start_marks, rank, rank_marks, rank_of_number, ranked, some_clock}
 use Rattle.ptpm_check.proofs.EntryTypes.{PortEntry}
-use Rattle.ptpm_check.proofs.FoundLemmas.{Pairs, found, or_same, pairs-each}
+use Rattle.ptpm_check.proofs.FoundLemmas.{Pairs}
 use Rattle.ptpm_check.proofs.HeadLemmas.{IsPort}
-use Rattle.ptpm_check.proofs.TellLemmas.{Tells, among-left, among-right, or_none, told_found, tells-append, tells-value}
+use Rattle.ptpm_check.proofs.TellLemmas.{Tells, or_none, tells-append, tells-value}
 
 -- ---- a port that has all others as this profile has them
 
@@ -166,137 +167,138 @@ pub default_starts : port_fault default_port ≡ None
 unfolding port_fault
 default_starts = settings_start
 
--- by whether this table is of the port's number
-port_or_later : (clock n number : ℕ) (e : StartError) (p : PortEntry) (ps : List PortEntry) (d : Data) (ds : List Data) (b : Bool)
-    → IsPort p d
-    → port_fault (if b then p.start else start_of_port ps number) ≡ Some e
-    → (port_fault (start_of_port ps number) ≡ Some e → IsAmong (BadClock e) (each (port_start_marks clock) (n + 1) ds))
-    → IsAmong (BadClock e) (port_start_marks clock n d ++ each (port_start_marks clock) (n + 1) ds)
-port_or_later clock n number e p ps d ds true k h later =
-    among-left (BadClock e) (port_start_marks clock n d) (each (port_start_marks clock) (n + 1) ds)
-    (subst (λ o. Tells o (port_start_marks clock n d)) h (port_here clock n p d k))
-port_or_later clock n number e p ps d ds false k h later =
-    among-right (BadClock e) (port_start_marks clock n d) (each (port_start_marks clock) (n + 1) ds) (later h)
+-- a port that is there, and its table
+record IsThere (count : ℕ) (p : PortEntry) (d : Data) : Type 0 where
+  port : IsPort p d
+  high : p.number ≤ count
+  rank : rank d ≡ p.number
 
--- a port that has a fault has a table, and of that something is found
-some_port : (clock n number : ℕ) (e : StartError) (ps : List PortEntry) (ds : List Data)
-    → Pairs IsPort ps ds
-    → port_fault (start_of_port ps number) ≡ Some e
-    → IsAmong (BadClock e) (each (port_start_marks clock) n ds)
-some_port clock n number e [] [] beside h = let no : None ≡ Some e = sym default_starts ∙ h in cc
-some_port clock n number e [] (d ∷ ds) beside h = absurd beside
-some_port clock n number e (p ∷ ps) [] beside h = absurd beside
-some_port clock n number e (p ∷ ps) (d ∷ ds) beside h =
-    port_or_later clock n number e p ps d ds (p.number == number) beside.0 h (λ later. some_port clock (n + 1) number e ps ds beside.1 later)
+within_eight : (n count : ℕ) → (nat_le 1 n && nat_le n count) ≡ true → count ≤ 8 → (nat_le 1 n && nat_le n 8) ≡ true
+within_eight n count within few = grind (arith, nat_tests)
 
-bad_or_later : (start : ℕ → PortStart) (n : ℕ) (ns : List ℕ) (e : StartError) (o : Option StartError) → port_fault (start n) ≡ o
-    → option_or o (ports_fault (map start ns)) ≡ Some e
-    → (ports_fault (map start ns) ≡ Some e → (k : ℕ) × (port_fault (start k) ≡ Some e))
-    → (k : ℕ) × (port_fault (start k) ≡ Some e)
-bad_or_later start n ns e None is h later = later h
-bad_or_later start n ns e (Some x) is h later = (n, is ∙ h)
+abbrev is_there : ℕ → PortEntry → Bool
+is_there count p = nat_le 1 p.number && nat_le p.number count
 
--- the first port that has a fault
-first_bad : (start : ℕ → PortStart) (numbers : List ℕ) (e : StartError) → ports_fault (map start numbers) ≡ Some e
-    → (n : ℕ) × (port_fault (start n) ≡ Some e)
-unfolding ports_fault
-first_bad start [] e h = cc
-first_bad start (n ∷ ns) e h = bad_or_later start n ns e (port_fault (start n)) refl h (first_bad start ns e)
+there : (count : ℕ) (ps : List PortEntry) (ds : List Data) → Pairs IsPort ps ds
+    → list_all (is_there count) ps ≡ true
+    → count ≤ 8
+    → Pairs (IsThere count) ps ds
+there count [] [] beside within few = tt
+there count [] (d ∷ ds) beside within few = absurd beside
+there count (p ∷ ps) [] beside within few = absurd beside
+there count (p ∷ ps) (d ∷ ds) beside within few =
+    let parts = and_parts (is_there count p) (list_all (is_there count) ps) within in (
+      record {
+        port = beside.0;
+        high = leb-true p.number count (and_parts (nat_le 1 p.number) (nat_le p.number count) parts.0).1;
+        rank = ap (λ o. rank_of_number (members_number o)) beside.0.is ∙ ap rank_of_number beside.0.number
+            ∙ ap (λ b. if b then p.number else 9) (within_eight p.number count parts.0 few);
+      },
+      there count ps ds beside.1 parts.1 few,
+    )
 
-some_or : (o p : Option StartError) → (is_some o || is_some p) ≡ is_some (option_or o p)
-some_or None p = refl
-some_or (Some e) p = refl
+ranked_by : (r k : ℕ) (b : Bool) (spot : Spot) (d : Data) → rank d ≡ k → (k == r) ≡ b
+    → ranked r spot d ≡ (if b then port_start_members spot (as_table d) else [])
+ranked_by r k b spot d is same =
+    ap (λ t. if t == r then port_start_members spot (as_table d) else []) is
+    ∙ ap (λ t. if t then port_start_members spot (as_table d) else []) same
 
--- some port has a fault exactly if one of them has
-any_bad : (start : ℕ → PortStart) (numbers : List ℕ)
-    → list_any (λ n. is_some (port_fault (start n))) numbers ≡ is_some (ports_fault (map start numbers))
-unfolding ports_fault
-any_bad start [] = refl
-any_bad start (n ∷ ns) =
-    ap (λ b. is_some (port_fault (start n)) || b) (any_bad start ns) ∙ some_or (port_fault (start n)) (ports_fault (map start ns))
+-- of the tables from one on that have a rank
+abbrev ranked_from : ℕ → ℕ → ℕ → List Data → List Mark
+ranked_from clock r n ds = each (λ k d. ranked r (in_port clock k) d) n ds
 
--- ---- each table is of a port that is there
+none_ranked : (clock r n count : ℕ) (ps : List PortEntry) (ds : List Data) → Pairs (IsThere count) ps ds
+    → list_any (λ p. p.number == r) ps ≡ false
+    → ranked_from clock r n ds ≡ []
+none_ranked clock r n count [] [] beside none = refl
+none_ranked clock r n count [] (d ∷ ds) beside none = absurd beside
+none_ranked clock r n count (p ∷ ps) [] beside none = absurd beside
+none_ranked clock r n count (p ∷ ps) (d ∷ ds) beside none =
+    let parts = or_parts (p.number == r) (list_any (λ q. q.number == r) ps) none in
+    ap (λ xs. xs ++ ranked_from clock r (n + 1) ds) (ranked_by r p.number false (in_port clock n) d beside.0.rank parts.0)
+    ∙ none_ranked clock r (n + 1) count ps ds beside.1 parts.1
 
-past_first : (first k : ℕ) → first ≤ k → (first ≡ k → ⊥) → first + 1 ≤ k
-past_first first k low apart = grind arith
+-- by whether the first table is of the port's number
+port_case : (clock r n count : ℕ) (p : PortEntry) (ps : List PortEntry) (d : Data) (ds : List Data) (b : Bool)
+    → (p.number == r) ≡ b
+    → IsThere count p d
+    → Pairs (IsThere count) ps ds
+    → list_any (same_number p) ps ≡ false
+    → Tells (port_fault (start_of_port ps r)) (ranked_from clock r (n + 1) ds)
+    → Tells (port_fault (if b then p.start else start_of_port ps r)) (ranked r (in_port clock n) d ++ ranked_from clock r (n + 1) ds)
+port_case clock r n count p ps d ds true same is beside apart later =
+    let here : Tells (port_fault p.start) (ranked r (in_port clock n) d) =
+    subst (Tells (port_fault p.start)) (sym (ranked_by r p.number true (in_port clock n) d is.rank same)) (port_here clock n p d is.port) in
+    let others = subst (λ k. list_any (λ q. q.number == k) ps ≡ false) (eqb-true p.number r same) apart in
+    subst (λ o. Tells o (ranked r (in_port clock n) d ++ ranked_from clock r (n + 1) ds)) (or_none (port_fault p.start))
+    (tells-append (port_fault p.start) None (ranked r (in_port clock n) d) (ranked_from clock r (n + 1) ds) here
+    (ap first_refusal (none_ranked clock r (n + 1) count ps ds beside others)))
+port_case clock r n count p ps d ds false same is beside apart later =
+    tells-append None (port_fault (start_of_port ps r)) (ranked r (in_port clock n) d) (ranked_from clock r (n + 1) ds)
+    (ap first_refusal (ranked_by r p.number false (in_port clock n) d is.rank same)) later
 
-in_range_at : (test : ℕ → Bool) (first count k : ℕ) (b : Bool) → (first == k) ≡ b
-    → first ≤ k
-    → k < first + suc count
-    → test k ≡ true
-    → (first + 1 ≤ k → k < first + 1 + count → test k ≡ true → list_any test (range_with_len (first + 1) count) ≡ true)
-    → (test first || list_any test (range_with_len (first + 1) count)) ≡ true
-in_range_at test first count k true same low high is later =
-    or_left (test first) (list_any test (range_with_len (first + 1) count)) (ap test (eqb-true first k same) ∙ is)
-in_range_at test first count k false same low high is later =
-    let apart = eqb-false first k same in
-    or_right (test first) (list_any test (range_with_len (first + 1) count)) (later (past_first first k low apart) (omega arith) is)
-
-in_range : (test : ℕ → Bool) (first count k : ℕ) → first ≤ k → k < first + count → test k ≡ true → list_any test (range_with_len first count) ≡ true
-in_range test first zero k low high is = absurd (omega arith)
-in_range test first (suc count) k low high is = in_range_at test first count k (first == k) refl low high is (in_range test (first + 1) count k)
-
-within_range : (test : ℕ → Bool) (count k : ℕ) → (nat_le 1 k && nat_le k count) ≡ true → test k ≡ true → list_any test (range_with_len 1 count) ≡ true
-within_range test count k within is =
-    let parts = and_parts (nat_le 1 k) (nat_le k count) within in
-    let low = leb-true 1 k parts.0 in
-    let high = leb-true k count parts.1 in
-    in_range test 1 count k low (omega arith) is
-
-none_within : (test : ℕ → Bool) (count : ℕ) (ps : List PortEntry)
-    → list_any test (range_with_len 1 count) ≡ false
-    → list_all (λ p. nat_le 1 p.number && nat_le p.number count) ps ≡ true
-    → list_any (λ p. test p.number) ps ≡ false
-none_within test count [] none within = refl
-none_within test count (p ∷ ps) none within =
-    let parts = and_parts (nat_le 1 p.number && nat_le p.number count) (list_all (λ q. nat_le 1 q.number && nat_le q.number count) ps) within in
-    or_from (test p.number) (list_any (λ q. test q.number) ps)
-    (false_from_ne_true (test p.number) (λ is. both_ways (list_any test (range_with_len 1 count)) none (within_range test count p.number parts.0 is)))
-    (none_within test count ps none parts.1)
-
-later_start : (test : PortStart → Bool) (p : PortEntry) (all ps : List PortEntry) → list_any (same_number p) ps ≡ false
-    → list_any (λ q. test (start_of_port all q.number)) ps ≡ list_any (λ q. test (start_of_port (p ∷ all) q.number)) ps
-later_start test p all [] apart = refl
-later_start test p all (q ∷ qs) apart =
-    let parts = or_parts (same_number p q) (list_any (same_number p) qs) apart in
-    or_same _ _ _ _ (sym (ap (λ b. test (if b then p.start else start_of_port all q.number)) (nat_eq_equiv.symm p.number q.number ∙ parts.0)))
-    (later_start test p all qs parts.1)
-
--- the start of a port is that of its table
-own_start : (test : PortStart → Bool) (ps : List PortEntry) → has_like same_number ps ≡ false
-    → list_any (λ p. test p.start) ps ≡ list_any (λ p. test (start_of_port ps p.number)) ps
-own_start test [] once = refl
-own_start test (p ∷ ps) once =
-    let parts = or_parts (list_any (same_number p) ps) (has_like same_number ps) once in
-    or_same _ _ _ _ (sym (ap (λ b. test (if b then p.start else start_of_port ps p.number)) (eq-eqb p.number p.number refl)))
-    (own_start test ps parts.1 ∙ later_start test p ps ps parts.0)
-
-tables_found : (clock : ℕ) (ps : List PortEntry) (ds : List Data) → Pairs IsPort ps ds
-    → found (each (port_start_marks clock) 1 ds) ≡ list_any (λ p. is_some (port_fault p.start)) ps
-tables_found clock ps ds beside =
-    pairs-each IsPort (port_start_marks clock) (λ p. is_some (port_fault p.start))
-    (λ n p d k. told_found (port_fault p.start) (port_start_marks clock n d) (port_here clock n p d k)) 1 ps ds beside
-
-ports_case : (clock count : ℕ) (ps : List PortEntry) (ds : List Data)
-    → Pairs IsPort ps ds
+port_tells_at : (clock r n count : ℕ) (ps : List PortEntry) (ds : List Data) → Pairs (IsThere count) ps ds
     → has_like same_number ps ≡ false
-    → list_all (λ p. nat_le 1 p.number && nat_le p.number count) ps ≡ true
-    → (o : Option StartError)
-    → ports_fault (map (start_of_port ps) (range_with_len 1 count)) ≡ o
-    → Tells o (each (port_start_marks clock) 1 ds)
-ports_case clock count ps ds beside once within (Some e) is =
-    let bad = first_bad (start_of_port ps) (range_with_len 1 count) e is in
-    some_port clock 1 bad.0 e ps ds beside bad.1
-ports_case clock count ps ds beside once within None is =
-    let test = λ (n : ℕ). is_some (port_fault (start_of_port ps n)) in
-    tables_found clock ps ds beside
-    ∙ own_start (λ q. is_some (port_fault q)) ps once
-    ∙ none_within test count ps (any_bad (start_of_port ps) (range_with_len 1 count) ∙ ap is_some is) within
+    → Tells (port_fault (start_of_port ps r)) (ranked_from clock r n ds)
+port_tells_at clock r n count [] [] beside once = ap (option_map (λ e. BadClock e)) (sym default_starts)
+port_tells_at clock r n count [] (d ∷ ds) beside once = absurd beside
+port_tells_at clock r n count (p ∷ ps) [] beside once = absurd beside
+port_tells_at clock r n count (p ∷ ps) (d ∷ ds) beside once =
+    let parts = or_parts (list_any (same_number p) ps) (has_like same_number ps) once in
+    port_case clock r n count p ps d ds (p.number == r) refl beside.0 beside.1 parts.0 (port_tells_at clock r (n + 1) count ps ds beside.1 parts.1)
+
+abbrev faults_from : List PortEntry → ℕ → ℕ → Option StartError
+faults_from ps first len = ports_fault (map (start_of_port ps) (range_with_len first len))
+
+ports_tell_from : (clock first len count : ℕ) (ps : List PortEntry) (ds : List Data) → Pairs (IsThere count) ps ds
+    → has_like same_number ps ≡ false
+    → Tells (faults_from ps first len) (flat_map (rank_marks clock ds) (range_with_len first len))
+unfolding ports_fault
+ports_tell_from clock first zero count ps ds beside once = refl
+ports_tell_from clock first (suc len) count ps ds beside once =
+    tells-append (port_fault (start_of_port ps first)) (faults_from ps (first + 1) len) (rank_marks clock ds first)
+    (flat_map (rank_marks clock ds) (range_with_len (first + 1) len)) (port_tells_at clock first 1 count ps ds beside once)
+    (ports_tell_from clock (first + 1) len count ps ds beside once)
+
+-- ---- past the ports that are there
+
+past_apart : (n count r : ℕ) → n ≤ count → count < r → (n == r) ≡ false
+past_apart n count r high past = ne_eqb n r (λ same. absurd (omega arith))
+
+start_past : (count r : ℕ) (ps : List PortEntry) (ds : List Data) → Pairs (IsThere count) ps ds → count < r
+    → start_of_port ps r ≡ default_port
+start_past count r [] [] beside past = refl
+start_past count r [] (d ∷ ds) beside past = absurd beside
+start_past count r (p ∷ ps) [] beside past = absurd beside
+start_past count r (p ∷ ps) (d ∷ ds) beside past =
+    ap (λ b. if b then p.start else start_of_port ps r) (past_apart p.number count r beside.0.high past) ∙ start_past count r ps ds beside.1 past
+
+none_past : (count first len : ℕ) (ps : List PortEntry) (ds : List Data) → Pairs (IsThere count) ps ds → count < first
+    → faults_from ps first len ≡ None
+unfolding ports_fault
+none_past count first zero ps ds beside past = refl
+none_past count first (suc len) ps ds beside past =
+    ap (λ o. option_or o (faults_from ps (first + 1) len)) (ap port_fault (start_past count first ps ds beside past) ∙ default_starts)
+    ∙ none_past count (first + 1) len ps ds beside (omega arith)
+
+all_within : (count first len most : ℕ) (ps : List PortEntry) (ds : List Data) → Pairs (IsThere count) ps ds
+    → len ≤ most
+    → count < first + len
+    → faults_from ps first most ≡ faults_from ps first len
+unfolding ports_fault
+all_within count first zero most ps ds beside few past = none_past count first most ps ds beside (omega arith)
+all_within count first (suc len) zero ps ds beside few past = absurd (omega arith)
+all_within count first (suc len) (suc most) ps ds beside few past =
+    ap (option_or (port_fault (start_of_port ps first))) (all_within count (first + 1) len most ps ds beside (omega arith) (omega arith))
 
 pub ports-tell : (clock count : ℕ) (ps : List PortEntry) (ds : List Data)
     → Pairs IsPort ps ds
     → has_like same_number ps ≡ false
     → list_all (λ p. nat_le 1 p.number && nat_le p.number count) ps ≡ true
-    → Tells (ports_fault (map (start_of_port ps) (range_with_len 1 count))) (each (port_start_marks clock) 1 ds)
-ports-tell clock count ps ds beside once within =
-    ports_case clock count ps ds beside once within (ports_fault (map (start_of_port ps) (range_with_len 1 count))) refl
+    → count ≤ 8
+    → Tells (ports_fault (map (start_of_port ps) (range_with_len 1 count))) (ports_start_marks 9 clock ds)
+unfolding ports_start_marks
+ports-tell clock count ps ds beside once within few =
+    let own = there count ps ds beside within few in
+    subst (λ o. Tells o (flat_map (rank_marks clock ds) (range_with_len 1 9))) (all_within count 1 count 9 ps ds own (omega arith) (omega arith))
+    (ports_tell_from clock 1 9 count ps ds own once)

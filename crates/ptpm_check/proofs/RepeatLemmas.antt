@@ -11,9 +11,9 @@ use Rattle.ptpm_script.specs.Document.{passes}
 use Rattle.ptpm_script.specs.Entries.{ClockEntryValue}
 use Rattle.ptpm_script.specs.NetworkFile.{clock_rules, port_entry, port_rules, session_rules}
 use Rattle.ptpm_script.specs.NetworkText.{has_like, is_clock, same_end, same_name_or_clock, same_name_or_identity, same_number, same_port}
-use Rattle.ptpm_check.specs.Heads.{ClockHeadValue, EndHeadValue, SessionHeadValue, items_at, list_of}
+use Rattle.ptpm_check.specs.Heads.{ClockHeadValue, EndHeadValue, SessionHeadValue, items_at, list_of, members_number, number_in}
 use Rattle.ptpm_check.specs.Marks.{at_item, each_after, in_port}
-use Rattle.ptpm_check.specs.RepeatFaults.{clock_repeats, end_repeats, is_clock_identity, is_clock_name, is_number_of, is_same_end, is_session_identity, is_session_name, members_number, number_in, port_members_repeats, port_repeats, repeat_marks, session_repeats, twice_if}
+use Rattle.ptpm_check.specs.RepeatFaults.{clock_repeats, end_repeats, is_clock_identity, is_clock_name, is_number_of, is_same_end, is_session_identity, is_session_name, port_members_repeats, port_repeats, repeat_marks, session_repeats, twice_if}
 use Rattle.ptpm_check.proofs.EntryTypes.{EndEntry, PortEntry, SessionEntry}
 use Rattle.ptpm_check.proofs.FoundLemmas.{Pairs, any-map, any-none, any-or, any-same, found, found-after, found-append, or_assoc, or_both, or_same, pairs-any}
 use Rattle.ptpm_check.proofs.HeadLemmas.{IsClock, IsEnd, IsPort, IsSession, pairs-read, port-is}

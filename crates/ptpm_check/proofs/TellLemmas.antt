@@ -1,41 +1,19 @@
--- Which start's fault some marks tell of: none if there is none, and one of that fault if there is one.
-use Rattle.std.proofs.Common.{◌≡◌, ℕ, Bool, true, false, inl, inr, if◌then◌else◌, List, [], ◌∷◌, ◌++◌, Option, Some, None, refl, sym, subst, ◌∙◌, is_some}
+-- Which start's fault some marks tell of: the first is of it, and there are none if there is none.
+use Rattle.std.proofs.Common.{◌≡◌, ℕ, Bool, true, false, if◌then◌else◌, List, ◌++◌, Option, Some, None, refl, ap, sym, subst, ◌∙◌, is_some, option_map}
 use Rattle.std.specs.Option.{option_or}
-use Rattle.std.proofs.lemmas.Bool.{or_from}
 use Rattle.toml.specs.Data.{Data, Members, get_member}
 use Rattle.ptpm_data.specs.declared.start.StartError.{StartError}
-use Rattle.ptpm_script.specs.declared.net_error.NetError.{NetError}
 use Rattle.ptpm_script.specs.declared.net_error.NetError.TheVariants.{BadClock}
-use Rattle.ptpm_check.specs.Faults.{IsAmong}
+use Rattle.ptpm_check.specs.Faults.{first_refusal}
 use Rattle.ptpm_check.specs.Marks.{Mark, Spot, at_key, mark_if, value_mark, value_mark_if}
-use Rattle.ptpm_check.proofs.FoundLemmas.{found, found-append}
-
-pub among-left : (class : NetError) (xs ys : List Mark) → IsAmong class xs → IsAmong class (xs ++ ys)
-among-left class [] ys h = absurd h
-among-left class (x ∷ xs) ys (inl here) = inl here
-among-left class (x ∷ xs) ys (inr later) = inr (among-left class xs ys later)
-
-pub among-right : (class : NetError) (xs ys : List Mark) → IsAmong class ys → IsAmong class (xs ++ ys)
-among-right class [] ys h = h
-among-right class (x ∷ xs) ys h = inr (among-right class xs ys h)
+use Rattle.ptpm_check.proofs.MarkLemmas.{first-append}
 
 abbrev pub Tells : Option StartError → List Mark → Type 0
-Tells None marks = found marks ≡ false
-Tells (Some e) marks = IsAmong (BadClock e) marks
-
-among_found : (class : NetError) (xs : List Mark) → IsAmong class xs → found xs ≡ true
-among_found class [] h = absurd h
-among_found class (x ∷ xs) h = refl
-
--- something is found exactly if there is a fault
-pub told_found : (o : Option StartError) (xs : List Mark) → Tells o xs → found xs ≡ is_some o
-told_found None xs h = h
-told_found (Some e) xs h = among_found (BadClock e) xs h
+Tells o marks = first_refusal marks ≡ option_map (λ e. BadClock e) o
 
 pub tells-append : (o p : Option StartError) (xs ys : List Mark) → Tells o xs → Tells p ys → Tells (option_or o p) (xs ++ ys)
-tells-append None None xs ys h k = found-append xs ys ∙ or_from (found xs) (found ys) h k
-tells-append None (Some e) xs ys h k = among-right (BadClock e) xs ys k
-tells-append (Some e) p xs ys h k = among-left (BadClock e) xs ys h
+tells-append None p xs ys h k = first-append xs ys ∙ ap (λ t. option_or t (first_refusal ys)) h ∙ k
+tells-append (Some e) p xs ys h k = first-append xs ys ∙ ap (λ t. option_or t (first_refusal ys)) h
 
 -- a mark of the value at a key that is there
 tells_there : (test : Bool) (fault : StartError) (spot : Spot) (key : List ℕ) (ms : Members) (d : Data)
@@ -43,7 +21,7 @@ tells_there : (test : Bool) (fault : StartError) (spot : Spot) (key : List ℕ) 
     → Tells (if test then Some fault else None) (value_mark_if test (BadClock fault) spot key ms)
 unfolding value_mark
 tells_there true fault spot key ms d there =
-    subst (λ o. IsAmong (BadClock fault) (mark_if (is_some o) (BadClock fault) spot (at_key key))) (sym there) (inl refl)
+    ap (λ o. first_refusal (mark_if (is_some o) (BadClock fault) spot (at_key key))) there
 tells_there false fault spot key ms d there = refl
 
 tells_absent : (test : Bool) (fault : StartError) (spot : Spot) (key : List ℕ) (ms : Members)
@@ -71,10 +49,6 @@ tells-value test marked fault spot key ms same never =
 pub or_or : (o p q : Option StartError) → option_or (option_or o p) q ≡ option_or o (option_or p q)
 or_or None p q = refl
 or_or (Some e) p q = refl
-
-pub or_if : (b : Bool) (e : StartError) (o : Option StartError) → option_or (if b then Some e else None) o ≡ (if b then Some e else o)
-or_if true e o = refl
-or_if false e o = refl
 
 pub or_none : (o : Option StartError) → option_or o None ≡ o
 or_none None = refl

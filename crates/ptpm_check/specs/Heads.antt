@@ -44,6 +44,14 @@ if_name text = if is_name text then Some text else None
 abbrev pub name_at : List ℕ → Members → Option (List ℕ)
 name_at key ms = option_and_then if_name (text_at key ms)
 
+abbrev pub members_number : Option Members → Option ℕ
+members_number None = None
+members_number (Some ms) = natural_at 65535 (codes "number") ms
+
+-- the number of a port's table
+abbrev pub number_in : Data → Option ℕ
+number_in d = members_number (as_table d)
+
 pub record ClockHeadValue : Type 0 where
   pub spot : Spot
   pub number : ℕ

@@ -9,7 +9,7 @@ use Rattle.ptpm_script.specs.Document.{passes}
 use Rattle.ptpm_script.specs.NetworkText.{same_port}
 use Rattle.ptpm_script.specs.Values.{natural_at}
 use Rattle.ptpm_script.specs.declared.net_error.NetError.TheVariants.{Twice}
-use Rattle.ptpm_check.specs.Heads.{ClockHeadValue, EndHeadValue, SessionHeadValue, items_at}
+use Rattle.ptpm_check.specs.Heads.{ClockHeadValue, EndHeadValue, SessionHeadValue, items_at, number_in}
 use Rattle.ptpm_check.specs.Marks.{Mark, Spot, at_item, each_after, in_port, mark_if, value_mark_if}
 
 -- the value at a key, if this holds
@@ -17,14 +17,6 @@ abbrev pub twice_if : Bool → Spot → List ℕ → Members → List Mark
 twice_if test spot key ms = value_mark_if test Twice spot key ms
 
 -- ---- ports' tables
-
-abbrev pub members_number : Option Members → Option ℕ
-members_number None = None
-members_number (Some ms) = natural_at 65535 (codes "number") ms
-
--- the number of a port's table
-abbrev pub number_in : Data → Option ℕ
-number_in d = members_number (as_table d)
 
 abbrev pub is_number_of : List (Option ℕ) → ℕ → Bool
 is_number_of numbers n = list_any (passes (λ m. m == n)) numbers

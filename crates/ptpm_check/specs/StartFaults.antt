@@ -1,6 +1,7 @@
 -- With what a clock of a network file can't start (this project's profile). Each member is judged by itself: by a clock of one port
 -- that has all others as this profile has them.
-use Rattle.std.specs.Prelude.{ℕ, ◌==◌, nat_lt, Bool, true, not, if◌then◌else◌, List, [], ◌∷◌, ◌++◌, codes, flat_map, Option, Some, None, is_err}
+use Rattle.std.specs.Prelude.{ℕ, ◌==◌, nat_le, nat_lt, Bool, true, not, ◌&&◌, if◌then◌else◌, List, [], ◌∷◌, ◌++◌, codes, flat_map, Option, Some, None, is_err}
+use Rattle.std.specs.List.{range_with_len}
 use Rattle.toml.specs.Data.{Data, as_table, Members}
 use Rattle.ptpm_codec.specs.Identity.{same_clock}
 use Rattle.ptpm_codec.specs.declared.identity.ClockIdentity.{ClockIdentity}
@@ -16,7 +17,7 @@ use Rattle.ptpm_data.specs.declared.start.StartError.TheVariants.{NoPorts, TooMa
 use Rattle.ptpm_script.specs.Document.{passes}
 use Rattle.ptpm_script.specs.NetworkFile.{clock_start, port_start}
 use Rattle.ptpm_script.specs.declared.net_error.NetError.TheVariants.{BadClock}
-use Rattle.ptpm_check.specs.Heads.{ClockHeadValue, items_at}
+use Rattle.ptpm_check.specs.Heads.{ClockHeadValue, items_at, number_in}
 use Rattle.ptpm_check.specs.Marks.{Mark, Spot, each, in_port, value_mark_if}
 
 -- of the value at a key, if a test holds
@@ -87,6 +88,28 @@ port_start_members spot (Some ms) = port_member_marks spot ms
 abbrev pub port_start_marks : ℕ → ℕ → Data → List Mark
 port_start_marks clock n d = port_start_members (in_port clock n) (as_table d)
 
+-- ---- the ports of a clock, in the order in which a start judges them
+
+-- a port that a clock can have, from 1 to 8, or 9 for a table that is of none
+abbrev pub rank_of_number : Option ℕ → ℕ
+rank_of_number None = 9
+rank_of_number (Some n) = if nat_le 1 n && nat_le n 8 then n else 9
+
+abbrev pub rank : Data → ℕ
+rank d = rank_of_number (number_in d)
+
+-- of a table, if it has this rank
+abbrev pub ranked : ℕ → Spot → Data → List Mark
+ranked r spot d = if rank d == r then port_start_members spot (as_table d) else []
+
+-- of the tables that have this rank
+abbrev pub rank_marks : ℕ → List Data → ℕ → List Mark
+rank_marks clock ds r = each (λ n d. ranked r (in_port clock n) d) 1 ds
+
+-- of those that have a rank up to this
+unfoldable pub ports_start_marks : ℕ → ℕ → List Data → List Mark
+ports_start_marks most clock ds = flat_map (rank_marks clock ds) (range_with_len 1 most)
+
 -- ---- a clock that is its own grandmaster: a member of the grandmaster that is not its own
 
 abbrev pub own_mark_if : Bool → Spot → List ℕ → Members → List Mark
@@ -123,7 +146,7 @@ unfoldable pub clock_start_marks : ClockHeadValue → List Mark
 clock_start_marks c =
     count_start_marks c
     ++ member_marks c.spot c.table
-    ++ each (port_start_marks c.number) 1 (items_at (codes "port") c.table)
+    ++ ports_start_marks 9 c.number (items_at (codes "port") c.table)
     ++ grandmaster_marks c
 
 unfoldable pub start_marks : List ClockHeadValue → List Mark

@@ -1,8 +1,8 @@
 //! Why a line of a script is no event, and which of its words is to blame.
 
 ghost use Rattle.std.specs.Prelude.{◌≡◌, IfOk, option_map};
+ghost use Rattle.std.specs.Result.{result_err};
 ghost use Rattle.ptpm_script.specs.EventLine.{reading};
-ghost use Rattle.ptpm_check.specs.Faults.{error_of};
 
 use crate::nearest::nearest;
 use crate::value_text::Quoted;
@@ -92,7 +92,7 @@ fn verb_names() -> [&'static str; 6] {
 
 /// Why a line is no event; `None` if it is one.
 pub fn event_fault<'a>(alloc: Global, line: &'a str) -> Result<Option<EventFault<'a>>, OutOfMemory>
-    ensures { IfOk result (λ fault. option_map (λ f. f.error) fault ≡ error_of (reading line.now)) }
+    ensures { IfOk result (λ fault. option_map (λ f. f.error) fault ≡ result_err (reading line.now)) }
 {
     match read_event(alloc, line) {
         Ok(_) => Ok(None),

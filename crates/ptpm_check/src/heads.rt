@@ -3,7 +3,7 @@
 ghost use Rattle.std.specs.Prelude.{◌≡◌, ◌++◌, IfOk, OnOk, [], codes, map, option_map};
 ghost use Rattle.toml.specs.View.{view, table_view};
 ghost use Rattle.toml.specs.Data.{as_table};
-ghost use Rattle.ptpm_check.specs.Heads.{clock_head, clock_in, clock_value, clocks_of, end_head, end_value, ends_in, ends_of, session_head, session_in, session_value, sessions_of};
+ghost use Rattle.ptpm_check.specs.Heads.{clock_head, clock_in, clock_value, clocks_of, end_head, end_value, ends_in, ends_of, number_in, session_head, session_in, session_value, sessions_of};
 ghost use Rattle.ptpm_check.specs.Marks.{each, if_any, spot_of};
 ghost use Rattle.ptpm_script.specs.Document.{end_of};
 
@@ -218,4 +218,11 @@ fn end_of<'a>(place: Place<'a>, number: usize, value: &'a Value) -> Option<EndHe
         name,
         port,
     })
+}
+
+/// The number of a port's table.
+pub(crate) fn number_in(port: &Value) -> Option<u16>
+    ensures { result ≡ number_in (view port.now) }
+{
+    whole_at(table_of(port)?, "number")
 }

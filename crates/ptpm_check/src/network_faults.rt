@@ -1,9 +1,10 @@
 //! Every fault of a network file.
 
-ghost use Rattle.std.specs.Prelude.{◌≡◌, ◌++◌, ◌∷◌, ◌<◌, IfOk, MatchBool, OnOk, Some, [], vec_len};
+ghost use Rattle.std.specs.Prelude.{◌≡◌, ◌++◌, ◌∷◌, IfOk, OnOk, []};
+ghost use Rattle.std.specs.Result.{result_err};
 ghost use Rattle.toml.specs.View.{table_view};
 ghost use Rattle.ptpm_script.specs.NetworkText.{network_of};
-ghost use Rattle.ptpm_check.specs.Faults.{Answers, AreReported, HasSome, HasSomeFault, IsFirstOf, IsMoved, IsOtherFault, Leads, content_marks, file_marks, first_class, refusal_of, text_marks};
+ghost use Rattle.ptpm_check.specs.Faults.{content_marks, file_marks, first_class, first_refusal, text_marks};
 ghost use Rattle.ptpm_check.specs.Marks.{marked, marks_in, spot_of, whole};
 
 use crate::fault::{Fault, Found, Need, Wanted, add_fault};
@@ -15,16 +16,14 @@ use crate::repeat_faults::add_repeat_faults;
 use crate::shape_faults::add_shape_faults;
 use crate::start_faults::add_start_faults;
 use ptpm_codec::OutOfMemory;
-use ptpm_script::{NetError, Network, TEXT_OCTETS};
+use ptpm_script::{NetError, TEXT_OCTETS};
 use std::alloc::{AllocError, Global};
 use toml::Table;
 
-/// A text, judged as a network file. It keeps what its faults point to. What is found in it answers to its refusal.
+/// A text, judged as a network file. It keeps what its faults point to.
 #[derive(Drop)]
 pub struct Document {
-    refusal: Option<NetError>,
     content: Content,
-    ghost answers: { ∥ Answers refusal (content_marks content) ∥₁ },
 }
 
 /// What a text is.
@@ -40,42 +39,28 @@ enum Content {
 impl Document {
     ghost use Rattle.ptpm_check.specs.DocumentView.{document_marks};
 
-    /// Judges a text. Nothing is made if memory is refused.
+    /// Judges a text. The first fault that is found in it is of the refusal that `Network::from_toml` answers. Nothing is made if
+    /// memory is refused.
     pub fn of(alloc: Global, text: &str) -> Result<Document, OutOfMemory>
-        ensures refusal { IfOk result (λ d. d.refusal ≡ refusal_of (network_of text.now)) }
+        ensures refusal { IfOk result
+            (λ d. first_refusal (document_marks d) ≡ result_err (network_of text.now)) }
         ensures found { IfOk result (λ d. document_marks d ≡ text_marks text.now) }
     {
-        let refusal = refusal_in(alloc, text)?;
         let content = content_of(alloc, text)?;
-        Ok(Document { refusal, content })
+        Ok(Document { content })
     }
 
-    /// Its faults: none exactly if the text is a network file, and first one of the refusal that `Network::from_toml` answers.
-    /// They are those of the text by the definitions, and none is left out.
+    /// Its faults, in the order of the refusals: none exactly if the text is a network file. They are those of the text by the
+    /// definitions, and none is left out.
     pub fn faults(&self, alloc: Global) -> Result<Vec<Fault<'_>>, OutOfMemory>
-        ensures first { IfOk result (λ faults. first_class faults.items ≡ self.now.refusal) }
-        ensures all { IfOk result
-            (λ faults.
-            AreReported self.now.refusal (document_marks self.now) (marks_in faults.items)) }
+        ensures first { IfOk result
+            (λ faults. first_class faults.items ≡ first_refusal (document_marks self.now)) }
+        ensures all { IfOk result (λ faults. marks_in faults.items ≡ document_marks self.now) }
     {
-        let Some(refusal) = self.refusal else {
-            return Ok(Vec::new(alloc));
-        };
-        match reported_of(alloc, &self.content, refusal) {
+        match found_in(alloc, &self.content) {
             Ok(faults) => Ok(faults),
             Err(_) => Err(OutOfMemory),
         }
-    }
-}
-
-/// Why a text is no network file; none if it is one.
-fn refusal_in(alloc: Global, text: &str) -> Result<Option<NetError>, OutOfMemory>
-    ensures { IfOk result (λ refusal. refusal ≡ refusal_of (network_of text.now)) }
-{
-    match Network::from_toml(alloc, text) {
-        Ok(_) => Ok(None),
-        Err(NetError::OutOfMemory) => Err(OutOfMemory),
-        Err(refusal) => Ok(Some(refusal)),
     }
 }
 
@@ -108,21 +93,6 @@ fn line_of(text: &str, error: &toml::de::Error) -> usize {
         }
     }
     line
-}
-
-/// The faults that are reported of a text that is refused.
-fn reported_of<'a>(
-    alloc: Global,
-    content: &'a Content,
-    refusal: NetError,
-) -> Result<Vec<Fault<'a>>, AllocError>
-    requires { HasSome refusal (content_marks content.now) }
-    ensures first { IfOk result (λ faults. first_class faults.items ≡ Some refusal) }
-    ensures all { IfOk result
-        (λ faults. Leads refusal (content_marks content.now) (marks_in faults.items)) }
-{
-    let faults = found_in(alloc, content)?;
-    with_first(faults, refusal)
 }
 
 /// The faults that are found in a text, in the order of the refusals.
@@ -171,52 +141,4 @@ fn add_file_faults<'a>(
     add_repeat_faults(alloc, faults, &heads)?;
     add_name_faults(alloc, faults, &heads)?;
     add_start_faults(faults, heads.clocks.as_slice())
-}
-
-/// The faults with the first one of this refusal first.
-fn with_first<'a>(faults: Vec<Fault<'a>>, refusal: NetError) -> Result<Vec<Fault<'a>>, AllocError>
-    requires { HasSome refusal (marks_in faults.items) }
-    ensures first { IfOk result (λ led. first_class led.items ≡ Some refusal) }
-    ensures all { IfOk result (λ led. Leads refusal (marks_in faults.entry.items) (marks_in led.items)) }
-{
-    let index = index_of(faults.as_slice(), refusal);
-    moved(faults, index)
-}
-
-/// The index of the first fault of a refusal that some fault is of.
-fn index_of(faults: &[Fault<'_>], refusal: NetError) -> usize
-    requires { HasSomeFault refusal faults.now }
-    ensures { IsFirstOf refusal faults.now result }
-{
-    for index in 0..faults.len() {
-        if is_of(&faults[index], refusal) {
-            return index;
-        }
-    }
-    faults.len()
-}
-
-fn is_of(fault: &Fault<'_>, refusal: NetError) -> bool
-    ensures { MatchBool result
-        (fault.now.class ≡ refusal)
-        (IsOtherFault refusal fault.now) }
-{
-    fault.class == refusal
-}
-
-/// Faults with the one at an index first.
-fn moved<'a>(mut faults: Vec<Fault<'a>>, index: usize) -> Result<Vec<Fault<'a>>, AllocError>
-    requires { index < vec_len faults }
-    ensures { IfOk result (λ led. IsMoved faults.entry.items index led.items) }
-{
-    let first = faults.remove(index);
-    led_by(faults, first)
-}
-
-/// Faults with another one first.
-fn led_by<'a>(mut faults: Vec<Fault<'a>>, first: Fault<'a>) -> Result<Vec<Fault<'a>>, AllocError>
-    ensures { IfOk result (λ led. led.items ≡ first.entry ∷ faults.entry.items) }
-{
-    faults.insert(0, first)?;
-    Ok(faults)
 }

@@ -6,12 +6,12 @@ ghost use Rattle.toml.specs.View.{view, table_view};
 ghost use Rattle.ptpm_script.specs.Document.{passes};
 ghost use Rattle.ptpm_script.specs.NetworkText.{same_port};
 ghost use Rattle.ptpm_codec.specs.Identity.{same_identity};
-ghost use Rattle.ptpm_check.specs.Heads.{clock_value, end_value, session_value};
+ghost use Rattle.ptpm_check.specs.Heads.{clock_value, end_value, number_in, session_value};
 ghost use Rattle.ptpm_check.specs.Marks.{each_after, marks_in, spot_of};
-ghost use Rattle.ptpm_check.specs.RepeatFaults.{clock_repeats, end_repeats, is_clock_identity, is_clock_name, is_number_of, is_same_end, is_session_identity, is_session_name, number_in, port_repeats, repeat_marks, session_repeats, twice_if};
+ghost use Rattle.ptpm_check.specs.RepeatFaults.{clock_repeats, end_repeats, is_clock_identity, is_clock_name, is_number_of, is_same_end, is_session_identity, is_session_name, port_repeats, repeat_marks, session_repeats, twice_if};
 
 use crate::fault::{Fault, Found, Wanted, add_at_key, add_fault};
-use crate::heads::{ClockHead, EndHead, Heads, SessionHead};
+use crate::heads::{ClockHead, EndHead, Heads, SessionHead, number_in};
 use crate::place::Place;
 use crate::values::{is_clock, is_name_of, is_number, items_at, table_of, whole_at};
 use ptpm_codec::{ClockIdentity, PortIdentity};
@@ -130,12 +130,6 @@ fn numbers_of(alloc: Global, ports: &[Value]) -> Result<Vec<Option<u16>>, AllocE
         numbers.push(number_in(port))?;
     }
     Ok(numbers)
-}
-
-fn number_in(port: &Value) -> Option<u16>
-    ensures { result ≡ number_in (view port.now) }
-{
-    whole_at(table_of(port)?, "number")
 }
 
 #[tactic(auto, unfolding(crate::specs::RepeatFaults::port_repeats))]

@@ -5,11 +5,11 @@ ghost use Rattle.std.specs.Prelude.{◌≡◌, ◌++◌, OnOk, map};
 ghost use Rattle.toml.specs.Data.{as_table};
 ghost use Rattle.toml.specs.View.{view, table_view};
 ghost use Rattle.ptpm_check.specs.Heads.{clock_value};
-ghost use Rattle.ptpm_check.specs.Marks.{each, marks_in, spot_of};
-ghost use Rattle.ptpm_check.specs.StartFaults.{clock_fails, clock_start_marks, count_start_marks, fails, grandmaster_marks, has_octet, is_own_grandmaster, member_mark_if, member_marks, only_accuracy, only_description, only_leaps, own_mark_if, own_marks, port_fails, port_member_marks, port_start_marks, port_start_members, start_mark_if, start_marks};
+ghost use Rattle.ptpm_check.specs.Marks.{marks_in, spot_of};
+ghost use Rattle.ptpm_check.specs.StartFaults.{clock_fails, clock_start_marks, count_start_marks, fails, grandmaster_marks, has_octet, is_own_grandmaster, member_mark_if, member_marks, only_accuracy, only_description, only_leaps, own_mark_if, own_marks, port_fails, port_member_marks, port_start_members, ports_start_marks, rank, rank_marks, ranked, start_mark_if, start_marks};
 
 use crate::fault::{Fault, Need, Wanted, add_at_key};
-use crate::heads::ClockHead;
+use crate::heads::{ClockHead, number_in};
 use crate::place::Place;
 use crate::values::{is_number, items_at, table_of};
 use ptpm_codec::ClockIdentity;
@@ -20,6 +20,9 @@ use toml::{Table, Value};
 
 /// An identity that a clock can have. It is judged by its shape.
 const SOME_CLOCK: ClockIdentity = ClockIdentity([0; 8]);
+
+/// The rank of a port's table that is of no port from 1 to 8.
+const LAST_RANK: u16 = 9;
 
 /// Adds a fault for each number of ports, member of a clock and member of a port with which a clock can't start.
 #[tactic(auto, unfolding(crate::specs::StartFaults::start_marks))]
@@ -50,6 +53,7 @@ fn add_clock<'a>(faults: &mut Vec<Fault<'a>>, clock: &ClockHead<'a>) -> Result<(
         clock.number,
         clock.name,
         items_at(clock.table, "port"),
+        LAST_RANK,
     )?;
     add_grandmaster(faults, clock)
 }
@@ -187,21 +191,69 @@ fn fails_by_leaps(start: &ClockStart) -> bool
     clock_fails(&clock)
 }
 
-/// Adds a fault for each member of a clock's ports that is out of its range.
+/// Adds a fault for each member of a clock's ports that is out of its range. It looks at tables that have a rank up to this.
+#[tactic(auto, unfolding(crate::specs::StartFaults::ports_start_marks))]
 fn add_ports<'a>(
     faults: &mut Vec<Fault<'a>>,
     clock: usize,
     name: Option<&'a str>,
     ports: &'a [Value],
+    most: u16,
 ) -> Result<(), AllocError>
     ensures { OnOk result
         (marks_in faults.new.items
-        ≡ marks_in faults.old.items ++ each (port_start_marks clock) 1 (map view ports.now)) }
+        ≡ marks_in faults.old.items ++ ports_start_marks most clock (map view ports.now)) }
 {
-    for index in 0..ports.len() {
-        add_port(faults, Place::Port(clock, name, index + 1), &ports[index])?;
+    for place in 0..most {
+        add_rank(faults, clock, name, ports, place + 1)?;
     }
     Ok(())
+}
+
+/// The port that a table is of, from 1 to 8; 9 if it is of none that a clock can have.
+fn rank(port: &Value) -> u16
+    ensures { result ≡ rank (view port.now) }
+{
+    match number_in(port) {
+        Some(number) if 1 <= number && number <= 8 => number,
+        _ => LAST_RANK,
+    }
+}
+
+/// Adds the same for the tables of one rank.
+fn add_rank<'a>(
+    faults: &mut Vec<Fault<'a>>,
+    clock: usize,
+    name: Option<&'a str>,
+    ports: &'a [Value],
+    rank: u16,
+) -> Result<(), AllocError>
+    ensures { OnOk result
+        (marks_in faults.new.items
+        ≡ marks_in faults.old.items ++ rank_marks clock (map view ports.now) rank) }
+{
+    for index in 0..ports.len() {
+        let place = Place::Port(clock, name, index + 1);
+        add_ranked(faults, place, &ports[index], rank)?;
+    }
+    Ok(())
+}
+
+fn add_ranked<'a>(
+    faults: &mut Vec<Fault<'a>>,
+    place: Place<'a>,
+    port: &'a Value,
+    wanted: u16,
+) -> Result<(), AllocError>
+    ensures { OnOk result
+        (marks_in faults.new.items
+        ≡ marks_in faults.old.items ++ ranked wanted (spot_of place.entry) (view port.now)) }
+{
+    if rank(port) == wanted {
+        add_port(faults, place, port)
+    } else {
+        Ok(())
+    }
 }
 
 fn add_port<'a>(

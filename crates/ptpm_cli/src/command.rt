@@ -497,6 +497,7 @@ fn site_limits(values: &ArgMatches<'_>) -> Limits {
         delay: values.get_one("max-delay"),
         tai_utc: values.get_one("tai-utc").unwrap_or(TAI_UTC),
         settle: values.get_one("settle").unwrap_or(SETTLE),
+        is_synchronised: false,
     }
 }
 

@@ -10,8 +10,8 @@ use Rattle.ptpm_codec.specs.declared.message.Message.{Message}
 use Rattle.ptpm_codec.specs.Identity.{port_identity_text}
 use Rattle.ptpm_codec.specs.Message.{action_name, action_of, error_name, error_number, error_of, id_of, octets_of, text_of}
 use Rattle.ptpm_codec.specs.Reading.{reading}
-use Rattle.ptpm_data.specs.ManagementId.{RowValue, row_of}
 use Rattle.ptpm_members.specs.FieldText.{field_text}
+use Rattle.ptpm_members.specs.OtherIds.{name_of_id}
 use Rattle.ptpm_message_json.specs.MessageJson.{message_text, named_errors}
 use Rattle.ptpm_script.specs.OctetText.{text_of_octets}
 use Rattle.ptpm_commands.specs.declared.faults.Fault.{Fault}
@@ -52,9 +52,9 @@ header_lines m =
 abbrev pub dash : List ℕ
 dash = codes "-"
 
-abbrev pub row_name : Option RowValue → List ℕ
-row_name None = dash
-row_name (Some row) = row.name
+abbrev pub name_or_dash : Option (List ℕ) → List ℕ
+name_or_dash None = dash
+name_or_dash (Some name) = name
 
 abbrev pub name_of_error : Option ErrorId → List ℕ
 name_of_error None = dash
@@ -80,7 +80,7 @@ value_lines form id (Some error) octets text =
 
 unfoldable pub body_lines : Values → Message → List ℕ
 body_lines form m =
-    named_line (codes "id ") (id_of m.body) (row_name (row_of (id_of m.body)))
+    named_line (codes "id ") (id_of m.body) (name_or_dash (name_of_id (id_of m.body)))
     ++ value_lines form (id_of m.body) (error_of m.body) (octets_of m.body) (text_of m.body)
 
 -- ---- the whole

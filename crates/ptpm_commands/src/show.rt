@@ -4,19 +4,18 @@ ghost use Rattle.std.specs.Prelude.{◌≡◌, ◌≢◌, ◌≤◌, ◌⊎◌, 
 ghost use Rattle.std.specs.Io.KnownBytes.{Appends};
 ghost use Rattle.ptpm_codec.specs.Message.{error_of, id_of, octets_of, text_of};
 ghost use Rattle.ptpm_codec.specs.Reading.{reading};
-ghost use Rattle.ptpm_data.specs.ManagementId.{row_of};
+ghost use Rattle.ptpm_members.specs.OtherIds.{name_of_id};
 ghost use Rattle.ptpm_commands.specs.Faults.{IsAtLine, IsAtSomeLine, is_of_line, is_outside};
 ghost use Rattle.ptpm_world.specs.Lines.{whole_lines};
 ghost use Rattle.ptpm_commands.specs.Lines.{left_in, row_value};
 ghost use Rattle.ptpm_commands.specs.Taken.{HasNumbers, HasTaken, IsNext, ShowsNext, ShowsRow, good, line_message, message_of_row, taken};
-ghost use Rattle.ptpm_commands.specs.Show.{AreShown, IsShown, action_lines, body_lines, column_lines, data_lines, error_named, field_lines, header_lines, identity_lines, message_lines, message_of, named_line, object_line, read_as, row_lines, row_name, sdo_line, value_lines};
+ghost use Rattle.ptpm_commands.specs.Show.{AreShown, IsShown, action_lines, body_lines, column_lines, data_lines, error_named, field_lines, header_lines, identity_lines, message_lines, message_of, name_or_dash, named_line, object_line, read_as, row_lines, sdo_line, value_lines};
 
 use crate::columns::Row;
 use crate::faults::{Fault, tell};
 use crate::lines::Lines;
 use ptpm_codec::{ErrorId, View, view};
-use ptpm_data::row;
-use ptpm_members::FieldText;
+use ptpm_members::{FieldText, id_name};
 use ptpm_message_json::message_text;
 use ptpm_script::Hexadecimal;
 use std::alloc::Global;
@@ -412,12 +411,12 @@ fn show_error<O: Write>(number: u16, out: &mut O) -> io::Result<()>
     }
 }
 
-/// The name of a managementId; `-` if the table has none.
+/// The name of a managementId; `-` if it has none here.
 fn name_of(id: u16) -> &'static str
-    ensures { result.now ≡ row_name (row_of id) }
+    ensures { result.now ≡ name_or_dash (name_of_id id) }
 {
-    match row(id) {
-        Some(row) => row.name,
+    match id_name(id) {
+        Some(name) => name,
         None => "-",
     }
 }

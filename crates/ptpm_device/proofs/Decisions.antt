@@ -1,8 +1,8 @@
--- At-most-once execution over all that happens at a clock whose device may object.
+-- At-most-once execution over all that happens at a clock whose device has a say.
 use Rattle.std.proofs.Common.{arith, ◌≡◌, ℕ, List, [], ◌∷◌, ◌++◌, Option, Some, None, false, length, refl, ◌∙◌, ap}
-use Rattle.ptpm_codec.specs.declared.error.ErrorId.{ErrorId}
 use Rattle.ptpm_codec.specs.declared.identity.PortIdentity.{PortIdentity}
 use Rattle.ptpm_data.specs.Members.{DataSetsValue}
+use Rattle.ptpm_data.specs.Reply.{ReplyValue}
 use Rattle.ptpm_data.specs.Rights.{all_rights}
 use Rattle.ptpm_data.proofs.Keeping.{changed_by-ports}
 use Rattle.ptpm_data.proofs.Observed.{observed-ports}
@@ -11,14 +11,14 @@ use Rattle.ptpm_agent.specs.Once.{Delivery, History, RequestCopy, copy_of, initi
 use Rattle.ptpm_agent.specs.Turn.{Clock, State, outbox_of}
 use Rattle.ptpm_agent.specs.Window.{IsInTime}
 use Rattle.ptpm_agent.proofs.AtMostOnce.{after_copy-ports, stands-initial_history}
-use Rattle.ptpm_device.specs.Decided.{Changed, ComeInTime, ComesInTime, Delivered, Happening, Observed, after_arrival, after_decision, after_happening, after_happenings, decided_in_place, due_decided, history_after}
-use Rattle.ptpm_device.specs.Saying.{turn_said}
+use Rattle.ptpm_device.specs.Decided.{Changed, ComeInTime, ComesInTime, Delivered, Happening, Observed, after_arrival, after_happening, after_happenings, after_reply_to, decided_in_place, due_decided, history_after, reply_decided}
+use Rattle.ptpm_device.specs.Saying.{Say, turn_said}
 use Rattle.ptpm_device.proofs.Steps.{DecidesAs, decides_as, turn_said-no_copy}
 
 -- ---- one happening
 
 stands-arrival : (first : PortIdentity → ℕ) (c : Clock) (ports : ℕ) (s : State) (h : History)
-    (x : Delivery) (say : Option ErrorId) (o : Option RequestCopy)
+    (x : Delivery) (say : Say) (o : Option RequestCopy)
     → length h.sets.ports ≡ ports → copy_of c ports x ≡ o → StandsAt first s h
     → ((k : RequestCopy) → copy_of c ports x ≡ Some k → IsInTime first h k)
     → StandsAt first (turn_said c s say x.ingress x.datagram).next (after_arrival c h o say)
@@ -34,14 +34,19 @@ stands-happening first c ports s h (Delivered x say) many at time = stands-arriv
 stands-happening first c ports s h (Observed o seen) many at time = grind arith
 stands-happening first c ports s h (Changed q) many at time = grind arith
 
-after_decision-ports : (c : Clock) (h : History) (k : RequestCopy) (say : Option ErrorId)
-    → length (after_decision c h k say).sets.ports ≡ length h.sets.ports
-after_decision-ports c h k None = after_copy-ports c h k
-after_decision-ports c h k (Some error) = grind (arith, after_copy-ports)
+after_reply_to-ports : (c : Clock) (h : History) (k : RequestCopy) (o : Option ReplyValue)
+    → length (after_reply_to c h k o).sets.ports ≡ length h.sets.ports
+after_reply_to-ports c h k None = after_copy-ports c h k
+after_reply_to-ports c h k (Some reply) = refl
+
+after_arrival-ports : (c : Clock) (h : History) (o : Option RequestCopy) (say : Say)
+    → length (after_arrival c h o say).sets.ports ≡ length h.sets.ports
+after_arrival-ports c h None say = refl
+after_arrival-ports c h (Some k) say = after_reply_to-ports c h k (reply_decided c h k say)
 
 history_after-ports : (c : Clock) (ports : ℕ) (h : History) (x : Happening)
     → length (history_after c ports h x).sets.ports ≡ length h.sets.ports
-history_after-ports c ports h (Delivered x say) = grind (arith, after_decision-ports)
+history_after-ports c ports h (Delivered x say) = after_arrival-ports c h (copy_of c ports x) say
 history_after-ports c ports h (Observed o seen) = observed-ports o seen h.sets
 history_after-ports c ports h (Changed q) = changed_by-ports q all_rights h.sets
 
@@ -75,7 +80,7 @@ after_happenings-append c s [] x = refl
 after_happenings-append c s (y ∷ ys) x = after_happenings-append c (after_happening c s y) ys x
 
 decides_as_last : (first : PortIdentity → ℕ) (c : Clock) (d : DataSetsValue) (xs : List Happening)
-    (x : Delivery) (say : Option ErrorId) (k : RequestCopy)
+    (x : Delivery) (say : Say) (k : RequestCopy)
     → copy_of c (length d.ports) x ≡ Some k
     → ComeInTime first c (length d.ports) (initial_history d) (xs ++ Delivered x say ∷ [])
     → DecidesAs first c (after_happenings c (initial_clock_state d) xs)
@@ -96,7 +101,7 @@ sets_in_place c first d xs time =
     (stands_happenings first c (length d.ports) (initial_clock_state d) (initial_history d) xs refl (stands-initial_history first d) time).sets
 
 pub outbox_in_place : (c : Clock) (first : PortIdentity → ℕ) (d : DataSetsValue)
-    (xs : List Happening) (x : Delivery) (say : Option ErrorId) (k : RequestCopy)
+    (xs : List Happening) (x : Delivery) (say : Say) (k : RequestCopy)
     → copy_of c (length d.ports) x ≡ Some k
     → ComeInTime first c (length d.ports) (initial_history d) (xs ++ Delivered x say ∷ [])
     → outbox_of (turn_said c (after_happenings c (initial_clock_state d) xs) say x.ingress x.datagram)
@@ -107,7 +112,7 @@ outbox_in_place c first d xs x say k e time =
     ap (λ (f : List (ℕ × List ℕ)). f ++ (turn_said c (after_happenings c (initial_clock_state d) xs) say x.ingress x.datagram).replies) as'.forwards ∙ as'.replies
 
 pub repeat_in_place : (c : Clock) (first : PortIdentity → ℕ) (d : DataSetsValue)
-    (xs : List Happening) (x : Delivery) (say : Option ErrorId) (k : RequestCopy)
+    (xs : List Happening) (x : Delivery) (say : Say) (k : RequestCopy)
     → copy_of c (length d.ports) x ≡ Some k
     → ComeInTime first c (length d.ports) (initial_history d) (xs ++ Delivered x say ∷ [])
     → joins (decided_in_place c (length d.ports) (initial_history d) xs) k ≡ false

@@ -1,7 +1,7 @@
 pub mod New
-pub mod Asked
+pub mod WhenAsked
 pub mod Steps
 pub mod Decisions
 pub mod Judged
 pub mod Refused
-pub mod Objected
+pub mod Said

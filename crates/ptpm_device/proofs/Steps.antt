@@ -1,104 +1,193 @@
--- One delivery at a clock whose device may object.
-use Rattle.std.proofs.Common.{arith, ◌≡◌, ℕ, ◌<◌, ◌&&◌, List, [], Option, Some, None, Bool, true, false, length, refl, sym, ◌∙◌, ap, subst, ⊎_elim}
-use Rattle.std.proofs.lemmas.Bool.{cases_Bool, and_left, cond-true, cond-false, true≢false}
+-- One delivery at a clock whose device has a say.
+use Rattle.std.proofs.Common.{arith, ◌≡◌, ℕ, ◌<◌, List, [], Option, Some, None, Bool, true, false, length, refl, sym, ◌∙◌, ap, subst, ⊎_elim}
+use Rattle.std.proofs.lemmas.Bool.{cases_Bool, cond-true, cond-false, true≢false, false≢true}
 use Rattle.std.specs.FinMap.{get, insert}
-use Rattle.ptpm_codec.specs.declared.error.ErrorId.{ErrorId}
+use Rattle.std.specs.Option.{option_or}
 use Rattle.ptpm_codec.specs.declared.identity.PortIdentity.{PortIdentity}
 use Rattle.ptpm_codec.specs.declared.message.Message.{Message}
 use Rattle.ptpm_codec.specs.Identity.{same_identity}
 use Rattle.ptpm_codec.specs.Reading.{message_of}
 use Rattle.ptpm_codec.proofs.IdentityLaws.{same_identity-true}
 use Rattle.ptpm_data.specs.Members.{DataSetsValue}
-use Rattle.ptpm_data.specs.Replies.{reply_of}
+use Rattle.ptpm_data.specs.Reply.{ReplyValue}
+use Rattle.ptpm_table.specs.declared.serial.Serial.{Serial}
+use Rattle.ptpm_table.specs.declared.serial.Serial.TheVariants.{Newer, Older, Same}
 use Rattle.ptpm_table.specs.Entries.{Entry}
+use Rattle.ptpm_table.specs.Numbering.{look_at, look_by, same_request}
+use Rattle.ptpm_table.specs.Serial.{serial_of}
 use Rattle.ptpm_table.proofs.Identities.{same_identity-refl}
+use Rattle.ptpm_agent.specs.declared.verdict.Verdict.{Verdict}
+use Rattle.ptpm_agent.specs.declared.verdict.Verdict.TheVariants as verdicts
 use Rattle.ptpm_agent.specs.Addressing.{request_of}
 use Rattle.ptpm_agent.specs.Laws.{IsKept, IsLatest, StandsAt, due_messages}
 use Rattle.ptpm_agent.specs.Once.{Delivery, History, RequestCopy, after_copy, copy_from, copy_of, due_reply, greatest, is_copy, joins}
-use Rattle.ptpm_agent.specs.Turn.{Clock, State, Turned, judged, next_by, numbered_from, turn}
+use Rattle.ptpm_agent.specs.Turn.{Clock, State, Turned, judged, next_by, numbered_from, turn, verdict_at}
 use Rattle.ptpm_agent.specs.Window.{IsInTime, IsNumbered}
 use Rattle.ptpm_agent.proofs.AtMostOnce.{TurnsAs, delivers_copy, no_copy, turn-no_copy, turns_as}
 use Rattle.ptpm_agent.proofs.Entries.{get-insert_other, get-insert_same, greatest_other}
-use Rattle.ptpm_agent.proofs.Turns.{is_copy-new, turn-message}
-use Rattle.ptpm_device.specs.Asking.{is_asked, is_new, is_permitted}
-use Rattle.ptpm_device.specs.Decided.{after_decision, due_decided, is_decided, refused_copy}
-use Rattle.ptpm_device.specs.Saying.{after_objection, objected, said_by, turn_said}
+use Rattle.ptpm_agent.proofs.Turns.{copy_parts, is_copy-new, judged-copy, turn-message}
+use Rattle.ptpm_device.specs.Asking.{is_new}
+use Rattle.ptpm_device.specs.Decided.{after_decision, after_reply_to, due_decided, replied_copy, reply_decided}
+use Rattle.ptpm_device.specs.Saying.{Agrees, Say, after_reply, new_said, reply_said, reply_told, said_at, said_by, turn_said, unnumbered_said}
 use Rattle.ptpm_device.proofs.New.{is_new-joins, is_new-true}
 
 -- ---- a turn
 
-said_by-silent : (c : Clock) (s : State) (ingress : ℕ) (datagram : List ℕ) (o : Option Message)
-    → said_by c s ingress datagram o None ≡ turn c s ingress datagram
-said_by-silent c s ingress datagram None = refl
-said_by-silent c s ingress datagram (Some v) = refl
-
-pub turn_said-silent : (c : Clock) (s : State) (ingress : ℕ) (datagram : List ℕ)
-    → turn_said c s None ingress datagram ≡ turn c s ingress datagram
-unfolding turn_said
-turn_said-silent c s ingress datagram = said_by-silent c s ingress datagram (message_of datagram)
-
-pub turn_said-asked : (c : Clock) (s : State) (error : ErrorId) (ingress : ℕ) (datagram : List ℕ) (v : Message)
-    → message_of datagram ≡ Some v
-    → is_asked c s v ≡ true
-    → turn_said c s (Some error) ingress datagram ≡ objected c s ingress v error
-unfolding turn_said
-turn_said-asked c s error ingress datagram v r y =
-    ap (λ (o : Option Message). said_by c s ingress datagram o (Some error)) r ∙ cond-true _ _ _ y
-
-pub turn_said-not_asked : (c : Clock) (s : State) (say : Option ErrorId) (ingress : ℕ) (datagram : List ℕ) (v : Message)
-    → message_of datagram ≡ Some v
-    → is_asked c s v ≡ false
-    → turn_said c s say ingress datagram ≡ turn c s ingress datagram
-unfolding turn_said
-turn_said-not_asked c s None ingress datagram v r n = said_by-silent c s ingress datagram (message_of datagram)
-turn_said-not_asked c s (Some error) ingress datagram v r n =
-    ap (λ (o : Option Message). said_by c s ingress datagram o (Some error)) r ∙ cond-false _ _ _ n
-
-pub turn_said-unread : (c : Clock) (s : State) (say : Option ErrorId) (ingress : ℕ) (datagram : List ℕ)
+pub turn_said-unread : (c : Clock) (s : State) (say : Say) (ingress : ℕ) (datagram : List ℕ)
     → message_of datagram ≡ None
     → turn_said c s say ingress datagram ≡ turn c s ingress datagram
 unfolding turn_said
 turn_said-unread c s say ingress datagram r = ap (λ (o : Option Message). said_by c s ingress datagram o say) r
 
--- ---- entries and history after an objection
+pub turn_said-at : (c : Clock) (s : State) (say : Say) (ingress : ℕ) (datagram : List ℕ) (v : Message) (w : Verdict)
+    → message_of datagram ≡ Some v
+    → judged c s v ≡ w
+    → turn_said c s say ingress datagram ≡ said_at w c s ingress datagram v say
+unfolding turn_said
+turn_said-at c s say ingress datagram v w r e =
+    ap (λ (o : Option Message). said_by c s ingress datagram o say) r ∙ ap (λ (u : Verdict). said_at u c s ingress datagram v say) e
 
-abbrev refused_entry : State → Message → ErrorId → Entry
-refused_entry s v error = record {
-  number = v.number;
-  request = request_of v;
-  reply = reply_of (request_of v) (Some error) s.sets;
-}
+-- a new request is answered by the device, if the say makes a reply
+pub turn_said-new : (c : Clock) (s : State) (say : Say) (ingress : ℕ) (datagram : List ℕ) (v : Message) (o : Option ReplyValue)
+    → message_of datagram ≡ Some v
+    → judged c s v ≡ verdicts.AnsweredNew
+    → reply_said c s.sets v.source (request_of v) say ≡ o
+    → turn_said c s say ingress datagram ≡ new_said c s ingress datagram v o
+turn_said-new c s say ingress datagram v o r e said =
+    turn_said-at c s say ingress datagram v verdicts.AnsweredNew r e ∙ ap (new_said c s ingress datagram v) said
 
-IsLatest-refused : (first : PortIdentity → ℕ) (s : State) (h : History) (x : Delivery) (v : Message) (error : ErrorId)
-    → s.sets ≡ h.sets
+pub turn_said-unnumbered : (c : Clock) (s : State) (say : Say) (ingress : ℕ) (datagram : List ℕ) (v : Message) (o : Option ReplyValue)
+    → message_of datagram ≡ Some v
+    → judged c s v ≡ verdicts.AnsweredUnnumbered
+    → reply_told (request_of v) say ≡ o
+    → turn_said c s say ingress datagram ≡ unnumbered_said c s ingress datagram v o
+turn_said-unnumbered c s say ingress datagram v o r e told =
+    turn_said-at c s say ingress datagram v verdicts.AnsweredUnnumbered r e ∙ ap (unnumbered_said c s ingress datagram v) told
+
+said_at-other : (w : Verdict) (c : Clock) (s : State) (ingress : ℕ) (datagram : List ℕ) (v : Message) (say : Say)
+    → (w ≡ verdicts.AnsweredNew → ⊥)
+    → (w ≡ verdicts.AnsweredUnnumbered → ⊥)
+    → said_at w c s ingress datagram v say ≡ turn c s ingress datagram
+said_at-other verdicts.AnsweredNew c s ingress datagram v say new unnumbered = absurd (new refl)
+said_at-other verdicts.AnsweredUnnumbered c s ingress datagram v say new unnumbered = absurd (unnumbered refl)
+said_at-other _ c s ingress datagram v say new unnumbered = refl
+
+pub turn_said-other : (c : Clock) (s : State) (say : Say) (ingress : ℕ) (datagram : List ℕ) (v : Message)
+    → message_of datagram ≡ Some v
+    → (judged c s v ≡ verdicts.AnsweredNew → ⊥)
+    → (judged c s v ≡ verdicts.AnsweredUnnumbered → ⊥)
+    → turn_said c s say ingress datagram ≡ turn c s ingress datagram
+turn_said-other c s say ingress datagram v r new unnumbered =
+    turn_said-at c s say ingress datagram v (judged c s v) r refl
+    ∙ said_at-other (judged c s v) c s ingress datagram v say new unnumbered
+
+-- ---- what holds of each turn
+
+-- what holds of the clock's own turn, and of each that the device answers, holds of the turn
+module _ (P : Turned → Type 0) (c : Clock) (s : State) (say : Say) (ingress : ℕ) (datagram : List ℕ) where
+  each_new : (v : Message) (o : Option ReplyValue)
+      → P (turn c s ingress datagram)
+      → ((reply : ReplyValue) → o ≡ Some reply → P (new_said c s ingress datagram v (Some reply)))
+      → P (new_said c s ingress datagram v o)
+  each_new v None own replied = own
+  each_new v (Some reply) own replied = replied reply refl
+
+  each_unnumbered : (v : Message) (o : Option ReplyValue)
+      → P (turn c s ingress datagram)
+      → ((reply : ReplyValue) → o ≡ Some reply → P (unnumbered_said c s ingress datagram v (Some reply)))
+      → P (unnumbered_said c s ingress datagram v o)
+  each_unnumbered v None own told = own
+  each_unnumbered v (Some reply) own told = told reply refl
+
+  each_at : (v : Message) (w : Verdict)
+      → judged c s v ≡ w
+      → P (turn c s ingress datagram)
+      → ((reply : ReplyValue) → judged c s v ≡ verdicts.AnsweredNew → reply_said c s.sets v.source (request_of v) say ≡ Some reply
+      → P (new_said c s ingress datagram v (Some reply)))
+      → ((reply : ReplyValue) → judged c s v ≡ verdicts.AnsweredUnnumbered → reply_told (request_of v) say ≡ Some reply
+      → P (unnumbered_said c s ingress datagram v (Some reply)))
+      → P (said_at w c s ingress datagram v say)
+  each_at v verdicts.AnsweredNew e own replied told =
+      each_new v (reply_said c s.sets v.source (request_of v) say) own (λ reply is. replied reply e is)
+  each_at v verdicts.AnsweredUnnumbered e own replied told =
+      each_unnumbered v (reply_told (request_of v) say) own (λ reply is. told reply e is)
+  each_at v _ e own replied told = own
+
+  each_of : (o : Option Message)
+      → message_of datagram ≡ o
+      → P (turn c s ingress datagram)
+      → ((v : Message) (reply : ReplyValue) → message_of datagram ≡ Some v → judged c s v ≡ verdicts.AnsweredNew
+      → reply_said c s.sets v.source (request_of v) say ≡ Some reply
+      → P (new_said c s ingress datagram v (Some reply)))
+      → ((v : Message) (reply : ReplyValue) → message_of datagram ≡ Some v → judged c s v ≡ verdicts.AnsweredUnnumbered
+      → reply_told (request_of v) say ≡ Some reply
+      → P (unnumbered_said c s ingress datagram v (Some reply)))
+      → P (said_by c s ingress datagram o say)
+  each_of None read own replied told = own
+  each_of (Some v) read own replied told =
+      each_at v (judged c s v) refl own (λ reply e is. replied v reply read e is) (λ reply e is. told v reply read e is)
+
+  pub turn_said-each : P (turn c s ingress datagram)
+      → ((v : Message) (reply : ReplyValue) → message_of datagram ≡ Some v → judged c s v ≡ verdicts.AnsweredNew
+      → reply_said c s.sets v.source (request_of v) say ≡ Some reply
+      → P (new_said c s ingress datagram v (Some reply)))
+      → ((v : Message) (reply : ReplyValue) → message_of datagram ≡ Some v → judged c s v ≡ verdicts.AnsweredUnnumbered
+      → reply_told (request_of v) say ≡ Some reply
+      → P (unnumbered_said c s ingress datagram v (Some reply)))
+      → P (turn_said c s say ingress datagram)
+  unfolding turn_said
+  turn_said-each own replied told = each_of (message_of datagram) refl own replied told
+
+said_at-silent : (w : Verdict) (c : Clock) (s : State) (ingress : ℕ) (datagram : List ℕ) (v : Message)
+    → said_at w c s ingress datagram v Agrees ≡ turn c s ingress datagram
+said_at-silent verdicts.AnsweredNew c s ingress datagram v = refl
+said_at-silent verdicts.AnsweredUnnumbered c s ingress datagram v = refl
+said_at-silent _ c s ingress datagram v = refl
+
+said_by-silent : (c : Clock) (s : State) (ingress : ℕ) (datagram : List ℕ) (o : Option Message)
+    → said_by c s ingress datagram o Agrees ≡ turn c s ingress datagram
+said_by-silent c s ingress datagram None = refl
+said_by-silent c s ingress datagram (Some v) = said_at-silent (judged c s v) c s ingress datagram v
+
+pub turn_said-silent : (c : Clock) (s : State) (ingress : ℕ) (datagram : List ℕ)
+    → turn_said c s Agrees ingress datagram ≡ turn c s ingress datagram
+unfolding turn_said
+turn_said-silent c s ingress datagram = said_by-silent c s ingress datagram (message_of datagram)
+
+-- ---- entries and history after a reply of the device
+
+abbrev replied_entry : Message → ReplyValue → Entry
+replied_entry v reply = record { number = v.number; request = request_of v; reply = reply }
+
+IsLatest-replied : (first : PortIdentity → ℕ) (h : History) (x : Delivery) (v : Message) (reply : ReplyValue)
     → IsNumbered first (copy_from x v)
     → greatest v.source h.accepted < x.index
-    → IsLatest first (refused_copy h (copy_from x v) error) v.source (refused_entry s v error)
-IsLatest-refused first s h x v error sets n above = grind (arith, same_identity-refl)
+    → IsLatest first (replied_copy h (copy_from x v) reply) v.source (replied_entry v reply)
+IsLatest-replied first h x v reply n above = grind (arith, same_identity-refl)
 
-IsKept-other : (first : PortIdentity → ℕ) (h : History) (k : RequestCopy) (error : ErrorId)
+IsKept-other : (first : PortIdentity → ℕ) (h : History) (k : RequestCopy) (reply : ReplyValue)
     (m : PortIdentity) (o : Option Entry)
     → same_identity m k.heard.source ≡ false
     → IsKept first h m o
-    → IsKept first (refused_copy h k error) m o
-IsKept-other first h k error m None other kept =
-    greatest_other m (record { manager = k.heard.source; index = k.index; request = k.request; reply = reply_of k.request (Some error) h.sets }) h.accepted other ∙ kept
-IsKept-other first h k error m (Some e) other kept = grind arith
+    → IsKept first (replied_copy h k reply) m o
+IsKept-other first h k reply m None other kept =
+    greatest_other m (record { manager = k.heard.source; index = k.index; request = k.request; reply = reply }) h.accepted other ∙ kept
+IsKept-other first h k reply m (Some e) other kept = grind arith
 
-StandsAt-refused : (first : PortIdentity → ℕ) (s : State) (h : History) (x : Delivery) (v : Message) (error : ErrorId)
+StandsAt-replied : (first : PortIdentity → ℕ) (s : State) (h : History) (x : Delivery) (v : Message) (reply : ReplyValue)
     → StandsAt first s h
     → IsNumbered first (copy_from x v)
     → greatest v.source h.accepted < x.index
-    → StandsAt first (after_objection s (numbered_from v) error) (refused_copy h (copy_from x v) error)
-StandsAt-refused first s h x v error at n above = record {
+    → StandsAt first (after_reply s (numbered_from v) reply) (replied_copy h (copy_from x v) reply)
+StandsAt-replied first s h x v reply at n above = record {
   sets = at.sets;
   entries = λ m.
-      let new : History = refused_copy h (copy_from x v) error in
-      let e : Entry = refused_entry s v error in
+      let new : History = replied_copy h (copy_from x v) reply in
+      let e : Entry = replied_entry v reply in
       ⊎_elim
       (λ (same : same_identity m v.source ≡ true).
       subst (λ (q : PortIdentity). IsKept first new q (get (insert s.entries v.source e) q)) (sym (same_identity-true m v.source same))
-      (subst (IsKept first new v.source) (sym (get-insert_same s.entries v.source e)) (IsLatest-refused first s h x v error at.sets n above)))
+      (subst (IsKept first new v.source) (sym (get-insert_same s.entries v.source e)) (IsLatest-replied first h x v reply n above)))
       (λ (other : same_identity m v.source ≡ false). grind (arith, get-insert_other, IsKept-other))
       (cases_Bool (same_identity m v.source));
 }
@@ -106,7 +195,7 @@ StandsAt-refused first s h x v error at n above = record {
 -- ---- a copy in time
 
 -- a turn on a copy leaves this history, sends this reply, and changes nothing if the copy does not join
-pub record DecidesAs (first : PortIdentity → ℕ) (c : Clock) (s : State) (h : History) (x : Delivery) (say : Option ErrorId) (k : RequestCopy) : Type 0 where
+pub record DecidesAs (first : PortIdentity → ℕ) (c : Clock) (s : State) (h : History) (x : Delivery) (say : Say) (k : RequestCopy) : Type 0 where
   pub stands : StandsAt first (turn_said c s say x.ingress x.datagram).next (after_decision c h k say)
   pub replies : (turn_said c s say x.ingress x.datagram).replies ≡ due_messages c k (due_decided c h k say)
   pub forwards : (turn_said c s say x.ingress x.datagram).forwards ≡ []
@@ -114,84 +203,122 @@ pub record DecidesAs (first : PortIdentity → ℕ) (c : Clock) (s : State) (h :
 
 -- a turn that is the clock's own
 decides_as_own : (first : PortIdentity → ℕ) (c : Clock) (s : State) (h : History) (x : Delivery)
-    (say : Option ErrorId) (k : RequestCopy)
+    (say : Say) (k : RequestCopy)
     → turn_said c s say x.ingress x.datagram ≡ turn c s x.ingress x.datagram
-    → after_decision c h k say ≡ after_copy c h k
-    → due_decided c h k say ≡ due_reply c h k
+    → reply_decided c h k say ≡ None
     → TurnsAs first c s h x k
     → DecidesAs first c s h x say k
-decides_as_own first c s h x say k t a d turns = record {
-  stands = subst (λ (u : State). StandsAt first u (after_decision c h k say)) (sym (ap (λ (u : Turned). u.next) t))
-      (subst (λ (g : History). StandsAt first (turn c s x.ingress x.datagram).next g) (sym a) turns.stands);
-  replies = ap (λ (u : Turned). u.replies) t ∙ (turns.replies ∙ sym (ap (due_messages c k) d));
-  forwards = ap (λ (u : Turned). u.forwards) t ∙ turns.forwards;
-  stays = λ j. ap (λ (u : Turned). u.next) t ∙ turns.stays j;
-}
-
--- the device objects
-decides_as_objected : (first : PortIdentity → ℕ) (c : Clock) (s : State) (h : History) (x : Delivery)
-    (error : ErrorId) (v : Message)
-    → StandsAt first s h
-    → IsInTime first h (copy_from x v)
-    → message_of x.datagram ≡ Some v
-    → is_asked c s v ≡ true
-    → is_decided c h (copy_from x v) ≡ true
-    → DecidesAs first c s h x (Some error) (copy_from x v)
-decides_as_objected first c s h x error v at time read y d =
-    let k : RequestCopy = copy_from x v in
-    let t : turn_said c s (Some error) x.ingress x.datagram ≡ objected c s x.ingress v error = turn_said-asked c s error x.ingress x.datagram v read y in
-    let j : joins h k ≡ true = grind arith in
-    let above : greatest v.source h.accepted < x.index = grind arith in
-    let a : after_decision c h k (Some error) ≡ refused_copy h k error = cond-true _ _ _ d in
+decides_as_own first c s h x say k t none turns =
+    let due : due_decided c h k say ≡ due_reply c h k = ap (λ (o : Option ReplyValue). option_or o (due_reply c h k)) none in
     record {
-      stands = subst (λ (u : State). StandsAt first u (after_decision c h k (Some error))) (sym (ap (λ (u : Turned). u.next) t))
-          (subst (λ (g : History). StandsAt first (after_objection s (numbered_from v) error) g) (sym a)
-          (StandsAt-refused first s h x v error at time.numbered above));
+      stands = subst (λ (u : State). StandsAt first u (after_decision c h k say)) (sym (ap (λ (u : Turned). u.next) t))
+          (subst (λ (o : Option ReplyValue). StandsAt first (turn c s x.ingress x.datagram).next (after_reply_to c h k o)) (sym none) turns.stands);
       replies = ap (λ (u : Turned). u.replies) t
-          ∙ (ap (λ (sets : DataSetsValue). due_messages c k (Some (reply_of (request_of v) (Some error) sets))) at.sets
-          ∙ sym (ap (due_messages c k) (cond-true _ _ _ d)));
-      forwards = ap (λ (u : Turned). u.forwards) t;
-      stays = λ no. grind arith;
+          ∙ (turns.replies ∙ sym (ap (due_messages c k) due));
+      forwards = ap (λ (u : Turned). u.forwards) t ∙ turns.forwards;
+      stays = λ j. ap (λ (u : Turned). u.next) t ∙ turns.stays j;
     }
 
-is_asked-decided : (first : PortIdentity → ℕ) (c : Clock) (s : State) (h : History) (x : Delivery)
-    (v : Message)
+-- the device makes the reply
+decides_as_replied : (first : PortIdentity → ℕ) (c : Clock) (s : State) (h : History) (x : Delivery)
+    (say : Say) (v : Message) (reply : ReplyValue)
+    → StandsAt first s h
+    → IsInTime first h (copy_from x v)
+    → turn_said c s say x.ingress x.datagram ≡ new_said c s x.ingress x.datagram v (Some reply)
+    → joins h (copy_from x v) ≡ true
+    → reply_decided c h (copy_from x v) say ≡ Some reply
+    → DecidesAs first c s h x say (copy_from x v)
+decides_as_replied first c s h x say v reply at time t j some =
+    let k : RequestCopy = copy_from x v in
+    let above : greatest v.source h.accepted < x.index = grind arith in
+    let due : due_decided c h k say ≡ Some reply = ap (λ (o : Option ReplyValue). option_or o (due_reply c h k)) some in
+    record {
+      stands = subst (λ (u : State). StandsAt first u (after_decision c h k say)) (sym (ap (λ (u : Turned). u.next) t))
+          (subst (λ (o : Option ReplyValue). StandsAt first (after_reply s (numbered_from v) reply) (after_reply_to c h k o)) (sym some)
+          (StandsAt-replied first s h x v reply at time.numbered above));
+      replies = ap (λ (u : Turned). u.replies) t ∙ sym (ap (due_messages c k) due);
+      forwards = ap (λ (u : Turned). u.forwards) t;
+      stays = λ no. absurd (true≢false (sym j ∙ no));
+    }
+
+decides_as_new : (first : PortIdentity → ℕ) (c : Clock) (s : State) (h : History) (x : Delivery)
+    (say : Say) (v : Message) (o : Option ReplyValue)
     → StandsAt first s h
     → IsInTime first h (copy_from x v)
     → message_of x.datagram ≡ Some v
     → TurnsAs first c s h x (copy_from x v)
-    → is_asked c s v ≡ is_decided c h (copy_from x v)
-unfolding is_asked
-is_asked-decided first c s h x v at time read turns =
-    let t : (turn c s x.ingress x.datagram).next ≡ next_by (judged c s v) c s v =
-    ap (λ (u : Turned). u.next) (turn-message c s x.ingress x.datagram v read) in
-    ap (λ (b : Bool). b && is_permitted c v.source (request_of v))
-    (is_new-joins first c s h x v at time
-    (subst (λ (u : State). StandsAt first u (after_copy c h (copy_from x v))) t turns.stands)
-    (λ j. sym t ∙ turns.stays j))
+    → judged c s v ≡ verdicts.AnsweredNew
+    → joins h (copy_from x v) ≡ true
+    → reply_said c h.sets v.source (request_of v) say ≡ o
+    → DecidesAs first c s h x say (copy_from x v)
+decides_as_new first c s h x say v None at time read turns new j said =
+    decides_as_own first c s h x say (copy_from x v)
+    (turn_said-new c s say x.ingress x.datagram v None read new
+    (ap (λ (d : DataSetsValue). reply_said c d v.source (request_of v) say) at.sets ∙ said))
+    (cond-true _ _ _ j ∙ said) turns
+decides_as_new first c s h x say v (Some reply) at time read turns new j said =
+    decides_as_replied first c s h x say v reply at time
+    (turn_said-new c s say x.ingress x.datagram v (Some reply) read new
+    (ap (λ (d : DataSetsValue). reply_said c d v.source (request_of v) say) at.sets ∙ said))
+    j (cond-true _ _ _ j ∙ said)
+
+-- a copy is numbered
+is_unnumbered : Verdict → Bool
+is_unnumbered verdicts.AnsweredUnnumbered = true
+is_unnumbered _ = false
+
+look_by-numbered : (serial : Serial) (same : Bool) → is_unnumbered (verdict_at (look_by serial same)) ≡ false
+unfolding is_unnumbered
+look_by-numbered Same true = refl
+look_by-numbered Same false = refl
+look_by-numbered Newer same = refl
+look_by-numbered Older same = refl
+
+look_at-numbered : (v : Message) (o : Option Entry) → is_unnumbered (verdict_at (look_at o v.number (request_of v))) ≡ false
+unfolding is_unnumbered
+look_at-numbered v None = refl
+look_at-numbered v (Some e) = look_by-numbered (serial_of e.number v.number) (same_request e.request (request_of v))
+
+copy-numbered : (c : Clock) (s : State) (v : Message)
+    → is_copy c (length s.sets.ports) v ≡ true
+    → judged c s v ≡ verdicts.AnsweredUnnumbered
+    → ⊥
+unfolding is_unnumbered
+copy-numbered c s v copy e =
+    let l = look_at (get s.entries v.source) v.number (request_of v) in
+    let no : is_unnumbered (judged c s v) ≡ false =
+    judged-copy (λ (w : Verdict). is_unnumbered w ≡ false) c s v l (copy_parts c (length s.sets.ports) v copy) refl
+    (λ d. look_at-numbered v (get s.entries v.source)) (λ d r. refl) in
+    true≢false (sym (ap is_unnumbered e) ∙ no)
 
 decides_as_message : (first : PortIdentity → ℕ) (c : Clock) (s : State) (h : History) (x : Delivery)
-    (say : Option ErrorId) (v : Message)
+    (say : Say) (v : Message)
     → StandsAt first s h
     → IsInTime first h (copy_from x v)
     → message_of x.datagram ≡ Some v
+    → is_copy c (length s.sets.ports) v ≡ true
     → TurnsAs first c s h x (copy_from x v)
     → DecidesAs first c s h x say (copy_from x v)
-decides_as_message first c s h x None v at time read turns =
-    decides_as_own first c s h x None (copy_from x v) (turn_said-silent c s x.ingress x.datagram) refl refl turns
-decides_as_message first c s h x (Some error) v at time read turns =
-    let same : is_asked c s v ≡ is_decided c h (copy_from x v) = is_asked-decided first c s h x v at time read turns in
+decides_as_message first c s h x say v at time read copy turns =
+    let t : (turn c s x.ingress x.datagram).next ≡ next_by (judged c s v) c s v =
+    ap (λ (u : Turned). u.next) (turn-message c s x.ingress x.datagram v read) in
+    let same : is_new (judged c s v) ≡ joins h (copy_from x v) =
+    is_new-joins first c s h x v at time
+    (subst (λ (u : State). StandsAt first u (after_copy c h (copy_from x v))) t turns.stands)
+    (λ j. sym t ∙ turns.stays j) in
     ⊎_elim
-    (λ (d : is_decided c h (copy_from x v) ≡ true).
-    decides_as_objected first c s h x error v at time read (same ∙ d) d)
-    (λ (d : is_decided c h (copy_from x v) ≡ false).
-    decides_as_own first c s h x (Some error) (copy_from x v)
-    (turn_said-not_asked c s (Some error) x.ingress x.datagram v read (same ∙ d))
-    (cond-false _ _ _ d) (cond-false _ _ _ d) turns)
-    (cases_Bool (is_decided c h (copy_from x v)))
+    (λ (j : joins h (copy_from x v) ≡ true).
+    decides_as_new first c s h x say v (reply_said c h.sets v.source (request_of v) say) at time read turns
+    (is_new-true (judged c s v) (same ∙ j)) j refl)
+    (λ (j : joins h (copy_from x v) ≡ false).
+    decides_as_own first c s h x say (copy_from x v)
+    (turn_said-other c s say x.ingress x.datagram v read
+    (λ new. false≢true (sym (same ∙ j) ∙ ap is_new new)) (copy-numbered c s v copy))
+    (cond-false _ _ _ j) turns)
+    (cases_Bool (joins h (copy_from x v)))
 
 pub decides_as : (first : PortIdentity → ℕ) (c : Clock) (s : State) (h : History) (x : Delivery)
-    (say : Option ErrorId) (k : RequestCopy)
+    (say : Say) (k : RequestCopy)
     → StandsAt first s h
     → copy_of c (length h.sets.ports) x ≡ Some k
     → IsInTime first h k
@@ -201,31 +328,15 @@ decides_as first c s h x say k at e time =
     subst (λ (j : RequestCopy). DecidesAs first c s h x say j) copy.copy
     (decides_as_message first c s h x say copy.message at
     (subst (λ (j : RequestCopy). IsInTime first h j) (sym copy.copy) time) copy.read
+    (ap (λ (d : DataSetsValue). is_copy c (length d.ports) copy.message) at.sets ∙ copy.passes)
     (subst (λ (j : RequestCopy). TurnsAs first c s h x j) (sym copy.copy) (turns_as first c s h x k at e time)))
 
--- what is no copy is not asked about
-not_asked-no_copy : (c : Clock) (s : State) (v : Message)
-    → is_copy c (length s.sets.ports) v ≡ false
-    → is_asked c s v ≡ false
-unfolding is_asked
-not_asked-no_copy c s v other =
-    ⊎_elim
-    (λ (y : is_new (judged c s v) ≡ true). absurd (true≢false (sym (is_copy-new c s v (is_new-true (judged c s v) y)) ∙ other)))
-    (λ (n : is_new (judged c s v) ≡ false). and_left _ _ n)
-    (cases_Bool (is_new (judged c s v)))
-
-said-no_copy : (c : Clock) (s : State) (x : Delivery) (say : Option ErrorId) (o : Option Message)
-    → message_of x.datagram ≡ o
-    → copy_of c (length s.sets.ports) x ≡ None
-    → turn_said c s say x.ingress x.datagram ≡ turn c s x.ingress x.datagram
-said-no_copy c s x say None read none = turn_said-unread c s say x.ingress x.datagram read
-said-no_copy c s x say (Some v) read none =
-    turn_said-not_asked c s say x.ingress x.datagram v read
-    (not_asked-no_copy c s v (no_copy c (length s.sets.ports) x v none read))
-
 -- any other delivery changes nothing
-pub turn_said-no_copy : (c : Clock) (s : State) (x : Delivery) (say : Option ErrorId)
+pub turn_said-no_copy : (c : Clock) (s : State) (x : Delivery) (say : Say)
     → copy_of c (length s.sets.ports) x ≡ None
     → (turn_said c s say x.ingress x.datagram).next ≡ s
 turn_said-no_copy c s x say none =
-    ap (λ (u : Turned). u.next) (said-no_copy c s x say (message_of x.datagram) refl none) ∙ turn-no_copy c s x none
+    turn_said-each (λ (t : Turned). t.next ≡ s) c s say x.ingress x.datagram (turn-no_copy c s x none)
+    (λ v reply read new is.
+    absurd (true≢false (sym (is_copy-new c s v new) ∙ no_copy c (length s.sets.ports) x v none read)))
+    (λ v reply read unnumbered is. refl)

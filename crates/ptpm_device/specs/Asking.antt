@@ -5,13 +5,15 @@ use Rattle.ptpm_codec.specs.declared.message.Action.{Action}
 use Rattle.ptpm_codec.specs.declared.message.Action.TheVariants as actions
 use Rattle.ptpm_codec.specs.declared.message.Message.{Message}
 use Rattle.ptpm_codec.specs.Reading.{message_of}
+use Rattle.ptpm_data.specs.ManagementId.{row_of}
 use Rattle.ptpm_data.specs.Refusals.{refusal_of}
+use Rattle.ptpm_data.specs.Replies.{is_get}
 use Rattle.ptpm_data.specs.Request.{RequestValue}
 use Rattle.ptpm_agent.specs.declared.verdict.Verdict.{Verdict}
 use Rattle.ptpm_agent.specs.declared.verdict.Verdict.TheVariants as verdicts
-use Rattle.ptpm_agent.specs.Addressing.{is_for_this_clock, is_own, names_port, request_of}
+use Rattle.ptpm_agent.specs.Addressing.{is_addressed, is_for_this_clock, is_own, names_port, request_of}
 use Rattle.ptpm_agent.specs.Turn.{Clock, NumberedRequest, State, judged, numbered_from}
-use Rattle.ptpm_device.specs.declared.asking.Change.TheInside.{Inside}
+use Rattle.ptpm_device.specs.declared.asking.Asked.TheInside.{Inside}
 
 -- a SET or a COMMAND
 abbrev pub is_change : Action → Bool
@@ -23,9 +25,19 @@ is_change _ = false
 abbrev pub is_permitted : Clock → PortIdentity → RequestValue → Bool
 is_permitted c who q = is_change q.action && is_none (refusal_of q (c.rights who))
 
+-- a GET of an id that the clock lacks
+abbrev pub is_lacked : RequestValue → Bool
+is_lacked q = is_get q.action && is_none (row_of q.id)
+
 abbrev pub is_new : Verdict → Bool
 is_new verdicts.AnsweredNew = true
 is_new _ = false
+
+-- what is answered from the data sets, and not from what is kept
+abbrev pub is_read : Verdict → Bool
+is_read verdicts.AnsweredNew = true
+is_read verdicts.AnsweredUnnumbered = true
+is_read _ = false
 
 -- for exactly this clock, at a port that it has, in its domain, and of another clock
 unfoldable pub is_here : Clock → State → Message → Bool
@@ -46,6 +58,55 @@ asked_by c s (Some v) = if is_asked c s v then Some (numbered_from v) else None
 unfoldable pub asked : Clock → State → List ℕ → Option NumberedRequest
 asked c s datagram = asked_by c s (message_of datagram)
 
--- a change as code, against the definitions
-abbrev pub change_value : Inside → NumberedRequest
-change_value x = record { manager = x.manager; number = x.number; request = x.request }
+-- The device is asked for a value that the clock would refuse, since it lacks the id. A repeat has its answer.
+unfoldable pub is_wanted : Clock → State → Message → Bool
+is_wanted c s v = is_read (judged c s v) && is_lacked (request_of v)
+
+abbrev pub wanted_by : Clock → State → Option Message → Option NumberedRequest
+wanted_by c s None = None
+wanted_by c s (Some v) = if is_wanted c s v then Some (numbered_from v) else None
+
+-- the GET whose value a clock's device is asked for, if it is
+unfoldable pub wanted : Clock → State → List ℕ → Option NumberedRequest
+wanted c s datagram = wanted_by c s (message_of datagram)
+
+-- for this clock or every clock, at a port that it has, in its domain, and of another clock
+unfoldable pub is_reached : Clock → State → Message → Bool
+is_reached c s v =
+    v.sdo == 0 && (v.domain == s.sets.default.domain && (not (is_own c v) && is_addressed c s.sets v))
+
+-- ---- a value whose answer the clock keeps
+
+-- it is asked for by a manager's new request
+abbrev pub is_wanted_new : Clock → State → Message → Bool
+is_wanted_new c s v = is_new (judged c s v) && is_lacked (request_of v)
+
+abbrev pub wanted_new_by : Clock → State → Option Message → Option NumberedRequest
+wanted_new_by c s None = None
+wanted_new_by c s (Some v) = if is_wanted_new c s v then Some (numbered_from v) else None
+
+unfoldable pub wanted_new : Clock → State → List ℕ → Option NumberedRequest
+wanted_new c s datagram = wanted_new_by c s (message_of datagram)
+
+-- ---- a value whose answer it doesn't keep
+
+-- it is asked for by a request without a number
+abbrev pub is_unnumbered : Verdict → Bool
+is_unnumbered verdicts.AnsweredUnnumbered = true
+is_unnumbered _ = false
+
+abbrev pub is_wanted_once : Clock → State → Message → Bool
+is_wanted_once c s v = is_unnumbered (judged c s v) && is_lacked (request_of v)
+
+abbrev pub wanted_once_by : Clock → State → Option Message → Bool
+wanted_once_by c s None = false
+wanted_once_by c s (Some v) = is_wanted_once c s v
+
+unfoldable pub wanted_once : Clock → State → List ℕ → Bool
+wanted_once c s datagram = wanted_once_by c s (message_of datagram)
+
+-- ---- as code
+
+-- what a device is asked, against the definitions
+abbrev pub asked_value : Inside → NumberedRequest
+asked_value x = record { manager = x.manager; number = x.number; request = x.request }

@@ -1,26 +1,25 @@
--- At-most-once execution at a clock whose device may object (this project's profile). Each accepted request is applied once,
--- or refused once by the device with an error of its choice. Each copy of it gets that one reply.
-use Rattle.std.specs.Prelude.{◌≡◌, ℕ, ◌&&◌, Bool, if◌then◌else◌, List, [], ◌∷◌, Option, Some, None}
-use Rattle.ptpm_codec.specs.declared.error.ErrorId.{ErrorId}
+-- At-most-once execution at a clock whose device has a say (this project's profile). Each accepted request is applied once, or
+-- answered once by the device. That is an error of its choice, or the value of an id that the clock lacks. Each copy of it gets that
+-- one reply.
+use Rattle.std.specs.Prelude.{◌≡◌, ℕ, if◌then◌else◌, List, [], ◌∷◌, Option, Some, None}
+use Rattle.std.specs.Option.{option_or}
 use Rattle.ptpm_codec.specs.declared.identity.PortIdentity.{PortIdentity}
 use Rattle.ptpm_data.specs.declared.observation.ClockObservation.{ClockObservation}
 use Rattle.ptpm_data.specs.declared.observation.PortObservation.{PortObservation}
-use Rattle.ptpm_data.specs.Replies.{reply_of}
 use Rattle.ptpm_data.specs.Reply.{ReplyValue}
 use Rattle.ptpm_data.specs.Request.{RequestValue}
 use Rattle.ptpm_agent.specs.Observing.{moved_history, moved_state}
 use Rattle.ptpm_agent.specs.Once.{Delivery, History, RequestCopy, after_copy, copy_of, due_reply, joins}
 use Rattle.ptpm_agent.specs.Turn.{Clock, State}
 use Rattle.ptpm_agent.specs.Window.{IsInTime}
-use Rattle.ptpm_device.specs.Asking.{is_permitted}
 use Rattle.ptpm_device.specs.Changing.{changed_history, changed_state}
-use Rattle.ptpm_device.specs.Saying.{turn_said}
+use Rattle.ptpm_device.specs.Saying.{Say, reply_said, turn_said}
 
 -- ---- what happens at a clock
 
 pub data Happening : Type 0 where
   -- a datagram comes in at a port, and this is what the device says of it
-  Delivered : (delivery : Delivery) → (say : Option ErrorId) → Happening
+  Delivered : (delivery : Delivery) → (say : Say) → Happening
   -- the host reports what it observes; if this is refused, nothing moves
   Observed : (clock : ClockObservation) → (ports : List PortObservation) → Happening
   -- the device's owner asks for a change at the device itself; if this is refused, nothing changes
@@ -38,33 +37,29 @@ after_happenings c s (x ∷ xs) = after_happenings c (after_happening c s x) xs
 
 -- ---- what was accepted
 
--- the device refuses a request: it is accepted with the error as its reply, and changes nothing
-abbrev pub refused_copy : History → RequestCopy → ErrorId → History
-refused_copy h k error = record {
+-- a request that joins is accepted with this reply, and changes nothing
+abbrev pub replied_copy : History → RequestCopy → ReplyValue → History
+replied_copy h k reply = record {
   sets = h.sets;
-  accepted = record {
-    manager = k.heard.source;
-    index = k.index;
-    request = k.request;
-    reply = reply_of k.request (Some error) h.sets;
-  } ∷ h.accepted;
+  accepted = record { manager = k.heard.source; index = k.index; request = k.request; reply = reply } ∷ h.accepted;
 }
 
--- the device is asked about a copy that joins, if the clock permits its request
-abbrev pub is_decided : Clock → History → RequestCopy → Bool
-is_decided c h k = joins h k && is_permitted c k.heard.source k.request
+-- the reply that the device makes to a copy, if the copy joins and the say counts
+abbrev pub reply_decided : Clock → History → RequestCopy → Say → Option ReplyValue
+reply_decided c h k say = if joins h k then reply_said c h.sets k.heard.source k.request say else None
 
-abbrev pub after_decision : Clock → History → RequestCopy → Option ErrorId → History
-after_decision c h k None = after_copy c h k
-after_decision c h k (Some error) = if is_decided c h k then refused_copy h k error else after_copy c h k
+abbrev pub after_reply_to : Clock → History → RequestCopy → Option ReplyValue → History
+after_reply_to c h k None = after_copy c h k
+after_reply_to c h k (Some reply) = replied_copy h k reply
+
+abbrev pub after_decision : Clock → History → RequestCopy → Say → History
+after_decision c h k say = after_reply_to c h k (reply_decided c h k say)
 
 -- the reply that is due to a copy
-abbrev pub due_decided : Clock → History → RequestCopy → Option ErrorId → Option ReplyValue
-due_decided c h k None = due_reply c h k
-due_decided c h k (Some error) =
-    if is_decided c h k then Some (reply_of k.request (Some error) h.sets) else due_reply c h k
+abbrev pub due_decided : Clock → History → RequestCopy → Say → Option ReplyValue
+due_decided c h k say = option_or (reply_decided c h k say) (due_reply c h k)
 
-abbrev pub after_arrival : Clock → History → Option RequestCopy → Option ErrorId → History
+abbrev pub after_arrival : Clock → History → Option RequestCopy → Say → History
 after_arrival c h None say = h
 after_arrival c h (Some k) say = after_decision c h k say
 
@@ -74,7 +69,7 @@ history_after c ports h (Delivered x say) = after_arrival c h (copy_of c ports x
 history_after c ports h (Observed o seen) = moved_history o seen h
 history_after c ports h (Changed q) = changed_history q h
 
--- Of happenings in their order, each accepted request applied or refused once, in order of first acceptance. Each observation and
+-- Of happenings in their order, each accepted request applied or answered once, in order of first acceptance. Each observation and
 -- each change at the device is in its place.
 abbrev pub decided_in_place : Clock → ℕ → History → List Happening → History
 decided_in_place c ports h [] = h

@@ -6,18 +6,20 @@ ghost use Rattle.ptpm_data.specs.Changes.{IsTargetPort};
 ghost use Rattle.ptpm_data.specs.Refusals.{refusal_of};
 ghost use Rattle.ptpm_agent.specs.Addressing.{request_of};
 ghost use Rattle.ptpm_agent.specs.Agent.{clock_of, state_of};
-ghost use Rattle.ptpm_device.specs.Asking.{asked, is_asked, is_change, is_here};
+ghost use Rattle.ptpm_agent.specs.Turn.{look, numbered_from};
+ghost use Rattle.ptpm_device.specs.Asking.{asked, is_asked, is_change, is_here, is_lacked, is_reached, is_wanted, wanted};
 
 use crate::changing::first_refusal;
 use ptpm_agent::Agent;
-use ptpm_codec::{Action, PortIdentity, View, view};
-use ptpm_data::{DataSets, Request, Rights, data_sets_law};
+use ptpm_codec::{Action, ClockIdentity, PortIdentity, View, view};
+use ptpm_data::{DataSets, Request, Rights, data_sets_law, row};
 use ptpm_table::{Look, ReplyTable};
 use std::marker::Model;
 
-/// What a device is asked to do: a new SET or COMMAND of a manager, which the clock itself does not refuse.
+/// What a device is asked. It is to carry out a new SET or COMMAND of a manager, which the clock itself does not refuse. Or it is
+/// to give the value of a GET of an id that the clock lacks.
 #[derive(Debug, Drop)]
-pub struct Change<'a> {
+pub struct Asked<'a> {
     /// sourcePortIdentity.
     pub manager: PortIdentity,
     /// sequenceId.
@@ -25,18 +27,18 @@ pub struct Change<'a> {
     pub request: Request<'a>,
 }
 
-impl<'a> Model for Change<'a> {
+impl<'a> Model for Asked<'a> {
     ghost use Rattle.ptpm_agent.specs.Turn.{NumberedRequest};
-    ghost use Rattle.ptpm_device.specs.Asking.{change_value};
+    ghost use Rattle.ptpm_device.specs.Asking.{asked_value};
 
     ghost Value = { NumberedRequest };
 
-    ghost view = { change_value };
+    ghost view = { asked_value };
 }
 
-/// What a datagram would have the clock's device do, if it came in now at a port of the clock. None if it is anything but a new
-/// SET or COMMAND of a manager, or if the clock itself refuses it. Changes nothing, and takes no memory.
-pub fn ask<'a, T: ReplyTable + Drop>(agent: &Agent<T>, datagram: &'a [u8]) -> Option<Change<'a>>
+/// What a datagram would have the clock's device carry out, if it came in now at a port of the clock. None if it is anything but
+/// a new SET or COMMAND of a manager, or if the clock itself refuses it. Changes nothing, and takes no memory.
+pub fn ask<'a, T: ReplyTable + Drop>(agent: &Agent<T>, datagram: &'a [u8]) -> Option<Asked<'a>>
     ensures asked { result ≡ asked
         (clock_of T.owner agent.now) (state_of T.entries agent.now) datagram.now }
     ensures number { IfSome result (λ change. change.number < 2 ^ 16) }
@@ -49,14 +51,41 @@ pub fn ask<'a, T: ReplyTable + Drop>(agent: &Agent<T>, datagram: &'a [u8]) -> Op
     if !is_asked(agent, &message) {
         return None;
     }
-    Some(Change {
-        manager: message.source(),
-        number: message.number(),
-        request: request_of(&message),
-    })
+    Some(asked_by(&message))
 }
 
-/// Whether the device is asked about a message.
+/// The GET of a datagram whose value the clock's device is asked for, if it came in now at a port of the clock. It would be answered,
+/// and is of an id that the clock lacks. None for any other datagram. Changes nothing, and takes no memory.
+pub fn ask_value<'a, T: ReplyTable + Drop>(
+    agent: &Agent<T>,
+    datagram: &'a [u8],
+) -> Option<Asked<'a>>
+    ensures wanted { result ≡ wanted
+        (clock_of T.owner agent.now) (state_of T.entries agent.now) datagram.now }
+    ensures number { IfSome result (λ get. get.number < 2 ^ 16) }
+{
+    let message = match view(datagram) {
+        Ok(message) => message,
+        Err(_) => return None,
+    };
+    if !is_wanted(agent, &message) {
+        return None;
+    }
+    Some(asked_by(&message))
+}
+
+/// What a message asks, with its number, and of whom it is.
+pub(crate) fn asked_by<'a>(message: &View<'a>) -> Asked<'a>
+    ensures { result ≡ numbered_from message.now }
+{
+    Asked {
+        manager: message.source(),
+        number: message.number(),
+        request: request_of(message),
+    }
+}
+
+/// Whether the device is asked to carry out a message.
 fn is_asked<T: ReplyTable + Drop>(agent: &Agent<T>, message: &View<'_>) -> bool
     requires valid { IsValid message.now }
     ensures { result ≡ is_asked
@@ -79,11 +108,36 @@ fn is_asked<T: ReplyTable + Drop>(agent: &Agent<T>, message: &View<'_>) -> bool
     }
 }
 
+/// Whether the device is asked for the value of a message.
+fn is_wanted<T: ReplyTable + Drop>(agent: &Agent<T>, message: &View<'_>) -> bool
+    ensures { result ≡ is_wanted
+        (clock_of T.owner agent.now) (state_of T.entries agent.now) message.now }
+{
+    if !is_lacked(&request_of(message)) {
+        return false;
+    }
+    if !is_reached(agent, message) {
+        return false;
+    }
+    match look(agent, message) {
+        Look::Unknown => true,
+        Look::New => true,
+        _ => false,
+    }
+}
+
 /// Whether it is a SET or a COMMAND.
 pub fn is_change(action: Action) -> bool
     ensures { result ≡ is_change action }
 {
     action == Action::Set || action == Action::Command
+}
+
+/// Whether it is a GET of an id that the clock lacks.
+pub(crate) fn is_lacked(request: &Request<'_>) -> bool
+    ensures { result ≡ is_lacked request.now }
+{
+    request.action == Action::Get && row(request.id).is_none()
 }
 
 /// Whether a request is for exactly this clock at a port that it has, in its domain, and of another clock.
@@ -99,6 +153,34 @@ fn is_here<T: ReplyTable + Drop>(agent: &Agent<T>, message: &View<'_>) -> bool
         && message.source().clock != clock
         && target.clock == clock
         && (target.port == PortIdentity::EVERY_PORT || agent.sets().has_port(target.port))
+}
+
+/// Whether a request is for this clock or every clock at a port that it has, in its domain, and of another clock.
+#[tactic(auto, unfolding(crate::specs::Asking::is_reached))]
+pub(crate) fn is_reached<T: ReplyTable + Drop>(agent: &Agent<T>, message: &View<'_>) -> bool
+    ensures { result ≡ is_reached
+        (clock_of T.owner agent.now) (state_of T.entries agent.now) message.now }
+{
+    let target = message.target();
+    let clock = agent.table().clock();
+    message.sdo() == 0
+        && message.domain() == agent.sets().domain()
+        && message.source().clock != clock
+        && (target.clock == clock || target.clock == ClockIdentity::EVERY)
+        && (target.port == PortIdentity::EVERY_PORT || agent.sets().has_port(target.port))
+}
+
+/// What a manager's request for exactly this clock is to the table; unknown is any other.
+pub(crate) fn look<T: ReplyTable + Drop>(agent: &Agent<T>, message: &View<'_>) -> Look
+    ensures { result ≡ look
+        (clock_of T.owner agent.now) (state_of T.entries agent.now) message.now }
+{
+    if message.target().clock != agent.table().clock() {
+        return Look::Unknown;
+    }
+    agent
+        .table()
+        .look(&message.source(), message.number(), &request_of(message))
 }
 
 /// Whether a clock with these data sets carries out a manager's request. It is tried on a copy of them.

@@ -1,29 +1,32 @@
-//! What a clock promises whose device may object. Each law is the contract of a function that does nothing, and speaks only of
+//! What a clock promises whose device has a say. Each law is the contract of a function that does nothing, and speaks only of
 //! the definitions.
 
-ghost use Rattle.std.specs.Prelude.{◌≡◌, ◌∷◌, [], ◌++◌, ℕ, Bool, true, false, length, List, None, Option, Some, is_none};
+ghost use Rattle.std.specs.Prelude.{◌≡◌, ◌∷◌, [], ◌++◌, ℕ, true, false, length, List, None, Some};
 ghost use Rattle.ptpm_codec.specs.declared.error.ErrorId.{ErrorId};
 ghost use Rattle.ptpm_codec.specs.declared.identity.PortIdentity.{PortIdentity};
+ghost use Rattle.ptpm_codec.specs.declared.message.Action.TheVariants as actions;
 ghost use Rattle.ptpm_codec.specs.declared.message.Message.{Message};
 ghost use Rattle.ptpm_codec.specs.Reading.{message_of};
+ghost use Rattle.ptpm_data.specs.ManagementId.{row_of};
 ghost use Rattle.ptpm_data.specs.Members.{DataSetsValue};
 ghost use Rattle.ptpm_data.specs.Refusals.{refusal_of};
+ghost use Rattle.ptpm_table.specs.Rendering.{rendered};
 ghost use Rattle.ptpm_agent.specs.declared.verdict.Verdict.TheVariants as verdicts;
-ghost use Rattle.ptpm_agent.specs.Addressing.{request_of};
+ghost use Rattle.ptpm_agent.specs.Addressing.{heard_of, request_of};
 ghost use Rattle.ptpm_agent.specs.Laws.{StandsAt, due_messages, initial_clock_state};
 ghost use Rattle.ptpm_agent.specs.Once.{Delivery, History, RequestCopy, copy_of, initial_history, joins};
-ghost use Rattle.ptpm_agent.specs.Turn.{Clock, State, judged, outbox_of, turn};
-ghost use Rattle.ptpm_device.specs.Asking.{asked, is_asked, is_change};
+ghost use Rattle.ptpm_agent.specs.Turn.{Clock, State, judged, numbered_from, outbox_of, turn};
+ghost use Rattle.ptpm_device.specs.Asking.{asked, is_asked, is_change, is_read, is_wanted, is_wanted_new, wanted};
 ghost use Rattle.ptpm_device.specs.Decided.{ComeInTime, Delivered, Happening, after_happenings, decided_in_place, due_decided};
-ghost use Rattle.ptpm_device.specs.Saying.{turn_said};
+ghost use Rattle.ptpm_device.specs.Saying.{Agrees, Gives, Objects, Say, after_reply, most_given, reply_given, turn_said};
 
-/// At-most-once execution at a clock whose device may object. Let any list of datagrams come in at a fresh clock, with whatever
+/// At-most-once execution at a clock whose device has a say. Let any list of datagrams come in at a fresh clock, with whatever
 /// the device says of each. Between them the host may observe, and the owner may change something at the device itself. Let each
 /// copy of a manager's request come in time. Then:
 /// - the data sets are those after the accepted requests, in order of first acceptance. Each observation and each change at the
-///   device is in its place. Each request is applied once, or refused once by the device, and then it changes nothing;
-/// - each copy is sent the reply that is due to it, and nothing else is sent for it. That is the error of the device if it
-///   refused the request, whatever it says of a later copy;
+///   device is in its place. Each request is applied once, or answered once by the device, and then it changes nothing;
+/// - each copy is sent the reply that is due to it, and nothing else is sent for it. If the device answered the request, that is its
+///   error or its value, whatever it says of a later copy;
 /// - a copy of a request that is not newly accepted changes neither data sets nor entries.
 pub fn at_most_once_decided()
     ensures sets { (c : Clock) (first : PortIdentity → ℕ) (d : DataSetsValue)
@@ -32,14 +35,14 @@ pub fn at_most_once_decided()
         (after_happenings c (initial_clock_state d) xs).sets
         ≡ (decided_in_place c (length d.ports) (initial_history d) xs).sets }
     ensures outbox { (c : Clock) (first : PortIdentity → ℕ) (d : DataSetsValue)
-        (xs : List Happening) (x : Delivery) (say : Option ErrorId) (k : RequestCopy) →
+        (xs : List Happening) (x : Delivery) (say : Say) (k : RequestCopy) →
         copy_of c (length d.ports) x ≡ Some k →
         ComeInTime first c (length d.ports) (initial_history d) (xs ++ Delivered x say ∷ []) →
         outbox_of (turn_said c (after_happenings c (initial_clock_state d) xs) say x.ingress x.datagram)
         ≡ due_messages c k
         (due_decided c (decided_in_place c (length d.ports) (initial_history d) xs) k say) }
     ensures repeats { (c : Clock) (first : PortIdentity → ℕ) (d : DataSetsValue)
-        (xs : List Happening) (x : Delivery) (say : Option ErrorId) (k : RequestCopy) →
+        (xs : List Happening) (x : Delivery) (say : Say) (k : RequestCopy) →
         copy_of c (length d.ports) x ≡ Some k →
         ComeInTime first c (length d.ports) (initial_history d) (xs ++ Delivered x say ∷ []) →
         joins (decided_in_place c (length d.ports) (initial_history d) xs) k ≡ false →
@@ -52,25 +55,51 @@ pub fn at_most_once_decided()
         (decided_in_place c (length h.sets.ports) h xs) }
 {}
 
-/// The device is asked about nothing but a new SET or COMMAND that the clock itself does not refuse. If it is not asked, what it
-/// says doesn't count.
+/// The device is asked to carry out nothing but a new SET or COMMAND that the clock itself does not refuse. It is asked for the
+/// value of nothing but a GET that is answered, of an id that the clock lacks. An objection to anything else doesn't
+/// count, nor does a value of anything else. Whatever it says, the verdict and what
+/// is passed on are those of the clock without a device.
 pub fn device_judged_last()
     ensures asked { (c : Clock) (s : State) (v : Message) → is_asked c s v ≡ true →
         (judged c s v ≡ verdicts.AnsweredNew) × ((is_change (request_of v).action ≡ true)
         × (refusal_of (request_of v) (c.rights v.source) ≡ None)) }
-    ensures not_asked { (c : Clock) (s : State) (say : Option ErrorId) (ingress : ℕ)
+    ensures wanted { (c : Clock) (s : State) (v : Message) → is_wanted c s v ≡ true →
+        (is_read (judged c s v) ≡ true) × (((request_of v).action ≡ actions.Get)
+        × (row_of (request_of v).id ≡ None)) }
+    ensures not_asked { (c : Clock) (s : State) (error : ErrorId) (ingress : ℕ)
         (datagram : List ℕ) → asked c s datagram ≡ None →
-        turn_said c s say ingress datagram ≡ turn c s ingress datagram }
-    ensures verdict { (c : Clock) (s : State) (say : Option ErrorId) (ingress : ℕ)
+        turn_said c s (Objects error) ingress datagram ≡ turn c s ingress datagram }
+    ensures not_wanted { (c : Clock) (s : State) (octets : List ℕ) (ingress : ℕ)
+        (datagram : List ℕ) → wanted c s datagram ≡ None →
+        turn_said c s (Gives octets) ingress datagram ≡ turn c s ingress datagram }
+    ensures verdict { (c : Clock) (s : State) (say : Say) (ingress : ℕ)
         (datagram : List ℕ) →
         (turn_said c s say ingress datagram).verdict ≡ (turn c s ingress datagram).verdict }
-    ensures forwards { (c : Clock) (s : State) (say : Option ErrorId) (ingress : ℕ)
+    ensures forwards { (c : Clock) (s : State) (say : Say) (ingress : ℕ)
         (datagram : List ℕ) →
         (turn_said c s say ingress datagram).forwards ≡ (turn c s ingress datagram).forwards }
+{}
+
+/// If the device is asked for a value, what it gives is the answer: one RESPONSE of the clock. To a manager's numbered GET it has 130
+/// octets at most, since it is kept. Of more than that the answer is RESPONSE_TOO_BIG, and this is kept. To any other GET it has
+/// 1,418 at most. The data sets stay.
+pub fn given_is_answered()
+    ensures answer { (c : Clock) (s : State) (ingress : ℕ) (datagram octets : List ℕ) (v : Message) →
+        message_of datagram ≡ Some v → is_wanted c s v ≡ true →
+        (turn_said c s (Gives octets) ingress datagram).replies
+        ≡ rendered c.identity (heard_of v)
+        (reply_given (most_given (judged c s v)) (request_of v) octets) ingress }
+    ensures sets { (c : Clock) (s : State) (ingress : ℕ) (datagram octets : List ℕ) →
+        (turn_said c s (Gives octets) ingress datagram).next.sets
+        ≡ (turn c s ingress datagram).next.sets }
+    ensures kept { (c : Clock) (s : State) (ingress : ℕ) (datagram octets : List ℕ) (v : Message) →
+        message_of datagram ≡ Some v → is_wanted_new c s v ≡ true →
+        (turn_said c s (Gives octets) ingress datagram).next
+        ≡ after_reply s (numbered_from v) (reply_given 130 (request_of v) octets) }
 {}
 
 /// A clock whose device says nothing is as one that asks no device.
 pub fn silent_device()
     ensures { (c : Clock) (s : State) (ingress : ℕ) (datagram : List ℕ)
-        → turn_said c s None ingress datagram ≡ turn c s ingress datagram }
+        → turn_said c s Agrees ingress datagram ≡ turn c s ingress datagram }
 {}

@@ -1,70 +1,44 @@
-//! One turn of a clock with what its device says.
+//! What a clock's device says of a datagram. What it says of a new request is kept before the clock's own turn, and is then what
+//! that turn answers. A value that is not kept is sent in place of the clock's own turn.
 
-ghost use Rattle.std.specs.Prelude.{◌≡◌, ◌<◌, ◌^◌, [], IfSome, Some, IsTrue};
+ghost use Rattle.std.specs.Prelude.{◌≡◌, ◌<◌, ◌^◌, ◌++◌, [], IfSome, IsTrue, Some, false, is_some, length};
 ghost use Rattle.std.specs.FinMap as fin;
 ghost use Rattle.ptpm_codec.specs.Message.{IsDataField, IsRequestAction};
 ghost use Rattle.ptpm_data.specs.Changes.{IsTargetPort};
 ghost use Rattle.ptpm_data.specs.Members.{HasPort};
 ghost use Rattle.ptpm_data.specs.Replies.{reply_of};
 ghost use Rattle.ptpm_table.specs.Entries.{is_known};
+ghost use Rattle.ptpm_table.specs.Rendering.{rendered};
+ghost use Rattle.ptpm_agent.specs.Addressing.{heard_of, request_of};
 ghost use Rattle.ptpm_agent.specs.Agent.{IsTurned, clock_of, state_of};
-ghost use Rattle.ptpm_device.specs.Asking.{asked};
-ghost use Rattle.ptpm_device.specs.Saying.{after_objection, counts, objected_by, turn_said};
+ghost use Rattle.ptpm_device.specs.Asking.{asked, is_lacked, is_wanted_new, is_wanted_once, wanted_new, wanted_once};
+ghost use Rattle.ptpm_device.specs.Saying.{Gives, after_reply, given_by, objected_by, reply_given, turn_said};
 
-use crate::asking::{Change, ask};
+use crate::asking::{Asked, ask, asked_by, is_lacked, is_reached, look, request_of};
+use crate::passing::pass_on;
 use crate::refusing::Refusing;
 use ptpm_agent::{Agent, Verdict};
-use ptpm_codec::ErrorId;
-use ptpm_data::{DataSets, Reply, Request, data_sets_law};
-use ptpm_table::{Outgoing, SureTable};
+use ptpm_codec::{Action, Draft, DraftBody, Envelope, ErrorId, PortIdentity, View, view};
+use ptpm_data::{Answers, DataSets, Reply, Request, data_sets_law};
+use ptpm_table::{Look, Outgoing, ReplyTable, SureTable};
 
-/// What becomes of a datagram that comes in at a port of the clock, with the error with which its device objects, if it does. An
-/// objection counts where `ask` says that the device is asked. The request is then kept and answered with that error, once for
-/// each port that answers, and the data sets stay. Else this is what `Agent::handle_into` does. Takes no memory.
-pub fn handle_said<T: SureTable + Drop, O: Outgoing>(
-    agent: &mut Agent<T>,
-    ingress: u16,
-    datagram: &[u8],
-    say: Option<ErrorId>,
-    out: &mut O,
-) -> Verdict
-    requires port { HasPort ingress agent.old.sets }
-    requires empty { O.sent out.old ≡ [] }
-    ensures turned { IsTurned (turn_said
-        (clock_of T.owner agent.old) (state_of T.entries agent.old) say ingress datagram.now)
-        result (O.sent out.new) (state_of T.entries agent.new) }
-    ensures grown { O.grown out.old out.new }
-    ensures clock { clock_of T.owner agent.new ≡ clock_of T.owner agent.old }
-{
-    let objected = object(agent, datagram, say);
-    let verdict = agent.handle_into(ingress, datagram, out);
-    if objected {
-        return Verdict::AnsweredNew;
-    }
-    verdict
-}
+/// The most octets of a value that the clock keeps as its answer to a manager.
+const MOST_KEPT: usize = 130;
 
-/// Keeps the request of a datagram with the error with which the device objects to it, if it does and is asked (`ask`). Answers
+/// Keeps the request of a datagram with the error with which the device objects to it, if the device is asked (`ask`). Answers
 /// whether that was so. What the clock then sends for the datagram is that refusal, and the turn was that of a new request.
 /// Otherwise nothing changes. Takes no memory.
-pub fn object<T: SureTable + Drop>(
-    agent: &mut Agent<T>,
-    datagram: &[u8],
-    say: Option<ErrorId>,
-) -> bool
-    ensures counts { result ≡ counts
-        (asked (clock_of T.owner agent.old) (state_of T.entries agent.old) datagram.now) say }
+pub fn object<T: SureTable + Drop>(agent: &mut Agent<T>, datagram: &[u8], error: ErrorId) -> bool
+    ensures asked { result ≡ is_some
+        (asked (clock_of T.owner agent.old) (state_of T.entries agent.old) datagram.now) }
     ensures kept { state_of T.entries agent.new ≡ objected_by (state_of T.entries agent.old)
-        (asked (clock_of T.owner agent.old) (state_of T.entries agent.old) datagram.now) say }
-    ensures number { IsTrue result → IfSome
+        (asked (clock_of T.owner agent.old) (state_of T.entries agent.old) datagram.now) error }
+    ensures number { IfSome
         (asked (clock_of T.owner agent.old) (state_of T.entries agent.old) datagram.now)
         (λ r. r.number < 2 ^ 16) }
     ensures sets { agent.new.sets ≡ agent.old.sets }
     ensures clock { clock_of T.owner agent.new ≡ clock_of T.owner agent.old }
 {
-    let Some(error) = say else {
-        return false;
-    };
     match ask(agent, datagram) {
         Some(change) => {
             refuse(agent, &change, error);
@@ -74,22 +48,190 @@ pub fn object<T: SureTable + Drop>(
     }
 }
 
+/// Keeps a manager's new GET with the value that the device gives, if the clock lacks the id. Answers whether that was so. A value
+/// of more than 130 octets is too big to be kept: RESPONSE_TOO_BIG is then the answer. What the clock then sends for the datagram
+/// is that answer, and the turn was that of a new request. Otherwise nothing changes. Takes no memory.
+pub fn keep_value<T: SureTable + Drop>(agent: &mut Agent<T>, datagram: &[u8], octets: &[u8]) -> bool
+    requires octets { IsDataField octets.now }
+    ensures wanted { result ≡ is_some
+        (wanted_new (clock_of T.owner agent.old) (state_of T.entries agent.old) datagram.now) }
+    ensures kept { state_of T.entries agent.new ≡ given_by (state_of T.entries agent.old)
+        (wanted_new (clock_of T.owner agent.old) (state_of T.entries agent.old) datagram.now)
+        octets.now }
+    ensures number { IfSome
+        (wanted_new (clock_of T.owner agent.old) (state_of T.entries agent.old) datagram.now)
+        (λ r. r.number < 2 ^ 16) }
+    ensures sets { agent.new.sets ≡ agent.old.sets }
+    ensures clock { clock_of T.owner agent.new ≡ clock_of T.owner agent.old }
+{
+    match ask_new_value(agent, datagram) {
+        Some(get) => {
+            keep(agent, &get, octets);
+            true
+        }
+        None => false,
+    }
+}
+
+/// Answers a GET without a number, of an id that the clock lacks, with the value that the device gives. The copies of it that the clock passes on are sent first. Answers whether that was so.
+/// Otherwise nothing is sent. No clock is changed by such a GET. Takes no memory.
+pub fn answer_value<T: ReplyTable + Drop, O: Outgoing>(
+    agent: &Agent<T>,
+    ingress: u16,
+    datagram: &[u8],
+    octets: &[u8],
+    out: &mut O,
+) -> bool
+    requires port { HasPort ingress agent.now.sets }
+    requires empty { O.sent out.old ≡ [] }
+    requires octets { IsDataField octets.now }
+    ensures wanted { result ≡ wanted_once
+        (clock_of T.owner agent.now) (state_of T.entries agent.now) datagram.now }
+    ensures turned { IsTrue result → IsTurned (turn_said
+        (clock_of T.owner agent.now) (state_of T.entries agent.now) (Gives octets.now)
+        ingress datagram.now)
+        Verdict.AnsweredUnnumbered (O.sent out.new) (state_of T.entries agent.now) }
+    ensures unsent { result ≡ false → out.new ≡ out.old }
+    ensures grown { O.grown out.old out.new }
+{
+    let message = match view(datagram) {
+        Ok(message) => message,
+        Err(_) => return false,
+    };
+    if !is_wanted_once(agent, &message) {
+        return false;
+    }
+    pass_on(agent, ingress, datagram, &message, out);
+    send_value(agent, ingress, &message, octets, out);
+    true
+}
+
+/// Sends a value as the answer to a GET that came in at this port. Takes no memory.
+fn send_value<T: ReplyTable + Drop, O: Outgoing>(
+    agent: &Agent<T>,
+    ingress: u16,
+    get: &View<'_>,
+    octets: &[u8],
+    out: &mut O,
+)
+    requires room { length (O.sent out.old) < 15 }
+    requires lacked { IsTrue (is_lacked (request_of get.now)) }
+    requires octets { IsDataField octets.now }
+    ensures sent { O.sent out.new ≡ O.sent out.old
+        ++ rendered (clock_of T.owner agent.now).identity (heard_of get.now)
+        (reply_given 1418 (request_of get.now) octets.now) ingress }
+    ensures grown { O.grown out.old out.new }
+{
+    let hops = get.starting_hops().saturating_sub(get.hops());
+    let id = get.id();
+    let draft = Draft {
+        sdo: 0,
+        domain: get.domain(),
+        source: PortIdentity {
+            clock: agent.table().clock(),
+            port: ingress,
+        },
+        number: get.number(),
+        target: get.source(),
+        starting_hops: hops,
+        hops,
+        body: DraftBody::Answer {
+            action: Action::Response,
+            id,
+            octets: &[],
+        },
+    };
+    let mut envelope = Envelope::blank();
+    envelope.address(&draft, id);
+    out.push_answer(ingress, &envelope, ingress, octets);
+}
+
+/// Whether it is a GET of an id that the clock lacks, without a number.
+fn is_wanted_once<T: ReplyTable + Drop>(agent: &Agent<T>, message: &View<'_>) -> bool
+    ensures { result ≡ is_wanted_once
+        (clock_of T.owner agent.now) (state_of T.entries agent.now) message.now }
+{
+    if !is_lacked(&request_of(message)) {
+        return false;
+    }
+    if !is_reached(agent, message) {
+        return false;
+    }
+    match look(agent, message) {
+        Look::Unknown => true,
+        _ => false,
+    }
+}
+
+/// The GET of a datagram, if it is a manager's new one of an id that the clock lacks.
+fn ask_new_value<'a, T: ReplyTable + Drop>(
+    agent: &Agent<T>,
+    datagram: &'a [u8],
+) -> Option<Asked<'a>>
+    ensures wanted { result ≡ wanted_new
+        (clock_of T.owner agent.now) (state_of T.entries agent.now) datagram.now }
+    ensures number { IfSome result (λ get. get.number < 2 ^ 16) }
+    ensures octets { IfSome result (λ get. IsDataField get.request.octets) }
+{
+    let message = match view(datagram) {
+        Ok(message) => message,
+        Err(_) => return None,
+    };
+    if !is_wanted_new(agent, &message) {
+        return None;
+    }
+    Some(asked_by(&message))
+}
+
+/// Whether it is a manager's new GET of an id that the clock lacks.
+fn is_wanted_new<T: ReplyTable + Drop>(agent: &Agent<T>, message: &View<'_>) -> bool
+    ensures { result ≡ is_wanted_new
+        (clock_of T.owner agent.now) (state_of T.entries agent.now) message.now }
+{
+    if !is_lacked(&request_of(message)) {
+        return false;
+    }
+    if !is_reached(agent, message) {
+        return false;
+    }
+    match look(agent, message) {
+        Look::New => true,
+        _ => false,
+    }
+}
+
 /// Keeps a request with the device's error as its reply. From then on a copy of it is a repeat, and is sent that reply. Never
 /// inlined: so the stack has no room for that reply while the clock takes its turn.
 #[inline(never)]
-fn refuse<T: SureTable + Drop>(agent: &mut Agent<T>, change: &Change<'_>, error: ErrorId)
+fn refuse<T: SureTable + Drop>(agent: &mut Agent<T>, change: &Asked<'_>, error: ErrorId)
     requires known { IsTrue (is_known change.now.manager (T.owner agent.old.table).managers) }
     requires action { IsRequestAction change.now.request.action }
     requires port { IsTargetPort change.now.request.port agent.old.sets }
     requires octets { IsDataField change.now.request.octets }
-    ensures kept { state_of T.entries agent.new
-        ≡ after_objection (state_of T.entries agent.old) change.now error }
+    ensures kept { state_of T.entries agent.new ≡ after_reply (state_of T.entries agent.old)
+        change.now (reply_of change.now.request (Some error) agent.old.sets) }
     ensures sets { agent.new.sets ≡ agent.old.sets }
     ensures clock { clock_of T.owner agent.new ≡ clock_of T.owner agent.old }
 {
     data_sets_law(agent.sets());
     let reply = refusal(agent.sets(), &change.request, error);
     agent.keep_again(&change.manager, change.number, &change.request, &reply);
+}
+
+/// Keeps a GET with the value that the device gives as its reply. Never inlined, like `refuse`.
+#[inline(never)]
+fn keep<T: SureTable + Drop>(agent: &mut Agent<T>, get: &Asked<'_>, octets: &[u8])
+    requires known { IsTrue (is_known get.now.manager (T.owner agent.old.table).managers) }
+    requires lacked { IsTrue (is_lacked get.now.request) }
+    requires request { IsDataField get.now.request.octets }
+    requires octets { IsDataField octets.now }
+    ensures kept { state_of T.entries agent.new ≡ after_reply (state_of T.entries agent.old)
+        get.now (reply_given 130 get.now.request octets.now) }
+    ensures sets { agent.new.sets ≡ agent.old.sets }
+    ensures clock { clock_of T.owner agent.new ≡ clock_of T.owner agent.old }
+{
+    let reply = reply_given(&get.request, octets);
+    agent.keep_again(&get.manager, get.number, &get.request, &reply);
 }
 
 /// The reply to a request that is refused with this error: one answer of the clock, or of each named port.
@@ -105,4 +247,17 @@ fn refusal(sets: &DataSets, request: &Request<'_>, error: ErrorId) -> Reply
     };
     sets.read_into(request, &mut refusing);
     refusing.reply
+}
+
+/// The reply to a GET with these octets: one answer, of the clock. They are refused if they are too many to be kept.
+fn reply_given(request: &Request<'_>, octets: &[u8]) -> Reply
+    ensures { result ≡ reply_given 130 request.now octets.now }
+{
+    let mut reply = Reply::to(request);
+    if octets.len() <= MOST_KEPT {
+        reply.take_value(None, octets);
+    } else {
+        reply.take_refusal(None, ErrorId::ResponseTooBig);
+    }
+    reply
 }

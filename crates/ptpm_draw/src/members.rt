@@ -193,8 +193,13 @@ impl fmt::Display for ValueText<'_> {
             MemberValue::Flag(flag) => write!(f, "{flag}"),
             MemberValue::Clock(clock) => write!(f, "{clock}"),
             MemberValue::Port(port) => write!(f, "{port}"),
-            MemberValue::State(number) | MemberValue::Mechanism(number) => write!(f, "{number}"),
+            MemberValue::State(number)
+            | MemberValue::Mechanism(number)
+            | MemberValue::Timestamping(number) => write!(f, "{number}"),
             MemberValue::Text(octets) => write_text(octets, f),
+            MemberValue::Octets(octets) | MemberValue::Clocks(octets) => {
+                write!(f, "{}", Hexadecimal(octets))
+            }
         }
     }
 }

@@ -180,28 +180,3 @@ fn identities(alloc: Global, text: &str) -> Result<Vec<ClockIdentity>, ReadFault
     clocks.sort()?;
     Ok(clocks)
 }
-
-#[cfg(test)]
-mod tests {
-    use super::*;
-    use std::test::Fail;
-
-    #[test]
-    fn lines(rt: HostRuntime) -> Result<(), Fail> {
-        let read = read_inventory(
-            rt.alloc(),
-            b"# a\n0 0200d5fffe000301 userDescription \"s # 1\" | \"x\" # b\n0 - only\n4 * port/1.logSyncInterval -1..1\n",
-        );
-        match read {
-            Ok(inventory) => assert_eq!(rt; inventory.entries.len(), 3),
-            Err(_) => assert!(rt; false),
-        }
-        assert!(rt;
-            matches!(
-                read_inventory(rt.alloc(), b"\n0 - onl"),
-                Err(InventoryFault::At(2, LineFault::NotOfDomain))
-            )
-        );
-        Ok(())
-    }
-}

@@ -1,6 +1,6 @@
 //! The clocks that send by themselves.
 
-use ptpm_site::heard::{ANNOUNCE, Heard};
+use ptpm_site::heard::{ANNOUNCE, DELAY_REQ, Heard};
 use ptpm_site::source::Source;
 use std::alloc::{AllocError, Global};
 use std::collections::BTreeSet;
@@ -29,7 +29,9 @@ impl Senders {
         let Heard::Sent(sender) = heard else {
             return Ok(());
         };
-        self.all.insert(sender.source)?;
+        if sender.kind != DELAY_REQ {
+            self.all.insert(sender.source)?;
+        }
         if sender.kind == ANNOUNCE {
             self.announcing.insert(sender.source)?;
         }

@@ -1,6 +1,5 @@
 -- A script whose events do not happen: its first fault is the one that ends it if they do.
 use Rattle.ptpm_world.proofs.Common.{arith, ◌≡◌, ℕ, ◌+◌, List, [], ◌∷◌, false, None, Some, Ok, Err, Result, refl, ap, ◌∙◌, IfSome, Option, option_map, option_or, Network, NetworkValue, RunningNetwork, network_of, result_err, BothKnown, whole_lines, Names, Played, closing, event_of, in_network, is_skipped, line_fault, played, played_by, reading, scripted_from, unless_fault}
-use Rattle.ptpm_check.specs.Faults.{error_of, refusal_of}
 use Rattle.ptpm_script.specs.declared.event.Event.{Event}
 use Rattle.ptpm_script.specs.declared.event.EventError.{EventError}
 use Rattle.ptpm_script.specs.declared.net_error.NetError.{NetError}
@@ -47,7 +46,7 @@ closing_first names (Err fault) = refl
 
 -- the network file's fault, or that of the lines after it
 network_first : (network : Result NetworkValue NetError) (n : ℕ) (ls : List (List ℕ × List ℕ))
-    → option_or (option_map BadNetwork (refusal_of network)) (events_fault n 1 ls) ≡ result_err (in_network network n ls).end
+    → option_or (option_map BadNetwork (result_err network)) (events_fault n 1 ls) ≡ result_err (in_network network n ls).end
 network_first (Ok network) n ls = grind (arith, closing_first, played_first)
 network_first (Err error) n ls = refl
 
@@ -72,7 +71,7 @@ checks-more {first} {was} {found} {k} {n} {m} {place} {f} {line} {a} {b} {c} h i
 -- it is no event
 pub bad-event : (place : ℕ) (line : List ℕ) (e : EventError)
     → is_skipped line ≡ false
-    → Some e ≡ error_of (reading line)
+    → Some e ≡ result_err (reading line)
     → result_err (event_of place line) ≡ Some (BadLine place e)
 bad-event place line e take h = grind (arith, event-read)
 
@@ -80,7 +79,7 @@ bad-event place line e take h = grind (arith, event-read)
 
 pub script-first : (a b : Option (List ℕ)) (n m : ℕ) (kept : List ℕ) (first found : Option ScriptError)
     → FileRead a n b m kept
-    → first ≡ option_map BadNetwork (refusal_of (network_of kept))
+    → first ≡ option_map BadNetwork (result_err (network_of kept))
     → IfSome b (λ ys. found ≡ option_or first (events_fault m 1 (whole_lines ys)))
     → IfSome a (λ xs. found ≡ result_err (scripted_from n xs).end)
 script-first a b n m kept first found h e end =

@@ -3,7 +3,6 @@
 ghost use Rattle.std.specs.Prelude.{◌≡◌, ◌<◌, ◌+◌, ℕ, IfErr, IfOk, IfSome, Ok, OnOk, Some, false, option_map, true};
 ghost use Rattle.std.specs.Option.{option_or};
 ghost use Rattle.std.specs.Result.{result_err};
-ghost use Rattle.ptpm_check.specs.Faults.{refusal_of};
 ghost use Rattle.ptpm_findings.specs.Check.{IsCounted, events_fault};
 ghost use Rattle.ptpm_script.specs.NetworkText.{network_of};
 ghost use Rattle.ptpm_world.specs.declared.script_error.ScriptError.TheVariants.{BadNetwork};
@@ -97,7 +96,7 @@ fn check_network<W: Write>(
     ensures first { OnOk result
         (findings.new.first
         ≡ option_or findings.old.first
-        (option_map BadNetwork (refusal_of (network_of text.now)))) }
+        (option_map BadNetwork (result_err (network_of text.now)))) }
     ensures counted { IsCounted findings.old → OnOk result (IsCounted findings.new) }
     ensures outside { IfErr result (λ e. is_outside e ≡ true) }
 {

@@ -23,7 +23,8 @@ datagram_names =
     ∷ (13, codes "NOTHING_ASKED") ∷ (14, codes "OTHER_NUMBER") ∷ (15, codes "OTHER_CONTENT") ∷ (16, codes "TOO_SHORT")
     ∷ (17, codes "NOT_MANAGEMENT") ∷ (18, codes "BAD_VERSION") ∷ (19, codes "BAD_LENGTH") ∷ (20, codes "BAD_ACTION")
     ∷ (21, codes "BAD_TLV_TYPE") ∷ (22, codes "BAD_TLV_LENGTH") ∷ (23, codes "BAD_TEXT") ∷ (25, codes "DONE")
-    ∷ (26, codes "REFUSED") ∷ (27, codes "AGAIN") ∷ (28, codes "FULL") ∷ (29, codes "ASKED_CHANGE") ∷ []
+    ∷ (26, codes "REFUSED") ∷ (27, codes "AGAIN") ∷ (28, codes "FULL") ∷ (29, codes "ASKED_CHANGE")
+    ∷ (30, codes "ASKED_VALUE") ∷ []
 
 -- why a call changed nothing
 abbrev pub refusal_names : List (ℕ × List ℕ)

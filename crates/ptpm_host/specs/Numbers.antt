@@ -149,6 +149,10 @@ other_sizes = 47
 abbrev pub asked_change : ℕ
 asked_change = 29
 
+-- a device is asked for the value of an id that the clock lacks
+abbrev pub asked_value : ℕ
+asked_value = 30
+
 -- a clock that is saved before it gives anything out takes no objection
 abbrev pub cant_object : ℕ
 cant_object = 122

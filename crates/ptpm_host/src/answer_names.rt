@@ -48,6 +48,7 @@ fn datagram_name(number: u32) -> Option<&'static str>
         27 => Some("AGAIN"),
         28 => Some("FULL"),
         29 => Some("ASKED_CHANGE"),
+        30 => Some("ASKED_VALUE"),
         _ => None,
     }
 }

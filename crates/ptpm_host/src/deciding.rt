@@ -1,44 +1,54 @@
 //! A clock whose device has a say, as a host keeps it.
 
-ghost use Rattle.std.specs.Prelude.{◌≡◌, ◌≢◌, ◌≤◌, All, IfErr, IfOk, MatchResult, None, Ok, OnErr, Option, Some, drop, is_ok, length, take};
+ghost use Rattle.std.specs.Prelude.{◌≡◌, ◌≢◌, ◌≤◌, All, IfErr, IfOk, IfSome, IsTrue, MatchResult, None, Ok, OnErr, Some, drop, is_ok, is_some, length, take};
 ghost use Rattle.std.specs.List.{AllZip};
-ghost use Rattle.ptpm_codec.specs.declared.error.ErrorId.{ErrorId};
+ghost use Rattle.ptpm_codec.specs.Message.{IsDataField};
 ghost use Rattle.ptpm_data.specs.Members.{HasPort, has_port};
 ghost use Rattle.ptpm_agent.specs.Agent.{IsTurned};
-ghost use Rattle.ptpm_device.specs.Asking.{asked};
+ghost use Rattle.ptpm_agent.specs.Turn.{turn};
+ghost use Rattle.ptpm_device.specs.Asking.{asked, wanted, wanted_once};
+ghost use Rattle.ptpm_device.specs.Saying as says;
 ghost use Rattle.ptpm_device.specs.Saying.{turn_said};
 ghost use Rattle.ptpm_host.specs.Clock.{IsWhole, KeepsBehind, clock_in, messages_in, state_in};
-ghost use Rattle.ptpm_host.specs.Device.{AnswersAsked, objection_in, said_refusal};
+ghost use Rattle.ptpm_host.specs.Device.{Answers, said_refusal, say_in};
 
 use crate::clock::{Handled, HostedClock, MOST_SENT};
-use crate::device::{Question, Say};
+use crate::device::{Asking, Question, Said, Say};
+use crate::outbox::Outbox;
 use crate::refusal::{HandleRefusal, SaidRefusal};
 use crate::sent::Sent;
 use ptpm_agent::Verdict;
 use ptpm_codec::ErrorId;
-use ptpm_device::{ask, object};
+use ptpm_device::{answer_value, ask, ask_value, keep_value, object};
+use ptpm_table::Outgoing;
 
 impl HostedClock {
-    /// What a datagram would have the clock's device do, if it came in now at this port. That is a new SET or COMMAND of a manager,
-    /// which the clock itself does not refuse, and nothing for any other datagram. Changes nothing, and takes no memory.
-    pub fn ask(&self, port: u16, datagram: &[u8]) -> Result<Option<Question>, HandleRefusal>
-        ensures asked { IfOk result
-            (AnswersAsked (asked (clock_in self.now) (state_in self.now) datagram.now)) }
+    /// What a datagram would have the clock's device do, if it came in now at this port. It is to carry out a new SET or COMMAND of
+    /// a manager, which the clock itself does not refuse. Or it is to give the value of an id that the clock lacks, to a GET that
+    /// would be answered. It is nothing for any other datagram. Changes nothing, and takes no memory.
+    pub fn ask(&self, port: u16, datagram: &[u8]) -> Result<Asking, HandleRefusal>
+        ensures asked { IfOk result (Answers
+            (asked (clock_in self.now) (state_in self.now) datagram.now)
+            (wanted (clock_in self.now) (state_in self.now) datagram.now)) }
         ensures here { is_ok result ≡ has_port port self.now.agent.sets }
         ensures refused { IfErr result (λ e. e ≡ HandleRefusal.NoPort) }
     {
         if !self.agent.sets().has_port(port) {
             return Err(HandleRefusal::NoPort);
         }
-        match ask(&self.agent, datagram) {
-            Some(change) => Ok(Some(Question::of(&change))),
-            None => Ok(None),
+        if let Some(change) = ask(&self.agent, datagram) {
+            return Ok(Asking::Change(Question::of(&change)));
+        }
+        match ask_value(&self.agent, datagram) {
+            Some(get) => Ok(Asking::Value(Question::of_value(&get))),
+            None => Ok(Asking::Nothing),
         }
     }
 
-    /// Does what `handle` does, with what the clock's device says. An objection counts where `ask` says that the device is asked:
-    /// the request is kept and answered with that error, and the data sets stay. If it is refused, nothing changes. Takes
-    /// no memory.
+    /// Does what `handle` does, with what the clock's device says. What it says counts where `ask` says that the device is asked.
+    /// If it objects, the request is kept and answered with its error, and the data sets stay. If it gives a value, this is the
+    /// answer. It is kept for a manager's new GET. If it is too big for that, RESPONSE_TOO_BIG is. If the call is refused,
+    /// nothing changes. Takes no memory.
     #[tactic(auto, using(crate::specs::OutboxLaws::kept_by_none))]
     pub fn handle_said(
         &mut self,
@@ -49,8 +59,8 @@ impl HostedClock {
     ) -> Result<Handled, SaidRefusal>
         ensures turned { IfOk result
             (λ h.
-            (o : Option ErrorId)
-            → objection_in say.now ≡ Ok o
+            (o : says.Say)
+            → say_in say.now ≡ Ok o
             → IsTurned (turn_said (clock_in self.old) (state_in self.old) o port datagram.now) h.verdict
             (messages_in (take h.count room.new)) (state_in self.new)) }
         ensures count { IfOk result (λ h. h.count ≤ length room.new) }
@@ -72,20 +82,135 @@ impl HostedClock {
         if room.len() < MOST_SENT {
             return Err(SaidRefusal::Handle(HandleRefusal::NoRoom));
         }
-        let objection = match say.objection() {
-            Ok(objection) => objection,
+        let said = match say.said() {
+            Ok(said) => said,
             Err(_) => return Err(SaidRefusal::BadSay),
         };
-        let objected = object(&mut self.agent, datagram, objection);
+        Ok(match said {
+            Said::Agrees => self.take_turn(port, datagram, room),
+            Said::Objects(error) => self.take_objection(port, datagram, error, room),
+            Said::Gives(octets) => self.take_value(port, datagram, octets, room),
+        })
+    }
+
+    /// One turn as the clock's own, at a port that it has.
+    fn take_turn(&mut self, port: u16, datagram: &[u8], room: &mut [Sent]) -> Handled
+        requires port { HasPort port self.old.agent.sets }
+        requires wide { 15 ≤ length room.old }
+        ensures turned { IsTurned (turn (clock_in self.old) (state_in self.old) port datagram.now)
+            result.verdict (messages_in (take result.count room.new)) (state_in self.new) }
+        ensures count { result.count ≤ length room.new }
+        ensures whole { All IsWhole (take result.count room.new) }
+        ensures places { drop result.count room.new ≡ drop result.count room.old }
+        ensures behind { AllZip KeepsBehind room.old room.new }
+        ensures new_alone { result.verdict ≢ Verdict.AnsweredNew →
+            self.new.agent.sets ≡ self.old.agent.sets }
+        ensures clock { clock_in self.new ≡ clock_in self.old }
+    {
         let Ok(handled) = self.handle_apart(port, datagram, room) else {
             unreachable!()
         };
+        handled
+    }
+
+    /// One turn with an objection of the device.
+    fn take_objection(
+        &mut self,
+        port: u16,
+        datagram: &[u8],
+        error: ErrorId,
+        room: &mut [Sent],
+    ) -> Handled
+        requires port { HasPort port self.old.agent.sets }
+        requires wide { 15 ≤ length room.old }
+        ensures turned { IsTurned
+            (turn_said (clock_in self.old) (state_in self.old) (says.Objects error) port datagram.now)
+            result.verdict (messages_in (take result.count room.new)) (state_in self.new) }
+        ensures count { result.count ≤ length room.new }
+        ensures whole { All IsWhole (take result.count room.new) }
+        ensures places { drop result.count room.new ≡ drop result.count room.old }
+        ensures behind { AllZip KeepsBehind room.old room.new }
+        ensures new_alone { result.verdict ≢ Verdict.AnsweredNew →
+            self.new.agent.sets ≡ self.old.agent.sets }
+        ensures clock { clock_in self.new ≡ clock_in self.old }
+    {
+        let objected = object(&mut self.agent, datagram, error);
+        let handled = self.take_turn(port, datagram, room);
         if objected {
-            return Ok(Handled {
+            return Handled {
                 verdict: Verdict::AnsweredNew,
                 count: handled.count,
-            });
+            };
         }
-        Ok(handled)
+        handled
+    }
+
+    /// One turn with a value that the device gives.
+    fn take_value(
+        &mut self,
+        port: u16,
+        datagram: &[u8],
+        octets: &[u8],
+        room: &mut [Sent],
+    ) -> Handled
+        requires port { HasPort port self.old.agent.sets }
+        requires wide { 15 ≤ length room.old }
+        requires octets { IsDataField octets.now }
+        ensures turned { IsTurned (turn_said
+            (clock_in self.old) (state_in self.old) (says.Gives octets.now) port datagram.now)
+            result.verdict (messages_in (take result.count room.new)) (state_in self.new) }
+        ensures count { result.count ≤ length room.new }
+        ensures whole { All IsWhole (take result.count room.new) }
+        ensures places { drop result.count room.new ≡ drop result.count room.old }
+        ensures behind { AllZip KeepsBehind room.old room.new }
+        ensures new_alone { result.verdict ≢ Verdict.AnsweredNew →
+            self.new.agent.sets ≡ self.old.agent.sets }
+        ensures clock { clock_in self.new ≡ clock_in self.old }
+    {
+        if let Some(count) = self.answer_value(port, datagram, octets, room) {
+            return Handled {
+                verdict: Verdict::AnsweredUnnumbered,
+                count,
+            };
+        }
+        let is_kept = keep_value(&mut self.agent, datagram, octets);
+        let handled = self.take_turn(port, datagram, room);
+        if is_kept {
+            return Handled {
+                verdict: Verdict::AnsweredNew,
+                count: handled.count,
+            };
+        }
+        handled
+    }
+
+    /// Answers a GET without a number, of an id that the clock lacks, with this value. Returns how many messages are sent. For any
+    /// other datagram it is none, and nothing is sent.
+    fn answer_value(
+        &self,
+        port: u16,
+        datagram: &[u8],
+        octets: &[u8],
+        room: &mut [Sent],
+    ) -> Option<usize>
+        requires port { HasPort port self.now.agent.sets }
+        requires wide { 15 ≤ length room.old }
+        requires octets { IsDataField octets.now }
+        ensures once { is_some result ≡ wanted_once
+            (clock_in self.now) (state_in self.now) datagram.now }
+        ensures turned { IfSome result (λ count. IsTurned (turn_said
+            (clock_in self.now) (state_in self.now) (says.Gives octets.now) port datagram.now)
+            Verdict.AnsweredUnnumbered (messages_in (take count room.new)) (state_in self.now)) }
+        ensures count { IfSome result (λ count. count ≤ length room.new) }
+        ensures whole { IfSome result (λ count. All IsWhole (take count room.new)) }
+        ensures places { IfSome result (λ count. drop count room.new ≡ drop count room.old) }
+        ensures behind { IfSome result (λ count. AllZip KeepsBehind room.old room.new) }
+        ensures unsent { result ≡ None → room.new ≡ room.old }
+    {
+        let mut places = Outbox::new(room);
+        if answer_value(&self.agent, port, datagram, octets, &mut places) {
+            return Some(places.count());
+        }
+        None
     }
 }

@@ -1,16 +1,17 @@
 //! What a clock's device is asked, and what it says, as a host in C has them.
 
-ghost use Rattle.std.specs.Prelude.{◌≡◌, ◌≤◌, length, take};
-ghost use Rattle.ptpm_host.specs.Device.{AsksNothing, IsAsked, objection_in};
+ghost use Rattle.std.specs.Prelude.{◌≡◌, ◌≤◌, Err, IfOk, MatchResult, Ok, length, take};
+ghost use Rattle.ptpm_codec.specs.Message.{IsDataField};
+ghost use Rattle.ptpm_host.specs.Device.{AsksNothing, IsAsked, IsGiven, IsWanted, error_in, said_value, say_in};
 
 use crate::refusal::SaidRefusal;
-use ptpm_codec::ErrorId;
-use ptpm_device::Change;
+use ptpm_codec::{DATA_FIELD_OCTETS, ErrorId};
+use ptpm_device::Asked;
 
 /// The most octets of the dataField of a SET that a clock does not refuse.
 const MOST_ASKED: usize = 130;
 
-/// What a device is asked to do. All zeros if it is nothing.
+/// What a device is asked to do, or whose value it is asked for. All zeros if it is nothing.
 #[repr(C)]
 #[derive(Clone, Copy)]
 pub struct Question {
@@ -23,9 +24,9 @@ pub struct Question {
     pub id: u16,
     /// portNumber of the target. 0xFFFF is every port.
     pub port: u16,
-    /// How many octets the dataField has.
+    /// How many octets the dataField has; 0 of a GET.
     pub size: u16,
-    /// The actionField: that of a SET or of a COMMAND.
+    /// The actionField: that of a SET or of a COMMAND, or of a GET where a value is asked for.
     pub action: u8,
     /// The dataField, and zeros after it.
     pub octets: [u8; MOST_ASKED],
@@ -51,7 +52,7 @@ impl Question {
     }
 
     /// This change.
-    pub(crate) fn of(change: &Change<'_>) -> Question
+    pub(crate) fn of(change: &Asked<'_>) -> Question
         ensures { IsAsked change.now result }
     {
         let mut octets = [0; MOST_ASKED];
@@ -67,6 +68,32 @@ impl Question {
             octets,
         }
     }
+
+    /// This GET.
+    pub(crate) fn of_value(get: &Asked<'_>) -> Question
+        ensures { IsWanted get.now result }
+    {
+        Question {
+            manager: get.manager.clock.0,
+            manager_port: get.manager.port,
+            number: get.number,
+            id: get.request.id,
+            port: get.request.port,
+            size: 0,
+            action: get.request.action.code(),
+            octets: [0; MOST_ASKED],
+        }
+    }
+}
+
+/// What a datagram asks a device.
+#[derive(Clone, Copy)]
+pub enum Asking {
+    Nothing,
+    /// Whether it carries this out.
+    Change(Question),
+    /// The value of an id that the clock lacks.
+    Value(Question),
 }
 
 /// Leaves a dataField at the head of a place, and answers how many octets it has; 0 if it doesn't fit.
@@ -86,33 +113,55 @@ fn put_field(place: &mut [u8; MOST_ASKED], field: &[u8]) -> u16
 pub struct Say {
     /// The managementErrorId with which it objects.
     pub error: u16,
-    /// Reserved.
+    /// How many octets it gives: an even number, and 1,418 at most.
     pub size: u16,
-    /// 0 if it agrees, and 1 if it objects. No other kind is taken.
+    /// 0 if it agrees, 1 if it objects, and 2 if it gives a value. No other kind is taken.
     pub kind: u8,
-    /// Reserved.
-    pub octets: [u8; 1_418],
+    /// The octets that it gives.
+    pub octets: [u8; DATA_FIELD_OCTETS],
 }
 
 const _: () = prove!(size_of::<Say>() == 1_424);
 
+/// What a device says, once it was judged.
+pub(crate) enum Said<'a> {
+    Agrees,
+    Objects(ErrorId),
+    /// A dataField.
+    Gives(&'a [u8]),
+}
+
 impl Say {
-    /// The error with which the device objects, if it does. It is WRONG_VALUE, NOT_SETABLE, NOT_SUPPORTED or GENERAL_ERROR.
-    pub(crate) fn objection(&self) -> Result<Option<ErrorId>, SaidRefusal>
-        ensures { result ≡ objection_in self.now }
+    /// What it says; refused if it is no say.
+    pub(crate) fn said(&self) -> Result<Said<'_>, SaidRefusal>
+        ensures said { MatchResult result
+            (λ s. say_in self.now ≡ Ok (said_value s))
+            (λ e. say_in self.now ≡ Err e) }
+        ensures given { IfOk result IsGiven }
     {
-        if self.kind == 0 {
-            return Ok(None);
-        }
-        if self.kind != 1 {
-            return Err(SaidRefusal::BadSay);
-        }
-        match self.error {
-            4 => Ok(Some(ErrorId::WrongValue)),
-            5 => Ok(Some(ErrorId::NotSetable)),
-            6 => Ok(Some(ErrorId::NotSupported)),
-            0xfffe => Ok(Some(ErrorId::GeneralError)),
+        match self.kind {
+            0 => Ok(Said::Agrees),
+            1 => match self.error_id() {
+                Some(error) => Ok(Said::Objects(error)),
+                None => Err(SaidRefusal::BadSay),
+            },
+            2 if self.size % 2 == 0 && self.size as usize <= DATA_FIELD_OCTETS => {
+                Ok(Said::Gives(&self.octets[..self.size as usize]))
+            }
             _ => Err(SaidRefusal::BadSay),
+        }
+    }
+
+    /// The error with which the device objects. It is WRONG_VALUE, NOT_SETABLE, NOT_SUPPORTED or GENERAL_ERROR.
+    fn error_id(&self) -> Option<ErrorId>
+        ensures { result ≡ error_in self.now.error }
+    {
+        match self.error {
+            4 => Some(ErrorId::WrongValue),
+            5 => Some(ErrorId::NotSetable),
+            6 => Some(ErrorId::NotSupported),
+            0xfffe => Some(ErrorId::GeneralError),
+            _ => None,
         }
     }
 }

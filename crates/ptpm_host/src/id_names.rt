@@ -1,10 +1,13 @@
 //! Management ids by name, and names of them.
 
-ghost use Rattle.std.specs.Prelude.{◌≡◌, ℕ, IfSome, Some, option_map};
+ghost use Rattle.std.specs.Prelude.{◌≡◌, ℕ, IfSome, Some, option_map, true};
+ghost use Rattle.std.specs.Str.{is_utf8};
 ghost use Rattle.ptpm_data.specs.ManagementId.{if_named, row_named, row_of, row_value};
-ghost use Rattle.ptpm_host.specs.Names.{capitals, id_at, id_name};
+ghost use Rattle.ptpm_host.specs.Names.{capitals, id_at, id_name, other_id_at, other_id_name, other_id_named};
 
 use ptpm_data::{MANAGEMENT_IDS, ManagementIdRow, row};
+use ptpm_members::{OTHER_IDS, OtherId};
+use std::str;
 
 /// Means no managementId, since an id has 16 bits.
 pub const NO_ID: u32 = 65_536;
@@ -32,6 +35,37 @@ pub fn id_at(place: usize) -> Option<u16>
     ensures { result ≡ id_at place }
 {
     MANAGEMENT_IDS.get(place).copied()
+}
+
+/// The name of a managementId that other clocks have and this profile lacks, if it is one that is read by its members.
+pub fn other_id_name(id: u16) -> Option<&'static str>
+    ensures { option_map (λ name. name.now) result ≡ other_id_name id }
+{
+    match OtherId::of(id) {
+        Some(other) => Some(other.name()),
+        None => None,
+    }
+}
+
+/// The one of a name, in either case.
+pub fn other_id_named(name: &[u8]) -> Option<u16>
+    ensures named { IfSome result (λ id. other_id_named name.now ≡ Some id) }
+    ensures found { is_utf8 name.now ≡ true → result ≡ other_id_named name.now }
+{
+    match str::from_utf8(name) {
+        Ok(name) => Some(OtherId::named(name)?.number()),
+        Err(_) => None,
+    }
+}
+
+/// The one at this place, in ascending order; `None` past the last.
+pub fn other_id_at(place: usize) -> Option<u16>
+    ensures { result ≡ other_id_at place }
+{
+    match OTHER_IDS.get(place) {
+        Some(id) => Some(id.number()),
+        None => None,
+    }
 }
 
 fn row_named(name: &[u8]) -> Option<ManagementIdRow>

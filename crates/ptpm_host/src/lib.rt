@@ -46,19 +46,22 @@ pub use answer_names::answer_name;
 pub use asker::HostedAsker;
 pub use asker_settings::AskerSettings;
 pub use clock::{Handled, HostedClock, MOST_SENT};
-pub use device::{Question, Say};
+pub use device::{Asking, Question, Say};
 pub use error_names::error_name;
 pub use handed::{Handed, earlier_number};
-pub use id_names::{NO_ID, id_at, id_name, id_named};
+pub use id_names::{
+    NO_ID, id_at, id_name, id_named, other_id_at, other_id_name, other_id_named,
+};
 pub use laws::{names_law, passed_on_law, rate_law};
 pub use limits::{Limit, limits_say};
 pub use names::hand_out_name;
 pub use numbers::{
-    ASKED_CHANGE, CANT_OBJECT, NO_ASKER, NO_CLOCK, NO_MEMORY, NO_ROOM, NO_SESSION, NO_SURVEY,
-    OTHER_SIZES, asker_number, begin_number, change_number, clock_restore_number, give_up_number,
-    handle_number, heard_number, observe_number, outcome_number, parse_number, read_number,
-    report_number, restore_number, resume_number, said_number, saved_number, saving_number,
-    send_number, session_number, start_number, surveyed_number, unseal_number, verdict_number,
+    ASKED_CHANGE, ASKED_VALUE, CANT_OBJECT, NO_ASKER, NO_CLOCK, NO_MEMORY, NO_ROOM, NO_SESSION,
+    NO_SURVEY, OTHER_SIZES, asker_number, begin_number, change_number, clock_restore_number,
+    give_up_number, handle_number, heard_number, observe_number, outcome_number, parse_number,
+    read_number, report_number, restore_number, resume_number, said_number, saved_number,
+    saving_number, send_number, session_number, start_number, surveyed_number, unseal_number,
+    verdict_number,
 };
 pub use observing::{ObservedClock, ObservedPort, left_number};
 pub use parsing::parse_field;

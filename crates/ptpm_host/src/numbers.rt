@@ -44,6 +44,9 @@ pub const OTHER_SIZES: u32 = 47;
 /// A device is asked whether it carries out a request.
 pub const ASKED_CHANGE: u32 = 29;
 
+/// A device is asked for the value of an id that the clock lacks.
+pub const ASKED_VALUE: u32 = 30;
+
 /// A clock that is saved before it gives anything out takes no objection.
 pub const CANT_OBJECT: u32 = 122;
 

@@ -3,6 +3,7 @@ pub mod Placing
 pub mod Answered
 pub mod Placed
 pub mod LineLemmas
+pub mod Clocks
 pub mod Numerals
 pub mod ParsingLemmas
 pub mod Meant

@@ -4,8 +4,8 @@ use Rattle.std.proofs.lemmas.List.{flat_map_more, take_more}
 use Rattle.std.specs.Prelude.{flat_map}
 use Rattle.ptpm_members.specs.declared.forms.Field.{Field}
 use Rattle.ptpm_members.specs.Names.{member_name}
-use Rattle.ptpm_members.specs.ValueText.{value_text}
-use Rattle.ptpm_members.specs.FieldText.{field_text, line, lines, member_line, members_in, octets_line, octets_text}
+use Rattle.ptpm_members.specs.ValueText.{octets_text, value_text}
+use Rattle.ptpm_members.specs.FieldText.{field_text, line, lines, member_line, members_in, octets_line}
 
 no_lines : (lead octets : List ℕ) (fs : List Field) → length fs ≡ 0 → octets_line lead octets ≡ lines lead octets fs
 no_lines lead octets [] h = refl

@@ -1,7 +1,10 @@
 -- Looking a name up by way of the numbers.
 use Rattle.std.proofs.Common.{◌≡◌, ap, ℕ, ◌+◌, ◌<◌, ◌≤◌, true, false, List, drop, length, get_or, drop-cons, add-one, Some, None, refl}
 use Rattle.std.proofs.Math.ListN.{drop_of_length-le}
+use Rattle.std.specs.Str.{str_eq_ignore_ascii_case}
+use Rattle.ptpm_members.specs.declared.other_ids.OtherId.{OtherId}
 use Rattle.ptpm_members.specs.NumberNames.{is_name, mechanism_name_of, named_in}
+use Rattle.ptpm_members.specs.OtherIds.{other_name, other_named_in}
 
 pub goes_on : (text numbers : List ℕ) (i : ℕ) → i < length numbers
     → is_name text (mechanism_name_of (get_or numbers i 0)) ≡ false
@@ -15,3 +18,18 @@ is_found text numbers i inside this = rw (drop-cons numbers i 0 inside, this) re
 
 pub is_nowhere : (text numbers : List ℕ) (i : ℕ) → length numbers ≤ i → named_in text (drop i numbers) ≡ None
 is_nowhere text numbers i past = ap (named_in text) (drop_of_length-le numbers past)
+
+-- ---- an id that is only read
+
+pub goes_on_others : (name : List ℕ) (ids : List OtherId) (i : ℕ) (d : OtherId) → i < length ids
+    → str_eq_ignore_ascii_case name (other_name (get_or ids i d)) ≡ false
+    → other_named_in name (drop (i + 1) ids) ≡ other_named_in name (drop i ids)
+goes_on_others name ids i d inside other = rw (drop-cons ids i d inside, add-one i, other) refl
+
+pub is_found_among : (name : List ℕ) (ids : List OtherId) (i : ℕ) (d : OtherId) → i < length ids
+    → str_eq_ignore_ascii_case name (other_name (get_or ids i d)) ≡ true
+    → other_named_in name (drop i ids) ≡ Some (get_or ids i d)
+is_found_among name ids i d inside this = rw (drop-cons ids i d inside, this) refl
+
+pub is_none_of : (name : List ℕ) (ids : List OtherId) (i : ℕ) → length ids ≤ i → other_named_in name (drop i ids) ≡ None
+is_none_of name ids i past = ap (other_named_in name) (drop_of_length-le ids past)

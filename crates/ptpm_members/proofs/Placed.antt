@@ -10,7 +10,11 @@ use Rattle.ptpm_data.specs.declared.port_setting.PortSetting.TheVariants as sett
 use Rattle.ptpm_members.specs.declared.forms.Field.{Field}
 use Rattle.ptpm_members.specs.declared.forms.Form.{Form}
 use Rattle.ptpm_members.specs.declared.forms.Form.TheVariants as forms
+use Rattle.ptpm_members.specs.declared.other_ids.OtherId.{OtherId}
+use Rattle.ptpm_members.specs.declared.other_ids.OtherId.TheVariants as ids
+use Rattle.ptpm_members.specs.Description.{is_clock_description}
 use Rattle.ptpm_members.specs.FieldText.{IsPlaced}
+use Rattle.ptpm_members.specs.OtherIds.{is_whole_other, other_fields, other_size}
 use Rattle.ptpm_members.specs.Tables.{field_size, fields_of, form_size, is_whole}
 use Rattle.ptpm_members.specs.Values.{HasNumber, HasValue}
 
@@ -22,6 +26,7 @@ abbrev form_fits : ℕ → ℕ → Form → Bool
 form_fits size at (forms.Unsigned n) = number_fits size at n
 form_fits size at (forms.Hexadecimal n) = number_fits size at n
 form_fits size at (forms.Signed n) = number_fits size at n
+form_fits size at (forms.LittleEndian n) = number_fits size at n
 form_fits size at forms.Text = false
 form_fits size at form = nat_le (at + form_size form) size
 
@@ -43,6 +48,8 @@ value_there : (size at : ℕ) (form : Form) (octets : List ℕ) → length octet
 value_there size at (forms.Unsigned n) octets long fits = number_there size at n octets long fits
 value_there size at (forms.Hexadecimal n) octets long fits = number_there size at n octets long fits
 value_there size at (forms.Signed n) octets long fits = number_there size at n octets long fits
+value_there size at (forms.LittleEndian n) octets long fits = number_there size at n octets long fits
+value_there size at (forms.Octets n) octets long fits = octets_there size at n octets long fits
 value_there size at forms.Text octets long fits = cc
 value_there size at (forms.Flag mask) octets long fits = octets_there size at 1 octets long fits
 value_there size at forms.EitherFlag octets long fits = octets_there size at 1 octets long fits
@@ -52,6 +59,9 @@ value_there size at forms.ClockIdentity octets long fits = octets_there size at 
 value_there size at forms.PortIdentity octets long fits = octets_there size at 10 octets long fits
 value_there size at forms.PortState octets long fits = octets_there size at 1 octets long fits
 value_there size at forms.DelayMechanism octets long fits = octets_there size at 1 octets long fits
+value_there size at forms.Timestamping octets long fits = octets_there size at 1 octets long fits
+value_there size at forms.ClockIdentities octets long fits = octets_there size at 0 octets long fits
+value_there size at (forms.Described part) octets long fits = octets_there size at 0 octets long fits
 
 abbrev field_fits : ℕ → Field → Bool
 field_fits size f = nat_le f.1 size && form_fits size f.1 f.2
@@ -93,3 +103,42 @@ by_layout layouts.DisablePort octets whole = tt
 
 pub placed_in : (layout : Layout) (octets : List ℕ) → is_whole layout octets ≡ true → All (IsPlaced octets) (fields_of layout)
 placed_in layout octets whole = All-from_recursion (IsPlaced octets) (fields_of layout) (by_layout layout octets whole)
+
+-- ---- an id that is only read
+
+by_other_size : (id : OtherId) (octets : List ℕ) → (length octets == other_size id) ≡ true
+    → list_all (field_fits (other_size id)) (other_fields id) ≡ true
+    → AllByRecursion (IsPlaced octets) (other_fields id)
+by_other_size id octets whole fit = all_there (other_size id) octets (other_fields id) (eqb-true _ _ whole) fit
+
+by_other : (id : OtherId) (octets : List ℕ) → is_whole_other id octets ≡ true → AllByRecursion (IsPlaced octets) (other_fields id)
+unfolding is_whole_other is_clock_description
+by_other ids.ClockDescription octets whole =
+    let p = and_parts (nat_le 2 (length octets)) _ whole in
+    let two : 2 ≤ length octets = leb-true 2 (length octets) p.0 in (
+      record { within = omega arith; value = record { low = omega arith; high = omega arith; room = two } },
+      (record { within = omega arith; value = omega arith }, (record { within = omega arith; value = omega arith }, (record { within = omega arith; value = omega arith }, (record { within = omega arith; value = omega arith }, (record { within = omega arith; value = omega arith }, (record { within = omega arith; value = omega arith }, (record { within = omega arith; value = omega arith }, (record { within = omega arith; value = omega arith }, (record { within = omega arith; value = omega arith }, tt))))))))),
+    )
+by_other ids.Time octets whole = by_other_size ids.Time octets whole refl
+by_other ids.TraceabilityProperties octets whole = by_other_size ids.TraceabilityProperties octets whole refl
+by_other ids.TimescaleProperties octets whole = by_other_size ids.TimescaleProperties octets whole refl
+by_other ids.PathTraceList octets whole = (record { within = omega arith; value = omega arith }, tt)
+by_other ids.TimeStatus octets whole = by_other_size ids.TimeStatus octets whole refl
+by_other ids.GrandmasterSettings octets whole = by_other_size ids.GrandmasterSettings octets whole refl
+by_other ids.PortDataSet octets whole = by_other_size ids.PortDataSet octets whole refl
+by_other ids.PortProperties octets whole =
+    let p = and_parts (nat_le 12 (length octets)) _ whole in
+    let long : 12 ≤ length octets = leb-true 12 (length octets) p.0 in (
+      record { within = omega arith; value = omega (arith, length-drop 0 octets) },
+      (
+        record { within = omega arith; value = omega (arith, length-drop 10 octets) },
+        (
+          record { within = omega arith; value = omega (arith, length-drop 11 octets) },
+          (record { within = long; value = p.1 }, tt),
+        ),
+      ),
+    )
+by_other ids.PortStatistics octets whole = by_other_size ids.PortStatistics octets whole refl
+
+pub placed_in_other : (id : OtherId) (octets : List ℕ) → is_whole_other id octets ≡ true → All (IsPlaced octets) (other_fields id)
+placed_in_other id octets whole = All-from_recursion (IsPlaced octets) (other_fields id) (by_other id octets whole)

@@ -1,4 +1,6 @@
 pub mod Names
+pub mod Description
+pub mod OtherIds
 pub mod Tables
 pub mod NumberNames
 pub mod Values

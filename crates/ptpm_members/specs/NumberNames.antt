@@ -43,6 +43,16 @@ state_name_of n = option_map state_name (state_of n)
 abbrev pub mechanism_name_of : ℕ → Option (List ℕ)
 mechanism_name_of n = option_or (option_map mechanism_name (mechanism_of n)) (other_mechanism n)
 
+-- of a way of timestamping, of linuxptp
+abbrev pub timestamping_name_of : ℕ → Option (List ℕ)
+timestamping_name_of n =
+    if n == 0 then Some (codes "SOFTWARE")
+    else if n == 1 then Some (codes "HARDWARE")
+    else if n == 2 then Some (codes "LEGACY_HW")
+    else if n == 3 then Some (codes "ONESTEP")
+    else if n == 4 then Some (codes "P2P1STEP")
+    else None
+
 -- a name, or the number in hexadecimal if it has none
 abbrev pub name_or_number : Option (List ℕ) → ℕ → List ℕ
 name_or_number None n = codes "0x" ++ octet_text n
@@ -53,6 +63,9 @@ state_text n = name_or_number (state_name_of n) n
 
 unfoldable pub mechanism_text : ℕ → List ℕ
 mechanism_text n = name_or_number (mechanism_name_of n) n
+
+unfoldable pub timestamping_text : ℕ → List ℕ
+timestamping_text n = name_or_number (timestamping_name_of n) n
 
 -- ---- the number of a name
 

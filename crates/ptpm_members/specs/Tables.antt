@@ -1,7 +1,7 @@
 -- Which members the dataField of each id has, and what its octets say of each (IEEE 1588-2019, 15.5.3). The tables are those
 -- of the program.
 use Rattle.std.specs.Prelude.{◌≡◌, ℕ, ◌+◌, ◌-◌, ◌%◌, ◌==◌, Bool, if◌then◌else◌, bit_and, pos, List, [], length, slice_get, take, drop, Option, Some, None}
-use Rattle.byteorder.specs.Endian.{big_number, twos_complement}
+use Rattle.byteorder.specs.Endian.{big_number, little_number, twos_complement}
 use Rattle.ptpm_codec.specs.Layout.{even_up, octet}
 use Rattle.ptpm_codec.specs.PtpText.{is_ptp_text, ptp_text}
 use Rattle.ptpm_data.specs.declared.management_id.Layout.{Layout}
@@ -11,6 +11,7 @@ use Rattle.ptpm_data.specs.declared.port_setting.PortSetting.TheVariants as sett
 use Rattle.ptpm_data.specs.ManagementId.{RowValue, row_of}
 use Rattle.ptpm_data.specs.MemberMap.{MemberValue, Number, OfClock, OfPort, Octets, PortOf, natural, value_of}
 use Rattle.ptpm_data.specs.Members.{DataSetsValue}
+use Rattle.ptpm_members.specs.Description.{part_on}
 use Rattle.ptpm_members.specs.declared.forms.Field.{Field}
 use Rattle.ptpm_members.specs.declared.forms.Form.{Form}
 use Rattle.ptpm_members.specs.declared.forms.Form.TheVariants as forms
@@ -53,7 +54,7 @@ fields_of_id id = fields_of_row (row_of id)
 
 -- ---- how many octets there are
 
--- those that a member takes; a PTPText says itself how many it has
+-- those that a member takes; 0 if the octets say it themselves
 abbrev pub form_size : Form → ℕ
 form_size (forms.Unsigned n) = n
 form_size (forms.Hexadecimal n) = n
@@ -67,6 +68,11 @@ form_size forms.PortIdentity = 10
 form_size forms.PortState = 1
 form_size forms.DelayMechanism = 1
 form_size forms.Text = 0
+form_size (forms.LittleEndian n) = n
+form_size (forms.Octets n) = n
+form_size forms.Timestamping = 1
+form_size forms.ClockIdentities = 0
+form_size (forms.Described part) = 0
 
 -- the place at which the last of the members ends
 abbrev pub end_of : Option Field → ℕ
@@ -108,6 +114,11 @@ form_value forms.PortIdentity octets = PortOf (take 8 octets) (big_number 2 (dro
 form_value forms.PortState octets = Number (pos (octet 0 octets))
 form_value forms.DelayMechanism octets = Number (pos (octet 0 octets))
 form_value forms.Text octets = Octets (ptp_text octets)
+form_value (forms.LittleEndian n) octets = Number (pos (little_number n octets))
+form_value (forms.Octets n) octets = Octets (take n octets)
+form_value forms.Timestamping octets = Number (pos (octet 0 octets))
+form_value forms.ClockIdentities octets = Octets octets
+form_value (forms.Described part) octets = Octets (part_on part octets)
 
 -- the value of a member, by the octets at its place
 abbrev pub field_value : Field → List ℕ → MemberValue
@@ -115,7 +126,7 @@ field_value f octets = form_value f.2 (drop f.1 octets)
 
 -- ---- what they are to say
 
--- the value of a member in data sets: of the clock, or of one of its ports
+-- the value of a member in data sets: of the clock, or of one of its ports; those of ids that are only read are not in them
 abbrev pub member_value : Member → Option ℕ → DataSetsValue → Option MemberValue
 member_value (members.DataSet member) None d = value_of (OfClock member) d
 member_value (members.DataSet member) (Some port) d = value_of (OfPort port member) d
@@ -125,6 +136,7 @@ member_value members.PortIdentity None d = None
 member_value members.PortIdentity (Some port) d = Some (PortOf d.default.identity.0 port)
 member_value members.VersionNumber port d = natural 2
 member_value members.ClockAccuracy port d = value_of (OfClock sets.ClockAccuracy) d
+member_value other port d = None
 
 -- the octets at the place of a member are its value
 abbrev pub IsSaid : Option ℕ → DataSetsValue → List ℕ → Field → Type 0

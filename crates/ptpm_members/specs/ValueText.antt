@@ -1,11 +1,11 @@
 -- What is written of a member's value (this project's profile). Names are those of the standard.
-use Rattle.std.specs.Prelude.{ℕ, zero, suc, ◌*◌, ◌/◌, ◌%◌, ◌==◌, nat_le, Bool, true, false, not, ◌&&◌, if◌then◌else◌, ℤ, unsigned_abs, List, [], ◌∷◌, ◌++◌, take, codes, decimal, flat_map}
+use Rattle.std.specs.Prelude.{ℕ, zero, suc, ◌*◌, ◌/◌, ◌%◌, ◌==◌, nat_le, Bool, true, false, not, ◌&&◌, if◌then◌else◌, ℤ, unsigned_abs, List, [], ◌∷◌, ◌++◌, length, take, codes, decimal, flat_map}
 use Rattle.std.specs.Fmt.{sign_text, signed_decimal}
 use Rattle.std.specs.Int.{is_negative}
 use Rattle.ptpm_codec.specs.Identity.{clock_identity_text, octet_text, port_identity_text}
 use Rattle.ptpm_members.specs.declared.forms.Form.{Form}
 use Rattle.ptpm_members.specs.declared.forms.Form.TheVariants as forms
-use Rattle.ptpm_members.specs.NumberNames.{mechanism_text, state_text}
+use Rattle.ptpm_members.specs.NumberNames.{mechanism_text, state_text, timestamping_text}
 use Rattle.ptpm_members.specs.Values as values
 use Rattle.ptpm_members.specs.Values.{Said, said_in}
 
@@ -47,6 +47,20 @@ shown_text text = flat_map shown_octet text
 unfoldable pub hexadecimal : List ℕ → List ℕ
 hexadecimal octets = flat_map octet_text octets
 
+-- octets in hexadecimal, or a dash if there is none
+abbrev pub octets_text : List ℕ → List ℕ
+octets_text [] = codes "-"
+octets_text (octet ∷ more) = hexadecimal (octet ∷ more)
+
+-- the identities of clocks, each of eight octets, with a space between two of them
+abbrev pub space_before : List ℕ → List ℕ
+space_before more = if nat_le 8 (length more) then codes " " else []
+
+unfoldable pub clocks_text : List ℕ → List ℕ
+clocks_text (a ∷ b ∷ c ∷ d ∷ e ∷ f ∷ g ∷ h ∷ more) =
+    hexadecimal (a ∷ b ∷ c ∷ d ∷ e ∷ f ∷ g ∷ h ∷ []) ++ space_before more ++ clocks_text more
+clocks_text octets = []
+
 -- ---- a value
 
 abbrev pub said_text : Said → List ℕ
@@ -59,6 +73,9 @@ said_text (values.Port port) = port_identity_text port
 said_text (values.State number) = state_text number
 said_text (values.Mechanism number) = mechanism_text number
 said_text (values.Text octets) = shown_text octets
+said_text (values.Octets octets) = octets_text octets
+said_text (values.Timestamping number) = timestamping_text number
+said_text (values.Clocks octets) = clocks_text octets
 
 -- that of the member whose octets come first
 abbrev pub value_text : Form → List ℕ → List ℕ

@@ -1,10 +1,13 @@
 -- What the octets of a member say (IEEE 1588-2019, 5.3 and 15.5.3).
-use Rattle.std.specs.Prelude.{◌≡◌, ℕ, ◌%◌, ◌≤◌, ◌==◌, Bool, true, not, bit_and, ℤ, List, length}
-use Rattle.byteorder.specs.Endian.{big_number, twos_complement}
+use Rattle.std.specs.Prelude.{◌≡◌, ℕ, ◌%◌, ◌≤◌, ◌==◌, Bool, true, not, bit_and, ℤ, List, length, take}
+use Rattle.byteorder.specs.Endian.{big_number, little_number, twos_complement}
 use Rattle.ptpm_codec.specs.declared.identity.ClockIdentity.{ClockIdentity}
 use Rattle.ptpm_codec.specs.declared.identity.PortIdentity.{PortIdentity}
 use Rattle.ptpm_codec.specs.Layout.{clock_identity_at, octet, port_identity_at}
 use Rattle.ptpm_codec.specs.PtpText.{is_ptp_text, ptp_text}
+use Rattle.ptpm_members.specs.Description.{counted, counted_octets, part_on}
+use Rattle.ptpm_members.specs.declared.description.DescriptionPart.{DescriptionPart}
+use Rattle.ptpm_members.specs.declared.description.DescriptionPart.TheVariants as parts
 use Rattle.ptpm_members.specs.declared.forms.Form.{Form}
 use Rattle.ptpm_members.specs.declared.forms.Form.TheVariants as forms
 use Rattle.ptpm_members.specs.declared.values.MemberValue.{MemberValue}
@@ -22,6 +25,7 @@ abbrev pub HasValue : Form → List ℕ → Type 0
 HasValue (forms.Unsigned n) octets = HasNumber n octets
 HasValue (forms.Hexadecimal n) octets = HasNumber n octets
 HasValue (forms.Signed n) octets = HasNumber n octets
+HasValue (forms.LittleEndian n) octets = HasNumber n octets
 HasValue forms.Text octets = is_ptp_text octets ≡ true
 HasValue form octets = form_size form ≤ length octets
 
@@ -36,6 +40,9 @@ pub data Said : Type 0 where
   State : (number : ℕ) → Said
   Mechanism : (number : ℕ) → Said
   Text : (octets : List ℕ) → Said
+  Octets : (octets : List ℕ) → Said
+  Timestamping : (number : ℕ) → Said
+  Clocks : (octets : List ℕ) → Said
 
 -- one of the program
 abbrev pub said : MemberValue → Said
@@ -48,6 +55,18 @@ said (values.Port port) = Port port
 said (values.State number) = State number
 said (values.Mechanism number) = Mechanism number
 said (values.Text octets) = Text octets.now
+said (values.Octets octets) = Octets octets.now
+said (values.Timestamping number) = Timestamping number
+said (values.Clocks octets) = Clocks octets.now
+
+-- that of a part of a CLOCK_DESCRIPTION whose octets come first
+abbrev pub said_of_part : DescriptionPart → List ℕ → Said
+said_of_part parts.PhysicalAddress octets = Octets (counted_octets octets)
+said_of_part parts.NetworkProtocol octets = Unsigned (counted octets)
+said_of_part parts.AddressField octets = Octets (counted_octets octets)
+said_of_part parts.ManufacturerIdentity octets = Octets (take 3 octets)
+said_of_part parts.ProfileIdentity octets = Octets (take 6 octets)
+said_of_part part octets = Text (ptp_text octets)
 
 -- that of the member whose octets come first
 abbrev pub said_in : Form → List ℕ → Said
@@ -63,3 +82,8 @@ said_in forms.PortIdentity octets = Port (port_identity_at 0 octets)
 said_in forms.PortState octets = State (octet 0 octets)
 said_in forms.DelayMechanism octets = Mechanism (octet 0 octets)
 said_in forms.Text octets = Text (ptp_text octets)
+said_in (forms.LittleEndian n) octets = Unsigned (little_number n octets)
+said_in (forms.Octets n) octets = Octets (take n octets)
+said_in forms.Timestamping octets = Timestamping (octet 0 octets)
+said_in forms.ClockIdentities octets = Clocks octets
+said_in (forms.Described part) octets = said_of_part part (part_on part octets)

@@ -2,13 +2,15 @@
 
 ghost use Rattle.std.specs.Prelude.{◌≡◌, Some};
 ghost use Rattle.std.specs.List.{All};
-ghost use Rattle.ptpm_members.specs.FieldText.{IsPlaced, field_text, member_line, members_in, octets_line, octets_text};
+ghost use Rattle.ptpm_members.specs.OtherIds.{fields_of_other, other_of};
+ghost use Rattle.ptpm_members.specs.FieldText.{IsPlaced, field_text, member_line, members_in, octets_line};
 
 use crate::formatted::Formatted;
 use crate::forms::Field;
+use crate::other_ids::OtherId;
 use crate::tables::{fields, is_whole};
 use crate::text_sink::TextSink;
-use crate::value_text::{push_hexadecimal, push_value};
+use crate::value_text::{push_octets_text, push_value};
 use ptpm_data::row;
 use std::fmt;
 
@@ -59,6 +61,18 @@ pub fn members_in(id: u16, octets: &[u8]) -> &'static [Field]
 {
     match row(id) {
         Some(row) if is_whole(row.layout, octets) => fields(row.layout),
+        Some(_) => &[],
+        None => other_members(id, octets),
+    }
+}
+
+/// The members that the octets have, if the id is one that is only read.
+fn other_members(id: u16, octets: &[u8]) -> &'static [Field]
+    ensures value { result.now ≡ fields_of_other (other_of id) octets.now }
+    ensures placed { All (IsPlaced octets.now) result.now }
+{
+    match OtherId::of(id) {
+        Some(other) if other.is_whole(octets) => other.fields(),
         _ => &[],
     }
 }
@@ -84,14 +98,4 @@ fn push_octets<T: TextSink>(lead: &str, octets: &[u8], sink: &mut T)
     sink.push_str("value ");
     push_octets_text(octets, sink);
     sink.push_str("\n");
-}
-
-/// Octets in hexadecimal, or a dash if there is none.
-fn push_octets_text<T: TextSink>(octets: &[u8], sink: &mut T)
-    ensures { T.pushed sink.old (octets_text octets.now) sink.new }
-{
-    match octets {
-        [] => sink.push_str("-"),
-        _ => push_hexadecimal(octets, sink),
-    }
 }

@@ -3,6 +3,7 @@
 ghost use Rattle.std.specs.Prelude.{◌≡◌};
 ghost use Rattle.ptpm_members.specs.Tables.{form_size};
 
+use crate::description::DescriptionPart;
 use crate::names::Member;
 
 /// How a member is written in its octets (5.3), and so in a text.
@@ -30,25 +31,38 @@ pub enum Form {
     DelayMechanism,
     /// A PTPText (5.3.9).
     Text,
+    /// A number without a sign in this many octets, the lowest first, as linuxptp sends its counters.
+    LittleEndian(u8),
+    /// This many octets.
+    Octets(u8),
+    /// The number of a way of timestamping, of linuxptp.
+    Timestamping,
+    /// Identities of clocks, one after the other.
+    ClockIdentities,
+    /// A part of a CLOCK_DESCRIPTION, whose octets come first (15.5.3.1.2).
+    Described(DescriptionPart),
 }
 
 impl Form {
-    /// How many octets it takes; 0 for a PTPText, which says itself how many it has.
+    /// How many octets it takes; 0 if the octets say it themselves.
     pub fn size(self) -> usize
         ensures { result ≡ form_size self }
     {
         match self {
-            Form::Unsigned(size) | Form::Hexadecimal(size) | Form::Signed(size) => {
-                usize::from(size)
-            }
+            Form::Unsigned(size)
+            | Form::Hexadecimal(size)
+            | Form::Signed(size)
+            | Form::LittleEndian(size)
+            | Form::Octets(size) => usize::from(size),
             Form::Flag(_)
             | Form::EitherFlag
             | Form::LowNibble
             | Form::PortState
-            | Form::DelayMechanism => 1,
+            | Form::DelayMechanism
+            | Form::Timestamping => 1,
             Form::TimeInterval | Form::ClockIdentity => 8,
             Form::PortIdentity => 10,
-            Form::Text => 0,
+            Form::Text | Form::ClockIdentities | Form::Described(_) => 0,
         }
     }
 }

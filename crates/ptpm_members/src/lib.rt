@@ -2,12 +2,14 @@
 #![tactic(auto)]
 
 mod describing;
+mod description;
 mod field_text;
 mod formatted;
 mod forms;
 mod laws;
 mod names;
 mod number_names;
+mod other_ids;
 mod parse_fault_text;
 mod parsing;
 mod tables;
@@ -16,11 +18,15 @@ mod typing;
 mod value_text;
 mod values;
 
+pub use description::DescriptionPart;
 pub use field_text::{FieldText, members_in};
 pub use forms::{Field, Form};
 pub use laws::{member_law, typed_again_law};
 pub use names::Member;
-pub use number_names::{mechanism_name, mechanism_name_of, state_name, state_name_of};
+pub use number_names::{
+    mechanism_name, mechanism_name_of, state_name, state_name_of, timestamping_name_of,
+};
+pub use other_ids::{OTHER_IDS, OtherId, id_name};
 pub use parsing::{ParseFault, parse};
 pub use tables::fields;
 pub use text_sink::TextSink;

@@ -1,7 +1,7 @@
 //! The numbers that the standard names: one table for texts, for JSON and for what is typed.
 
 ghost use Rattle.std.specs.Prelude.{◌≡◌, option_map};
-ghost use Rattle.ptpm_members.specs.NumberNames.{mechanism_name, mechanism_named, mechanism_name_of, is_name, other_mechanism, state_name, state_name_of};
+ghost use Rattle.ptpm_members.specs.NumberNames.{mechanism_name, mechanism_named, mechanism_name_of, is_name, other_mechanism, state_name, state_name_of, timestamping_name_of};
 
 use ptpm_data::{DelayMechanism, PortState};
 
@@ -64,6 +64,20 @@ fn other_mechanism(number: u8) -> Option<&'static str>
     match number {
         3 => Some("COMMON_P2P"),
         4 => Some("SPECIAL"),
+        _ => None,
+    }
+}
+
+/// The name of a way of timestamping by its number, as linuxptp has it; none if it has none.
+pub fn timestamping_name_of(number: u8) -> Option<&'static str>
+    ensures { option_map (λ name. name.now) result ≡ timestamping_name_of number }
+{
+    match number {
+        0 => Some("SOFTWARE"),
+        1 => Some("HARDWARE"),
+        2 => Some("LEGACY_HW"),
+        3 => Some("ONESTEP"),
+        4 => Some("P2P1STEP"),
         _ => None,
     }
 }

@@ -3,13 +3,13 @@
 ghost use Rattle.std.specs.Prelude.{◌≡◌, ◌<◌, [], ◌∷◌, ◌++◌, codes, decimal, false, option_map};
 ghost use Rattle.std.specs.Fmt.{digit_glyph, sign_text, signed_decimal};
 ghost use Rattle.std.specs.Int.{is_negative};
-ghost use Rattle.ptpm_members.specs.NumberNames.{mechanism_text, name_or_number, state_text};
+ghost use Rattle.ptpm_members.specs.NumberNames.{mechanism_text, name_or_number, state_text, timestamping_text};
 ghost use Rattle.ptpm_members.specs.Values.{HasValue, said};
-ghost use Rattle.ptpm_members.specs.ValueText.{escape, flag_name, fraction_digits, hexadecimal, interval_text, said_text, shown_octet, shown_text, value_text};
+ghost use Rattle.ptpm_members.specs.ValueText.{clocks_text, escape, flag_name, fraction_digits, hexadecimal, interval_text, octets_text, said_text, shown_octet, shown_text, space_before, value_text};
 ghost use Rattle.ptpm_codec.specs.Identity.{clock_identity_text, octet_text, port_identity_text};
 
 use crate::forms::Form;
-use crate::number_names::{mechanism_name_of, state_name_of};
+use crate::number_names::{mechanism_name_of, state_name_of, timestamping_name_of};
 use crate::text_sink::TextSink;
 use crate::values::{MemberValue, value_in};
 use itoa::Buffer;
@@ -40,6 +40,9 @@ fn push_said<T: TextSink>(value: MemberValue<'_>, sink: &mut T)
         MemberValue::State(number) => push_state(number, sink),
         MemberValue::Mechanism(number) => push_mechanism(number, sink),
         MemberValue::Text(octets) => push_text(octets, sink),
+        MemberValue::Octets(octets) => push_octets_text(octets, sink),
+        MemberValue::Timestamping(number) => push_timestamping(number, sink),
+        MemberValue::Clocks(octets) => push_clocks(octets, sink),
     }
 }
 
@@ -163,6 +166,14 @@ fn push_mechanism<T: TextSink>(number: u8, sink: &mut T)
     push_name_or_number(mechanism_name_of(number), number, sink);
 }
 
+/// The name of a way of timestamping, or the number if it has none.
+#[tactic(auto, unfolding(crate::specs::NumberNames::timestamping_text))]
+fn push_timestamping<T: TextSink>(number: u8, sink: &mut T)
+    ensures { T.pushed sink.old (timestamping_text number) sink.new }
+{
+    push_name_or_number(timestamping_name_of(number), number, sink);
+}
+
 /// The name of a number, or the number in hexadecimal if it has none.
 fn push_name_or_number<T: TextSink>(name: Option<&str>, number: u8, sink: &mut T)
     ensures { T.pushed sink.old (name_or_number (option_map (λ name. name.now) name.entry) number) sink.new }
@@ -213,4 +224,36 @@ fn flag_name(flag: bool) -> &'static str
     ensures { result.now ≡ flag_name flag }
 {
     if flag { "true" } else { "false" }
+}
+
+/// Octets in hexadecimal, or a dash if there is none.
+pub(crate) fn push_octets_text<T: TextSink>(octets: &[u8], sink: &mut T)
+    ensures { T.pushed sink.old (octets_text octets.now) sink.new }
+{
+    match octets {
+        [] => sink.push_str("-"),
+        _ => push_hexadecimal(octets, sink),
+    }
+}
+
+/// The identities of clocks, with a space between two of them.
+#[tactic(auto, unfolding(crate::specs::ValueText::clocks_text))]
+fn push_clocks<T: TextSink>(octets: &[u8], sink: &mut T)
+    ensures { T.pushed sink.old (clocks_text octets.now) sink.new }
+{
+    if let [_, _, _, _, _, _, _, _, ..] = octets {
+        let (clock, more) = octets.split_at(8);
+        push_hexadecimal(clock, sink);
+        push_space(more, sink);
+        push_clocks(more, sink);
+    }
+}
+
+/// A space before an identity, if there is one.
+fn push_space<T: TextSink>(more: &[u8], sink: &mut T)
+    ensures { T.pushed sink.old (space_before more.now) sink.new }
+{
+    if more.len() >= 8 {
+        sink.push_str(" ");
+    }
 }

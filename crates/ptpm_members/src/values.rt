@@ -1,10 +1,11 @@
 //! The value of a member, by its octets. Each text and JSON is made of it.
 
 ghost use Rattle.std.specs.Prelude.{◌≡◌};
-ghost use Rattle.ptpm_members.specs.Values.{HasValue, said, said_in};
+ghost use Rattle.ptpm_members.specs.Values.{HasValue, said, said_in, said_of_part};
 
+use crate::description::{DescriptionPart, counted, counted_octets, first, part_on, text_octets};
 use crate::forms::Form;
-use byteorder::{BigEndian, ByteOrder};
+use byteorder::{BigEndian, ByteOrder, LittleEndian};
 use ptpm_codec::{
     ClockIdentity, PortIdentity, clock_identity_at, port_identity_at, text_of_ptp_text,
 };
@@ -27,6 +28,12 @@ pub enum MemberValue<'a> {
     Mechanism(u8),
     /// The octets of a text.
     Text(&'a [u8]),
+    /// Octets that are no text, such as an address.
+    Octets(&'a [u8]),
+    /// The number of a way of timestamping, of linuxptp.
+    Timestamping(u8),
+    /// The octets of clocks' identities, eight each.
+    Clocks(&'a [u8]),
 }
 
 /// The value of a member whose octets come first.
@@ -48,5 +55,30 @@ pub fn value_in(form: Form, octets: &[u8]) -> MemberValue<'_>
         Form::PortState => MemberValue::State(octets[0]),
         Form::DelayMechanism => MemberValue::Mechanism(octets[0]),
         Form::Text => MemberValue::Text(text_of_ptp_text(octets)),
+        Form::LittleEndian(size) => {
+            MemberValue::Unsigned(LittleEndian::read_uint(octets, usize::from(size)))
+        }
+        Form::Octets(size) => MemberValue::Octets(&octets[..usize::from(size)]),
+        Form::Timestamping => MemberValue::Timestamping(octets[0]),
+        Form::ClockIdentities => MemberValue::Clocks(octets),
+        Form::Described(part) => value_of_part(part, part_on(part, octets)),
+    }
+}
+
+/// The value of a part of a CLOCK_DESCRIPTION whose octets come first.
+fn value_of_part(part: DescriptionPart, octets: &[u8]) -> MemberValue<'_>
+    ensures { said result ≡ said_of_part part octets.now }
+{
+    match part {
+        DescriptionPart::PhysicalAddress | DescriptionPart::AddressField => {
+            MemberValue::Octets(counted_octets(octets))
+        }
+        DescriptionPart::NetworkProtocol => MemberValue::Unsigned(u64::from(counted(octets))),
+        DescriptionPart::ManufacturerIdentity => MemberValue::Octets(first(3, octets)),
+        DescriptionPart::ProfileIdentity => MemberValue::Octets(first(6, octets)),
+        DescriptionPart::PhysicalLayerProtocol
+        | DescriptionPart::ProductDescription
+        | DescriptionPart::RevisionData
+        | DescriptionPart::UserDescription => MemberValue::Text(text_octets(octets)),
     }
 }

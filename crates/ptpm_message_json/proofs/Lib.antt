@@ -2,3 +2,4 @@ pub mod TextArray
 pub mod Tellable
 pub mod Naming
 pub mod NoFloat
+pub mod Clocks

@@ -19,7 +19,7 @@ use Rattle.ptpm_members.specs.Values.{Said, said_in}
 use Rattle.ptpm_message_json.specs.DataField.{members_data, put_by, put_data, put_data_field, put_field}
 use Rattle.ptpm_message_json.specs.MessageJson.{head, message_data, message_text, put_body, put_columns, put_head, put_rest, put_content, refusal, rest, with_members}
 use Rattle.ptpm_message_json.specs.Names.{is_in_quality, quality_name}
-use Rattle.ptpm_message_json.specs.Values.{said_data, value_data}
+use Rattle.ptpm_message_json.specs.Values.{clocks_in, said_data, value_data}
 
 -- ---- an object with one member more
 
@@ -52,6 +52,10 @@ integer_plain : (z : ℤ) → is_float (of_integer z) ≡ false
 integer_plain (pos n) = refl
 integer_plain (negsuc n) = refl
 
+texts_plain : (texts : List (List ℕ)) → items_have_float (items_of (map string texts)) ≡ false
+texts_plain [] = refl
+texts_plain (text ∷ more) = texts_plain more
+
 said_plain : (s : Said) → has_float (said_data s) ≡ false
 said_plain (values.Unsigned n) = refl
 said_plain (values.Signed z) = integer_plain z
@@ -62,6 +66,9 @@ said_plain (values.Port port) = refl
 said_plain (values.State n) = refl
 said_plain (values.Mechanism n) = refl
 said_plain (values.Text octets) = refl
+said_plain (values.Octets octets) = refl
+said_plain (values.Timestamping n) = refl
+said_plain (values.Clocks octets) = texts_plain (clocks_in octets)
 
 value_plain : (form : Form) (octets : List ℕ) → has_float (value_data form octets) ≡ false
 value_plain form octets = said_plain (said_in form octets)
@@ -118,10 +125,6 @@ told_plain (Some error) body ms q = with_plain (refusal error (text_of body)) ms
 body_plain : (body : Body) (ms : Members) → members_have_float ms ≡ false → members_have_float (put_body body ms) ≡ false
 unfolding put_body
 body_plain body ms q = told_plain (error_of body) body ms q
-
-texts_plain : (texts : List (List ℕ)) → items_have_float (items_of (map string texts)) ≡ false
-texts_plain [] = refl
-texts_plain (text ∷ more) = texts_plain more
 
 columns_plain : (columns : List (List ℕ)) (ms : Members) → members_have_float ms ≡ false → members_have_float (put_columns columns ms) ≡ false
 unfolding put_columns

@@ -9,8 +9,11 @@ use Rattle.ptpm_data.specs.declared.management_id.Layout.TheVariants as layouts
 use Rattle.ptpm_data.specs.ManagementId.{RowValue, row_of}
 use Rattle.ptpm_data.specs.declared.port_setting.PortSetting.TheVariants as settings
 use Rattle.ptpm_members.specs.declared.forms.Field.{Field}
-use Rattle.ptpm_members.specs.FieldText.{IsPlaced, members_in}
-use Rattle.ptpm_members.specs.Tables.{field_size, fields_of, fields_of_row, is_whole, is_whole_of_row}
+use Rattle.ptpm_members.specs.declared.other_ids.OtherId.{OtherId}
+use Rattle.ptpm_members.specs.declared.other_ids.OtherId.TheVariants as ids
+use Rattle.ptpm_members.specs.FieldText.{IsPlaced, members_by, members_in}
+use Rattle.ptpm_members.specs.OtherIds.{fields_of_other, is_whole_other, other_fields, other_of}
+use Rattle.ptpm_members.specs.Tables.{field_size, fields_of, is_whole}
 use Rattle.ptpm_message_json.specs.DataField.{HasQuality, IsTellable}
 use Rattle.ptpm_message_json.specs.Names.{quality_name}
 
@@ -77,14 +80,32 @@ if_whole : (whole : Bool) (octets : List ℕ) (fs : List Field) → (whole ≡ t
 if_whole true octets fs there = there refl
 if_whole false octets fs there = tt
 
-by_row : (row : Option RowValue) (octets : List ℕ)
-    → AllByRecursion (HasItsQuality octets) (if is_whole_of_row row octets then fields_of_row row else [])
-by_row None octets = if_whole (is_whole_of_row None octets) octets [] (λ whole. tt)
-by_row (Some row) octets = if_whole (is_whole row.layout octets) octets (fields_of row.layout) (by_layout row.layout octets)
+-- one id that is only read has a ClockQuality
+by_other : (id : OtherId) (octets : List ℕ) → is_whole_other id octets ≡ true → AllByRecursion (HasItsQuality octets) (other_fields id)
+unfolding is_whole_other
+by_other ids.GrandmasterSettings octets whole = all_there 8 octets (other_fields ids.GrandmasterSettings) (eqb-true _ _ whole) refl
+by_other ids.ClockDescription octets whole = all_there (length octets) octets (other_fields ids.ClockDescription) refl refl
+by_other ids.Time octets whole = all_there (length octets) octets (other_fields ids.Time) refl refl
+by_other ids.TraceabilityProperties octets whole = all_there (length octets) octets (other_fields ids.TraceabilityProperties) refl refl
+by_other ids.TimescaleProperties octets whole = all_there (length octets) octets (other_fields ids.TimescaleProperties) refl refl
+by_other ids.PathTraceList octets whole = all_there (length octets) octets (other_fields ids.PathTraceList) refl refl
+by_other ids.TimeStatus octets whole = all_there (length octets) octets (other_fields ids.TimeStatus) refl refl
+by_other ids.PortDataSet octets whole = all_there (length octets) octets (other_fields ids.PortDataSet) refl refl
+by_other ids.PortProperties octets whole = all_there (length octets) octets (other_fields ids.PortProperties) refl refl
+by_other ids.PortStatistics octets whole = all_there (length octets) octets (other_fields ids.PortStatistics) refl refl
+
+if_known : (other : Option OtherId) (octets : List ℕ) → AllByRecursion (HasItsQuality octets) (fields_of_other other octets)
+if_known None octets = tt
+if_known (Some id) octets = if_whole (is_whole_other id octets) octets (other_fields id) (by_other id octets)
+
+by_row : (row : Option RowValue) (other : Option OtherId) (octets : List ℕ)
+    → AllByRecursion (HasItsQuality octets) (members_by row other octets)
+by_row None other octets = if_known other octets
+by_row (Some row) other octets = if_whole (is_whole row.layout octets) octets (fields_of row.layout) (by_layout row.layout octets)
 
 with_quality : (id : ℕ) (octets : List ℕ) → All (HasItsQuality octets) (members_in id octets)
 unfolding members_in
-with_quality id octets = All-from_recursion (HasItsQuality octets) _ (by_row (row_of id) octets)
+with_quality id octets = All-from_recursion (HasItsQuality octets) _ (by_row (row_of id) (other_of id) octets)
 
 pub all_tellable : (id : ℕ) (octets : List ℕ) (fs : List Field) → fs ≡ members_in id octets → All (IsPlaced octets) fs
     → All (IsTellable octets) fs

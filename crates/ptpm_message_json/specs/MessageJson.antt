@@ -10,7 +10,7 @@ use Rattle.ptpm_codec.specs.declared.error.ErrorId.TheVariants as errors
 use Rattle.ptpm_codec.specs.declared.message.Body.{Body}
 use Rattle.ptpm_codec.specs.declared.message.Message.{Message}
 use Rattle.ptpm_codec.specs.Message.{action_name, action_of, error_name, error_number, error_of, id_of, octets_of, text_of}
-use Rattle.ptpm_data.specs.ManagementId.{RowValue, row_of}
+use Rattle.ptpm_members.specs.OtherIds.{name_of_id}
 use Rattle.ptpm_message_json.specs.DataField.{put_data_field}
 use Rattle.ptpm_message_json.specs.Values.{port_data, text_data}
 
@@ -20,13 +20,13 @@ use Rattle.ptpm_message_json.specs.Values.{port_data, text_data}
 unfoldable pub digits_of : ℕ → List ℕ
 digits_of n = encode_lower (to_be_bytes w16 n)
 
-abbrev pub name_or : Option RowValue → List ℕ → List ℕ
+abbrev pub name_or : Option (List ℕ) → List ℕ → List ℕ
 name_or None digits = digits
-name_or (Some row) digits = row.name
+name_or (Some name) digits = name
 
 -- a managementId: its name, or four hexadecimal digits if it has none
 abbrev pub id_data : ℕ → Data
-id_data id = string (name_or (row_of id) (digits_of id))
+id_data id = string (name_or (name_of_id id) (digits_of id))
 
 -- the errors that the standard names (15.5.4.3)
 abbrev pub named_errors : List ErrorId

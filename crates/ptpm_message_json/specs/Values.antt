@@ -1,16 +1,18 @@
 -- The values of members in JSON: numbers as numbers, flags as booleans, and a TimeInterval as a whole number, nanoseconds times
 -- 2^16 (this project's profile).
-use Rattle.std.specs.Prelude.{ℕ, List, codes, drop}
+use Rattle.std.specs.Prelude.{ℕ, List, [], ◌∷◌, codes, drop, map}
 use Rattle.std.specs.Str.Lossy.{utf8_lossy}
 use Rattle.byteorder.specs.Endian.{big_number}
-use Rattle.serde_json.specs.Data.{Data, boolean, number, string, object, unsigned, no_members, member}
+use Rattle.hex.specs.Hex.{encode_lower}
+use Rattle.serde_json.specs.Data.{Data, array, boolean, number, string, object, unsigned, no_members, member}
 use Rattle.serde_json.specs.Find.{of_integer}
+use Rattle.serde_json.specs.View.{items_of}
 use Rattle.ptpm_codec.specs.declared.identity.ClockIdentity.{ClockIdentity}
 use Rattle.ptpm_codec.specs.declared.identity.PortIdentity.{PortIdentity}
 use Rattle.ptpm_codec.specs.Identity.{clock_identity_text}
 use Rattle.ptpm_codec.specs.Layout.{octet}
 use Rattle.ptpm_members.specs.declared.forms.Form.{Form}
-use Rattle.ptpm_members.specs.NumberNames.{mechanism_name_of, state_name_of}
+use Rattle.ptpm_members.specs.NumberNames.{mechanism_name_of, state_name_of, timestamping_name_of}
 use Rattle.ptpm_members.specs.Values as values
 use Rattle.ptpm_members.specs.Values.{Said, said_in}
 use Rattle.ptpm_message_json.specs.Names.{name_or_reserved}
@@ -33,6 +35,14 @@ quality_data octets =
     (member (codes "clockClass") (number (unsigned (octet 0 octets)))
     (member (codes "offsetScaledLogVariance") (number (unsigned (big_number 2 (drop 2 octets)))) no_members)))
 
+-- the identities of clocks, each of eight octets
+unfoldable pub clocks_in : List ℕ → List (List ℕ)
+clocks_in (a ∷ b ∷ c ∷ d ∷ e ∷ f ∷ g ∷ h ∷ more) = encode_lower (a ∷ b ∷ c ∷ d ∷ e ∷ f ∷ g ∷ h ∷ []) ∷ clocks_in more
+clocks_in octets = []
+
+abbrev pub clocks_data : List ℕ → Data
+clocks_data octets = array (items_of (map string (clocks_in octets)))
+
 -- the value of a member
 abbrev pub said_data : Said → Data
 said_data (values.Unsigned n) = number (unsigned n)
@@ -44,6 +54,9 @@ said_data (values.Port port) = port_data port
 said_data (values.State n) = string (name_or_reserved (state_name_of n))
 said_data (values.Mechanism n) = string (name_or_reserved (mechanism_name_of n))
 said_data (values.Text octets) = text_data octets
+said_data (values.Octets octets) = string (encode_lower octets)
+said_data (values.Timestamping n) = string (name_or_reserved (timestamping_name_of n))
+said_data (values.Clocks octets) = clocks_data octets
 
 -- that of the member whose octets come first
 abbrev pub value_data : Form → List ℕ → Data

@@ -2,7 +2,9 @@
 
 ghost use Rattle.std.specs.Prelude.{◌≡◌, IfOk, OnOk};
 ghost use Rattle.std.specs.List.{All};
-ghost use Rattle.serde_json.specs.View.{members_view};
+ghost use Rattle.serde_json.specs.Data.{object};
+ghost use Rattle.serde_json.specs.View.{members_view, view};
+ghost use Rattle.ptpm_members.specs.FieldText.{members_in};
 ghost use Rattle.ptpm_message_json.specs.DataField.{IsTellable, members_data, put_data_field, put_field};
 
 use crate::names::{is_in_quality, quality_name};
@@ -34,6 +36,15 @@ pub(crate) fn put_data_field(
     }
     let members = members_object(alloc, octets, members)?;
     put(map, alloc, "members", Value::Object(members))
+}
+
+/// The members of an id's dataField, as an object by the standard's names. It is empty if the octets are no dataField of that id, or
+/// have no member.
+pub fn members_value(alloc: Global, id: u16, octets: &[u8]) -> Result<Value, AllocError>
+    ensures { IfOk result (λ v. view v ≡ object (members_data octets.now (members_in id octets.now))) }
+{
+    let members = members_in(id, octets);
+    Ok(Value::Object(members_object(alloc, octets, members)?))
 }
 
 /// An object of members.

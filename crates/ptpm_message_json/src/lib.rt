@@ -7,4 +7,5 @@ mod message;
 mod names;
 mod values;
 
+pub use data_field::members_value;
 pub use message::message_text;

@@ -8,7 +8,7 @@ use crate::columns::put_columns;
 use crate::data_field::put_data_field;
 use crate::values::{port_value, text_value};
 use ptpm_codec::{ErrorId, View};
-use ptpm_data::row;
+use ptpm_members::id_name;
 use serde_json::{Map, Value, put};
 use std::alloc::{AllocError, Global};
 
@@ -106,8 +106,8 @@ fn put_body(
 fn id_value(alloc: Global, id: u16) -> Result<Value, AllocError>
     ensures { IfOk result (λ v. view v ≡ id_data id) }
 {
-    match row(id) {
-        Some(row) => Value::try_from_str(alloc, row.name),
+    match id_name(id) {
+        Some(name) => Value::try_from_str(alloc, name),
         None => Ok(Value::String(digits_of(alloc, id)?)),
     }
 }

@@ -3,12 +3,12 @@
 ghost use Rattle.std.specs.Prelude.{◌≡◌, ◌≤◌, IfOk, length};
 ghost use Rattle.serde_json.specs.View.{view};
 ghost use Rattle.ptpm_members.specs.Values.{said};
-ghost use Rattle.ptpm_message_json.specs.Values.{clock_data, port_data, quality_data, said_data, text_data};
+ghost use Rattle.ptpm_message_json.specs.Values.{clock_data, clocks_data, port_data, quality_data, said_data, text_data};
 
 use crate::names::named_or_reserved;
 use byteorder::{BigEndian, ByteOrder};
 use ptpm_codec::{ClockIdentity, PortIdentity};
-use ptpm_members::{MemberValue, mechanism_name_of, state_name_of};
+use ptpm_members::{MemberValue, mechanism_name_of, state_name_of, timestamping_name_of};
 use serde_json::{Value, json};
 use std::alloc::{AllocError, Global};
 
@@ -30,6 +30,11 @@ pub(crate) fn member_value(alloc: Global, value: MemberValue<'_>) -> Result<Valu
             Value::try_from_str(alloc, named_or_reserved(mechanism_name_of(number)))
         }
         MemberValue::Text(octets) => text_value(alloc, octets),
+        MemberValue::Octets(octets) => Ok(Value::String(hex::encode(alloc, octets)?)),
+        MemberValue::Timestamping(number) => {
+            Value::try_from_str(alloc, named_or_reserved(timestamping_name_of(number)))
+        }
+        MemberValue::Clocks(octets) => clocks_value(alloc, octets),
     }
 }
 
@@ -65,4 +70,18 @@ fn clock_value(alloc: Global, clock: ClockIdentity) -> Result<Value, AllocError>
     ensures { IfOk result (λ v. view v ≡ clock_data clock) }
 {
     Ok(Value::String(format!(in alloc; "{clock}")?))
+}
+
+/// The identities of clocks, as an array of texts.
+fn clocks_value(alloc: Global, octets: &[u8]) -> Result<Value, AllocError>
+    ensures { IfOk result (λ v. view v ≡ clocks_data octets.now) }
+{
+    let mut clocks = Vec::new(alloc);
+    let mut rest = octets;
+    while let [_, _, _, _, _, _, _, _, ..] = rest {
+        let (clock, more) = rest.split_at(8);
+        clocks.push(Value::String(hex::encode(alloc, clock)?))?;
+        rest = more;
+    }
+    Ok(Value::Array(clocks))
 }

@@ -1,16 +1,15 @@
 //! A plan as one JSON object, by the standard's names.
 
 use crate::best_clock::BestClocks;
-use crate::change::{Change, PlannedId};
-use crate::octets::{octet, pair_at};
+use crate::change::Change;
 use crate::outcome::{not_reached, why_not};
-use crate::places::Values;
 use crate::report::{Report, id_text, no_memory, who_of_row};
 use crate::rows::Row;
 use crate::subject::Subject;
-use crate::verdict::{Verdict, text_of};
-use ptpm_codec::{ClockIdentity, is_ptp_text, text_of_ptp_text};
+use crate::verdict::Verdict;
+use ptpm_codec::ClockIdentity;
 use ptpm_commands::Fault;
+use ptpm_message_json::members_value;
 use serde_json::{Map, Value, json, put};
 use std::alloc::{AllocError, Global};
 use std::io::Write;
@@ -88,9 +87,9 @@ fn change_value(alloc: Global, number: usize, change: &Change) -> Result<Value, 
     };
     let mut map = subject_map(alloc, subject)?;
     put(&mut map, alloc, "number", Value::from(number as u64))?;
-    let before = members_value(alloc, change.id, change.before.as_slice())?;
+    let before = members_value(alloc, change.id.number(), change.before.as_slice())?;
     put(&mut map, alloc, "before", before)?;
-    let after = members_value(alloc, change.id, change.after.as_slice())?;
+    let after = members_value(alloc, change.id.number(), change.after.as_slice())?;
     put(&mut map, alloc, "after", after)?;
     Ok(Value::Object(map))
 }
@@ -121,7 +120,7 @@ fn staying_value(alloc: Global, rows: &[Row]) -> Result<Value, AllocError> {
     for row in rows {
         if let Verdict::Stays(field) = &row.verdict {
             let mut map = subject_map(alloc, row.subject)?;
-            let members = members_value(alloc, row.subject.id, field.as_slice())?;
+            let members = members_value(alloc, row.subject.id.number(), field.as_slice())?;
             put(&mut map, alloc, "members", members)?;
             values.push(Value::Object(map))?;
         }
@@ -178,78 +177,4 @@ fn clock_value(alloc: Global, clock: ClockIdentity) -> Result<Value, AllocError>
 
 fn text_value(alloc: Global, text: &str) -> Result<Value, AllocError> {
     Ok(Value::String(String::from_str(alloc, text)?))
-}
-
-/// The members of a dataField, by the standard's names.
-fn members_value(alloc: Global, id: PlannedId, field: &[u8]) -> Result<Value, AllocError> {
-    let mut map = Map::new(alloc);
-    match id {
-        PlannedId::UtcProperties => put_utc(alloc, field, &mut map)?,
-        _ => put(
-            &mut map,
-            alloc,
-            member_name(id),
-            member_value(alloc, id, field)?,
-        )?,
-    }
-    Ok(Value::Object(map))
-}
-
-/// Puts the members of UTC_PROPERTIES (15.5.3.6.2).
-fn put_utc(alloc: Global, field: &[u8], map: &mut Map<String, Value>) -> Result<(), AllocError> {
-    let flags = octet(field, 2);
-    put(
-        map,
-        alloc,
-        "currentUtcOffset",
-        Value::from(pair_at(field, 0).cast_signed()),
-    )?;
-    put(map, alloc, "leap61", Value::Bool(flags & 1 != 0))?;
-    put(map, alloc, "leap59", Value::Bool(flags & 2 != 0))?;
-    put(
-        map,
-        alloc,
-        "currentUtcOffsetValid",
-        Value::Bool(flags & 4 != 0),
-    )
-}
-
-/// The standard's name of an id's sole member.
-fn member_name(id: PlannedId) -> &'static str {
-    match id {
-        PlannedId::UserDescription => "userDescription",
-        PlannedId::UtcProperties => "currentUtcOffset",
-        PlannedId::Priority1 => "priority1",
-        PlannedId::Priority2 => "priority2",
-        PlannedId::ClockAccuracy => "clockAccuracy",
-        PlannedId::Domain => "domainNumber",
-        PlannedId::AnnounceReceiptTimeout => "announceReceiptTimeout",
-        PlannedId::LogAnnounceInterval => "logAnnounceInterval",
-        PlannedId::LogSyncInterval => "logSyncInterval",
-        PlannedId::DelayMechanism => "delayMechanism",
-        PlannedId::LogMinPdelayReqInterval => "logMinPdelayReqInterval",
-    }
-}
-
-/// The value of an id's sole member: a number, or a text.
-fn member_value(alloc: Global, id: PlannedId, field: &[u8]) -> Result<Value, AllocError> {
-    match id {
-        PlannedId::UserDescription => {
-            let text = if is_ptp_text(field) {
-                text_of_ptp_text(field)
-            } else {
-                &[]
-            };
-            Ok(Value::String(String::from_utf8_lossy(alloc, text)?))
-        }
-        PlannedId::DelayMechanism => {
-            let lines = text_of(alloc, id, field)?;
-            let lines = lines.as_str();
-            Ok(Value::String(format!(in alloc; "{}", Values { id, lines })?))
-        }
-        PlannedId::LogAnnounceInterval
-        | PlannedId::LogSyncInterval
-        | PlannedId::LogMinPdelayReqInterval => Ok(Value::from(octet(field, 0).cast_signed())),
-        _ => Ok(Value::from(octet(field, 0))),
-    }
 }

@@ -1,12 +1,15 @@
 -- What is kept of a datagram.
 use Rattle.std.specs.Prelude.{◌≡◌, ℕ, ◌++◌, List, Option, Some, None, option_and_then}
-use Rattle.std.specs.Option.{option_to_list}
+use Rattle.std.specs.Option.{option_map, option_to_list}
 use Rattle.ptpm_codec.specs.Reading.{message_of}
 use Rattle.ptpm_site.specs.declared.answer.Answer.{Answer}
+use Rattle.ptpm_site.specs.declared.heard.Heard.{Heard}
+use Rattle.ptpm_site.specs.declared.heard.Heard.TheVariants as heard
 use Rattle.ptpm_site.specs.declared.site.Site.{Site}
 use Rattle.ptpm_site.specs.Heard.{heard_in}
 use Rattle.ptpm_site.specs.KeptAnswers.{Takes}
 use Rattle.ptpm_site.specs.Messages.{Answered, answer_of, answered}
+use Rattle.ptpm_site.specs.Origins.{origin_in}
 
 -- the answer that a datagram is, if it is one
 unfoldable pub answer_in : List ℕ → Option Answered
@@ -24,9 +27,13 @@ abbrev pub TakesAny : Site → Site → Option ℕ → Option Answered → Type 
 TakesAny old new at None = new ≡ old
 TakesAny old new at (Some says) = TakesAnswer old new at says
 
+-- what it shows beside: what it is, and what time its sender has
+abbrev pub all_heard_in : Option ℕ → List ℕ → List Heard
+all_heard_in at datagram = option_to_list (heard_in datagram) ++ option_to_list (option_map heard.Timed (origin_in at datagram))
+
 -- its answer is taken, and what it shows beside is kept after all that was shown before
 pub record TakesDatagram (old new : Site) (at : Option ℕ) (datagram : List ℕ) : Type 0 where
   pub between : Site
   pub answer : TakesAny old between at (answer_in datagram)
   pub clocks : new.clocks ≡ between.clocks
-  pub heard : new.heard.items ≡ old.heard.items ++ option_to_list (heard_in datagram)
+  pub heard : new.heard.items ≡ old.heard.items ++ all_heard_in at datagram

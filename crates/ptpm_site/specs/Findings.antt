@@ -35,6 +35,7 @@ use Rattle.ptpm_site.specs.Grandmasters.{is_one_of_two, leads, masterless_reason
 use Rattle.ptpm_site.specs.Leading.{better_clock, without_source, invalid_offset, announced_leap, not_traceable, wrong_offset}
 use Rattle.ptpm_site.specs.Loops.{loop_of}
 use Rattle.ptpm_site.specs.Members.{MemberValue, State, current_members, current_says, default_members, default_says, description_members, description_says, is_moving, is_of_grandmaster, parent_members, parent_says, port_members, port_says, time_members, time_says}
+use Rattle.ptpm_site.specs.Origins.{utc_by_host}
 use Rattle.ptpm_site.specs.Parents.{no_master_port, unseen_parent, wrong_steps}
 use Rattle.ptpm_site.specs.Reach.{out_of_reach}
 use Rattle.ptpm_site.specs.SiteAnswers.{SiteAnswers}
@@ -156,10 +157,15 @@ off_found site limits s = found (λ offset. what.OffByUtc (shows.Offset offset))
 abbrev pub followers_found : SiteAnswers → Limits → Source → List Finding
 followers_found site limits s = found (λ n. what.OffByUtc (shows.Followers n)) s (followers_off site limits.tai_utc s)
 
+-- and a clock that leads, and has the time of the host that asks, which is UTC
+abbrev pub origin_found : SiteAnswers → Limits → Source → List Finding
+origin_found site limits s = found (λ o. what.OffByUtc (shows.Origin o)) s (utc_by_host site limits s)
+
 unfoldable pub amounts_found : SiteAnswers → Limits → Source → List Finding
 amounts_found site limits s =
     off_found site limits s
     ++ followers_found site limits s
+    ++ origin_found site limits s
     ++ found what.Offset s (large_offset site s limits)
     ++ found what.Delay s (large_delay site s limits.delay)
     ++ link_delays_found site limits s

@@ -43,11 +43,11 @@ heard_by _ asked m = None
 abbrev pub heard_of : Message → Option Heard
 heard_of m = option_and_then (λ a. heard_by (action_of m.body) a m) (asked_of (id_of m.body))
 
--- Announce, Sync and Follow_Up (table 36)
+-- Announce, Sync, Follow_Up and Delay_Req (table 36)
 abbrev pub is_of_sender : ℕ → Bool
-is_of_sender kind = kind == 11 || kind == 0 || kind == 8
+is_of_sender kind = kind == 11 || kind == 0 || kind == 8 || kind == 1
 
--- a message of PTP version 2 with sdoId 0 that a port in MASTER sends by itself
+-- a message of PTP version 2 with sdoId 0 that a clock sends by itself; a slave sends only the last of these
 abbrev pub sender_in : List ℕ → Option Sender
 sender_in d =
     if nat_le 34 (length d) && layout.sdo_id d == 0 && layout.version_ptp d == 2 && is_of_sender (layout.message_type d)

@@ -27,6 +27,7 @@ pub mod Members
 pub mod Messages
 pub mod Octets
 pub mod Open
+pub mod Origins
 pub mod Parents
 pub mod PortStates
 pub mod Reach
@@ -38,5 +39,6 @@ pub mod Staying
 pub mod TaiAndUtc
 pub mod Tree
 pub mod TwoOffsets
+pub mod Unasked
 pub mod Unseen
 pub mod Walks

@@ -1,5 +1,5 @@
 -- What is open: a finding if it lasts. In the order of the findings of a clock.
-use Rattle.std.specs.Prelude.{ℕ, ◌++◌, List, [], ◌∷◌}
+use Rattle.std.specs.Prelude.{ℕ, ◌++◌, List, [], ◌∷◌, if◌then◌else◌}
 use Rattle.std.specs.List.{flat_map}
 use Rattle.ptpm_site.specs.declared.finding.Finding.{Finding}
 use Rattle.ptpm_site.specs.declared.finding.What.TheVariants as what
@@ -8,6 +8,8 @@ use Rattle.ptpm_site.specs.declared.source.Source.{Source}
 use Rattle.ptpm_site.specs.Findings.{found, interval_found, lock_found, state_found}
 use Rattle.ptpm_site.specs.SiteAnswers.{SiteAnswers}
 use Rattle.ptpm_site.specs.Staying.{open_lock, open_state}
+use Rattle.ptpm_site.specs.Unasked.{not_asked}
+use Rattle.ptpm_site.specs.Unseen.{open_mute, subjects}
 
 unfoldable pub open_state_found : SiteAnswers → Limits → Source → ℕ → List Finding
 open_state_found site limits s n = found (what.PortState n) s (open_state site limits s n)
@@ -37,6 +39,13 @@ open_locks site limits s = unless_found (locks_found site limits s) (flat_map (o
 unfoldable pub open_at : SiteAnswers → Limits → Source → List Finding
 open_at site limits s = open_states site limits s ++ open_locks site limits s
 
+-- A clock that is not seen sends Delay_Req alone; or it is the first of those that send in a domain that was not asked.
+unfoldable pub open_absent : SiteAnswers → Source → List Finding
+open_absent site s = found what.Unseen s (open_mute site s) ++ found what.NotAsked s (not_asked site s)
+
+abbrev pub open_one : SiteAnswers → Limits → Source → List Finding
+open_one site limits s = if site.seen s then open_at site limits s else open_absent site s
+
 -- of all clocks
 abbrev pub open_of : SiteAnswers → Limits → List Finding
-open_of site limits = flat_map (open_at site limits) site.clocks
+open_of site limits = flat_map (open_one site limits) (subjects site)

@@ -1,5 +1,5 @@
 -- What is wrong with clocks that are not seen: `own_host` and `mute`.
-use Rattle.std.specs.Prelude.{ℕ, ◌&&◌, ◌||◌, ◌++◌, Bool, false, List, [], ◌∷◌, Option, Some, None, if◌then◌else◌, map}
+use Rattle.std.specs.Prelude.{ℕ, ◌&&◌, ◌||◌, ◌++◌, Bool, false, List, [], ◌∷◌, Option, Some, None, if◌then◌else◌, is_some, map, not}
 use Rattle.std.specs.BTreeSet.{insert_key}
 use Rattle.std.specs.List.{filter_map, flat_map, fold, list_any}
 use Rattle.std.specs.Option.{option_map, option_map_or}
@@ -40,6 +40,11 @@ sent_kind site s = if sends site s 11 then Some 11 else if sends site s 0 then S
 
 abbrev pub mute : SiteAnswers → Source → Option Absence
 mute site s = if was_asked site s.domain then option_map why.Mute (sent_kind site s) else None
+
+-- what sends Delay_Req and nothing of these is a slave, or a transparent clock: it is mute if it lasts
+abbrev pub open_mute : SiteAnswers → Source → Option Absence
+open_mute site s =
+    if not (is_own_host site s || is_some (sent_kind site s)) && (sends site s 1 && was_asked site s.domain) then Some (why.Mute 1) else None
 
 -- what is wrong with a clock that is not seen
 abbrev pub unseen : SiteAnswers → Source → Option Absence

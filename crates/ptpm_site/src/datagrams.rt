@@ -2,11 +2,11 @@
 
 ghost use Rattle.std.specs.Prelude.{◌≡◌, ◌++◌, None, OnOk};
 ghost use Rattle.std.specs.Option.{option_to_list};
-ghost use Rattle.ptpm_site.specs.Datagrams.{TakesAny, TakesDatagram, answer_in};
-ghost use Rattle.ptpm_site.specs.Heard.{heard_in};
+ghost use Rattle.ptpm_site.specs.Datagrams.{TakesAny, TakesDatagram, all_heard_in, answer_in};
 
 use crate::answer::Answer;
 use crate::heard::Heard;
+use crate::origin::origin_in;
 use crate::site::Site;
 use ptpm_codec::view;
 use std::alloc::{AllocError, Global};
@@ -30,15 +30,24 @@ impl Site {
         ensures { OnOk result (TakesDatagram self.old self.new at datagram.now) }
     {
         self.take_answer(alloc, at, datagram)?;
-        self.hear(datagram)
+        self.hear(at, datagram)
     }
 
     /// Takes what a datagram shows beside what an answer says.
-    fn hear(&mut self, datagram: &[u8]) -> Result<(), AllocError>
+    fn hear(&mut self, at: Option<u64>, datagram: &[u8]) -> Result<(), AllocError>
         ensures clocks { OnOk result (self.new.clocks ≡ self.old.clocks) }
-        ensures heard { OnOk result (self.new.heard.items ≡ self.old.heard.items ++ option_to_list (heard_in datagram.now)) }
+        ensures heard { OnOk result (self.new.heard.items ≡ self.old.heard.items ++ all_heard_in at datagram.now) }
     {
-        if let Some(heard) = Heard::of(datagram) {
+        self.keep(Heard::of(datagram))?;
+        self.keep(origin_in(at, datagram).map(Heard::Timed))
+    }
+
+    /// Keeps what was shown, if there is anything.
+    fn keep(&mut self, shown: Option<Heard>) -> Result<(), AllocError>
+        ensures clocks { OnOk result (self.new.clocks ≡ self.old.clocks) }
+        ensures heard { OnOk result (self.new.heard.items ≡ self.old.heard.items ++ option_to_list shown) }
+    {
+        if let Some(heard) = shown {
             self.heard.push(heard)?;
         }
         Ok(())

@@ -43,6 +43,8 @@ pub enum What<'a> {
     Gone,
     /// It is not seen, and a clock names it or it sends by itself.
     Unseen(Absence),
+    /// Its domain was not asked. It is the first of this many clocks that send there.
+    NotAsked(usize),
     /// It is one of two or more clocks of the domain that are their own grandmasters and have a port in MASTER.
     TwoGrandmasters,
     /// It takes time from no clock.
@@ -115,6 +117,7 @@ impl What<'_> {
             What::NotAsExpected(_) | What::OtherLeaders(_) => "not_as_expected",
             What::Gone => "gone",
             What::Unseen(unseen) => unseen.name(),
+            What::NotAsked(_) => "not_asked",
             What::TwoGrandmasters => "two_grandmasters",
             What::NoMaster(_) => "no_master",
             What::GrandmasterNotSeen(_) => "grandmaster_not_seen",

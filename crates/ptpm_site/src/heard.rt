@@ -6,6 +6,7 @@ ghost use Rattle.ptpm_site.specs.Heard.{get_in, heard_in, heard_of, is_of_sender
 
 use crate::answer::{Request, request_of, source_of};
 use crate::asked::Asked;
+use crate::origin::Origin;
 use crate::source::Source;
 use ptpm_codec::{Action, ClockIdentity, PortIdentity, View, port_identity_at, view};
 
@@ -57,8 +58,10 @@ pub enum Heard {
     Asked(Query),
     /// An answer to a GET.
     Answered(Travel),
-    /// An Announce, Sync or Follow_Up.
+    /// An Announce, Sync, Follow_Up or Delay_Req.
     Sent(Sender),
+    /// What time its sender had.
+    Timed(Origin),
 }
 
 impl Heard {
@@ -135,15 +138,18 @@ pub const SYNC: u8 = 0;
 /// messageType of Follow_Up.
 pub const FOLLOW_UP: u8 = 8;
 
-/// Whether a port in MASTER sends messages of a type by itself (table 36).
+/// messageType of Delay_Req.
+pub const DELAY_REQ: u8 = 1;
+
+/// Whether a clock sends messages of a type by itself (table 36): a port in MASTER those of the first three, and a slave Delay_Req.
 fn is_of_sender(kind: u8) -> bool
     ensures { result ≡ is_of_sender kind }
 {
-    kind == ANNOUNCE || kind == SYNC || kind == FOLLOW_UP
+    kind == ANNOUNCE || kind == SYNC || kind == FOLLOW_UP || kind == DELAY_REQ
 }
 
-/// The clock that sends an Announce, a Sync or a Follow_Up with sdoId 0 (13.3).
-fn sender_in(datagram: &[u8]) -> Option<Sender>
+/// The clock that sends an Announce, a Sync, a Follow_Up or a Delay_Req with sdoId 0 (13.3).
+pub fn sender_in(datagram: &[u8]) -> Option<Sender>
     ensures { result ≡ sender_in datagram.now }
 {
     if datagram.len() < 34 {
@@ -168,6 +174,7 @@ pub fn kind_name(kind: u8) -> &'static str {
     match kind {
         ANNOUNCE => "Announce",
         SYNC => "Sync",
+        DELAY_REQ => "Delay_Req",
         _ => "Follow_Up",
     }
 }

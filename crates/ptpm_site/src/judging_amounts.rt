@@ -3,7 +3,7 @@
 ghost use Rattle.std.specs.Prelude.{◌≡◌, ◌++◌, OnOk};
 ghost use Rattle.std.specs.List.{flat_map};
 ghost use Rattle.ptpm_site.specs.Amounts.{large_delay, large_offset};
-ghost use Rattle.ptpm_site.specs.Findings.{amounts_found, followers_found, found, found_each, link_delays_found, off_found, utc_said};
+ghost use Rattle.ptpm_site.specs.Findings.{amounts_found, followers_found, found, found_each, link_delays_found, off_found, origin_found, utc_said};
 ghost use Rattle.ptpm_site.specs.Site.{site_answers};
 
 use crate::amounts::{large_delay, large_offset};
@@ -12,6 +12,7 @@ use crate::differences::utc_differs;
 use crate::finding::{Finding, What, add_finding};
 use crate::judging_ports::judge_link_delays;
 use crate::limits::Limits;
+use crate::origin::utc_by_host;
 use crate::site::Site;
 use crate::source::Source;
 use crate::tai_and_utc::{OffByUtc, followers_off, offset_by_utc};
@@ -33,6 +34,7 @@ pub fn judge_amounts(
 {
     judge_off_by_utc(site, source, limits, findings)?;
     judge_followers(site, source, sources, limits, findings)?;
+    judge_origin(site, source, limits, findings)?;
     judge_offset(site, source, limits, findings)?;
     judge_delay(site, source, limits, findings)?;
     judge_links(site, source, ports, limits, findings)
@@ -49,6 +51,21 @@ fn judge_off_by_utc(
 {
     match offset_by_utc(site, limits.tai_utc, source) {
         Some(offset) => add_finding(findings, source, What::OffByUtc(OffByUtc::Offset(offset))),
+        None => Ok(()),
+    }
+}
+
+/// `off_by_utc`, by what it says of its time and the clock of the host that asks.
+fn judge_origin(
+    site: &Site,
+    source: Source,
+    limits: Limits,
+    findings: &mut Vec<Finding<'_>>,
+) -> Result<(), AllocError>
+    ensures { OnOk result (findings.new.items ≡ findings.old.items ++ origin_found (site_answers site.now) limits source) }
+{
+    match utc_by_host(site, limits, source) {
+        Some(origin) => add_finding(findings, source, What::OffByUtc(OffByUtc::Origin(origin))),
         None => Ok(()),
     }
 }

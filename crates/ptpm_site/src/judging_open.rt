@@ -2,15 +2,23 @@
 
 ghost use Rattle.std.specs.Prelude.{◌≡◌, ◌++◌, OnOk, IfOk};
 ghost use Rattle.std.specs.List.{flat_map};
-ghost use Rattle.ptpm_site.specs.Open.{open_at, open_lock_found, open_locks, open_of, open_state_found, open_states};
+ghost use Rattle.ptpm_site.specs.Evidence.{IsOf};
+ghost use Rattle.ptpm_site.specs.Findings.{found};
+ghost use Rattle.ptpm_site.specs.Open.{open_absent, open_at, open_lock_found, open_locks, open_of, open_one, open_state_found, open_states};
 ghost use Rattle.ptpm_site.specs.Site.{site_answers};
+ghost use Rattle.ptpm_site.specs.Unasked.{not_asked, senders_of};
+ghost use Rattle.ptpm_site.specs.Unseen.{open_mute};
 
+use crate::evidence::Evidence;
 use crate::finding::{Finding, What, add_finding};
 use crate::judging_ports::{judge_intervals, judge_locks, judge_ports};
 use crate::limits::Limits;
 use crate::site::Site;
 use crate::source::Source;
 use crate::staying::{open_lock, open_state};
+use crate::subjects::subjects_of;
+use crate::unasked::{not_asked, senders_of};
+use crate::unseen::open_mute;
 use std::alloc::{AllocError, Global};
 
 /// All that is open, in the order of findings.
@@ -22,28 +30,125 @@ pub fn open_of<'a>(
     ensures { IfOk result (λ found. found.items ≡ open_of (site_answers site.now) limits) }
 {
     let sources = site.sources(alloc)?;
+    let subjects = subjects_of(alloc, site, sources.as_slice())?;
+    let evidence = Evidence::of(alloc, site.all_heard())?;
+    let senders = senders_of(alloc, site.all_heard())?;
+    let known = Known {
+        alloc,
+        sources: sources.as_slice(),
+        evidence: &evidence,
+        senders: senders.as_slice(),
+        limits,
+    };
     let mut findings = Vec::new(alloc);
-    judge_open_of(alloc, site, sources.as_slice(), limits, &mut findings)?;
+    judge_open_of(site, subjects.as_slice(), &known, &mut findings)?;
     Ok(findings)
+}
+
+/// What is known of all clocks of a site, and what is allowed.
+#[derive(Clone, Copy)]
+struct Known<'a> {
+    alloc: Global,
+    /// All clocks that are seen.
+    sources: &'a [Source],
+    /// What all lines show beside.
+    evidence: &'a Evidence,
+    /// All clocks that send Announce, Sync or Delay_Req.
+    senders: &'a [Source],
+    limits: Limits,
 }
 
 /// What is open at each of these clocks, one after another.
 fn judge_open_of(
-    alloc: Global,
     site: &Site,
-    sources: &[Source],
-    limits: Limits,
+    subjects: &[Source],
+    known: &Known<'_>,
     findings: &mut Vec<Finding<'_>>,
 ) -> Result<(), AllocError>
-    ensures { OnOk result (findings.new.items ≡ findings.old.items ++ flat_map (open_at (site_answers site.now) limits) sources.now) }
+    requires sources { known.now.sources.now ≡ (site_answers site.now).clocks }
+    requires of { IsOf (site_answers site.now).heard known.now.evidence.now }
+    requires senders { known.now.senders.now ≡ senders_of (site_answers site.now).heard }
+    ensures { OnOk result (findings.new.items
+        ≡ findings.old.items ++ flat_map (open_one (site_answers site.now) known.now.limits) subjects.now) }
 {
-    for source in sources {
-        judge_open(alloc, site, *source, limits, findings)?;
+    for subject in subjects {
+        judge_open_one(site, *subject, known, findings)?;
     }
     Ok(())
 }
 
-/// What is open at a clock.
+/// What is open at a clock, whether it is seen or not.
+fn judge_open_one(
+    site: &Site,
+    subject: Source,
+    known: &Known<'_>,
+    findings: &mut Vec<Finding<'_>>,
+) -> Result<(), AllocError>
+    requires sources { known.now.sources.now ≡ (site_answers site.now).clocks }
+    requires of { IsOf (site_answers site.now).heard known.now.evidence.now }
+    requires senders { known.now.senders.now ≡ senders_of (site_answers site.now).heard }
+    ensures { OnOk result (findings.new.items ≡ findings.old.items ++ open_one (site_answers site.now) known.now.limits subject) }
+{
+    if site.is_seen(subject) {
+        judge_open(known.alloc, site, subject, known.limits, findings)
+    } else {
+        judge_open_absent(site, subject, known, findings)
+    }
+}
+
+/// What is open at a clock that is not seen.
+#[tactic(auto, unfolding(crate::specs::Open::open_absent))]
+fn judge_open_absent(
+    site: &Site,
+    subject: Source,
+    known: &Known<'_>,
+    findings: &mut Vec<Finding<'_>>,
+) -> Result<(), AllocError>
+    requires sources { known.now.sources.now ≡ (site_answers site.now).clocks }
+    requires of { IsOf (site_answers site.now).heard known.now.evidence.now }
+    requires senders { known.now.senders.now ≡ senders_of (site_answers site.now).heard }
+    ensures { OnOk result (findings.new.items ≡ findings.old.items ++ open_absent (site_answers site.now) subject) }
+{
+    judge_open_mute(site, subject, known, findings)?;
+    judge_not_asked(site, subject, known, findings)
+}
+
+/// `mute`, by Delay_Req.
+fn judge_open_mute(
+    site: &Site,
+    subject: Source,
+    known: &Known<'_>,
+    findings: &mut Vec<Finding<'_>>,
+) -> Result<(), AllocError>
+    requires sources { known.now.sources.now ≡ (site_answers site.now).clocks }
+    requires of { IsOf (site_answers site.now).heard known.now.evidence.now }
+    ensures { OnOk result (findings.new.items ≡ findings.old.items ++ found What.Unseen subject (open_mute (site_answers site.now) subject)) }
+{
+    match open_mute(site, known.evidence, subject, known.sources) {
+        Some(why) => add_finding(findings, subject, What::Unseen(why)),
+        None => Ok(()),
+    }
+}
+
+/// `not_asked`, at the first clock that sends in a domain.
+fn judge_not_asked(
+    site: &Site,
+    subject: Source,
+    known: &Known<'_>,
+    findings: &mut Vec<Finding<'_>>,
+) -> Result<(), AllocError>
+    requires sources { known.now.sources.now ≡ (site_answers site.now).clocks }
+    requires of { IsOf (site_answers site.now).heard known.now.evidence.now }
+    requires senders { known.now.senders.now ≡ senders_of (site_answers site.now).heard }
+    ensures { OnOk result (findings.new.items ≡ findings.old.items ++ found What.NotAsked subject (not_asked (site_answers site.now) subject)) }
+{
+    match not_asked(site, known.evidence, subject, known.sources, known.senders) {
+        Some(clocks) => add_finding(findings, subject, What::NotAsked(clocks)),
+        None => Ok(()),
+    }
+}
+
+/// What is open at a clock that is seen.
 #[tactic(auto, unfolding(crate::specs::Open::open_at))]
 fn judge_open(
     alloc: Global,

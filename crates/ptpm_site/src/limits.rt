@@ -1,5 +1,7 @@
 //! What an operator allows, and what he knows.
 
+ghost use Rattle.std.specs.Prelude.{◌≡◌};
+
 #[derive(Clone, Copy)]
 pub struct Limits {
     /// How many nanoseconds the amount of an offset may have. `None` is no limit.
@@ -10,4 +12,21 @@ pub struct Limits {
     pub tai_utc: i16,
     /// How many seconds a port may take to come to a state in which it stays.
     pub settle: u32,
+    /// Whether the clock of the host that asks has the right time, in UTC.
+    pub is_synchronised: bool,
+}
+
+impl Limits {
+    /// The same, at a host whose clock has the right time or has not.
+    pub fn at_host(self, is_synchronised: bool) -> Limits
+        ensures { result ≡ record { offset = self.offset; delay = self.delay; tai_utc = self.tai_utc; settle = self.settle; is_synchronised = is_synchronised } }
+    {
+        Limits {
+            offset: self.offset,
+            delay: self.delay,
+            tai_utc: self.tai_utc,
+            settle: self.settle,
+            is_synchronised,
+        }
+    }
 }

@@ -5,6 +5,7 @@ ghost use Rattle.std.specs.List.{count_by};
 ghost use Rattle.ptpm_site.specs.Site.{site_answers};
 ghost use Rattle.ptpm_site.specs.TaiAndUtc.{all_of, all_off, followers_off, follows_well, has_follower, is_about, is_about_utc, is_about_utc_of, is_off_by_utc, offset_by_utc, takes_utc_for_tai};
 
+use crate::origin::Origin;
 use crate::port_groups::PortGroup;
 use crate::site::Site;
 use crate::source::Source;
@@ -17,6 +18,8 @@ pub enum OffByUtc {
     Offset(i64),
     /// By those of all clocks that follow it. There are this many.
     Followers(usize),
+    /// By the host that asks: it has the same time, and that is UTC.
+    Origin(Origin),
 }
 
 /// A second as a TimeInterval.

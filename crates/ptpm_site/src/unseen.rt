@@ -5,10 +5,10 @@ ghost use Rattle.std.specs.List.{list_any};
 ghost use Rattle.ptpm_site.specs.Evidence.{IsOf};
 ghost use Rattle.ptpm_site.specs.Grandmasters.{in_domain};
 ghost use Rattle.ptpm_site.specs.Site.{site_answers};
-ghost use Rattle.ptpm_site.specs.Unseen.{is_own_host, mute, names, own_host, sends, sent_kind, unseen, was_asked};
+ghost use Rattle.ptpm_site.specs.Unseen.{is_own_host, mute, names, open_mute, own_host, sends, sent_kind, unseen, was_asked};
 
 use crate::evidence::Evidence;
-use crate::heard::{ANNOUNCE, FOLLOW_UP, SYNC, Sender};
+use crate::heard::{ANNOUNCE, DELAY_REQ, FOLLOW_UP, SYNC, Sender};
 use crate::site::Site;
 use crate::source::Source;
 
@@ -61,7 +61,7 @@ fn has_clock_of(sources: &[Source], domain: u8) -> bool
 }
 
 /// Whether a GET asks in a domain, or a clock of it answered.
-fn was_asked(site: &Site, evidence: &Evidence, domain: u8, sources: &[Source]) -> bool
+pub fn was_asked(site: &Site, evidence: &Evidence, domain: u8, sources: &[Source]) -> bool
     requires of { IsOf (site_answers site.now).heard evidence.now }
     requires sources { sources.now ≡ (site_answers site.now).clocks }
     ensures { result ≡ was_asked (site_answers site.now) domain }
@@ -77,7 +77,7 @@ fn sends(site: &Site, evidence: &Evidence, source: Source, kind: u8) -> bool
     evidence.senders.contains(&sender)
 }
 
-/// The messageType of what a clock sends by itself.
+/// The messageType of what a clock sends by itself as a master does.
 fn sent_kind(site: &Site, evidence: &Evidence, source: Source) -> Option<u8>
     requires { IsOf (site_answers site.now).heard evidence.now }
     ensures { result ≡ sent_kind (site_answers site.now) source }
@@ -102,6 +102,30 @@ fn mute(site: &Site, evidence: &Evidence, source: Source, sources: &[Source]) ->
     let kind = sent_kind(site, evidence, source)?;
     if was_asked(site, evidence, source.domain, sources) {
         Some(Absence::Mute(kind))
+    } else {
+        None
+    }
+}
+
+/// That a clock that is not seen sends Delay_Req alone, and answers nothing in a domain that was asked: a slave, or a transparent
+/// clock. `sources` has all clocks that are seen.
+pub fn open_mute(
+    site: &Site,
+    evidence: &Evidence,
+    source: Source,
+    sources: &[Source],
+) -> Option<Absence>
+    requires of { IsOf (site_answers site.now).heard evidence.now }
+    requires sources { sources.now ≡ (site_answers site.now).clocks }
+    ensures { result ≡ open_mute (site_answers site.now) source }
+{
+    if evidence.hosts.contains(&source.clock) || sent_kind(site, evidence, source).is_some() {
+        return None;
+    }
+    if sends(site, evidence, source, DELAY_REQ)
+        && was_asked(site, evidence, source.domain, sources)
+    {
+        Some(Absence::Mute(DELAY_REQ))
     } else {
         None
     }

@@ -42,7 +42,7 @@ fn add_query(asked: &mut Vec<AskedDomain>, query: &Query) -> Result<(), AllocErr
     Ok(())
 }
 
-/// What the lines can tell: which domains were asked, with how many boundary hops, and when.
+/// Which domains were asked, with how many boundary hops, and when, as far as the lines have it.
 #[derive(Clone, Copy)]
 pub(crate) struct AskedText<'a> {
     pub(crate) asked: &'a [AskedDomain],

@@ -13,6 +13,7 @@ use std::fmt;
 pub(crate) fn clock_of(finding: &Finding<'_>) -> Option<ClockIdentity> {
     match &finding.what {
         What::OtherLeaders(other) if other.leading.is_empty() => None,
+        What::NotAsked(_) => None,
         _ => Some(finding.source.clock),
     }
 }

@@ -4,7 +4,7 @@ use crate::expected_json::{put_other_leaders, put_outside, put_unmet};
 use crate::expected_text::{clock_of, clock_of_cause};
 use crate::json::{identity_value, member_value, port_value, quality_value, text_value};
 use crate::look::Look;
-use crate::seconds::whole_seconds;
+use crate::seconds::{NanosecondSeconds, whole_seconds};
 use ptpm_causes::Cause;
 use ptpm_codec::ClockIdentity;
 use ptpm_data::PortState;
@@ -120,6 +120,7 @@ fn put_values(
             "message",
             text_value(alloc, kind_name(*kind))?,
         ),
+        What::NotAsked(clocks) => put(map, alloc, "clocks", Value::from(*clocks)),
         What::NoMaster(why) => put_masterless(alloc, map, why),
         What::GrandmasterNotSeen(clock) => put(
             map,
@@ -319,8 +320,18 @@ fn put_off_by_utc(
             put(map, alloc, "clocks", Value::from(*count))?;
             "followers"
         }
+        OffByUtc::Origin(origin) => {
+            put(map, alloc, "origin", time_value(alloc, origin.time)?)?;
+            put(map, alloc, "at", time_value(alloc, origin.at)?)?;
+            "origin"
+        }
     };
     put(map, alloc, "reason", text_value(alloc, reason)?)
+}
+
+/// Nanoseconds as a text of seconds.
+fn time_value(alloc: Global, nanoseconds: u64) -> Result<Value, AllocError> {
+    Ok(Value::String(format!(in alloc; "{}", NanosecondSeconds(nanoseconds))?))
 }
 
 fn put_untraceable(

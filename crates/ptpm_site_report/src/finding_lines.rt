@@ -17,7 +17,7 @@ pub(crate) enum FindingLine {
         place: usize,
         is_first: bool,
     },
-    /// Of findings that say the same as the one at this place: how many more of them there are, and the number of what they say.
+    /// Of findings that say the same as the one at this place: how many more there are, and the number of what they say.
     Many {
         place: usize,
         more: usize,

@@ -13,7 +13,7 @@ pub(crate) struct FindingName {
 }
 
 /// All names, in the order in which the findings of a clock are reported.
-pub(crate) const ALL: [FindingName; 35] = [
+pub(crate) const ALL: [FindingName; 36] = [
     FindingName {
         name: "absent",
         meaning: "The inventory names the clock, and it did not answer.",
@@ -188,6 +188,11 @@ pub(crate) const ALL: [FindingName; 35] = [
         name: "identity_twice",
         meaning: "Two clocks have one identity.",
         is_critical: true,
+    },
+    FindingName {
+        name: "not_asked",
+        meaning: "Clocks send in a domain in which none was asked.",
+        is_critical: false,
     },
 ];
 

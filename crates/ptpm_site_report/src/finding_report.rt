@@ -1,5 +1,6 @@
 //! The findings of a site, printed one a line.
 
+use crate::expected_text::clock_of;
 use crate::finding_lines::{FindingLine, FindingLines, each_line};
 use crate::finding_text::{Said, Words};
 use crate::followers::{Followers, Head, SoToo};
@@ -134,7 +135,10 @@ pub(crate) fn print_open_line<O: Write>(
         FindingLine::One { place, .. } => match open.get(place) {
             Some(finding) => {
                 write!(out, "{}", Words(finding))?;
-                print_description(look, finding.source, out)
+                match clock_of(finding) {
+                    Some(_) => print_description(look, finding.source, out),
+                    None => writeln!(out),
+                }
             }
             None => Ok(()),
         },

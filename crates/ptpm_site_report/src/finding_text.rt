@@ -56,6 +56,7 @@ impl fmt::Display for Said<'_> {
             What::Profile(outside) => write!(f, " {}", OutsideText(*outside)),
             What::Gone => f.write_str(" answers no more"),
             What::Unseen(unseen) => write_unseen(unseen, f),
+            What::NotAsked(clocks) => write!(f, " {clocks} clocks send here"),
             What::Absent(None) | What::Unexpected | What::TwoGrandmasters => Ok(()),
             What::NoMaster(why) => write_masterless(why, f),
             What::GrandmasterNotSeen(clock) => write!(f, " {clock}"),
@@ -260,6 +261,9 @@ fn write_off_by_utc<W: fmt::Write>(how: &OffByUtc, f: &mut fmt::Formatter<W>) ->
         ),
         OffByUtc::Followers(count) => {
             write!(f, " each of the {count} clocks that follow it says so")
+        }
+        OffByUtc::Origin(_) => {
+            f.write_str(" its time is UTC by the clock of this host, and it says ptpTimescale true")
         }
     }
 }

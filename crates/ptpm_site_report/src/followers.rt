@@ -17,7 +17,7 @@ pub(crate) enum Head {
 }
 
 impl Head {
-    /// The line of a finding, by its name and the clock at which it stands.
+    /// The line of a finding, by its name and its clock.
     pub(crate) fn of(finding: Cause) -> Head {
         Head::One(finding.source, place_of(finding.kind.name()))
     }

@@ -1,5 +1,7 @@
 //! Findings that an operator does not want to see.
 
+ghost use Rattle.std.specs.Prelude.{◌≡◌, []};
+
 use crate::finding_names::rank_of;
 use ptpm_site::finding::Finding;
 use std::alloc::{AllocError, Global};
@@ -31,7 +33,12 @@ impl Ignored {
     }
 
     /// Takes the findings of these names away.
-    pub(crate) fn leave_out(&self, findings: &mut Vec<Finding<'_>>) {
+    pub(crate) fn leave_out(&self, findings: &mut Vec<Finding<'_>>)
+        ensures { self.now.ranks.items ≡ [] → findings.new.items ≡ findings.old.items }
+    {
+        if self.ranks.is_empty() {
+            return;
+        }
         findings.retain(|finding| !self.has(finding));
     }
 

@@ -21,8 +21,8 @@ use std::io::Write;
 pub(crate) struct Object<'a>(pub(crate) &'a Look<'a>);
 
 impl Object<'_> {
-    /// Prints one object: when the clocks were asked and in which domains, the domains with their clocks, what is open, the
-    /// findings, and how much was left out.
+    /// Prints one object: what was asked and when, the domains with their clocks, what is open, the findings, and how much was left
+    /// out.
     pub(crate) fn print<O: Write>(&self, alloc: Global, out: &mut O) -> Result<(), Fault> {
         print_head(self.0, out)?;
         print_domains(alloc, self.0, out)?;

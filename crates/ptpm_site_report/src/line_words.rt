@@ -1,4 +1,4 @@
-//! The words before a datagram in a line: when it came.
+//! The words before a datagram in a line: when it came. And those of a note: whether the host's clock has the right time.
 
 use std::str::FromStr;
 
@@ -14,6 +14,16 @@ pub(crate) fn at_of(line: &str) -> Option<u64> {
         }
     }
     None
+}
+
+/// Whether a note `#ptpm` has the word `clock=synchronised`. It is `None` if the line is no such note.
+pub(crate) fn synchronised_in(line: &str) -> Option<bool> {
+    let words = line.strip_prefix("#ptpm")?;
+    if words.is_empty() || words.starts_with(' ') {
+        Some(words.split(' ').any(|word| word == "clock=synchronised"))
+    } else {
+        None
+    }
 }
 
 fn nanoseconds_of(time: &str) -> Option<u64> {

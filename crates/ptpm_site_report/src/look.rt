@@ -4,14 +4,14 @@ use crate::asked_domains::{AskedDomain, AskedText};
 use crate::names::Names;
 use crate::reporting::Viewing;
 use crate::rows::Rows;
-use crate::site_lines::ShownSite;
+use crate::site_lines::SiteLines;
 use crate::span::Span;
 use ptpm_causes::{Cause, Kind};
 use ptpm_site::finding::Finding;
 use ptpm_site::picture::Picture;
 use ptpm_site::source::Source;
 
-/// A picture, with the names of its clocks, from which finding each finding follows, and what the lines tell of their GETs.
+/// A picture, with the names of its clocks, from which finding each finding follows, and what the lines have of GETs.
 #[derive(Clone, Copy)]
 pub(crate) struct Look<'a> {
     pub(crate) picture: &'a Picture<'a>,
@@ -31,14 +31,14 @@ impl<'a> Look<'a> {
         picture: &'a Picture<'a>,
         causes: &'a [Option<Cause>],
         viewing: &Viewing<'a>,
-        shown: &'a ShownSite,
+        shown: &'a SiteLines,
     ) -> Look<'a> {
         Look {
             picture,
             names: viewing.names,
             causes,
             asked: shown.asked.as_slice(),
-            span: shown.span,
+            span: shown.notes.span,
             is_all: viewing.is_all,
         }
     }

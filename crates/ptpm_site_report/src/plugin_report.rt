@@ -3,7 +3,7 @@
 use crate::look::Look;
 use crate::nagios::{Plugin, Standing};
 use crate::reporting::{Viewing, judged};
-use crate::site_lines::{ShownSite, read_shown};
+use crate::site_lines::{SiteLines, read_shown};
 use ptpm_causes::causes_of;
 use ptpm_commands::Fault;
 use ptpm_site::limits::Limits;
@@ -20,6 +20,7 @@ pub fn report_standing<R: Read + Drop, O: Write>(
     out: &mut O,
 ) -> Result<Standing, Fault> {
     let shown = read_shown(alloc, reader)?;
+    let limits = limits.at_host(shown.notes.is_synchronised);
     let picture = judged(alloc, limits, &viewing, &shown).map_err(|_| Fault::OutOfMemory)?;
     print_plugin(alloc, limits, &viewing, &shown, &picture, out)
 }
@@ -28,7 +29,7 @@ fn print_plugin<O: Write>(
     alloc: Global,
     limits: Limits,
     viewing: &Viewing<'_>,
-    shown: &ShownSite,
+    shown: &SiteLines,
     picture: &Picture<'_>,
     out: &mut O,
 ) -> Result<Standing, Fault> {

@@ -1,7 +1,9 @@
 //! `ptpm site`: a site's tree and what is wrong with it, by the answers among lines of datagrams.
 
-ghost use Rattle.std.specs.Prelude.{◌≡◌, IfOk};
-ghost use Rattle.ptpm_site.specs.Findings.{reported};
+ghost use Rattle.std.specs.Prelude.{◌≡◌, [], IfOk, length};
+ghost use Rattle.ptpm_expected.specs.Expected.{said_by};
+ghost use Rattle.ptpm_site.specs.Findings.{findings_of, reported};
+ghost use Rattle.ptpm_site.specs.Site.{site_answers};
 ghost use Rattle.ptpm_site_report.specs.Reporting.{outcome, status};
 
 use crate::drawing::draw;
@@ -11,7 +13,7 @@ use crate::look::Look;
 use crate::names::Names;
 use crate::openmetrics::Metrics;
 use crate::page::print_page;
-use crate::site_lines::{ShownSite, read_shown};
+use crate::site_lines::{SiteLines, read_shown};
 use crate::text::Sheet;
 use ptpm_causes::causes_of;
 use ptpm_commands::Fault;
@@ -111,17 +113,23 @@ pub fn report_viewed<R: Read + Drop, O: Write>(
     out: &mut O,
 ) -> Result<Conclusion, Fault> {
     let shown = read_shown(alloc, reader)?;
-    let picture = judged(alloc, options.limits, &viewing, &shown).map_err(|_| Fault::OutOfMemory)?;
+    let limits = options.limits.at_host(shown.notes.is_synchronised);
+    let picture = judged(alloc, limits, &viewing, &shown).map_err(|_| Fault::OutOfMemory)?;
     print_picture(alloc, options.form, &viewing, &shown, &picture, out)
 }
 
-/// The picture of a site, without the findings that are left out.
+/// The picture of a site, without the findings that are left out. If none is, and there is no inventory, it has as many as the answers
+/// and the profile make.
 pub(crate) fn judged<'a>(
     alloc: Global,
     limits: Limits,
     viewing: &Viewing<'a>,
-    shown: &'a ShownSite,
-) -> Result<Picture<'a>, AllocError> {
+    shown: &'a SiteLines,
+) -> Result<Picture<'a>, AllocError>
+    ensures clocks { IfOk result (λ picture. picture.forest.sources.items ≡ (site_answers shown.now.site).clocks) }
+    ensures count { viewing.now.expectations.inventory ≡ None → viewing.now.ignored.now.ranks.items ≡ [] → IfOk result (λ picture. length picture.findings.items
+        ≡ length (said_by (site_answers shown.now.site) viewing.now.expectations.profile (findings_of (site_answers shown.now.site) limits))) }
+{
     let mut picture = picture_of(
         alloc,
         &shown.site,
@@ -139,7 +147,7 @@ fn print_picture<O: Write>(
     alloc: Global,
     form: Form,
     viewing: &Viewing<'_>,
-    shown: &ShownSite,
+    shown: &SiteLines,
     picture: &Picture<'_>,
     out: &mut O,
 ) -> Result<Conclusion, Fault>

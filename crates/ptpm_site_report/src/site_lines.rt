@@ -1,7 +1,7 @@
 //! The answers among lines of datagrams.
 
 use crate::asked_domains::{AskedDomain, asked_domains};
-use crate::line_words::at_of;
+use crate::line_words::{at_of, synchronised_in};
 use crate::span::Span;
 use ptpm_commands::Fault;
 use ptpm_commands::lines::Lines;
@@ -12,37 +12,48 @@ use std::io::Read;
 
 /// What lines show of a site.
 #[derive(Drop)]
-pub(crate) struct ShownSite {
+pub(crate) struct SiteLines {
     /// No more clocks and ports than there is room for, and no clocks that are gone.
     pub(crate) site: Site,
     /// How much there is no room for.
     pub(crate) left_out: LeftOut,
     pub(crate) asked: Vec<AskedDomain>,
+    pub(crate) notes: LineNotes,
+}
+
+/// What lines say beside their datagrams.
+#[derive(Clone, Copy)]
+pub(crate) struct LineNotes {
     /// When the datagrams came. `None` if no line says it.
     pub(crate) span: Option<Span>,
+    /// Whether the last note `#ptpm` says that the clock of the host that asked was right.
+    pub(crate) is_synchronised: bool,
 }
 
 /// What is shown of the site of a reader's lines.
-pub(crate) fn read_shown<R: Read + Drop>(alloc: Global, reader: R) -> Result<ShownSite, Fault> {
-    let mut span = None;
-    let mut site = read_site(alloc, reader, &mut span)?;
+pub(crate) fn read_shown<R: Read + Drop>(alloc: Global, reader: R) -> Result<SiteLines, Fault> {
+    let mut notes = LineNotes {
+        span: None,
+        is_synchronised: false,
+    };
+    let mut site = read_site(alloc, reader, &mut notes)?;
     let asked = asked_domains(alloc, site.all_heard()).map_err(|_| Fault::OutOfMemory)?;
     let left_out = site.keep_first();
     site.drop_gone(alloc).map_err(|_| Fault::OutOfMemory)?;
-    Ok(ShownSite {
+    Ok(SiteLines {
         site,
         left_out,
         asked,
-        span,
+        notes,
     })
 }
 
-/// The site that the answers among a reader's lines make, and when their datagrams came. A datagram that is no answer to one of
-/// the six is passed over; a line that is no datagram in hexadecimal is a fault.
+/// The site that the answers among a reader's lines make. A datagram that is no answer to one of the six is passed over; a line
+/// that is no datagram in hexadecimal is a fault.
 fn read_site<R: Read + Drop>(
     alloc: Global,
     reader: R,
-    span: &mut Option<Span>,
+    notes: &mut LineNotes,
 ) -> Result<Site, Fault> {
     let mut lines = Lines::new(alloc, reader)?;
     let mut site = Site::new(alloc);
@@ -50,11 +61,14 @@ fn read_site<R: Read + Drop>(
         if !lines.read(number)? {
             break;
         }
+        let line = lines.text(number)?;
         if let Some(datagram) = lines.datagram(alloc, number)? {
-            let at = at_of(lines.text(number)?);
-            *span = Span::with(*span, at);
+            let at = at_of(line);
+            notes.span = Span::with(notes.span, at);
             site.take_datagram_at(alloc, at, datagram.as_slice())
                 .map_err(|_| Fault::OutOfMemory)?;
+        } else if let Some(says) = synchronised_in(line) {
+            notes.is_synchronised = says;
         }
     }
     Ok(site)

@@ -30,6 +30,9 @@ impl Sheet<'_> {
         let picture = self.0.picture;
         if !picture.site.is_empty() || !picture.findings.is_empty() {
             print_findings(alloc, self.0, out)?;
+        } else {
+            let followers = Followers::of(alloc, self.0).map_err(|_| Fault::OutOfMemory)?;
+            print_open(alloc, self.0, &followers, out)?;
         }
         let notes = notes_of(alloc, picture).map_err(|_| Fault::OutOfMemory)?;
         for note in notes.as_slice() {

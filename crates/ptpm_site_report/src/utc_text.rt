@@ -35,12 +35,17 @@ fn write_date<W: fmt::Write>(days: u64, f: &mut fmt::Formatter<W>) -> fmt::Resul
     let since_march = days.saturating_add(719_468);
     let day_of_era = since_march % 146_097;
     let year_of_era = year_of_era(day_of_era);
-    let first_of_year = 365 * year_of_era + year_of_era / 4 - year_of_era / 100;
+    let leap_days = (year_of_era / 4).saturating_sub(year_of_era / 100);
+    let first_of_year = year_of_era.saturating_mul(365).saturating_add(leap_days);
     let day_of_year = day_of_era.saturating_sub(first_of_year);
     let month = (5 * day_of_year + 2) / 153;
     let day = (day_of_year + 1).saturating_sub((153 * month + 2) / 5);
-    let after_december = if month < 10 { 0 } else { 1 };
-    let year = since_march / 146_097 * 400 + year_of_era + after_december;
+    let since_era = if month < 10 {
+        year_of_era
+    } else {
+        year_of_era.saturating_add(1)
+    };
+    let year = (since_march / 146_097 * 400).saturating_add(since_era);
     write!(f, "{year:04}-{:02}-{day:02}", (month + 2) % 12 + 1)
 }
 

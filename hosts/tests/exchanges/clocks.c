@@ -136,6 +136,20 @@ static void run_in_said(char *words) {
     run_datagram(words, port, &said, places);
 }
 
+/* `in-given PORT VALUE, OCTETS`: the device gives the octets of a value. */
+static void run_in_given(char *words) {
+    static struct ptpm_say said;
+    static struct octets value;
+    size_t places = next_room(&words, PTPM_MOST_SENT);
+    uint16_t port = (uint16_t)next_number(&words, 0);
+    char *given = strsep(&words, ",");
+    read_octets(&given, &value);
+    if (words == NULL) say_misspelt("in-given");
+    said = (struct ptpm_say){ .kind = PTPM_GIVES, .size = (uint16_t)value.size };
+    memcpy(said.octets, value.at, value.size < sizeof said.octets ? value.size : sizeof said.octets);
+    if (words != NULL) run_datagram(words, port, &said, places);
+}
+
 /* The members whose bits are set, by the names that the refusals of a start give them after BAD_. */
 static void say_members(uint32_t members, uint32_t first) {
     for (uint32_t bit = 0; bit < 32; bit++) {
@@ -266,7 +280,7 @@ static void run_stop(char *words) {
 }
 
 const struct command clock_commands[] = {
-    { "clock", run_start }, { "in", run_in }, { "in-said", run_in_said }, { "changed", run_changed }, { "observe", run_observe },
+    { "clock", run_start }, { "in", run_in }, { "in-said", run_in_said }, { "in-given", run_in_given }, { "changed", run_changed }, { "observe", run_observe },
     { "set-here", run_set_here }, { "read", run_read }, { "image", run_image }, { "restore", run_restore }, { "saving", run_saving }, { "image-of", run_image_of },
     { "saved", run_saved }, { "stop", run_stop }, { NULL, NULL },
 };

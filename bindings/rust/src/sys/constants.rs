@@ -101,6 +101,7 @@ pub const PTPM_CHANGED_LOG_MIN_PDELAY: u8 = 1 << 7;
 // What a device says.
 pub const PTPM_AGREES: u8 = 0;
 pub const PTPM_OBJECTS: u8 = 1;
+pub const PTPM_GIVES: u8 = 2;
 
 // The errors that a device may give.
 pub const PTPM_ERROR_WRONG_VALUE: u16 = 4;
@@ -241,6 +242,7 @@ pub const PTPM_CANT_OBJECT: u32 = 122;
 // `enum ptpm_asking`.
 pub const PTPM_ASKED_NOTHING: u32 = 0;
 pub const PTPM_ASKED_CHANGE: u32 = 29;
+pub const PTPM_ASKED_VALUE: u32 = 30;
 pub const PTPM_ASKING_NO_CLOCK: u32 = 32;
 pub const PTPM_ASKING_NO_PORT: u32 = 33;
 
@@ -444,4 +446,4 @@ pub const PTPM_NO_ID: u32 = 65536;
 
 // The greatest counts and sizes.
 pub const PTPM_MOST_NAME: usize = 27;
-pub const PTPM_MOST_FIELD_TEXT: usize = 2843;
+pub const PTPM_MOST_FIELD_TEXT: usize = 5065;

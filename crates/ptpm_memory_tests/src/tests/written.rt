@@ -91,6 +91,7 @@ fn print_site(alloc: Global, form: Form, mut room: &mut [u8]) -> End {
         delay: None,
         tai_utc: 37,
         settle: 10,
+        is_synchronised: false,
     };
     match report(alloc, Options { form, limits }, ANSWERS, &mut room) {
         Ok(outcome) if outcome.status() == 1 => End::Well,

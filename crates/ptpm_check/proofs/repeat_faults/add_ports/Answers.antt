@@ -1,7 +1,7 @@
 use Rattle.std.proofs.Common.{map, ap, ◌∙◌, take}
 use Rattle.std.proofs.lemmas.List.{take-map}
 use Rattle.toml.specs.View.{view}
-use Rattle.ptpm_check.specs.RepeatFaults.{number_in}
+use Rattle.ptpm_check.specs.Heads.{number_in}
 use Rattle.ptpm_check.proofs.repeat_faults.add_ports.Goals as goal
 
 pub add_port-requires : goal.add_port-requires

@@ -1,6 +1,6 @@
 use Rattle.std.proofs.Common.{◌≡◌, map, take}
 use Rattle.toml.specs.View.{view}
-use Rattle.ptpm_check.specs.RepeatFaults.{number_in}
+use Rattle.ptpm_check.specs.Heads.{number_in}
 use Rattle.ptpm_check.proofs.repeat_faults.numbers_of.Given as goal
 
 -- the numbers of the tables before this one

@@ -1,11 +1,11 @@
-use Rattle.std.proofs.Common.{◌≡◌, ◌+◌, ◌++◌, drop, map}
+use Rattle.std.proofs.Common.{◌≡◌, ◌++◌, flat_map, map}
+use Rattle.std.specs.List.{range_with_len}
 use Rattle.toml.specs.View.{view}
-use Rattle.ptpm_check.specs.Marks.{each, marks_in}
-use Rattle.ptpm_check.specs.StartFaults.{port_start_marks}
+use Rattle.ptpm_check.specs.Marks.{marks_in}
+use Rattle.ptpm_check.specs.StartFaults.{rank_marks}
 use Rattle.ptpm_check.proofs.start_faults.add_ports.Given as goal
 
--- what was reported, and what those ahead will report, is all
-abbrev pub invariant-loop-index : goal.invariant-loop-index
-invariant-loop-index l =
-    marks_in l.faults.items ++ each (port_start_marks l.clock) (l.index + 1) (map view (drop l.index l.ports))
-    ≡ marks_in l.initial.faults.items ++ each (port_start_marks l.clock) 1 (map view l.ports)
+-- what was reported is of the ranks so far
+abbrev pub invariant-loop-place : goal.invariant-loop-place
+invariant-loop-place l =
+    marks_in l.faults.items ≡ marks_in l.initial.faults.items ++ flat_map (rank_marks l.clock (map view l.ports)) (range_with_len 1 l.place)

@@ -3,7 +3,7 @@ use Rattle.std.proofs.lemmas.Bool.{cond-false, cond-true}
 use Rattle.ptpm_agent.specs.Agent.{clock_of, state_of}
 use Rattle.ptpm_agent.specs.Turn.{numbered_from}
 use Rattle.ptpm_device.specs.Asking.{asked, is_asked}
-use Rattle.ptpm_device.proofs.Asked.{asked-read, asked-unread}
+use Rattle.ptpm_device.proofs.WhenAsked.{asked-read, asked-unread}
 use Rattle.ptpm_device.proofs.asking.ask.Goals as goal
 
 pub returns-in-Err-clause-asked : goal.returns-in-Err-clause-asked

@@ -11,7 +11,7 @@ use Rattle.ptpm_agent.specs.Addressing.{request_of}
 use Rattle.ptpm_agent.specs.Agent.{clock_of, state_of}
 use Rattle.ptpm_agent.proofs.Fitting.{may_judge_port}
 use Rattle.ptpm_device.specs.Asking.{is_asked, is_change, is_here}
-use Rattle.ptpm_device.proofs.Asked.{away-not_asked, here_parts, is_asked-here, is_new_look-other, unchanging-not_asked}
+use Rattle.ptpm_device.proofs.WhenAsked.{away-not_asked, here_parts, is_asked-here, is_new_look-other, unchanging-not_asked}
 use Rattle.ptpm_device.proofs.asking.is_asked.Goals as goal
 
 pub returns-then-not-is_change : goal.returns-then-not-is_change

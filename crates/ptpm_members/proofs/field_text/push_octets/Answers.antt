@@ -1,5 +1,6 @@
 use Rattle.std.proofs.Common.{◌≡◌, ◌++◌, ℕ, List, ap, append_assoc, codes, subst, sym}
-use Rattle.ptpm_members.specs.FieldText.{octets_line, octets_text}
+use Rattle.ptpm_members.specs.FieldText.{octets_line}
+use Rattle.ptpm_members.specs.ValueText.{octets_text}
 use Rattle.ptpm_members.proofs.field_text.push_octets.Goals as goal
 
 name : (lead octets : List ℕ) → lead ++ codes "value " ++ octets_text octets ++ codes "\n" ≡ octets_line lead octets

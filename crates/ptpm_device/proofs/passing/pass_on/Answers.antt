@@ -1,0 +1,9 @@
+use Rattle.std.proofs.Common.{arith}
+use Rattle.ptpm_agent.proofs.Turns.{forwarded-on, forwarded-not}
+use Rattle.ptpm_device.proofs.passing.pass_on.Goals as goal
+
+pub returns-then-is_passed_on-clause-copies : goal.returns-then-is_passed_on-clause-copies
+returns-then-is_passed_on-clause-copies g c = grind (arith, forwarded-on)
+
+pub returns-else-is_passed_on-clause-copies : goal.returns-else-is_passed_on-clause-copies
+returns-else-is_passed_on-clause-copies g c = grind (arith, forwarded-not)

@@ -1,0 +1,16 @@
+use Rattle.std.proofs.Common.{◌≡◌, true, sym, subst}
+use Rattle.ptpm_agent.specs.Turn.{NumberedRequest}
+use Rattle.ptpm_device.specs.Asking.{is_lacked}
+use Rattle.ptpm_device.proofs.Said.{lacked_request, reply_given-fits}
+use Rattle.ptpm_device.proofs.saying.keep.Goals as goal
+
+pub keep_again-requires-clause-action : goal.keep_again-requires-clause-action
+keep_again-requires-clause-action g c =
+    lacked_request c.get.inside.request
+    (subst (λ (r : NumberedRequest). is_lacked r.request ≡ true) (sym c.get.view_is) c.requires.lacked)
+
+pub keep_again-requires-clause-fits : goal.keep_again-requires-clause-fits
+keep_again-requires-clause-fits g c =
+    reply_given-fits c.get.inside.request c.args.octets.now c.reply_given-reply.result
+    (subst (λ (r : NumberedRequest). is_lacked r.request ≡ true) (sym c.get.view_is) c.requires.lacked)
+    c.requires.octets c.reply_given-reply.ensures

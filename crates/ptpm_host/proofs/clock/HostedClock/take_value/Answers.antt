@@ -1,0 +1,18 @@
+use Rattle.std.proofs.Common.{◌≡◌, ◌∙◌, arith, false, sym}
+use Rattle.ptpm_device.specs.Asking.{wanted_once}
+use Rattle.ptpm_device.proofs.Said.{turned_kept, turned_ungiven}
+use Rattle.ptpm_host.specs.Clock.{clock_in, state_in}
+use Rattle.ptpm_host.proofs.clock.HostedClock.take_value.Goals as goal
+
+pub returns-then-is_kept-clause-turned : goal.returns-then-is_kept-clause-turned
+returns-then-is_kept-clause-turned c =
+    turned_kept (clock_in c.args.self.now) (state_in c.args.self.now) c.args.octets.now c.args.port c.args.datagram.now _ _ _ _ _
+    (sym c.keep_value-is_kept.ensures.wanted ∙ c.if-is_kept.true) c.keep_value-is_kept.ensures.number
+    c.keep_value-is_kept.ensures.clock c.keep_value-is_kept.ensures.kept c.take_turn-handled.ensures.turned
+
+pub returns-clause-turned : goal.returns-clause-turned
+returns-clause-turned c =
+    let once : wanted_once (clock_in c.args.self.now) (state_in c.args.self.now) c.args.datagram.now ≡ false = grind arith in
+    turned_ungiven (clock_in c.args.self.now) (state_in c.args.self.now) c.args.octets.now c.args.port c.args.datagram.now _ _ _ _ _
+    (sym c.keep_value-is_kept.ensures.wanted ∙ c.if-is_kept.false) once
+    c.keep_value-is_kept.ensures.clock c.keep_value-is_kept.ensures.kept c.take_turn-handled.ensures.turned

@@ -1,0 +1,143 @@
+//! What time a clock says that it has, in Follow_Up and in Sync without twoStepFlag (13.6.2, 13.7.2).
+
+ghost use Rattle.std.specs.Prelude.{◌≡◌, ◌+◌, ◌≤◌, find, length, reverse};
+ghost use Rattle.std.specs.Option.{option_copied};
+ghost use Rattle.ptpm_site.specs.Origins.{as_here, is_as_here, is_origin_of, origin_at, origin_heard, origin_in, origin_of, says_origin, says_tai, timestamp_at, utc_by_host};
+ghost use Rattle.ptpm_site.specs.Site.{site_answers};
+
+use crate::heard::{FOLLOW_UP, Heard, SYNC, Sender, sender_in};
+use crate::limits::Limits;
+use crate::numbers::flag_at;
+use crate::site::Site;
+use crate::source::Source;
+use ptpm_codec::u16_at;
+
+/// What time a clock had when a message left it, by that message or the one after it, and when this came.
+#[derive(Clone, Copy)]
+pub struct Origin {
+    pub source: Source,
+    /// preciseOriginTimestamp of a Follow_Up, or originTimestamp of a Sync, in nanoseconds.
+    pub time: u64,
+    /// In nanoseconds since 1970, by the clock of the host that asks.
+    pub at: u64,
+}
+
+/// Half a second in nanoseconds.
+const HALF_SECOND: u64 = 500_000_000;
+
+/// A Timestamp (5.3.3) before the year 2514, in nanoseconds. `None` if it is later.
+fn timestamp_at(octets: &[u8], place: usize) -> Option<u64>
+    requires { place + 10 ≤ length octets.now }
+    ensures { result ≡ timestamp_at place octets.now }
+{
+    let epoch = u16_at(octets, place);
+    if 4 <= epoch {
+        return None;
+    }
+    let above = u64::from(epoch) * 65_536 + u64::from(u16_at(octets, place + 2));
+    let seconds = above * 65_536 + u64::from(u16_at(octets, place + 4));
+    let part = u64::from(u16_at(octets, place + 6)) * 65_536 + u64::from(u16_at(octets, place + 8));
+    Some(seconds * 1_000_000_000 + part)
+}
+
+/// Whether a message of this sender has an origin: a Follow_Up, or a Sync of a clock of one step.
+fn says_origin(sender: &Sender, datagram: &[u8]) -> bool
+    ensures { result ≡ says_origin sender.now datagram.now }
+{
+    44 <= datagram.len()
+        && (sender.kind == FOLLOW_UP || sender.kind == SYNC && !flag_at(datagram, 6, 1))
+}
+
+fn origin_of(sender: &Sender, at: u64, datagram: &[u8]) -> Option<Origin>
+    ensures { result ≡ origin_of sender.now at datagram.now }
+{
+    if !says_origin(sender, datagram) {
+        return None;
+    }
+    let time = timestamp_at(datagram, 34)?;
+    Some(Origin {
+        source: sender.source,
+        time,
+        at,
+    })
+}
+
+fn origin_at(at: Option<u64>, datagram: &[u8], sender: &Sender) -> Option<Origin>
+    ensures { result ≡ origin_at at datagram.now sender.now }
+{
+    origin_of(sender, at?, datagram)
+}
+
+/// What a datagram says of the time of its sender, if it is known when it came.
+#[tactic(auto, unfolding(crate::specs::Origins::origin_in))]
+pub fn origin_in(at: Option<u64>, datagram: &[u8]) -> Option<Origin>
+    ensures { result ≡ origin_in at datagram.now }
+{
+    origin_at(at, datagram, &sender_in(datagram)?)
+}
+
+fn is_origin_of(source: Source, heard: &Heard) -> bool
+    ensures { result ≡ is_origin_of source heard.now }
+{
+    match heard {
+        Heard::Timed(origin) => origin.source == source,
+        _ => false,
+    }
+}
+
+fn origin_heard(heard: &Heard) -> Option<Origin>
+    ensures { result ≡ origin_heard heard.now }
+{
+    match heard {
+        Heard::Timed(origin) => Some(*origin),
+        _ => None,
+    }
+}
+
+/// Whether it is the time of the host that asks, within half a second.
+fn is_as_here(origin: &Origin) -> bool
+    ensures { result ≡ is_as_here origin.now }
+{
+    let Origin { time, at, .. } = *origin;
+    time.saturating_sub(at) + at.saturating_sub(time) <= HALF_SECOND
+}
+
+fn as_here(origin: Origin) -> Option<Origin>
+    ensures { result ≡ as_here origin }
+{
+    if is_as_here(&origin) {
+        Some(origin)
+    } else {
+        None
+    }
+}
+
+/// Whether a clock says that it has the timescale PTP, which is TAI.
+fn says_tai(site: &Site, source: Source) -> bool
+    ensures { result ≡ says_tai (site_answers site.now) source }
+{
+    match site.time(source) {
+        Some(time) => time.ptp_timescale,
+        None => false,
+    }
+}
+
+/// The last thing that was heard of a clock's time.
+fn last_origin(heard: &[Heard], source: Source) -> Option<&Heard>
+    ensures { option_copied result ≡ find (is_origin_of source) (reverse heard.now) }
+{
+    heard.iter().rev().find(|heard| is_origin_of(source, heard))
+}
+
+/// What a clock that leads said last of its time, if that is the time of the host that asks. That has UTC, and the clock says that
+/// it gives TAI.
+#[tactic(auto, unfolding(crate::specs::Origins::utc_by_host))]
+pub fn utc_by_host(site: &Site, limits: Limits, source: Source) -> Option<Origin>
+    ensures { result ≡ utc_by_host (site_answers site.now) limits source }
+{
+    if !(limits.is_synchronised && says_tai(site, source) && site.leads(source)) {
+        return None;
+    }
+    let heard = last_origin(site.all_heard(), source)?;
+    as_here(origin_heard(heard)?)
+}
