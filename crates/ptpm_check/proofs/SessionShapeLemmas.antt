@@ -60,73 +60,39 @@ given_right r before = list_any (λ d. passes (λ k. k == r) (right_in d)) befor
 abbrev set_at : List Data → ℕ
 set_at before = set_of (given_right 1 before) (given_right 2 before) (given_right 4 before)
 
-has_1 : (a b c : Bool) → (bit_and (set_of a b c) 1 == 1) ≡ a
-has_1 false false false = refl
-has_1 true false false = refl
-has_1 false true false = refl
-has_1 true true false = refl
-has_1 false false true = refl
-has_1 true false true = refl
-has_1 false true true = refl
-has_1 true true true = refl
+-- whether each right is in a set
+set_bits : (a b c : Bool)
+    → ((bit_and (set_of a b c) 1 == 1) ≡ a) × ((bit_and (set_of a b c) 2 == 2) ≡ b) × ((bit_and (set_of a b c) 4 == 4) ≡ c)
+set_bits false false false = (refl, refl, refl)
+set_bits true false false = (refl, refl, refl)
+set_bits false true false = (refl, refl, refl)
+set_bits true true false = (refl, refl, refl)
+set_bits false false true = (refl, refl, refl)
+set_bits true false true = (refl, refl, refl)
+set_bits false true true = (refl, refl, refl)
+set_bits true true true = (refl, refl, refl)
 
-has_2 : (a b c : Bool) → (bit_and (set_of a b c) 2 == 2) ≡ b
-has_2 false false false = refl
-has_2 true false false = refl
-has_2 false true false = refl
-has_2 true true false = refl
-has_2 false false true = refl
-has_2 true false true = refl
-has_2 false true true = refl
-has_2 true true true = refl
-
-has_4 : (a b c : Bool) → (bit_and (set_of a b c) 4 == 4) ≡ c
-has_4 false false false = refl
-has_4 true false false = refl
-has_4 false true false = refl
-has_4 true true false = refl
-has_4 false false true = refl
-has_4 true false true = refl
-has_4 false true true = refl
-has_4 true true true = refl
-
-with_1 : (a b c : Bool) → bit_or (set_of a b c) 1 ≡ set_of (a || true) (b || false) (c || false)
-with_1 false false false = refl
-with_1 true false false = refl
-with_1 false true false = refl
-with_1 true true false = refl
-with_1 false false true = refl
-with_1 true false true = refl
-with_1 false true true = refl
-with_1 true true true = refl
-
-with_2 : (a b c : Bool) → bit_or (set_of a b c) 2 ≡ set_of (a || false) (b || true) (c || false)
-with_2 false false false = refl
-with_2 true false false = refl
-with_2 false true false = refl
-with_2 true true false = refl
-with_2 false false true = refl
-with_2 true false true = refl
-with_2 false true true = refl
-with_2 true true true = refl
-
-with_4 : (a b c : Bool) → bit_or (set_of a b c) 4 ≡ set_of (a || false) (b || false) (c || true)
-with_4 false false false = refl
-with_4 true false false = refl
-with_4 false true false = refl
-with_4 true true false = refl
-with_4 false false true = refl
-with_4 true false true = refl
-with_4 false true true = refl
-with_4 true true true = refl
+-- a set with one right more
+set_more : (a b c : Bool)
+    → (bit_or (set_of a b c) 1 ≡ set_of (a || true) (b || false) (c || false))
+    × (bit_or (set_of a b c) 2 ≡ set_of (a || false) (b || true) (c || false))
+    × (bit_or (set_of a b c) 4 ≡ set_of (a || false) (b || false) (c || true))
+set_more false false false = (refl, refl, refl)
+set_more true false false = (refl, refl, refl)
+set_more false true false = (refl, refl, refl)
+set_more true true false = (refl, refl, refl)
+set_more false false true = (refl, refl, refl)
+set_more true false true = (refl, refl, refl)
+set_more false true true = (refl, refl, refl)
+set_more true true true = (refl, refl, refl)
 
 set_has : (before : List Data) (r : ℕ) → IsRight r → (bit_and (set_at before) r == r) ≡ given_right r before
 set_has before r (inl one) =
-    ap (λ k. bit_and (set_at before) k == k) one ∙ has_1 (given_right 1 before) (given_right 2 before) (given_right 4 before) ∙ ap (λ k. given_right k before) (sym one)
+    ap (λ k. bit_and (set_at before) k == k) one ∙ (set_bits (given_right 1 before) (given_right 2 before) (given_right 4 before)).0 ∙ ap (λ k. given_right k before) (sym one)
 set_has before r (inr (inl two)) =
-    ap (λ k. bit_and (set_at before) k == k) two ∙ has_2 (given_right 1 before) (given_right 2 before) (given_right 4 before) ∙ ap (λ k. given_right k before) (sym two)
+    ap (λ k. bit_and (set_at before) k == k) two ∙ (set_bits (given_right 1 before) (given_right 2 before) (given_right 4 before)).1 ∙ ap (λ k. given_right k before) (sym two)
 set_has before r (inr (inr four)) =
-    ap (λ k. bit_and (set_at before) k == k) four ∙ has_4 (given_right 1 before) (given_right 2 before) (given_right 4 before) ∙ ap (λ k. given_right k before) (sym four)
+    ap (λ k. bit_and (set_at before) k == k) four ∙ (set_bits (given_right 1 before) (given_right 2 before) (given_right 4 before)).2 ∙ ap (λ k. given_right k before) (sym four)
 
 given_more : (k : ℕ) (before : List Data) (d : Data) (r : ℕ) → right_in d ≡ Some r
     → (given_right k before || (r == k)) ≡ given_right k (before ++ d ∷ [])
@@ -141,17 +107,17 @@ set_next : (before : List Data) (d : Data) (r : ℕ) → IsRight r → right_in 
 set_next before d r (inl one) is =
     let at = is ∙ ap Some one in
     ap (bit_or (set_at before)) one
-    ∙ with_1 (given_right 1 before) (given_right 2 before) (given_right 4 before)
+    ∙ (set_more (given_right 1 before) (given_right 2 before) (given_right 4 before)).0
     ∙ set_same _ _ _ _ _ _ (given_more 1 before d 1 at) (given_more 2 before d 1 at) (given_more 4 before d 1 at)
 set_next before d r (inr (inl two)) is =
     let at = is ∙ ap Some two in
     ap (bit_or (set_at before)) two
-    ∙ with_2 (given_right 1 before) (given_right 2 before) (given_right 4 before)
+    ∙ (set_more (given_right 1 before) (given_right 2 before) (given_right 4 before)).1
     ∙ set_same _ _ _ _ _ _ (given_more 1 before d 2 at) (given_more 2 before d 2 at) (given_more 4 before d 2 at)
 set_next before d r (inr (inr four)) is =
     let at = is ∙ ap Some four in
     ap (bit_or (set_at before)) four
-    ∙ with_4 (given_right 1 before) (given_right 2 before) (given_right 4 before)
+    ∙ (set_more (given_right 1 before) (given_right 2 before) (given_right 4 before)).2
     ∙ set_same _ _ _ _ _ _ (given_more 1 before d 4 at) (given_more 2 before d 4 at) (given_more 4 before d 4 at)
 
 abbrev rights_after : List Data → Items → ℕ → Option ℕ

@@ -1,1 +1,7 @@
+pub mod Judged
+pub mod Law
+pub mod Lines
 pub mod Reported
+pub mod Sets
+pub mod Tests
+pub mod Told

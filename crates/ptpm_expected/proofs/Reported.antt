@@ -1,5 +1,5 @@
 -- How many findings are left when a profile leaves some out, and others are added.
-use Rattle.std.proofs.Common.{◌≡◌, ◌++◌, ◌∙◌, ◌+◌, Bool, true, false, cond, List, [], ◌∷◌, length, map, refl, ap, sym, arith, length-append}
+use Rattle.std.proofs.Common.{◌≡◌, ◌++◌, ◌∙◌, ◌+◌, Bool, List, [], ◌∷◌, length, map, refl, ap, sym, arith, length-append}
 use Rattle.std.proofs.lemmas.List.{length-map}
 use Rattle.std.specs.List.{filter, flat_map}
 use Rattle.ptpm_site.specs.declared.finding.Finding.{Finding}

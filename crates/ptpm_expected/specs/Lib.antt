@@ -1,8 +1,16 @@
 pub mod Expected
+pub mod Held
+pub mod HeldToInventory
 pub mod HeldToProfile
+pub mod InventoryFindings
 pub mod Leaders
 pub mod Meeting
+pub mod Named
+pub mod Naming
 pub mod Order
 pub mod Outside
 pub mod ProfileFindings
 pub mod Profiles
+pub mod Senders
+pub mod Telling
+pub mod Writing

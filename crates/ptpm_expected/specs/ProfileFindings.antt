@@ -1,5 +1,5 @@
 -- What is found of a clock that is held to a profile: for the members of the clock, and then for those of its ports.
-use Rattle.std.specs.Prelude.{ℕ, ◌++◌, Bool, true, false, List, [], Option, if◌then◌else◌}
+use Rattle.std.specs.Prelude.{ℕ, ◌++◌, List, [], Option, if◌then◌else◌}
 use Rattle.std.specs.List.{flat_map}
 use Rattle.std.specs.Option.{option_map_or}
 use Rattle.ptpm_site.specs.declared.data_sets.PortDataSet.{PortDataSet}

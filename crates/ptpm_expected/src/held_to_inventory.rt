@@ -1,31 +1,24 @@
 //! The findings of a site that is held to an inventory.
 
-ghost use Rattle.std.specs.Prelude.{OnOk};
-ghost use Rattle.std.specs.List.Sorted.{IsSortedByKey};
+ghost use Rattle.std.specs.Prelude.{◌≡◌, ◌++◌, List, OnOk, filter};
+ghost use Rattle.std.specs.List.Sorted.{IsPermutation, IsSortedByKey, IsStableByKey};
+ghost use Rattle.ptpm_site.specs.declared.finding.Finding.{Finding};
+ghost use Rattle.ptpm_site.specs.Site.{site_answers};
+ghost use Rattle.ptpm_expected.specs.Held.{IsHeld};
+ghost use Rattle.ptpm_expected.specs.HeldToInventory.{stays, told_with_inventory};
+ghost use Rattle.ptpm_expected.specs.InventoryFindings.{told_by_inventory};
 ghost use Rattle.ptpm_expected.specs.Order.{finding_key};
+ghost use Rattle.ptpm_expected.specs.Telling.{told_all};
 
-use crate::inventory::{Entry, Inventory, Rule};
-use crate::judging_inventory::{judge_absent, judge_entries, judge_unexpected};
-use crate::meeting::is_as_wanted;
-use crate::named::Named;
+use crate::allowing::Held;
+use crate::inventory::Inventory;
+use crate::judging_inventory::judge_entries;
+use crate::judging_named::{judge_absent, judge_unexpected};
 use crate::order::{FindingKey, put_in_order};
-use crate::senders::Senders;
-use ptpm_codec::ClockIdentity;
-use ptpm_site::finding::{Finding, What};
-use ptpm_site::member::Member;
+use ptpm_site::finding::Finding;
 use ptpm_site::site::Site;
 use ptpm_site::source::Source;
-use ptpm_site::unseen::Absence;
 use std::alloc::{AllocError, Global};
-
-/// What an inventory says of a site, for quick answers.
-#[derive(Drop)]
-struct Held<'a> {
-    site: &'a Site,
-    inventory: &'a Inventory,
-    named: Named<'a>,
-    senders: Senders,
-}
 
 /// Adds what is not as an inventory wants it to the findings of a site, and takes away what it allows. `sources` has all clocks.
 pub fn hold_to_inventory<'a>(
@@ -35,69 +28,43 @@ pub fn hold_to_inventory<'a>(
     inventory: &'a Inventory,
     findings: &mut Vec<Finding<'a>>,
 ) -> Result<(), AllocError>
-    ensures { OnOk result (IsSortedByKey finding_key ⟦<FindingKey as Ord>⟧.cmp findings.new.items) }
+    requires { sources.now ≡ (site_answers site.now).clocks }
+    ensures told { OnOk result ((judged : List Finding)
+        × (told_all judged ≡ told_with_inventory (site_answers site.now) inventory.now.entries.items findings.old.items)
+        × IsPermutation judged findings.new.items
+        × IsStableByKey finding_key ⟦<FindingKey as Ord>⟧.cmp judged findings.new.items) }
+    ensures sorted { OnOk result (IsSortedByKey finding_key ⟦<FindingKey as Ord>⟧.cmp findings.new.items) }
 {
-    let held = Held {
-        site,
-        inventory,
-        named: Named::of(alloc, inventory)?,
-        senders: Senders::of(alloc, site.all_heard())?,
-    };
+    let held = Held::of(alloc, site, inventory.entries.as_slice())?;
+    keep_what_stays(&held, findings);
+    judge(alloc, &held, sources, findings)?;
+    put_in_order(findings)?;
+    Ok(())
+}
+
+/// Takes away what the inventory allows.
+fn keep_what_stays(held: &Held<'_>, findings: &mut Vec<Finding<'_>>)
+    requires { IsHeld held.now }
+    ensures { findings.new.items ≡ filter (stays (site_answers held.now.site.now) held.now.entries.now) findings.old.items }
+{
     findings.retain(|finding| !held.allows(finding));
-    judge_entries(alloc, site, inventory, sources, findings)?;
-    judge_absent(site, &held.named, findings)?;
-    judge_unexpected(site, &held.named, &held.senders, sources, findings)?;
-    put_in_order(findings)
 }
 
-impl Held<'_> {
-    /// Whether a finding is none by the inventory.
-    fn allows(&self, finding: &Finding<'_>) -> bool {
-        let source = finding.source;
-        match finding.what {
-            What::Degraded(_) => self.has_quality(source),
-            What::BetterClock(_) => self.names_leader(source),
-            What::Unseen(Absence::Mute(_)) => self.named.mute.contains(&source),
-            What::GrandmasterNotSeen(clock) => self.is_mute(source.beside(clock)),
-            What::ParentNotSeen(port) => self.is_mute(source.beside(port.clock)),
-            _ => false,
-        }
-    }
-
-    /// Whether a clock needs to answer nothing, and is heard.
-    fn is_mute(&self, source: Source) -> bool {
-        self.named.mute.contains(&source) && self.senders.all.contains(&source)
-    }
-
-    /// Whether the inventory has what the clockQuality of a clock is.
-    fn has_quality(&self, source: Source) -> bool {
-        self.inventory
-            .entries
-            .iter()
-            .any(|entry| is_quality_of(self.site, source, entry))
-    }
-
-    /// Whether the inventory names a clock among those that lead.
-    fn names_leader(&self, source: Source) -> bool {
-        self.inventory.entries.iter().any(|entry| entry.domain == source.domain
-            && is_leader(entry, source.clock))
-    }
-}
-
-fn is_quality_of(site: &Site, source: Source, entry: &Entry) -> bool {
-    let rule = match &entry.rule {
-        Rule::Member(clock, rule) if *clock == source.clock => rule,
-        Rule::EachMember(rule) => rule,
-        _ => return false,
-    };
-    entry.domain == source.domain
-        && matches!(rule.member, Member::ClockQuality)
-        && is_as_wanted(site, source, rule)
-}
-
-fn is_leader(entry: &Entry, clock: ClockIdentity) -> bool {
-    match &entry.rule {
-        Rule::Leaders(wanted) => wanted.iter().any(|clocks| clocks.contains(&clock)),
-        _ => false,
-    }
+/// Adds what is not as the inventory wants it, after all earlier findings.
+fn judge<'a>(
+    alloc: Global,
+    held: &Held<'a>,
+    sources: &[Source],
+    findings: &mut Vec<Finding<'a>>,
+) -> Result<(), AllocError>
+    requires held { IsHeld held.now }
+    requires sources { sources.now ≡ (site_answers held.now.site.now).clocks }
+    ensures { OnOk result (told_all findings.new.items
+        ≡ told_all findings.old.items ++ told_by_inventory (site_answers held.now.site.now) held.now.entries.now) }
+{
+    let (site, entries) = (held.site, held.entries);
+    judge_entries(alloc, site, entries, sources, findings)?;
+    judge_absent(alloc, site, entries, &held.named, findings)?;
+    judge_unexpected(alloc, site, entries, &held.named, sources, findings)?;
+    Ok(())
 }

@@ -1,16 +1,20 @@
 //! How a site is not as an inventory wants it.
 
-ghost use Rattle.std.specs.Prelude.{◌≡◌, IfOk};
+ghost use Rattle.std.specs.Prelude.{◌≡◌, ◌++◌, IfOk, OnOk, map};
+ghost use Rattle.std.specs.Cmp.Lexicographic.{pointwise};
+ghost use Rattle.std.specs.List.{flat_map, list_any};
+ghost use Rattle.ptpm_codec.specs.Identity.{same_clock};
 ghost use Rattle.ptpm_site.specs.Site.{site_answers};
+ghost use Rattle.ptpm_expected.specs.InventoryFindings.{are_leading, entry_told, first_of, leaders_told, member_told, member_told_in};
 ghost use Rattle.ptpm_expected.specs.Leaders.{leaders_among};
+ghost use Rattle.ptpm_expected.specs.Telling.{told_all};
 
-use crate::inventory::{Entry, Inventory, MemberRule, Rule};
+use crate::inventory::{Entry, MemberRule, Rule};
 use crate::meeting::unmet;
-use crate::named::Named;
-use crate::senders::Senders;
+use crate::telling::tell;
 use ptpm_codec::ClockIdentity;
 use ptpm_site::expected::OtherLeaders;
-use ptpm_site::finding::{Finding, What, add_finding};
+use ptpm_site::finding::{Finding, What};
 use ptpm_site::site::Site;
 use ptpm_site::source::Source;
 use std::alloc::{AllocError, Global};
@@ -19,11 +23,14 @@ use std::alloc::{AllocError, Global};
 pub(crate) fn judge_entries<'a>(
     alloc: Global,
     site: &'a Site,
-    inventory: &'a Inventory,
+    entries: &'a [Entry],
     sources: &[Source],
     findings: &mut Vec<Finding<'a>>,
-) -> Result<(), AllocError> {
-    for entry in inventory.entries.as_slice() {
+) -> Result<(), AllocError>
+    requires { sources.now ≡ (site_answers site.now).clocks }
+    ensures { OnOk result (told_all findings.new.items ≡ told_all findings.old.items ++ flat_map (entry_told (site_answers site.now)) entries.now) }
+{
+    for entry in entries {
         judge_entry(alloc, site, entry, sources, findings)?;
     }
     Ok(())
@@ -35,22 +42,21 @@ fn judge_entry<'a>(
     entry: &'a Entry,
     sources: &[Source],
     findings: &mut Vec<Finding<'a>>,
-) -> Result<(), AllocError> {
+) -> Result<(), AllocError>
+    requires { sources.now ≡ (site_answers site.now).clocks }
+    ensures { OnOk result (told_all findings.new.items ≡ told_all findings.old.items ++ entry_told (site_answers site.now) entry.now) }
+{
     let domain = entry.domain;
     match &entry.rule {
         Rule::Leaders(wanted) => {
-            judge_leaders(alloc, site, domain, wanted.as_slice(), sources, findings)
+            let leading = leading_in(alloc, site, domain, sources)?;
+            judge_leaders(domain, wanted.as_slice(), leading, findings)
         }
         Rule::Only | Rule::Clock(..) => Ok(()),
-        Rule::Member(clock, rule) => judge_member(
-            site,
-            Source {
-                domain,
-                clock: *clock,
-            },
-            rule,
-            findings,
-        ),
+        Rule::Member(clock, rule) => {
+            let clock = *clock;
+            judge_member(site, Source { domain, clock }, rule, findings)
+        }
         Rule::EachMember(rule) => judge_each(site, domain, rule, sources, findings),
     }
 }
@@ -61,12 +67,14 @@ fn judge_member<'a>(
     source: Source,
     rule: &'a MemberRule,
     findings: &mut Vec<Finding<'a>>,
-) -> Result<(), AllocError> {
+) -> Result<(), AllocError>
+    ensures { OnOk result (told_all findings.new.items ≡ told_all findings.old.items ++ member_told (site_answers site.now) rule.now source) }
+{
     if !site.is_seen(source) {
         return Ok(());
     }
     match unmet(site, source, rule) {
-        Some(unmet) => add_finding(findings, source, What::NotAsExpected(unmet)),
+        Some(unmet) => tell(findings, source, What::NotAsExpected(unmet)),
         None => Ok(()),
     }
 }
@@ -78,7 +86,10 @@ fn judge_each<'a>(
     rule: &'a MemberRule,
     sources: &[Source],
     findings: &mut Vec<Finding<'a>>,
-) -> Result<(), AllocError> {
+) -> Result<(), AllocError>
+    ensures { OnOk result (told_all findings.new.items
+        ≡ told_all findings.old.items ++ flat_map (member_told_in (site_answers site.now) domain rule.now) sources.now) }
+{
     for source in sources {
         if source.domain == domain {
             judge_member(site, *source, rule, findings)?;
@@ -87,29 +98,54 @@ fn judge_each<'a>(
     Ok(())
 }
 
-/// The clocks of a domain that lead.
+/// The clocks of a domain that lead, if they are none of those that are wanted.
 fn judge_leaders<'a>(
-    alloc: Global,
-    site: &'a Site,
     domain: u8,
     wanted: &'a [Vec<ClockIdentity>],
-    sources: &[Source],
+    leading: Vec<ClockIdentity>,
     findings: &mut Vec<Finding<'a>>,
-) -> Result<(), AllocError> {
-    let leading = leading_in(alloc, site, domain, sources)?;
-    if wanted
-        .iter()
-        .any(|clocks| clocks.as_slice() == leading.as_slice())
-    {
+) -> Result<(), AllocError>
+    ensures { OnOk result (told_all findings.new.items
+        ≡ told_all findings.old.items ++ leaders_told domain (map (λ clocks. clocks.items) wanted.now) leading.items) }
+{
+    if are_leading(leading.as_slice(), wanted) {
         return Ok(());
     }
-    let clock = leading.first().copied().unwrap_or(ClockIdentity([0; 8]));
+    let clock = first_of(leading.as_slice());
     let source = Source { domain, clock };
-    add_finding(
+    tell(
         findings,
         source,
         What::OtherLeaders(OtherLeaders { leading, wanted }),
     )
+}
+
+/// Whether the clocks that lead are one of these lists.
+fn are_leading(leading: &[ClockIdentity], choices: &[Vec<ClockIdentity>]) -> bool
+    ensures { result ≡ are_leading leading.now (map (λ clocks. clocks.items) choices.now) }
+{
+    is_one_of(leading, choices)
+}
+
+fn is_one_of(leading: &[ClockIdentity], choices: &[Vec<ClockIdentity>]) -> bool
+    ensures { result ≡ list_any (λ clocks. pointwise same_clock clocks.items leading.now) choices.now }
+{
+    choices
+        .iter()
+        .any(|clocks| are_same(clocks.as_slice(), leading))
+}
+
+fn are_same(clocks: &[ClockIdentity], leading: &[ClockIdentity]) -> bool
+    ensures { result ≡ pointwise same_clock clocks.now leading.now }
+{
+    clocks == leading
+}
+
+/// The first of the clocks that lead, or an identity of zeros.
+fn first_of(leading: &[ClockIdentity]) -> ClockIdentity
+    ensures { result ≡ first_of leading.now }
+{
+    leading.first().copied().unwrap_or(ClockIdentity([0; 8]))
 }
 
 /// The clocks of a domain that lead, ascending.
@@ -128,48 +164,4 @@ pub(crate) fn leading_in(
         }
     }
     Ok(leading)
-}
-
-/// Adds a finding for each clock that is to be seen and is not.
-pub(crate) fn judge_absent<'a>(
-    site: &'a Site,
-    named: &Named<'a>,
-    findings: &mut Vec<Finding<'a>>,
-) -> Result<(), AllocError> {
-    for (source, description) in named.demanded.iter() {
-        if !site.is_seen(*source) && !named.excused.contains(source) {
-            add_finding(findings, *source, What::Absent(*description))?;
-        }
-    }
-    Ok(())
-}
-
-/// Adds a finding for each clock of a closed domain that is seen or announces, and is not named.
-pub(crate) fn judge_unexpected(
-    site: &Site,
-    named: &Named<'_>,
-    senders: &Senders,
-    sources: &[Source],
-    findings: &mut Vec<Finding<'_>>,
-) -> Result<(), AllocError> {
-    for source in sources {
-        judge_unexpected_at(named, *source, findings)?;
-    }
-    for source in senders.announcing.iter() {
-        if !site.is_seen(*source) {
-            judge_unexpected_at(named, *source, findings)?;
-        }
-    }
-    Ok(())
-}
-
-fn judge_unexpected_at(
-    named: &Named<'_>,
-    source: Source,
-    findings: &mut Vec<Finding<'_>>,
-) -> Result<(), AllocError> {
-    if !named.closed.contains(&source.domain) || named.has(source) {
-        return Ok(());
-    }
-    add_finding(findings, source, What::Unexpected)
 }

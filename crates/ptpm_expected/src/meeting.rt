@@ -71,12 +71,17 @@ fn clock_value(site: &Site, source: Source, member: Member) -> Option<Value<'_>>
 }
 
 /// What a clock says of a member, its own or that of a port.
-pub fn rule_value<'a>(site: &'a Site, source: Source, rule: &MemberRule) -> Option<Value<'a>>
-    ensures { option_map value_of result ≡ rule_says (site_answers site.now) source rule.now.port rule.now.member }
+pub fn rule_value(
+    site: &Site,
+    source: Source,
+    port: Option<u16>,
+    member: Member,
+) -> Option<Value<'_>>
+    ensures { option_map value_of result ≡ rule_says (site_answers site.now) source port member }
 {
-    match rule.port {
-        Some(port) => last_value(site.port_answers(source, port), rule.member),
-        None => clock_value(site, source, rule.member),
+    match port {
+        Some(port) => last_value(site.port_answers(source, port), member),
+        None => clock_value(site, source, member),
     }
 }
 
@@ -84,7 +89,7 @@ pub fn rule_value<'a>(site: &'a Site, source: Source, rule: &MemberRule) -> Opti
 pub fn is_as_wanted(site: &Site, source: Source, rule: &MemberRule) -> bool
     ensures { result ≡ is_as_wanted (site_answers site.now) source rule.now }
 {
-    match rule_value(site, source, rule) {
+    match rule_value(site, source, rule.port, rule.member) {
         Some(value) => is_met(rule.wanted.as_slice(), &value),
         None => false,
     }
@@ -100,7 +105,7 @@ pub fn unmet<'a>(site: &'a Site, source: Source, rule: &'a MemberRule) -> Option
     Some(Unmet {
         port: rule.port,
         member: rule.member,
-        value: rule_value(site, source, rule),
+        value: rule_value(site, source, rule.port, rule.member),
         wanted: rule.wanted.as_slice(),
     })
 }

@@ -1,112 +1,181 @@
 //! The clocks that an inventory names, for quick answers.
 
-use crate::inventory::{Entry, Inventory, MemberRule, Presence, Rule};
+ghost use Rattle.std.specs.Prelude.{◌≡◌, ◌++◌, ℕ, IfOk, OnOk, map, flat_map};
+ghost use Rattle.std.specs.BTreeSet.{contains, insert_key, keys};
+ghost use Rattle.std.specs.List.{fold};
+ghost use Rattle.std.specs.Ordering.{nat_cmp};
+ghost use Rattle.ptpm_site.specs.declared.source.Source.{Source};
+ghost use Rattle.ptpm_site.specs.Answers.{source_cmp};
+ghost use Rattle.ptpm_expected.specs.Named.{IsOf};
+ghost use Rattle.ptpm_expected.specs.Naming.{all_named_as, closed_in, in_domain_of, is_closed, is_named, is_named_as, is_named_so, named_by};
+
+use crate::inventory::{Entry, Presence, Rule};
 use ptpm_codec::ClockIdentity;
-use ptpm_site::expected::Wanted;
-use ptpm_site::member::Member;
 use ptpm_site::source::Source;
 use std::alloc::{AllocError, Global};
-use std::collections::{BTreeMap, BTreeSet};
+use std::collections::BTreeSet;
+
+/// How a line of an inventory names a clock.
+#[derive(Clone, Copy)]
+pub(crate) enum Naming {
+    /// It is to be seen.
+    Demanded,
+    /// It may be absent.
+    Excused,
+    /// It may be absent, and while it is heard it needs to answer nothing.
+    Mute,
+    /// It may lead. It may be absent, too, unless more is said of it.
+    Leading,
+}
 
 /// The clocks that an inventory names.
 #[derive(Drop)]
-pub(crate) struct Named<'a> {
-    /// Those that are to be seen, unless they are excused. With the description that they are to have.
-    pub(crate) demanded: BTreeMap<Source, Option<&'a str>>,
+pub(crate) struct Named {
+    /// Those that are to be seen, unless they are excused.
+    pub(crate) demanded: BTreeSet<Source>,
     /// Those that may be absent.
     pub(crate) excused: BTreeSet<Source>,
-    /// Those that may lead. They may be absent, too, unless more is said of them.
-    pub(crate) leaders: BTreeSet<Source>,
+    /// Those that may lead.
+    pub(crate) leading: BTreeSet<Source>,
     /// Those that need to answer nothing while they are heard.
     pub(crate) mute: BTreeSet<Source>,
     /// The domains that have no clock that is not named.
     pub(crate) closed: BTreeSet<u8>,
 }
 
-impl<'a> Named<'a> {
-    pub(crate) fn of(alloc: Global, inventory: &'a Inventory) -> Result<Named<'a>, AllocError> {
-        let mut named = Named {
-            demanded: BTreeMap::new(alloc),
-            excused: BTreeSet::new(alloc),
-            leaders: BTreeSet::new(alloc),
-            mute: BTreeSet::new(alloc),
-            closed: BTreeSet::new(alloc),
-        };
-        for entry in inventory.entries.as_slice() {
-            named.add(entry)?;
-        }
-        Ok(named)
+impl Named {
+    pub(crate) fn of(alloc: Global, entries: &[Entry]) -> Result<Named, AllocError>
+        ensures { IfOk result (IsOf entries.now) }
+    {
+        Ok(Named {
+            demanded: clock_set(alloc, entries, Naming::Demanded)?,
+            excused: clock_set(alloc, entries, Naming::Excused)?,
+            leading: clock_set(alloc, entries, Naming::Leading)?,
+            mute: clock_set(alloc, entries, Naming::Mute)?,
+            closed: domain_set(alloc, entries)?,
+        })
     }
 
-    fn add(&mut self, entry: &'a Entry) -> Result<(), AllocError> {
-        let domain = entry.domain;
-        match &entry.rule {
-            Rule::EachMember(_) => {}
-            Rule::Leaders(choices) => self.add_leaders(domain, choices.as_slice())?,
-            Rule::Only => {
-                self.closed.insert(domain)?;
-            }
-            Rule::Member(clock, rule) => self.demand(source(domain, *clock), description(rule))?,
-            Rule::Clock(clock, presence) => self.add_presence(source(domain, *clock), *presence)?,
-        }
-        Ok(())
-    }
-
-    fn add_leaders(
-        &mut self,
-        domain: u8,
-        choices: &[Vec<ClockIdentity>],
-    ) -> Result<(), AllocError> {
-        for clocks in choices {
-            for clock in clocks.as_slice() {
-                self.leaders.insert(source(domain, *clock))?;
-            }
-        }
-        Ok(())
-    }
-
-    fn add_presence(&mut self, clock: Source, presence: Presence) -> Result<(), AllocError> {
-        match presence {
-            Presence::Wanted => self.demand(clock, None)?,
-            Presence::Optional => {
-                self.excused.insert(clock)?;
-            }
-            Presence::Mute => {
-                self.excused.insert(clock)?;
-                self.mute.insert(clock)?;
-            }
-        }
-        Ok(())
-    }
-
-    /// A clock is to be seen. A description that is known of it stays.
-    fn demand(&mut self, clock: Source, description: Option<&'a str>) -> Result<(), AllocError> {
-        if description.is_none() && self.demanded.contains_key(&clock) {
-            return Ok(());
-        }
-        let _ = self.demanded.insert(clock, description)?;
-        Ok(())
-    }
-
-    /// Whether a clock is named.
-    pub(crate) fn has(&self, clock: Source) -> bool {
-        self.demanded.contains_key(&clock)
+    /// Whether a clock is named by these entries, which are those that it was made of.
+    pub(crate) fn has(&self, entries: &[Entry], clock: Source) -> bool
+        requires { IsOf entries.now self.now }
+        ensures { result ≡ is_named entries.now clock }
+    {
+        self.demanded.contains(&clock)
             || self.excused.contains(&clock)
-            || self.leaders.contains(&clock)
+            || self.leading.contains(&clock)
     }
 }
 
-fn source(domain: u8, clock: ClockIdentity) -> Source {
-    Source { domain, clock }
+/// The clocks that are named in this way.
+fn clock_set(
+    alloc: Global,
+    entries: &[Entry],
+    naming: Naming,
+) -> Result<BTreeSet<Source>, AllocError>
+    ensures keys { IfOk result (λ set. keys set ≡ all_named_as naming entries.now) }
+    ensures has { IfOk result (λ set. (s : Source) → contains source_cmp set s ≡ is_named_as naming entries.now s) }
+{
+    let mut set = BTreeSet::new(alloc);
+    add_all_named(entries, naming, &mut set)?;
+    Ok(set)
 }
 
-/// The description that a clock is to have, if that is the only one.
-fn description(rule: &MemberRule) -> Option<&str> {
-    if !matches!(rule.member, Member::UserDescription) {
-        return None;
+fn add_all_named(
+    entries: &[Entry],
+    naming: Naming,
+    set: &mut BTreeSet<Source>,
+) -> Result<(), AllocError>
+    ensures { OnOk result (keys set.new ≡ fold (insert_key source_cmp) (keys set.old) (flat_map (named_by naming) entries.now)) }
+{
+    for entry in entries {
+        add_named(entry, naming, set)?;
     }
-    match rule.wanted.as_slice() {
-        [Wanted::Text(text)] => Some(text.as_str()),
-        _ => None,
+    Ok(())
+}
+
+/// Adds the clocks that an entry names in this way.
+fn add_named(entry: &Entry, naming: Naming, set: &mut BTreeSet<Source>) -> Result<(), AllocError>
+    ensures { OnOk result (keys set.new ≡ fold (insert_key source_cmp) (keys set.old) (named_by naming entry.now)) }
+{
+    let domain = entry.domain;
+    match &entry.rule {
+        Rule::Clock(clock, presence) if is_named_so(naming, *presence) => {
+            add_clock(domain, *clock, set)
+        }
+        Rule::Member(clock, _) if matches!(naming, Naming::Demanded) => {
+            add_clock(domain, *clock, set)
+        }
+        Rule::Leaders(choices) if matches!(naming, Naming::Leading) => {
+            add_choices(domain, choices.as_slice(), set)
+        }
+        _ => Ok(()),
     }
+}
+
+/// Whether a line that says this of a clock names it in this way.
+fn is_named_so(naming: Naming, presence: Presence) -> bool
+    ensures { result ≡ is_named_so naming presence }
+{
+    match naming {
+        Naming::Demanded => matches!(presence, Presence::Wanted),
+        Naming::Excused => matches!(presence, Presence::Optional | Presence::Mute),
+        Naming::Mute => matches!(presence, Presence::Mute),
+        Naming::Leading => false,
+    }
+}
+
+fn add_clock(domain: u8, clock: ClockIdentity, set: &mut BTreeSet<Source>) -> Result<(), AllocError>
+    ensures { OnOk result (keys set.new ≡ insert_key source_cmp (keys set.old) (in_domain_of domain clock)) }
+{
+    set.insert(Source { domain, clock })?;
+    Ok(())
+}
+
+/// Adds the clocks of each of these lists.
+fn add_choices(
+    domain: u8,
+    choices: &[Vec<ClockIdentity>],
+    set: &mut BTreeSet<Source>,
+) -> Result<(), AllocError>
+    ensures { OnOk result (keys set.new
+        ≡ fold (insert_key source_cmp) (keys set.old) (flat_map (λ clocks. map (in_domain_of domain) clocks.items) choices.now)) }
+{
+    for clocks in choices {
+        add_clocks(domain, clocks.as_slice(), set)?;
+    }
+    Ok(())
+}
+
+fn add_clocks(
+    domain: u8,
+    clocks: &[ClockIdentity],
+    set: &mut BTreeSet<Source>,
+) -> Result<(), AllocError>
+    ensures { OnOk result (keys set.new ≡ fold (insert_key source_cmp) (keys set.old) (map (in_domain_of domain) clocks.now)) }
+{
+    for clock in clocks {
+        add_clock(domain, *clock, set)?;
+    }
+    Ok(())
+}
+
+/// The domains that have no clock that is not named.
+fn domain_set(alloc: Global, entries: &[Entry]) -> Result<BTreeSet<u8>, AllocError>
+    ensures { IfOk result (λ set. (d : ℕ) → contains nat_cmp set d ≡ is_closed entries.now d) }
+{
+    let mut set = BTreeSet::new(alloc);
+    add_closed(entries, &mut set)?;
+    Ok(set)
+}
+
+fn add_closed(entries: &[Entry], set: &mut BTreeSet<u8>) -> Result<(), AllocError>
+    ensures { OnOk result (keys set.new ≡ fold (insert_key nat_cmp) (keys set.old) (flat_map closed_in entries.now)) }
+{
+    for entry in entries {
+        if matches!(entry.rule, Rule::Only) {
+            set.insert(entry.domain)?;
+        }
+    }
+    Ok(())
 }

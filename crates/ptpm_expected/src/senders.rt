@@ -1,40 +1,83 @@
 //! The clocks that send by themselves.
 
-use ptpm_site::heard::{ANNOUNCE, DELAY_REQ, Heard};
+ghost use Rattle.std.specs.Prelude.{◌≡◌, [], IfOk, OnOk};
+ghost use Rattle.std.specs.BTreeSet.{insert_key, keys};
+ghost use Rattle.std.specs.List.{flat_map, fold};
+ghost use Rattle.ptpm_site.specs.Answers.{source_cmp};
+ghost use Rattle.ptpm_site.specs.Site.{site_answers};
+ghost use Rattle.ptpm_expected.specs.Senders.{announcing, is_sent_so, sender_of, senders_of};
+
+use ptpm_site::evidence::senders;
+use ptpm_site::heard::{ANNOUNCE, DELAY_REQ, Heard, Sender};
+use ptpm_site::site::Site;
 use ptpm_site::source::Source;
 use std::alloc::{AllocError, Global};
 use std::collections::BTreeSet;
 
-#[derive(Drop)]
-pub(crate) struct Senders {
-    /// Those that send Announce, Sync or Follow_Up.
-    pub(crate) all: BTreeSet<Source>,
-    /// Those that send Announce.
-    pub(crate) announcing: BTreeSet<Source>,
+/// What a clock sends by itself.
+#[derive(Clone, Copy)]
+pub(crate) enum Sending {
+    /// Announce, Sync or Follow_Up, which a port in MASTER sends.
+    OfMaster,
+    /// Announce.
+    Announce,
 }
 
-impl Senders {
-    pub(crate) fn of(alloc: Global, heard: &[Heard]) -> Result<Senders, AllocError> {
-        let mut senders = Senders {
-            all: BTreeSet::new(alloc),
-            announcing: BTreeSet::new(alloc),
-        };
-        for one in heard {
-            senders.add(one)?;
-        }
-        Ok(senders)
-    }
+/// The clocks that send this.
+pub(crate) fn sender_set(
+    alloc: Global,
+    heard: &[Heard],
+    sending: Sending,
+) -> Result<BTreeSet<Source>, AllocError>
+    ensures { IfOk result (λ set. keys set ≡ fold (insert_key source_cmp) [] (senders_of sending heard.now)) }
+{
+    let mut set = BTreeSet::new(alloc);
+    let all = senders(alloc, heard)?;
+    add_senders(all.as_slice(), sending, &mut set)?;
+    Ok(set)
+}
 
-    fn add(&mut self, heard: &Heard) -> Result<(), AllocError> {
-        let Heard::Sent(sender) = heard else {
-            return Ok(());
-        };
-        if sender.kind != DELAY_REQ {
-            self.all.insert(sender.source)?;
-        }
-        if sender.kind == ANNOUNCE {
-            self.announcing.insert(sender.source)?;
-        }
-        Ok(())
+fn add_senders(
+    senders: &[Sender],
+    sending: Sending,
+    set: &mut BTreeSet<Source>,
+) -> Result<(), AllocError>
+    ensures { OnOk result (keys set.new ≡ fold (insert_key source_cmp) (keys set.old) (flat_map (sender_of sending) senders.now)) }
+{
+    for sender in senders {
+        add_sender(sender, sending, set)?;
     }
+    Ok(())
+}
+
+fn add_sender(
+    sender: &Sender,
+    sending: Sending,
+    set: &mut BTreeSet<Source>,
+) -> Result<(), AllocError>
+    ensures { OnOk result (keys set.new ≡ fold (insert_key source_cmp) (keys set.old) (sender_of sending sender.now)) }
+{
+    if is_sent_so(sending, sender) {
+        set.insert(sender.source)?;
+    }
+    Ok(())
+}
+
+/// Whether a sender sends this.
+fn is_sent_so(sending: Sending, sender: &Sender) -> bool
+    ensures { result ≡ is_sent_so sending sender.now }
+{
+    match sending {
+        Sending::OfMaster => sender.kind != DELAY_REQ,
+        Sending::Announce => sender.kind == ANNOUNCE,
+    }
+}
+
+/// The clocks that send Announce, by domain and then by identity.
+#[tactic(auto, unfolding(crate::specs::Senders::announcing))]
+pub(crate) fn announcing(alloc: Global, site: &Site) -> Result<Vec<Source>, AllocError>
+    ensures { IfOk result (λ found. found.items ≡ announcing (site_answers site.now)) }
+{
+    let set = sender_set(alloc, site.all_heard(), Sending::Announce)?;
+    set.iter().copied().collect(alloc)
 }

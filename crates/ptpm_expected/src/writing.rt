@@ -1,18 +1,27 @@
 //! The inventory of a site as it is.
 
-ghost use Rattle.std.specs.Prelude.{◌≡◌, IfOk, true};
+ghost use Rattle.std.specs.Prelude.{◌≡◌, ◌++◌, [], ◌∷◌, IfOk, OnOk, true};
+ghost use Rattle.std.specs.BTreeSet.{insert_key, keys};
+ghost use Rattle.std.specs.List.{flat_map, fold};
+ghost use Rattle.std.specs.Ordering.{nat_cmp};
 ghost use Rattle.ptpm_site.specs.Members.{value_of};
-ghost use Rattle.ptpm_expected.specs.Meeting.{meets};
+ghost use Rattle.ptpm_site.specs.Site.{site_answers};
+ghost use Rattle.ptpm_expected.specs.InventoryFindings.{told_by_inventory};
+ghost use Rattle.ptpm_expected.specs.Meeting.{is_met, meets};
+ghost use Rattle.ptpm_expected.specs.Senders.{announcing};
+ghost use Rattle.ptpm_expected.specs.Writing.{clock_lines, clock_lines_in, domain_lines, domain_of, excuse_in, leader_lines, line_of_rule, lines_of, member_line, port_lines, written};
 
 use crate::inventory::{Entry, Inventory, MemberRule, Presence, Rule};
 use crate::judging_inventory::leading_in;
 use crate::meeting::rule_value;
-use crate::senders::Senders;
+use crate::senders::announcing;
+use ptpm_codec::ClockIdentity;
 use ptpm_site::expected::Wanted;
 use ptpm_site::member::{Member, Value};
 use ptpm_site::site::Site;
 use ptpm_site::source::Source;
 use std::alloc::{AllocError, Global};
+use std::collections::BTreeSet;
 
 /// The members of a clock that are written.
 const CLOCK_MEMBERS: [Member; 7] = [
@@ -36,97 +45,279 @@ const PORT_MEMBERS: [Member; 6] = [
 ];
 
 /// The inventory of a site: of each domain who leads, that no other clock is there, and its clocks. A clock that announces and is
-/// not seen is optional.
-pub fn inventory_of(alloc: Global, site: &Site) -> Result<Inventory, AllocError> {
-    let sources = site.sources(alloc)?;
-    let senders = Senders::of(alloc, site.all_heard())?;
-    let mut inventory = Inventory {
-        entries: Vec::new(alloc),
-    };
-    let mut domain = None;
-    for source in sources.as_slice() {
-        if domain != Some(source.domain) {
-            inventory.add_domain(alloc, site, source.domain, sources.as_slice())?;
-            inventory.add_announcing(site, source.domain, &senders)?;
-            domain = Some(source.domain);
-        }
-        inventory.add_clock(alloc, site, *source)?;
-    }
-    Ok(inventory)
+/// not seen is optional. By this inventory nothing is found of the site.
+pub fn inventory_of(alloc: Global, site: &Site) -> Result<Inventory, AllocError>
+    ensures lines { IfOk result (λ inventory. lines_of (site_answers site.now) inventory.entries.items ≡ written (site_answers site.now)) }
+    ensures law { IfOk result (λ inventory. told_by_inventory (site_answers site.now) inventory.entries.items ≡ []) }
+{
+    let entries = entries_of(alloc, site)?;
+    Ok(Inventory { entries })
 }
 
-impl Inventory {
-    fn add(&mut self, domain: u8, rule: Rule) -> Result<(), AllocError> {
-        self.entries.push(Entry { domain, rule })?;
-        Ok(())
-    }
+#[tactic(auto, unfolding(crate::specs::Writing::written, crate::specs::Writing::domains, crate::specs::Writing::lines_of))]
+fn entries_of(alloc: Global, site: &Site) -> Result<Vec<Entry>, AllocError>
+    ensures { IfOk result (λ entries. lines_of (site_answers site.now) entries.items ≡ written (site_answers site.now)) }
+{
+    let sources = site.sources(alloc)?;
+    let senders = announcing(alloc, site)?;
+    let domains = domains_of(alloc, sources.as_slice())?;
+    let (sources, senders) = (sources.as_slice(), senders.as_slice());
+    let mut entries = Vec::new(alloc);
+    add_domains(
+        alloc,
+        site,
+        domains.as_slice(),
+        sources,
+        senders,
+        &mut entries,
+    )?;
+    Ok(entries)
+}
 
-    /// Who leads, if anyone does, and that each clock is named.
-    fn add_domain(
-        &mut self,
-        alloc: Global,
-        site: &Site,
-        domain: u8,
-        sources: &[Source],
-    ) -> Result<(), AllocError> {
-        let leading = leading_in(alloc, site, domain, sources)?;
-        if !leading.is_empty() {
-            let mut choices = Vec::new(alloc);
-            choices.push(leading)?;
-            self.add(domain, Rule::Leaders(choices))?;
-        }
-        self.add(domain, Rule::Only)
-    }
+/// The domains of these clocks, ascending.
+fn domains_of(alloc: Global, sources: &[Source]) -> Result<Vec<u8>, AllocError>
+    ensures { IfOk result (λ found. found.items ≡ fold (insert_key nat_cmp) [] (flat_map domain_of sources.now)) }
+{
+    let set = domain_set(alloc, sources)?;
+    set.iter().copied().collect(alloc)
+}
 
-    /// The clocks of a domain that announce and are not seen.
-    fn add_announcing(
-        &mut self,
-        site: &Site,
-        domain: u8,
-        senders: &Senders,
-    ) -> Result<(), AllocError> {
-        for source in senders.announcing.iter() {
-            if source.domain == domain && !site.is_seen(*source) {
-                self.add(domain, Rule::Clock(source.clock, Presence::Optional))?;
-            }
-        }
-        Ok(())
-    }
+fn domain_set(alloc: Global, sources: &[Source]) -> Result<BTreeSet<u8>, AllocError>
+    ensures { IfOk result (λ set. keys set ≡ fold (insert_key nat_cmp) [] (flat_map domain_of sources.now)) }
+{
+    let mut set = BTreeSet::new(alloc);
+    add_domains_of(sources, &mut set)?;
+    Ok(set)
+}
 
-    /// A clock, its members, and those of its ports, as far as they were answered.
-    fn add_clock(&mut self, alloc: Global, site: &Site, source: Source) -> Result<(), AllocError> {
-        self.add(source.domain, Rule::Clock(source.clock, Presence::Wanted))?;
-        for member in CLOCK_MEMBERS {
-            self.add_member(alloc, site, source, None, member)?;
-        }
-        let ports = site.ports(alloc, source)?;
-        for port in ports.as_slice() {
-            for member in PORT_MEMBERS {
-                self.add_member(alloc, site, source, Some(*port), member)?;
-            }
-        }
-        Ok(())
+fn add_domains_of(sources: &[Source], set: &mut BTreeSet<u8>) -> Result<(), AllocError>
+    ensures { OnOk result (keys set.new ≡ fold (insert_key nat_cmp) (keys set.old) (flat_map domain_of sources.now)) }
+{
+    for source in sources {
+        add_domain_of(*source, set)?;
     }
+    Ok(())
+}
 
-    fn add_member(
-        &mut self,
-        alloc: Global,
-        site: &Site,
-        source: Source,
-        port: Option<u16>,
-        member: Member,
-    ) -> Result<(), AllocError> {
-        let mut rule = MemberRule {
-            port,
-            member,
-            wanted: Vec::new(alloc),
-        };
-        let Some(value) = rule_value(site, source, &rule) else {
-            return Ok(());
-        };
-        rule.wanted.push(wanted_of(alloc, &value)?)?;
-        self.add(source.domain, Rule::Member(source.clock, rule))
+fn add_domain_of(source: Source, set: &mut BTreeSet<u8>) -> Result<(), AllocError>
+    ensures { OnOk result (keys set.new ≡ fold (insert_key nat_cmp) (keys set.old) (domain_of source)) }
+{
+    set.insert(source.domain)?;
+    Ok(())
+}
+
+/// Adds the lines of these domains. `sources` has all clocks, and `senders` those that announce.
+fn add_domains(
+    alloc: Global,
+    site: &Site,
+    domains: &[u8],
+    sources: &[Source],
+    senders: &[Source],
+    entries: &mut Vec<Entry>,
+) -> Result<(), AllocError>
+    requires sources { sources.now ≡ (site_answers site.now).clocks }
+    requires senders { senders.now ≡ announcing (site_answers site.now) }
+    ensures { OnOk result (lines_of (site_answers site.now) entries.new.items
+        ≡ lines_of (site_answers site.now) entries.old.items ++ flat_map (domain_lines (site_answers site.now)) domains.now) }
+{
+    for domain in domains {
+        add_domain(alloc, site, *domain, sources, senders, entries)?;
     }
+    Ok(())
+}
+
+/// Adds the lines of a domain: who leads, if anyone does, that each clock is named, and its clocks. `sources` has all clocks, and
+/// `senders` those that announce.
+#[tactic(auto, unfolding(crate::specs::Writing::domain_lines))]
+fn add_domain(
+    alloc: Global,
+    site: &Site,
+    domain: u8,
+    sources: &[Source],
+    senders: &[Source],
+    entries: &mut Vec<Entry>,
+) -> Result<(), AllocError>
+    requires sources { sources.now ≡ (site_answers site.now).clocks }
+    requires senders { senders.now ≡ announcing (site_answers site.now) }
+    ensures { OnOk result (lines_of (site_answers site.now) entries.new.items
+        ≡ lines_of (site_answers site.now) entries.old.items ++ domain_lines (site_answers site.now) domain) }
+{
+    let leading = leading_in(alloc, site, domain, sources)?;
+    add_leaders(alloc, site, domain, leading, entries)?;
+    add_entry(site, domain, Rule::Only, entries)?;
+    add_excused(site, domain, senders, entries)?;
+    add_clocks(alloc, site, domain, sources, entries)
+}
+
+/// Adds a line. `site` is that which it is of.
+#[tactic(auto, using(crate::proofs::Lines::lines_more))]
+fn add_entry(
+    site: &Site,
+    domain: u8,
+    rule: Rule,
+    entries: &mut Vec<Entry>,
+) -> Result<(), AllocError>
+    ensures { OnOk result (lines_of (site_answers site.now) entries.new.items
+        ≡ lines_of (site_answers site.now) entries.old.items ++ line_of_rule (site_answers site.now) domain rule ∷ []) }
+{
+    entries.push(Entry { domain, rule })?;
+    Ok(())
+}
+
+/// Adds who leads, if anyone does.
+fn add_leaders(
+    alloc: Global,
+    site: &Site,
+    domain: u8,
+    leading: Vec<ClockIdentity>,
+    entries: &mut Vec<Entry>,
+) -> Result<(), AllocError>
+    ensures { OnOk result (lines_of (site_answers site.now) entries.new.items
+        ≡ lines_of (site_answers site.now) entries.old.items ++ leader_lines domain leading.items) }
+{
+    if leading.is_empty() {
+        return Ok(());
+    }
+    let mut choices = Vec::new(alloc);
+    choices.push(leading)?;
+    add_entry(site, domain, Rule::Leaders(choices), entries)
+}
+
+/// Adds the clocks of a domain that announce and are not seen.
+fn add_excused(
+    site: &Site,
+    domain: u8,
+    senders: &[Source],
+    entries: &mut Vec<Entry>,
+) -> Result<(), AllocError>
+    ensures { OnOk result (lines_of (site_answers site.now) entries.new.items
+        ≡ lines_of (site_answers site.now) entries.old.items ++ flat_map (excuse_in (site_answers site.now) domain) senders.now) }
+{
+    for source in senders {
+        if source.domain == domain && !site.is_seen(*source) {
+            let rule = Rule::Clock(source.clock, Presence::Optional);
+            add_entry(site, domain, rule, entries)?;
+        }
+    }
+    Ok(())
+}
+
+/// Adds the clocks of a domain that are seen.
+fn add_clocks(
+    alloc: Global,
+    site: &Site,
+    domain: u8,
+    sources: &[Source],
+    entries: &mut Vec<Entry>,
+) -> Result<(), AllocError>
+    ensures { OnOk result (lines_of (site_answers site.now) entries.new.items
+        ≡ lines_of (site_answers site.now) entries.old.items ++ flat_map (clock_lines_in (site_answers site.now) domain) sources.now) }
+{
+    for source in sources {
+        if source.domain == domain {
+            add_clock(alloc, site, *source, entries)?;
+        }
+    }
+    Ok(())
+}
+
+/// Adds a clock, its members, and those of its ports, as far as they were answered.
+#[tactic(auto, unfolding(crate::specs::Writing::clock_lines))]
+fn add_clock(
+    alloc: Global,
+    site: &Site,
+    source: Source,
+    entries: &mut Vec<Entry>,
+) -> Result<(), AllocError>
+    ensures { OnOk result (lines_of (site_answers site.now) entries.new.items
+        ≡ lines_of (site_answers site.now) entries.old.items ++ clock_lines (site_answers site.now) source) }
+{
+    let rule = Rule::Clock(source.clock, Presence::Wanted);
+    add_entry(site, source.domain, rule, entries)?;
+    add_members(alloc, site, source, None, &CLOCK_MEMBERS, entries)?;
+    let ports = site.ports(alloc, source)?;
+    add_ports(alloc, site, source, ports.as_slice(), entries)
+}
+
+/// Adds the members of these ports.
+fn add_ports(
+    alloc: Global,
+    site: &Site,
+    source: Source,
+    ports: &[u16],
+    entries: &mut Vec<Entry>,
+) -> Result<(), AllocError>
+    ensures { OnOk result (lines_of (site_answers site.now) entries.new.items
+        ≡ lines_of (site_answers site.now) entries.old.items ++ flat_map (port_lines (site_answers site.now) source) ports.now) }
+{
+    for port in ports {
+        add_members(alloc, site, source, Some(*port), &PORT_MEMBERS, entries)?;
+    }
+    Ok(())
+}
+
+/// Adds those of these members that were answered.
+fn add_members(
+    alloc: Global,
+    site: &Site,
+    source: Source,
+    port: Option<u16>,
+    members: &[Member],
+    entries: &mut Vec<Entry>,
+) -> Result<(), AllocError>
+    ensures { OnOk result (lines_of (site_answers site.now) entries.new.items
+        ≡ lines_of (site_answers site.now) entries.old.items ++ flat_map (member_line (site_answers site.now) source port) members.now) }
+{
+    for member in members {
+        add_member(alloc, site, source, port, *member, entries)?;
+    }
+    Ok(())
+}
+
+/// Adds a member as it is, if it was answered.
+fn add_member(
+    alloc: Global,
+    site: &Site,
+    source: Source,
+    port: Option<u16>,
+    member: Member,
+    entries: &mut Vec<Entry>,
+) -> Result<(), AllocError>
+    ensures { OnOk result (lines_of (site_answers site.now) entries.new.items
+        ≡ lines_of (site_answers site.now) entries.old.items ++ member_line (site_answers site.now) source port member) }
+{
+    match rule_value(site, source, port, member) {
+        Some(value) => {
+            let rule = rule_of(alloc, port, member, &value)?;
+            add_entry(
+                site,
+                source.domain,
+                Rule::Member(source.clock, rule),
+                entries,
+            )
+        }
+        None => Ok(()),
+    }
+}
+
+/// That a member has this value.
+fn rule_of(
+    alloc: Global,
+    port: Option<u16>,
+    member: Member,
+    value: &Value<'_>,
+) -> Result<MemberRule, AllocError>
+    ensures port { IfOk result (λ rule. rule.port ≡ port) }
+    ensures member { IfOk result (λ rule. rule.member ≡ member) }
+    ensures met { IfOk result (λ rule. is_met rule.wanted.items (value_of value.now) ≡ true) }
+{
+    let mut wanted = Vec::new(alloc);
+    wanted.push(wanted_of(alloc, value)?)?;
+    Ok(MemberRule {
+        port,
+        member,
+        wanted,
+    })
 }
 
 /// What wants a value as it is; of a clockQuality the class.

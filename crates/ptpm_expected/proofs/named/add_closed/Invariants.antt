@@ -1,0 +1,10 @@
+-- Each domain that the entries so far close has its place.
+use Rattle.std.proofs.Common.{◌≡◌, take}
+use Rattle.std.specs.BTreeSet.{insert_key, keys}
+use Rattle.std.specs.List.{flat_map, fold}
+use Rattle.std.specs.Ordering.{nat_cmp}
+use Rattle.ptpm_expected.specs.Naming.{closed_in}
+use Rattle.ptpm_expected.proofs.named.add_closed.Given as goal
+
+abbrev pub invariant-loop-entry : goal.invariant-loop-entry
+invariant-loop-entry l = keys l.set ≡ fold (insert_key nat_cmp) (keys l.fn.set) (flat_map closed_in (take l.entry-index l.entries))

@@ -1,0 +1,101 @@
+//! The findings of a site that are none by an inventory.
+
+ghost use Rattle.std.specs.Prelude.{◌≡◌, ◌&&◌, ◌==◌, IfOk};
+ghost use Rattle.std.specs.List.{list_any};
+ghost use Rattle.ptpm_site.specs.Site.{site_answers};
+ghost use Rattle.ptpm_expected.specs.Held.{IsHeld};
+ghost use Rattle.ptpm_expected.specs.HeldToInventory.{has_quality, is_allowed, is_mute, is_quality_of};
+
+use crate::inventory::{Entry, MemberRule, Rule};
+use crate::meeting::is_as_wanted;
+use crate::named::Named;
+use crate::senders::{Sending, sender_set};
+use ptpm_site::finding::{Finding, What};
+use ptpm_site::member::Member;
+use ptpm_site::site::Site;
+use ptpm_site::source::Source;
+use ptpm_site::unseen::Absence;
+use std::alloc::{AllocError, Global};
+use std::collections::BTreeSet;
+
+/// A site and an inventory that it is held to, for quick answers.
+#[derive(Drop)]
+pub(crate) struct Held<'a> {
+    pub(crate) site: &'a Site,
+    pub(crate) entries: &'a [Entry],
+    pub(crate) named: Named,
+    /// The clocks that send Announce, Sync or Follow_Up.
+    pub(crate) heard: BTreeSet<Source>,
+}
+
+impl<'a> Held<'a> {
+    pub(crate) fn of(
+        alloc: Global,
+        site: &'a Site,
+        entries: &'a [Entry],
+    ) -> Result<Held<'a>, AllocError>
+        ensures site { IfOk result (λ held. held.site.now ≡ site.now) }
+        ensures entries { IfOk result (λ held. held.entries.now ≡ entries.now) }
+        ensures held { IfOk result (λ held. IsHeld held) }
+    {
+        Ok(Held {
+            site,
+            entries,
+            named: Named::of(alloc, entries)?,
+            heard: sender_set(alloc, site.all_heard(), Sending::OfMaster)?,
+        })
+    }
+
+    /// Whether a finding is none by the inventory.
+    pub(crate) fn allows(&self, finding: &Finding<'_>) -> bool
+        requires { IsHeld self.now }
+        ensures { result ≡ is_allowed (site_answers self.now.site.now) self.now.entries.now finding.now.source finding.now.what }
+    {
+        let source = finding.source;
+        match finding.what {
+            What::Degraded(_) => has_quality(self.site, source, self.entries),
+            What::BetterClock(_) => self.named.leading.contains(&source),
+            What::Unseen(Absence::Mute(_)) => self.named.mute.contains(&source),
+            What::GrandmasterNotSeen(clock) => self.is_mute(source.beside(clock)),
+            What::ParentNotSeen(port) => self.is_mute(source.beside(port.clock)),
+            _ => false,
+        }
+    }
+
+    /// Whether a clock needs to answer nothing, and is heard.
+    fn is_mute(&self, source: Source) -> bool
+        requires { IsHeld self.now }
+        ensures { result ≡ is_mute (site_answers self.now.site.now) self.now.entries.now source }
+    {
+        self.named.mute.contains(&source) && self.heard.contains(&source)
+    }
+}
+
+/// Whether one of these entries has what the clockQuality of a clock is.
+fn has_quality(site: &Site, source: Source, entries: &[Entry]) -> bool
+    ensures { result ≡ list_any (is_quality_of (site_answers site.now) source) entries.now }
+{
+    entries
+        .iter()
+        .any(|entry| is_quality_of(site, source, entry))
+}
+
+fn is_quality_of(site: &Site, source: Source, entry: &Entry) -> bool
+    ensures { result ≡ is_quality_of (site_answers site.now) source entry.now }
+{
+    if entry.domain != source.domain {
+        return false;
+    }
+    match &entry.rule {
+        Rule::Member(clock, rule) => *clock == source.clock && is_quality(site, source, rule),
+        Rule::EachMember(rule) => is_quality(site, source, rule),
+        _ => false,
+    }
+}
+
+/// Whether a rule is of clockQuality, and holds.
+fn is_quality(site: &Site, source: Source, rule: &MemberRule) -> bool
+    ensures { result ≡ has_quality (site_answers site.now) source rule.now }
+{
+    matches!(rule.member, Member::ClockQuality) && is_as_wanted(site, source, rule)
+}

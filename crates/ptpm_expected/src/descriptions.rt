@@ -1,0 +1,49 @@
+//! The descriptions that the clocks of an inventory are to have.
+
+use crate::inventory::{Entry, MemberRule, Rule};
+use ptpm_site::expected::Wanted;
+use ptpm_site::member::Member;
+use ptpm_site::source::Source;
+use std::alloc::{AllocError, Global};
+use std::collections::BTreeMap;
+
+/// Of each clock the last description that an inventory wants as the only one.
+#[derive(Drop)]
+pub(crate) struct Descriptions<'a> {
+    by_clock: BTreeMap<Source, &'a str>,
+}
+
+impl<'a> Descriptions<'a> {
+    pub(crate) fn of(alloc: Global, entries: &'a [Entry]) -> Result<Descriptions<'a>, AllocError> {
+        let mut by_clock = BTreeMap::new(alloc);
+        for entry in entries {
+            let Rule::Member(clock, rule) = &entry.rule else {
+                continue;
+            };
+            let Some(text) = only_text(rule) else {
+                continue;
+            };
+            let source = Source {
+                domain: entry.domain,
+                clock: *clock,
+            };
+            let _ = by_clock.insert(source, text)?;
+        }
+        Ok(Descriptions { by_clock })
+    }
+
+    pub(crate) fn get(&self, source: Source) -> Option<&'a str> {
+        self.by_clock.get(&source).copied()
+    }
+}
+
+/// The description that a rule wants, if that is the only one.
+fn only_text(rule: &MemberRule) -> Option<&str> {
+    if !matches!(rule.member, Member::UserDescription) {
+        return None;
+    }
+    match rule.wanted.as_slice() {
+        [Wanted::Text(text)] => Some(text.as_str()),
+        _ => None,
+    }
+}
