@@ -95,15 +95,12 @@ fn print_domain_head<O: Write>(
         out,
         "{{\"domainNumber\":{domain},\"sdoId\":0,\"grandmasters\":["
     )?;
-    let places = look.picture.forest.places_of(domain);
     let mut between = "";
-    for place in places.start..places.end {
-        if let Some(source) = look.picture.forest.sources.get(place) {
-            if look.picture.site.leads(*source) {
-                write!(out, "{between}")?;
-                print_value(alloc, grandmaster_value(alloc, look, *source), out)?;
-                between = ",";
-            }
+    for source in look.picture.forest.sources.as_slice() {
+        if source.domain == domain && look.picture.site.leads(*source) {
+            write!(out, "{between}")?;
+            print_value(alloc, grandmaster_value(alloc, look, *source), out)?;
+            between = ",";
         }
     }
     writeln!(out, "],\"clocks\":[")?;
