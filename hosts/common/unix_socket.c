@@ -16,8 +16,9 @@
 #include <sys/un.h>
 #include <unistd.h>
 
-static struct sockaddr_un own_path = { .sun_family = AF_UNIX };
-static struct stat own_file;
+/* Sockets of this program that are removed when it ends. */
+static struct own { struct sockaddr_un address; struct stat file; } own[OWN_SOCKETS];
+static size_t own_count;
 
 static bool is_socket(const char *path) {
     struct stat found;
@@ -69,9 +70,12 @@ void remove_left_over(const char *path) {
 
 /* What is at the path by now may be another program's. */
 static void remove_own(void) {
-    struct stat found;
-    if (lstat(own_path.sun_path, &found) || found.st_dev != own_file.st_dev || found.st_ino != own_file.st_ino) return;
-    unlink(own_path.sun_path);
+    for (size_t i = 0; i < own_count; i++) {
+        struct stat found;
+        const char *path = own[i].address.sun_path;
+        if (lstat(path, &found) || found.st_dev != own[i].file.st_dev || found.st_ino != own[i].file.st_ino) continue;
+        unlink(path);
+    }
 }
 
 /* Says why no socket can be made there, by errno. What is there already stays. */
@@ -84,20 +88,25 @@ _Noreturn static void refuse_path(const char *path) {
     exit(2);
 }
 
-int bind_unix(const char *path, mode_t mode) {
-    if (strlen(path) >= sizeof own_path.sun_path) usage();
-    strcpy(own_path.sun_path, path);
+/* Binds a socket to a path, which is then in *address. */
+static int bind_to(struct sockaddr_un *address, const char *path, mode_t mode) {
+    *address = (struct sockaddr_un){ .sun_family = AF_UNIX };
+    if (strlen(path) >= sizeof address->sun_path) usage();
+    strcpy(address->sun_path, path);
     int opened = socket(AF_UNIX, SOCK_DGRAM | SOCK_CLOEXEC, 0);
     mode_t before = umask(~mode & 0777);
-    if (opened < 0 || bind(opened, (struct sockaddr *)&own_path, sizeof own_path)) refuse_path(path);
+    if (opened < 0 || bind(opened, (struct sockaddr *)address, sizeof *address)) refuse_path(path);
     umask(before);
     return opened;
 }
 
+int bind_unix(const char *path, mode_t mode) { return bind_to(&(struct sockaddr_un){ 0 }, path, mode); }
+
 int open_unix_as(const char *path, mode_t mode) {
+    struct own *made = &own[own_count];
     remove_unheard(path);
-    int opened = bind_unix(path, mode);
-    if (lstat(path, &own_file) || atexit(remove_own)) give_up(path);
+    int opened = bind_to(&made->address, path, mode);
+    if (lstat(path, &made->file) || (own_count++ == 0 && atexit(remove_own))) give_up(path);
     return opened;
 }
 
@@ -108,7 +117,7 @@ static bool take_group_of(const char *path) {
 }
 
 int open_unix(const char *path) {
-    char base[sizeof own_path.sun_path];
+    char base[sizeof own->address.sun_path];
     gid_t before = getegid();
     bool has_its_group = false;
     const char *dot = strrchr(path, '.');

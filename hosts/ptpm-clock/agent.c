@@ -165,29 +165,56 @@ static enum ptpm_handled hand_in_said(struct ptpm_clock *clock, uint16_t ingress
     return answer;
 }
 
+/* Copies the clock, with these managers; whether it could. */
+static bool copy_clock(struct ptpm_clock *copy, const struct ptpm_manager_settings *managers, size_t manager_count) {
+    static uint8_t image[PTPM_CLOCK_IMAGE_OCTETS];
+    size_t size, gone;
+    return ptpm_clock_image(&clock_held, image, sizeof image, &size) == PTPM_SAVED
+           && ptpm_clock_restore(copy, options->settings.identity, ports_of(options), managers, manager_count, image, size,
+                                 &gone) == PTPM_RESTORED;
+}
+
+/* What the device's owner asks has no manager. A copy of the clock whose one manager is its sender judges it, and makes the answers.
+   What that one carries out is carried out here. `say` has a value that the device gives, or is NULL. */
+static enum ptpm_handled hand_in_of_owner(const struct heard *heard, const struct ptpm_say *say, struct ptpm_sent *places,
+                                          size_t *count, struct ptpm_changed *changed) {
+    static const struct ptpm_say nothing;
+    static struct ptpm_clock copy;
+    struct ptpm_manager_settings owner = sender_of(heard);
+    struct ptpm_question asked;
+    uint16_t error;
+    *changed = (struct ptpm_changed){ 0 };
+    *count = 0;
+    if (!copy_clock(&copy, &owner, 1)) return PTPM_HANDLE_NO_CLOCK;
+    bool is_change = ptpm_clock_ask(&copy, 1, heard->octets, heard->size, &asked) == PTPM_ASKED_CHANGE;
+    enum ptpm_handled answer = ptpm_clock_handle_said(&copy, 1, heard->octets, heard->size, say != NULL ? say : &nothing, places,
+                                                      PTPM_MOST_SENT, count, changed);
+    ptpm_clock_stop(&copy);
+    if (!is_change) return answer == PTPM_ANSWERED_NEW ? PTPM_ANSWERED_UNNUMBERED : answer;     /* nothing is to be saved */
+    ptpm_clock_set(&clock_held, asked.action, asked.id, asked.port, asked.octets, asked.size, changed, &error);
+    return answer;
+}
+
+/* Hands in what may change the clock, for the device too if it says something. */
+static enum ptpm_handled hand_in(struct ptpm_clock *clock, uint16_t ingress, const struct heard *heard, const struct ptpm_say *say,
+                                 struct ptpm_sent *places, size_t *count, struct ptpm_changed *changed) {
+    if (heard->is_of_owner) return hand_in_of_owner(heard, say, places, count, changed);
+    if (say != NULL) return hand_in_said(clock, ingress, heard, say, places, count, changed);
+    return ptpm_clock_handle_changed(&clock_held, ingress, heard->octets, heard->size, places, PTPM_MOST_SENT, count, changed);
+}
+
 /* A turn with lines of what became of it and what it changed. To find that costs more than the turn does. */
 static unsigned long take_verbose_turn(const struct heard *heard, const struct port *port, uint16_t ingress,
                                        const struct ptpm_say *say, struct ptpm_sent *places) {
     struct ptpm_changed changed;
     size_t count, left;
-    enum ptpm_handled answer = say != NULL ? hand_in_said(&clock_held, ingress, heard, say, places, &count, &changed)
-                                           : ptpm_clock_handle_changed(&clock_held, ingress, heard->octets, heard->size, places,
-                                                                       PTPM_MOST_SENT, &count, &changed);
+    enum ptpm_handled answer = hand_in(&clock_held, ingress, heard, say, places, &count, &changed);
     unsigned long lost = hand_on(heard, port, ingress, answer, places, count, &left);
     bool is_done = save_changes(&clock_held);
     lost += is_done ? send_all() : drop_round();
     print_turn(ingress, heard, answer, left - lost, count);
     if (is_done) print_all_changed(&changed);
     return lost;
-}
-
-/* Copies the clock for those who ask during the next save; whether it could. */
-static bool copy_clock(void) {
-    static uint8_t image[PTPM_CLOCK_IMAGE_OCTETS];
-    size_t size, gone;
-    return ptpm_clock_image(&clock_held, image, sizeof image, &size) == PTPM_SAVED
-           && ptpm_clock_restore(&clock_before, options->settings.identity, ports_of(options), options->managers,
-                                 options->manager_count, image, size, &gone) == PTPM_RESTORED;
 }
 
 static uint16_t ingress_of(const struct port *port) { return port == NULL ? 1 : (uint16_t)(port - ports + 1); }
@@ -207,9 +234,9 @@ static unsigned long take_turn(struct heard *heard, const struct port *port, con
     struct ptpm_clock *clock = is_saving ? &clock_before : &clock_held;
     if (has_values && say == NULL) say = value_to_give(clock, ingress, heard);
     if (options->is_verbose) return take_verbose_turn(heard, port, ingress, say, places);
-    enum ptpm_handled answer = say != NULL ? hand_in_said(clock, ingress, heard, say, places, &count, &changed)
-                                           : ptpm_clock_handle(clock, ingress, heard->octets, heard->size, places, PTPM_MOST_SENT,
-                                                               &count);
+    bool is_simple = say == NULL && !heard->is_of_owner;
+    enum ptpm_handled answer = is_simple ? ptpm_clock_handle(clock, ingress, heard->octets, heard->size, places, PTPM_MOST_SENT, &count)
+                                         : hand_in(clock, ingress, heard, say, places, &count, &changed);
     if (is_saving && answer == PTPM_ANSWERED_NEW) return count;         /* nobody is shown what is not saved */
     return hand_on(heard, port, ingress, answer, places, count, &left);
 }
@@ -218,7 +245,7 @@ static unsigned long take_turn(struct heard *heard, const struct port *port, con
 static size_t part_round(struct heard *const *all, size_t count, struct heard **first, struct heard **last) {
     size_t firsts = 0, lasts = 0;
     for (size_t i = 0; i < count; i++) {
-        if (is_of_manager(all[i], options->settings.identity)) last[lasts++] = all[i];
+        if (all[i]->is_of_owner || is_of_manager(all[i], options->settings.identity)) last[lasts++] = all[i];
         else first[firsts++] = all[i];
     }
     return firsts;
@@ -249,6 +276,13 @@ void take_round(const struct port *port, int socket) {
     if (port != NULL || has_room_for_peers()) take_all(hear_round(port, socket, heard_now));
 }
 
+void take_owner_round(int socket) {
+    if (!has_room_for_peers()) return;
+    size_t count = hear_round(NULL, socket, heard_now);
+    for (size_t i = 0; i < count; i++) heard_now[i].is_of_owner = true;
+    take_all(count);
+}
+
 void take_unicast_round(void) { take_all(hear_unicast(heard_now)); }
 
 static void send_taken(unsigned long lost) {
@@ -265,6 +299,7 @@ static bool is_asked(const struct held *held, struct ptpm_question *asked) {
    is taken then, so that no later request overtakes it. How many messages were not taken. */
 static unsigned long take_request(struct held *held) {
     struct ptpm_question asked;
+    if (held->heard.is_of_owner) return take_turn(&held->heard, NULL, NULL);
     if (has_device && is_manager_waiting(&held->heard)) {
         count_passed_over();
         return 0;
@@ -296,7 +331,8 @@ static void ask_about_next(void) {
 
 /* Takes as many as one save does for. What they send waits for it, and a thread waits for the disk. */
 static void take_held(void) {
-    bool is_copied = options->state != NULL && !options->is_verbose && !is_unsaved && copy_clock();
+    bool is_copied = options->state != NULL && !options->is_verbose && !is_unsaved
+                     && copy_clock(&clock_before, options->managers, options->manager_count);
     unsigned long lost = take_decided(), of_peers = 0;
     for (taken = 0; taken < held_count() && of_peers < PEERS_A_SAVE && places_to_send() != NULL; taken++) {
         of_peers += held_at(taken)->port == NULL;

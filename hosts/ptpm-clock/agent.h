@@ -23,6 +23,10 @@ void say_started(void);
    socket. */
 void take_round(const struct port *port, int socket);
 
+/* The same for datagrams of the device's owner. What they ask is carried out as that of a manager with every right, and waits
+   as theirs does. It is passed on to nobody. */
+void take_owner_round(int socket);
+
 /* The same for datagrams that were sent over UDP to this host by unicast. */
 void take_unicast_round(void);
 

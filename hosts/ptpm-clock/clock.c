@@ -36,7 +36,7 @@ const char program[] = "ptpm-clock";
 
 static struct options options;
 static struct source observations;
-static int unix_socket = -1, source = -1, signals, links, timer;
+static int unix_socket = -1, owner_socket = -1, source = -1, signals, links, timer;
 
 static void observe_all(void) {
     source = read_source(&observations);
@@ -44,7 +44,7 @@ static void observe_all(void) {
 }
 
 /* What is polled. The ports come first. */
-enum { UNIX_SOCKET = PORTS, UNICAST, SOURCE, LIMITS, SIGNALS, LINKS, TIMER, SAVED, RUNS, WAITS };
+enum { UNIX_SOCKET = PORTS, OWNER_SOCKET, UNICAST, SOURCE, LIMITS, SIGNALS, LINKS, TIMER, SAVED, RUNS, WAITS };
 
 static int polled = -1;
 static unsigned long polled_openings[PORTS];    /* which socket of each port is polled */
@@ -58,6 +58,7 @@ static void wait_at_all(void) {
     polled = epoll_create1(EPOLL_CLOEXEC);
     if (polled < 0) give_up("epoll_create1");
     wait_at(unix_socket, UNIX_SOCKET);
+    wait_at(owner_socket, OWNER_SOCKET);
     wait_at(unicast_socket(), UNICAST);
     wait_at(source, SOURCE);
     wait_at(limits_event(), LIMITS);
@@ -68,12 +69,17 @@ static void wait_at_all(void) {
     wait_at(device_program_event(), RUNS);
 }
 
+static void change_wait(int descriptor, uint32_t what, bool is_heard) {
+    struct epoll_event event = { .events = is_heard ? EPOLLIN : 0, .data.u32 = what };
+    if (descriptor >= 0 && epoll_ctl(polled, EPOLL_CTL_MOD, descriptor, &event)) give_up("epoll_ctl");
+}
+
 /* Programs of this host wait while there is no room for what they ask, and lose nothing. */
 static void wait_at_peers(bool is_heard) {
     static bool was_heard = true;
-    struct epoll_event event = { .events = is_heard ? EPOLLIN : 0, .data.u32 = UNIX_SOCKET };
-    if (unix_socket < 0 || is_heard == was_heard) return;
-    if (epoll_ctl(polled, EPOLL_CTL_MOD, unix_socket, &event)) give_up("epoll_ctl");
+    if (is_heard == was_heard) return;
+    change_wait(unix_socket, UNIX_SOCKET, is_heard);
+    change_wait(owner_socket, OWNER_SOCKET, is_heard);
     was_heard = is_heard;
 }
 
@@ -91,6 +97,7 @@ static bool take_event(uint32_t what) {
     enum asked asked = NOTHING_ASKED;
     switch (what) {
     case UNIX_SOCKET: take_round(NULL, unix_socket); break;
+    case OWNER_SOCKET: take_owner_round(owner_socket); break;
     case UNICAST: take_unicast_round(); break;
     case SOURCE:
         observe_all();
@@ -155,6 +162,7 @@ static void open_all(void) {
     for (size_t i = 0; i < options.interface_count; i++) open_port(options.interfaces[i]);
     open_unicast();
     if (options.meeting.path != NULL) unix_socket = open_peers(&options.meeting);
+    if (options.owner != NULL) owner_socket = open_owner(options.owner, options.meeting.group);
     open_service();
 }
 

@@ -51,6 +51,15 @@ void lower_hops(struct heard *heard) {
     heard->octets[STARTING_HOPS_AT] = starting > less ? (uint8_t)(starting - less) : 0;
 }
 
+struct ptpm_manager_settings sender_of(const struct heard *heard) {
+    struct ptpm_manager_settings sender = { .rights = PTPM_CLOCK_SET | PTPM_PORT_SET | PTPM_PORT_COMMAND };
+    const uint8_t *port = heard->octets + SOURCE_PORT_AT;
+    if (heard->size < LEAST_MESSAGE) return sender;
+    memcpy(sender.clock, heard->octets + SOURCE_AT, sizeof sender.clock);
+    sender.port = (uint16_t)(port[0] << 8 | port[1]);
+    return sender;
+}
+
 bool is_of_manager(const struct heard *heard, const uint8_t own[8]) {
     const uint8_t *source = heard->octets + SOURCE_AT, *port = heard->octets + SOURCE_PORT_AT;
     if (heard->size < LEAST_MESSAGE || memcmp(heard->octets + TARGET_AT, own, 8) != 0) return false;
@@ -71,7 +80,8 @@ void count_manager_dropped(void) { kept_back.managers++; }
 
 /* Whether a message is to be forwarded at all. It is asked once for each, since it is recorded. */
 static bool admit_copies(const struct heard *heard, const struct port *port, uint64_t now) {
-    if (!limits.is_passed_on || limits.hops == 0 || (port == NULL && !limits.is_passed_on_from_host)) return false;
+    if (!limits.is_passed_on || limits.hops == 0) return false;
+    if (port == NULL && (heard->is_of_owner || !limits.is_passed_on_from_host)) return false;
     if (ptpm_passed_on_is_first(&passed_on, heard->octets, heard->size, now, NOTED)) return true;
     kept_back.again++;
     return false;

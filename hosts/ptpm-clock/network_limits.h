@@ -35,6 +35,9 @@ bool admit_datagram(const struct heard *heard, const struct port *port);
    know who sent it. */
 bool is_of_manager(const struct heard *heard, const uint8_t own[8]);
 
+/* Its sender, as a manager with every right. */
+struct ptpm_manager_settings sender_of(const struct heard *heard);
+
 /* Whether such a datagram from a port is taken: its sender has not sent too many. One that is not is counted. */
 bool admit_manager(const struct heard *heard, const struct port *port);
 

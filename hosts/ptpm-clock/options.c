@@ -22,7 +22,9 @@ enum { SECOND = 1000, HOPS_AT_FIRST = 8, RATE_AT_FIRST = 1000, MANAGER_RATE_AT_F
        ASK_TIME_AT_FIRST = 10, MOST_ASK_TIME = 3600 };
 
 /* Options without a letter of their own. */
-enum { VERSION = 256, HOPS, RATE, MANAGER_RATE, NO_FORWARD, ANY_SOURCE, USER, UNIX_GROUP, UNIX_MODE, NO_FILTER, LIMITS, ASK, ASK_TIME, GIVE };
+enum {
+    VERSION = 256, HOPS, RATE, MANAGER_RATE, NO_FORWARD, ANY_SOURCE, USER, UNIX_GROUP, UNIX_MODE, OWNER, NO_FILTER, LIMITS, ASK, ASK_TIME, GIVE
+};
 
 static const struct option names[] = {
     { "ipv6", no_argument, NULL, '6' }, { "ethernet", no_argument, NULL, '2' }, { "hops", required_argument, NULL, HOPS },
@@ -30,6 +32,7 @@ static const struct option names[] = {
     { "no-forward", no_argument, NULL, NO_FORWARD },
     { "any-source", no_argument, NULL, ANY_SOURCE }, { "user", required_argument, NULL, USER },
     { "unix-group", required_argument, NULL, UNIX_GROUP }, { "unix-mode", required_argument, NULL, UNIX_MODE },
+    { "owner", required_argument, NULL, OWNER },
     { "limits", required_argument, NULL, LIMITS }, { "ask", required_argument, NULL, ASK },
     { "ask-time", required_argument, NULL, ASK_TIME }, { "give", required_argument, NULL, GIVE },
     { "no-filter", no_argument, NULL, NO_FILTER }, { "state", required_argument, NULL, 's' }, { "help", no_argument, NULL, 'h' },
@@ -52,6 +55,7 @@ static const char help[] =
     "  -u PATH             a Unix socket for programs of this host, which counts as port 1\n"
     "  --unix-group NAME   the group of this socket, which the program then joins\n"
     "  --unix-mode MODE    the mode of this socket (660)\n"
+    "  --owner PATH        a Unix socket for the device's owner: what is asked there is carried out, and no manager's\n"
     "  -f                  what comes in there for other clocks is passed on at the other ports\n"
     "\n"
     "  --hops N            by how many clocks a message is passed on at most, this one included (8)\n"
@@ -69,8 +73,8 @@ static const char help[] =
     "  --ask PROGRAM       a program of the device, which is run for each change that a manager asks for, and agrees by\n"
     "                      status 0. Its words are MANAGER NUMBER set|command ID NAME PORT|all OCTETS [MEMBER VALUE]..\n"
     "  --ask-time SECONDS  how long it may take (10); then the change counts as lost\n"
-    "  --give ID FILE      the octets of FILE are the answer to a GET of ID, which the clock itself lacks. ID is four\n"
-    "                      hexadecimal digits, such as 0001 of CLOCK_DESCRIPTION. FILE is read at each GET\n"
+    "  --give ID FILE      the octets of FILE are the answer to a GET of ID, which the clock itself lacks: for example of\n"
+    "                      CLOCK_DESCRIPTION, or of 2017. FILE is read at each GET\n"
     "  -n SECONDS          it ends by itself then\n"
     "  -v                  a line for each datagram that it hears, and one for what it changed\n"
     "  --user NAME         the user that it becomes once its sockets are open. Root becomes ptpm if there is such a user,\n"
@@ -141,11 +145,12 @@ static void leave_root(struct options *options) {
     gid_t group = getegid();
     privileges->is_by_default = find_user(privileges, "ptpm") || find_user(privileges, "nobody");
     if (!privileges->is_by_default) say("it stays root: there is no user ptpm, and no nobody");
-    if (options->meeting.path != NULL && options->meeting.group == (gid_t)-1) options->meeting.group = group;
+    bool has_socket = options->meeting.path != NULL || options->owner != NULL;
+    if (has_socket && options->meeting.group == (gid_t)-1) options->meeting.group = group;
 }
 
-static const char *socket_path(void) {
-    if (strlen(optarg) >= sizeof ((struct sockaddr_un *)0)->sun_path) refuse_command_line("-u %s: the path is too long", optarg);
+static const char *socket_path(const char *option) {
+    if (strlen(optarg) >= sizeof ((struct sockaddr_un *)0)->sun_path) refuse_command_line("%s %s: the path is too long", option, optarg);
     return optarg;
 }
 
@@ -166,8 +171,8 @@ static const char *program_path(void) {
 
 /* An id and the file of its value, which are two words. */
 static void take_value(struct options *options, char *const *rest) {
-    long id = id_named(optarg);
-    if (id < 0) refuse_command_line("--give %s: it takes a managementId, such as 0001", optarg);
+    long id = read_id_named(optarg);
+    if (id < 0) refuse_command_line("--give %s: it takes a managementId, such as CLOCK_DESCRIPTION", optarg);
     if (id_name((uint16_t)id) != NULL) refuse_command_line("--give %s: the clock has a value of its own", optarg);
     if (rest[optind] == NULL) refuse_command_line("--give %s: the file of its value is missing", optarg);
     if (options->value_count == VALUES) refuse_command_line("--give: 64 ids at most");
@@ -188,6 +193,7 @@ static void take_limit(struct options *options, int option) {
     case USER: take_user(&options->privileges); break;
     case UNIX_GROUP: options->meeting.group = group_named(); break;
     case UNIX_MODE: options->meeting.mode = mode(); break;
+    case OWNER: options->owner = socket_path("--owner"); break;
     case NO_FILTER: options->privileges.is_unfiltered = true; break;
     case LIMITS: options->limits_file = optarg; break;
     case ASK: options->device_program = program_path(); break;
@@ -203,7 +209,7 @@ static void take_option(struct options *options, int option, char *const *words)
     case '6': options->transport = UDP_IPV6; break;
     case 'f': options->limits.is_passed_on_from_host = true; break;
     case 'v': options->is_verbose = true; break;
-    case 'u': options->meeting.path = socket_path(); break;
+    case 'u': options->meeting.path = socket_path("-u"); break;
     case 's': options->state = optarg; break;
     case 'o': options->source = optarg; break;
     case 'd':
@@ -249,6 +255,9 @@ static void judge(const struct options *options, bool has_two_ways) {
     if (options->interface_count > PORTS) refuse_command_line("it takes eight interfaces at most");
     if (options->interface_count == 0 && options->meeting.path == NULL) {
         refuse_command_line("an interface is missing, or a Unix socket: -u PATH");
+    }
+    if (options->owner != NULL && options->meeting.path != NULL && strcmp(options->owner, options->meeting.path) == 0) {
+        refuse_command_line("--owner %s: -u has this path", options->owner);
     }
     if (has_two_ways) refuse_command_line("-2 and -6 exclude each other");
     refuse_twice(options->interfaces, options->interface_count);

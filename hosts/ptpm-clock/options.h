@@ -23,6 +23,7 @@ struct options {
     size_t interface_count;
     enum transport transport;
     struct meeting meeting;             /* without a path: no Unix socket */
+    const char *owner;                  /* the path of the owner's socket, or NULL */
     struct limits limits;
     struct privileges privileges;
     const char *state;                  /* the file that the clock is saved to, or NULL */

@@ -27,7 +27,7 @@ struct way_back {
 
 static struct way_back ways[WAYS_BACK];
 static unsigned long turn;
-static int meeting_socket = -1;
+static int meeting_socket = -1, owner_socket = -1;
 
 /* A socket that has the path for a moment only: then another one has it. */
 static int open_named(const struct meeting *meeting) {
@@ -39,12 +39,21 @@ static int open_named(const struct meeting *meeting) {
     return opened;
 }
 
+static int open_meeting(const struct meeting *meeting) {
+    int opened = open_unix_as(meeting->path, meeting->mode);
+    if (meeting->group != (gid_t)-1 && lchown(meeting->path, (uid_t)-1, meeting->group)) give_up(meeting->path);
+    return opened;
+}
+
 int open_peers(const struct meeting *meeting) {
     remove_left_over(meeting->path);
     for (int i = 0; i < WAYS_BACK; i++) ways[i].socket = open_named(meeting);
-    meeting_socket = open_unix_as(meeting->path, meeting->mode);
-    if (meeting->group != (gid_t)-1 && lchown(meeting->path, (uid_t)-1, meeting->group)) give_up(meeting->path);
-    return meeting_socket;
+    return meeting_socket = open_meeting(meeting);
+}
+
+int open_owner(const char *path, gid_t group) {
+    remove_left_over(path);
+    return owner_socket = open_meeting(&(struct meeting){ path, 0600, group });
 }
 
 int way_back_socket(size_t place) { return ways[place].socket; }
@@ -97,13 +106,18 @@ static bool check_room(struct way_back *way) {
 }
 
 bool answer_peer(const struct ptpm_sent *message, const struct heard *answered) {
+    int from = owner_socket;
     if (answered->sender_size <= sizeof(sa_family_t)) return false;         /* it has no path */
-    struct way_back *way = way_to(answered);
-    return check_room(way)
-           && sendto(way->socket, message->octets, message->size, MSG_DONTWAIT, &answered->sender.any, answered->sender_size) >= 0;
+    if (!answered->is_of_owner) {
+        struct way_back *way = way_to(answered);
+        if (!check_room(way)) return false;
+        from = way->socket;
+    }
+    return sendto(from, message->octets, message->size, MSG_DONTWAIT, &answered->sender.any, answered->sender_size) >= 0;
 }
 
 void close_peers(void) {
+    if (owner_socket >= 0) close(owner_socket);
     if (meeting_socket < 0) return;
     close(meeting_socket);
     for (int i = 0; i < WAYS_BACK; i++) close(ways[i].socket);

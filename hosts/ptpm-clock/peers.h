@@ -1,5 +1,6 @@
-/* The Unix socket of ptpm-clock, and the programs of this host that ask there, its peers. What a peer does not read stays in
-   the socket that it was sent from. So each peer has a socket of its own, and little room there. */
+/* The Unix sockets of ptpm-clock, and the programs of this host that ask there, its peers. What a peer does not read stays in
+   the socket that it was sent from. So each peer has a socket of its own, and little room there. The device's owner has a socket
+   apart, where what is asked is carried out (--owner). */
 #ifndef PEERS_H
 #define PEERS_H
 
@@ -16,12 +17,15 @@ enum { WAYS_BACK = 64 };
    status 2 if it can't be had. */
 int open_peers(const struct meeting *meeting);
 
+/* The same for the owner's socket: only the user that started this program, and root, may ask there. The group is one that the
+   program is in, so that a program which takes it can be answered. */
+int open_owner(const char *path, gid_t group);
+
 /* One of the sockets that peers are answered from. A program that found it at the path while the others were made may have sent
    something there. */
 int way_back_socket(size_t place);
 
-/* Sends a message to the sender of what it answers; whether it was accepted. All that is sent comes from the path of the Unix
-   socket. */
+/* Sends a message to the sender of what it answers; whether it was accepted. It comes from the path of the socket that was asked. */
 bool answer_peer(const struct ptpm_sent *message, const struct heard *answered);
 
 void close_peers(void);

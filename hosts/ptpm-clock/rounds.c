@@ -58,6 +58,7 @@ static void take_head(struct heard *heard, const struct port *port, struct mmsgh
     if (heard->sender_size > sizeof heard->sender.peer) heard->sender_size = sizeof heard->sender.peer;     /* a path has no end */
     heard->station = NULL;
     heard->port = port;
+    heard->is_of_owner = false;
     heard->is_unicast = port == NULL;
 }
 

@@ -30,6 +30,7 @@ struct heard {
     socklen_t sender_size;
     const uint8_t *station;             /* its sender over Ethernet */
     const struct port *port;            /* that of the interface; NULL on the Unix socket */
+    bool is_of_owner;                   /* it came in at the socket of the device's owner */
     bool is_unicast;                    /* it was sent only to this host, and the answer goes only to its sender */
     struct in_pktinfo own_four;         /* the address that it was sent to */
     struct in6_pktinfo own_six;

@@ -19,6 +19,9 @@ static const char *const passing[] = {
 static const char *const changes[] = { "changed", "grandmaster_changed" };
 static const char *const moving[] = { "not_locked", "port_state", "off_by_utc", "offset", "delay" };
 
+/* Findings that more than one look shows. */
+static const char *const over_time[] = { "not_locked", "port_state", "intervals", "identity_twice" };
+
 /* What is open and stays so, whatever the time. */
 static const char *const lasting[] = { "not_asked", "mute" };
 
@@ -41,11 +44,13 @@ static bool is_lasting(const struct finding *finding) { return is_one_of(finding
 
 static bool is_passing(const struct finding *finding) { return is_one_of(finding, passing, sizeof passing / sizeof *passing); }
 
-/* Whether a line says that clocks of one identity have two offsets. These are other ones each time. */
+/* Whether it says that clocks of one identity have two offsets. These are other ones each time. */
 static bool has_two_offsets(const struct finding *finding) {
-    static const char words[] = "identity_twice two offsets ";
+    static const char words[] = "identity_twice two offsets ", member[] = "\"offsets\":";
     const char *name = finding->key[NAME_PART].at, *end = finding->whole.at + finding->whole.size;
-    return (size_t)(end - name) >= sizeof words - 1 && memcmp(name, words, sizeof words - 1) == 0;
+    if (!is_piece(&finding->key[NAME_PART], "identity_twice")) return false;
+    return ((size_t)(end - name) >= sizeof words - 1 && memcmp(name, words, sizeof words - 1) == 0)
+           || memmem(finding->whole.at, finding->whole.size, member, sizeof member - 1) != NULL;
 }
 
 static bool is_moving(const struct finding *finding) {
@@ -68,6 +73,32 @@ static const char *end_of_line(const char *at, const char *end) {
     return found == NULL ? end : found + 1;
 }
 
+/* The sum of the numbers in `; so too: changed 33, steps 2`. */
+static size_t sum_of_followers(const char *at, const char *end) {
+    size_t sum = 0, number = 0;
+    for (; at < end; at++) {
+        bool is_digit = isdigit((unsigned char)*at) && (number > 0 || at[-1] == ' ');
+        if (is_digit) number = 10 * number + (size_t)(*at - '0');
+        if (!is_digit || at + 1 == end) {
+            sum += number;
+            number = 0;
+        }
+    }
+    return sum;
+}
+
+/* What follows from a finding is counted after its words, before the description. */
+static void read_followers(struct finding *finding) {
+    static const char so_too[] = "; so too: ", quoted[] = " \"";
+    const char *at = finding->whole.at, *end = at + finding->whole.size;
+    const char *description = memmem(at, finding->whole.size, quoted, sizeof quoted - 1);
+    if (description == NULL) description = end;
+    const char *last = memmem(at, (size_t)(description - at), so_too, sizeof so_too - 1);
+    if (last != NULL) finding->followers = sum_of_followers(last + sizeof so_too - 1, description);
+    finding->words = (struct piece){ at, (size_t)((last == NULL ? description : last) - at) };
+    finding->rest = (struct piece){ description, (size_t)(end - description) };
+}
+
 static bool read_line(struct finding *finding, const char *at, const char *end) {
     const char *next = at;
     if (at == end || !isdigit((unsigned char)*at)) return false;
@@ -79,7 +110,16 @@ static bool read_line(struct finding *finding, const char *at, const char *end) 
         if (next == first) return false;
         if (part + 1 < KEY_PARTS && *next++ != ' ') return false;
     }
+    read_followers(finding);
     return true;
+}
+
+/* `findings: 1, and 2 that follow`, or without these. */
+static void read_heading(struct report *report, const char *numbers) {
+    static const char between[] = ", and ";
+    char *end;
+    report->said = strtoul(numbers, &end, 10);
+    if (strncmp(end, between, sizeof between - 1) == 0) report->followers = strtoul(end + sizeof between - 1, NULL, 10);
 }
 
 static void read_text(struct report *report) {
@@ -89,6 +129,7 @@ static void read_text(struct report *report) {
     if (at == end) return;
     report->has_findings = true;
     report->head.size = (size_t)(at - report->text);
+    read_heading(report, at + sizeof heading - 1);
     at = end_of_line(at, end);
     for (const char *next; at < end; at = next) {
         struct finding finding = { 0 };
@@ -153,8 +194,11 @@ static bool find_member(struct piece *member, const char *at, const char *end, c
 
 static bool read_object(struct finding *finding, const char *at, const char *end) {
     static const char *const names[KEY_PARTS] = { "domainNumber", "clockIdentity", "finding" };
+    struct piece cause;
     while (end > at && isspace((unsigned char)end[-1])) end--;
-    finding->whole = (struct piece){ at, (size_t)(end - at) };
+    finding->whole = finding->words = (struct piece){ at, (size_t)(end - at) };
+    finding->rest = (struct piece){ end, 0 };
+    finding->has_cause = find_member(&cause, at, end, "because") && !is_piece(&cause, "null");
     for (int part = 0; part < KEY_PARTS; part++) {
         if (!find_member(&finding->key[part], at, end, names[part])) return false;
     }
@@ -199,13 +243,6 @@ bool has_finding_named(const struct report *report, const char *name) {
     return false;
 }
 
-bool has_passing_finding(const struct report *report) {
-    for (size_t i = 0; i < report->count; i++) {
-        if (is_passing(&report->findings[i])) return true;
-    }
-    return false;
-}
-
 static int compare_pieces(const struct piece *one, const struct piece *other) {
     size_t least = one->size < other->size ? one->size : other->size;
     int order = memcmp(one->at, other->at, least);
@@ -226,17 +263,20 @@ static int by_kind(const void *one, const void *other) {
     return order != 0 ? order : has_two_offsets(first) - has_two_offsets(second);
 }
 
+/* What follows from it may be another number each time. */
 static int by_text(const void *one, const void *other) {
-    return compare_pieces(&(*(const struct finding *const *)one)->whole, &(*(const struct finding *const *)other)->whole);
+    const struct finding *first = *(const struct finding *const *)one, *second = *(const struct finding *const *)other;
+    int order = compare_pieces(&first->words, &second->words);
+    return order != 0 ? order : compare_pieces(&first->rest, &second->rest);
 }
 
-/* The findings of a report that are not left out, in an order. */
+/* Findings of a report in an order: all, or those that are not left out. */
 struct sorted { const struct finding **at; size_t count; int (*order)(const void *, const void *); };
 
-static struct sorted sort_findings(const struct report *report, int (*order)(const void *, const void *)) {
+static struct sorted sort_findings(const struct report *report, int (*order)(const void *, const void *), bool is_of_all) {
     struct sorted sorted = { calloc(report->count + 1, sizeof *sorted.at), 0, order };
     for (size_t i = 0; i < report->count && sorted.at != NULL; i++) {
-        if (!report->findings[i].is_left_out) sorted.at[sorted.count++] = &report->findings[i];
+        if (is_of_all || !report->findings[i].is_left_out) sorted.at[sorted.count++] = &report->findings[i];
     }
     if (sorted.count > 0) qsort(sorted.at, sorted.count, sizeof *sorted.at, order);
     return sorted;
@@ -276,14 +316,31 @@ bool has_open(const struct report *report) {
     return report->is_json ? has_open_object(report->text, end) : has_open_line(report->tail.at, end);
 }
 
+bool is_over_time(const struct report *report) {
+    for (size_t i = 0; i < report->count; i++) {
+        if (is_one_of(&report->findings[i], over_time, sizeof over_time / sizeof *over_time)) return true;
+    }
+    return has_open(report);
+}
+
 void leave_out_changes(struct report *report) {
     for (size_t i = 0; i < report->count; i++) {
         if (is_change(&report->findings[i])) report->findings[i].is_left_out = true;
     }
 }
 
+bool has_passing_finding(const struct report *report, const struct report *earlier) {
+    struct sorted keys = earlier == NULL ? (struct sorted){ 0 } : sort_findings(earlier, by_key, true);
+    bool has_one = false;
+    for (size_t i = 0; i < report->count && !has_one; i++) {
+        has_one = is_passing(&report->findings[i]) && !has_finding(&keys, &report->findings[i]);
+    }
+    free(keys.at);
+    return has_one;
+}
+
 void leave_out_passing(struct report *report, const struct report *earlier) {
-    struct sorted keys = sort_findings(earlier, by_key);
+    struct sorted keys = sort_findings(earlier, by_key, true);
     for (size_t i = 0; i < report->count && keys.at != NULL; i++) {
         struct finding *finding = &report->findings[i];
         finding->is_left_out = is_passing(finding) && !has_finding(&keys, finding);
@@ -303,13 +360,25 @@ static void print_piece(FILE *to, const struct report *report, const struct piec
     else print_lines(to, piece->at, piece->size);
 }
 
+/* How many lines there are, and how many more findings follow from theirs, without those that are left out. */
+static void print_heading(FILE *to, const struct report *report) {
+    size_t said = report->said, followers = report->followers;
+    for (size_t i = 0; i < report->count; i++) {
+        const struct finding *finding = &report->findings[i];
+        if (!finding->is_left_out) continue;
+        said -= said > 0;
+        followers -= finding->followers < followers ? finding->followers : followers;
+    }
+    if (findings_left(report) == 0) fprintf(to, "findings: none\n");
+    else if (followers == 0) fprintf(to, "findings: %zu\n", said);
+    else fprintf(to, "findings: %zu, and %zu that follow\n", said, followers);
+}
+
 void print_report_text(FILE *to, const struct report *report, bool is_coloured) {
     const char *between = "\n";
     print_piece(to, report, &report->head);
     if (!report->has_findings) return;
-    size_t left = findings_left(report);
-    if (!report->is_json && left == 0) fprintf(to, "findings: none\n");
-    else if (!report->is_json) fprintf(to, "findings: %zu\n", left);
+    if (!report->is_json) print_heading(to, report);
     for (size_t i = 0; i < report->count; i++) {
         const struct finding *finding = &report->findings[i];
         if (finding->is_left_out) continue;
@@ -323,6 +392,8 @@ void print_report_text(FILE *to, const struct report *report, bool is_coloured) 
     print_piece(to, report, &report->tail);
 }
 
+static bool is_new_grandmaster(const struct finding *finding) { return is_piece(&finding->key[NAME_PART], "grandmaster_changed"); }
+
 /* A new grandmaster is a line of its own: the domain, `grandmaster`, and the words after the finding's name. */
 static void print_grandmaster(FILE *to, const char *lead, const struct finding *finding, const char *colour) {
     const struct piece *name = &finding->key[NAME_PART], *domain = &finding->key[DOMAIN_PART];
@@ -332,8 +403,16 @@ static void print_grandmaster(FILE *to, const char *lead, const struct finding *
     fprintf(to, "%s\n", colour == NULL ? "" : plain);
 }
 
+/* In JSON it is an object after others: when, what happened to the finding, and its members. */
+static void print_event(FILE *to, const char *lead, char sign, const struct finding *finding) {
+    const char *event = is_new_grandmaster(finding) ? "grandmaster" : sign == '+' ? "came" : "went";
+    fprintf(to, "{%s\"event\":\"%s\",", lead, event);
+    print_json(to, finding->whole.at + 1, finding->whole.size - 1);
+    fputc('\n', to);
+}
+
 static void print_change(FILE *to, const char *lead, char sign, const struct finding *finding, const char *colour) {
-    if (is_piece(&finding->key[NAME_PART], "grandmaster_changed")) {
+    if (is_new_grandmaster(finding)) {
         print_grandmaster(to, lead, finding, colour);
         return;
     }
@@ -343,15 +422,17 @@ static void print_change(FILE *to, const char *lead, char sign, const struct fin
 }
 
 /* Prints the findings of a report that another lacks. A finding with other values counts as another, unless its values are
-   other ones each time. Of those that report a change it prints all that came, and none that went. */
+   other ones each time. Of those that report a change it prints none that went. */
 static void print_lacking(FILE *to, const char *lead, char sign, const struct report *report, const struct report *other,
                           const char *colour) {
-    struct sorted kinds = sort_findings(other, by_kind), texts = sort_findings(other, by_text);
+    struct sorted kinds = sort_findings(other, by_kind, false), texts = sort_findings(other, by_text, false);
     for (size_t i = 0; i < report->count; i++) {
         const struct finding *finding = &report->findings[i];
         const struct sorted *same = is_moving(finding) ? &kinds : &texts;
-        bool is_in_other = is_change(finding) ? sign == '-' : has_finding(same, finding);
-        if (!finding->is_left_out && !is_in_other) print_change(to, lead, sign, finding, colour);
+        bool is_in_other = has_finding(same, finding) || (is_change(finding) && sign == '-');
+        if (finding->is_left_out || finding->has_cause || is_in_other) continue;
+        if (report->is_json) print_event(to, lead, sign, finding);
+        else print_change(to, lead, sign, finding, colour);
     }
     free(kinds.at);
     free(texts.at);

@@ -9,18 +9,20 @@
 /* A piece of a report. */
 struct piece { const char *at; size_t size; };
 
-/* A finding: all of it; its domain, its clock and its name, which together are its key; and whether it is left out. */
+/* A finding: all of it; its domain, its clock and its name, which together are its key; and whether it is left out. A line of text says
+   how many others follow from it: `words` come before that, and `rest` after it. In JSON one may have a cause, from which it follows. */
 enum { DOMAIN_PART, CLOCK_PART, NAME_PART, KEY_PARTS };
-struct finding { struct piece whole, key[KEY_PARTS]; bool is_left_out; };
+struct finding { struct piece whole, key[KEY_PARTS], words, rest; size_t followers; bool has_cause, is_left_out; };
 
-/* A report. Its findings are between `head` and `tail`. If it has no place for findings, `head` is all of it. */
+/* A report. Its findings are between `head` and `tail`. If it has no place for findings, `head` is all of it. A text says how many it
+   has, and how many more follow from them. */
 struct report {
     char *text;
     size_t size;
     bool is_json, has_findings;
     struct piece head, tail;
     struct finding *findings;
-    size_t count;
+    size_t count, said, followers;
 };
 
 /* Finds the findings in a report's text. */
@@ -32,8 +34,12 @@ void free_report(struct report *report);
 /* Whether a report has a finding of this name. */
 bool has_finding_named(const struct report *report, const char *name);
 
-/* Whether a report has a finding that may be only momentary: while a change goes through a site its clocks do not agree. */
-bool has_passing_finding(const struct report *report);
+/* Whether a report has a finding that may be only momentary, and whose key is not in an earlier one, if there is one. While a change
+   goes through a site its clocks do not agree. */
+bool has_passing_finding(const struct report *report, const struct report *earlier);
+
+/* Whether something is open that only time decides, or was found so. A later look shows it only beside the earlier ones. */
+bool is_over_time(const struct report *report);
 
 /* Whether something is open that only time decides. */
 bool has_open(const struct report *report);
@@ -50,7 +56,8 @@ size_t findings_left(const struct report *report);
 /* Prints it without what is left out, its findings in colour if that is wanted. */
 void print_report_text(FILE *to, const struct report *report, bool is_coloured);
 
-/* Prints the findings that came since an earlier report, and those that went, a line each after `lead`. */
+/* Prints the findings that came since an earlier report, and those that went, but none that follows from another. Each is a line after
+   `lead`, or in JSON an object whose first members `lead` has. */
 void print_changes(FILE *to, const char *lead, const struct report *report, const struct report *earlier, bool is_coloured);
 
 #endif

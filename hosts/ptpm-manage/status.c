@@ -1,5 +1,4 @@
 #define _GNU_SOURCE
-#define _GNU_SOURCE
 #include "status.h"
 #include "asking.h"
 #include "collect.h"
@@ -77,17 +76,25 @@ static bool is_of_absent_clock(const char *line, size_t size) {
     return read_octets(&domain_text, &domain, 1) == 1 && read_octets(&clock_text, clock, 8) == 8 && !is_seen(domain, clock);
 }
 
-/* Keeps only those answers of an earlier look whose clocks did not answer in the latest one. So they stay gone until they do. */
-static void leave_absent(struct look *look) {
-    size_t left = 0;
-    for (size_t at = 0, next; at < look->size; at = next) {
+/* Of the first lines of earlier looks, this many octets, keeps only the answers of clocks that did not answer in the latest one. So
+   they stay gone until they do. */
+static void leave_absent(struct look *look, size_t older) {
+    size_t left = 0, at = 0;
+    for (size_t next; at < older; at = next) {
         const char *end = memchr(look->lines + at, '\n', look->size - at);
         next = end == NULL ? look->size : (size_t)(end - look->lines) + 1;
         if (!is_of_absent_clock(look->lines + at, next - at)) continue;
         memmove(look->lines + left, look->lines + at, next - at);
         left += next - at;
     }
-    look->size = left;
+    if (look->size > at) memmove(look->lines + left, look->lines + at, look->size - at);
+    look->size = left + look->size - at;
+}
+
+/* How many octets of the lines of earlier looks the next one needs no more: those of the older half if there are too many. */
+static size_t not_needed(const struct look *earlier, const struct look *latest) {
+    if (!is_over_time(&latest->report)) return earlier->size;
+    return earlier->size > MOST_KEPT_LINES / 2 ? earlier->size / 2 : 0;
 }
 
 /* Whether a socket may be made beside it. */
@@ -145,11 +152,12 @@ static int look_at_site(struct look *look, const struct task *task, const struct
     return look->status;
 }
 
-/* Looks at the site. If a change may be on its way through it, it looks a second time. Then of such findings only those are
-   left that both looks have. */
+/* Looks at the site. If a change may be on its way through it, which the look before did not show, it looks a second time. Then of
+   such findings only those are left that both looks have. */
 static void look_twice(struct look *look, const struct task *task, struct domains *domains, struct look *earlier) {
     look_at_site(look, task, domains, earlier);
-    if (stopped || task->site.is_once || look->status != FINDINGS || !has_passing_finding(&look->report)) return;
+    if (stopped || task->site.is_once || look->status != FINDINGS) return;
+    if (!has_passing_finding(&look->report, earlier == NULL ? NULL : &earlier->report)) return;
     struct look second;
     show_progress("findings: %zu; a second look in %d s", look->report.count, BEFORE_SECOND_LOOK / 1000);
     listen_for_domains(domains, task, BEFORE_SECOND_LOOK);
@@ -159,6 +167,13 @@ static void look_twice(struct look *look, const struct task *task, struct domain
     if (second.status == FINDINGS && second.report.has_findings && findings_left(&second.report) == 0) second.status = 0;
     free_look(look);
     *look = second;
+}
+
+/* A clock of this look that is missing from the next one is asked there by itself. */
+static void keep_clocks(void) {
+    count_before = seen_count();
+    for (size_t i = 0; i < count_before; i++) clocks_before[i] = *seen_clock(i);
+    expect_clocks(clocks_before, count_before);
 }
 
 /* Puts the lines of an earlier look before those of this one, if there is room for both. */
@@ -182,6 +197,7 @@ static void look_until_decided(struct look *look, const struct task *task, struc
         show_progress("something is open; another look in %d s", BEFORE_SECOND_LOOK / 1000);
         listen_for_domains(domains, task, BEFORE_SECOND_LOOK);
         if (stopped) return;
+        keep_clocks();
         look_at_site(&next, task, domains, look);
         leave_out_passing(&next.report, &look->report);
         if (look->size > 0) join_lines(&next, look);
@@ -250,33 +266,28 @@ static bool was_seen(const struct seen_clock *clock) {
 }
 
 /* Prints which clocks came since the look before. Those that went have a finding. */
-static void print_clocks(const char *lead) {
+static void print_clocks(const char *lead, bool is_json) {
     char clock[IDENTITY_TEXT];
     for (size_t i = 0; i < seen_count(); i++) {
-        if (was_seen(seen_clock(i))) continue;
-        write_identity(clock, seen_clock(i)->identity);
-        printf("%s+ %u %s answers\n", lead, seen_clock(i)->domain, clock);
+        const struct seen_clock *seen = seen_clock(i);
+        if (was_seen(seen)) continue;
+        write_identity(clock, seen->identity);
+        if (!is_json) printf("%s+ %u %s answers\n", lead, seen->domain, clock);
+        else printf("{%s\"event\":\"came\",\"domainNumber\":%u,\"clockIdentity\":\"%s\",\"finding\":null}\n", lead, seen->domain, clock);
     }
 }
 
-static void keep_clocks(void) {
-    count_before = seen_count();
-    for (size_t i = 0; i < count_before; i++) clocks_before[i] = *seen_clock(i);
-    expect_clocks(clocks_before, count_before);
-}
-
-/* What differs from the look before, each line after the time. */
+/* What differs from the look before, each line after the time. In JSON the look comes before that. */
 static void print_difference(const struct look *look, const struct look *earlier, const struct task *task) {
     char lead[TIME_TEXT];
     time_t now = time(NULL);
     struct tm parts;
-    strftime(lead, sizeof lead, "%F %T ", localtime_r(&now, &parts));
+    if (task->is_json) strftime(lead, sizeof lead, "\"time\":\"%FT%TZ\",", gmtime_r(&now, &parts));
+    else strftime(lead, sizeof lead, "%F %T ", localtime_r(&now, &parts));
     clear_progress();
-    if (task->is_json || task->site.output != NULL) {
-        print_look(look, task);
-        return;
-    }
-    print_clocks(lead);
+    if (task->is_json || task->site.output != NULL) print_look(look, task);
+    if (task->site.output != NULL) return;
+    print_clocks(lead, task->is_json);
     print_changes(stdout, lead, &look->report, &earlier->report, is_coloured());
 }
 
@@ -302,7 +313,7 @@ static int watch(struct look *earlier, const struct task *task, struct domains *
         }
         print_difference(&look, earlier, task);
         keep_clocks();
-        if (!has_open(&look.report) || earlier->size > MOST_KEPT_LINES / 2) leave_absent(earlier);
+        leave_absent(earlier, not_needed(earlier, &look));
         if (earlier->size > 0) join_lines(&look, earlier);
         free_look(earlier);
         *earlier = look;

@@ -96,4 +96,5 @@ kind_of (what.OutOfReach x) = kinds.OutOfReach
 kind_of (what.GrandmasterChanged x) = kinds.GrandmasterChanged
 kind_of (what.Changed port change) = kinds.Changed
 kind_of (what.IdentityTwice port change) = kinds.IdentityTwice
+kind_of (what.TwoAddresses x) = kinds.IdentityTwice
 kind_of (what.TwoOffsets x) = kinds.IdentityTwice

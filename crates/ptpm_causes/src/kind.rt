@@ -136,7 +136,9 @@ pub(crate) fn kind_of(what: &What<'_>) -> Kind
         What::OutOfReach(_) => Kind::OutOfReach,
         What::GrandmasterChanged(_) => Kind::GrandmasterChanged,
         What::Changed(..) => Kind::Changed,
-        What::IdentityTwice(..) | What::TwoOffsets(_) => Kind::IdentityTwice,
+        What::IdentityTwice(..) | What::TwoAddresses(_) | What::TwoOffsets(_) => {
+            Kind::IdentityTwice
+        }
     }
 }
 

@@ -178,9 +178,11 @@ pub(crate) fn look<T: ReplyTable + Drop>(agent: &Agent<T>, message: &View<'_>) -
     if message.target().clock != agent.table().clock() {
         return Look::Unknown;
     }
-    agent
+    let source = message.source();
+    let (look, _) = agent
         .table()
-        .look(&message.source(), message.number(), &request_of(message))
+        .look_with_rights(&source, message.number(), &request_of(message));
+    look
 }
 
 /// Whether a clock with these data sets carries out a manager's request. It is tried on a copy of them.

@@ -16,6 +16,7 @@ place_of (what.OutOfReach hops) = 5
 place_of (what.GrandmasterChanged change) = 5
 place_of (what.Changed port change) = 5
 place_of (what.IdentityTwice port change) = 5
+place_of (what.TwoAddresses two) = 5
 place_of (what.TwoOffsets offsets) = 5
 place_of _ = 3
 

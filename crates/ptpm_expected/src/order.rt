@@ -23,6 +23,7 @@ fn place_of(what: &What<'_>) -> u8
         | What::GrandmasterChanged(_)
         | What::Changed(..)
         | What::IdentityTwice(..)
+        | What::TwoAddresses(_)
         | What::TwoOffsets(_) => 5,
         _ => 3,
     }

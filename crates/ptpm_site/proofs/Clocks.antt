@@ -10,6 +10,7 @@ use Rattle.ptpm_site.specs.declared.answer.Request.{Request}
 use Rattle.ptpm_site.specs.declared.clock.Clock.{Clock}
 use Rattle.ptpm_site.specs.declared.heard.Heard.{Heard}
 use Rattle.ptpm_site.specs.declared.source.Source.{Source}
+use Rattle.ptpm_site.specs.declared.words.Words.{Words}
 use Rattle.ptpm_site.specs.declared.answer_content.AnswerContent.{AnswerContent}
 use Rattle.ptpm_site.specs.Answers.{place_number, port_number, same_source, source_cmp}
 use Rattle.ptpm_site.specs.KeptAnswers.{AddsContent, Grows, HasNoAnswers, Places}
@@ -81,14 +82,14 @@ tie_cond : {X : Type 0} → (source s : Source) (x y : X) → cond (is_at (sourc
 tie_cond source s x y = ap (λ t. cond t x y) (tied_sources source s)
 
 -- a clock without answers got its place
-pub placed : (heard : Vec Heard Global) (old new : BTreeMap Source Clock) (source : Source) (fresh : Clock)
+pub placed : (heard : Vec Heard Global) (words : Words) (old new : BTreeMap Source Clock) (source : Source) (fresh : Clock)
     → HasNoAnswers fresh
     → is_some (get source_cmp old source) ≡ false
     → ((q : Source) → get source_cmp new q ≡ cond (is_at (source_cmp source) q) (Some fresh) (get source_cmp old q))
     → IsSome (get source_cmp new source)
     → new.entries ≡ insert_entry source_cmp old.entries source fresh
-    → Places (record { clocks = old; heard = heard }) (record { clocks = new; heard = heard }) source
-placed heard old new source fresh silent absent updates there entries =
+    → Places (record { clocks = old; heard = heard; words = words }) (record { clocks = new; heard = heard; words = words }) source
+placed heard words old new source fresh silent absent updates there entries =
     let at : Source → Bool = λ s. is_at (source_cmp source) s in
     let gone : (s : Source) → at s ≡ true → get source_cmp old s ≡ None =
     λ s h. moved (λ q. get source_cmp old q) source s None (none_from (get source_cmp old source) absent) h in
@@ -112,9 +113,9 @@ known_or None false h = refl
 known_or (Some x) b h = refl
 
 -- a clock that has its place keeps it
-pub known : (heard : Vec Heard Global) (old : BTreeMap Source Clock) (source : Source) → is_some (get source_cmp old source) ≡ true → IsSome (get source_cmp old source)
-    → Places (record { clocks = old; heard = heard }) (record { clocks = old; heard = heard }) source
-known heard old source there is_there = record {
+pub known : (heard : Vec Heard Global) (words : Words) (old : BTreeMap Source Clock) (source : Source) → is_some (get source_cmp old source) ≡ true → IsSome (get source_cmp old source)
+    → Places (record { clocks = old; heard = heard; words = words }) (record { clocks = old; heard = heard; words = words }) source
+known heard words old source there is_there = record {
   clocks = sym (place-known source_cmp old.entries source there);
   there = is_there;
   seen = λ s. known_or (get source_cmp old s) (is_at (source_cmp source) s) (moved (λ q. is_some (get source_cmp old q)) source s true there)
@@ -130,13 +131,13 @@ known heard old source there is_there = record {
 }
 
 -- an answer of a clock that has its place was added
-pub content_added : (heard : Vec Heard Global) (old new : BTreeMap Source Clock) (source : Source) (request : Request) (at : Option ℕ) (t : AnswerContent) (before after : Clock)
+pub content_added : (heard : Vec Heard Global) (words : Words) (old new : BTreeMap Source Clock) (source : Source) (request : Request) (at : Option ℕ) (t : AnswerContent) (before after : Clock)
     → get source_cmp old source ≡ Some before
     → ((q : Source) → get source_cmp new q ≡ cond (is_at (source_cmp source) q) (Some after) (get source_cmp old q))
     → keys new ≡ keys old
     → Grows before after request at t
-    → AddsContent (record { clocks = old; heard = heard }) (record { clocks = new; heard = heard }) source request at t
-content_added heard old new source request at t before after was updates same grows =
+    → AddsContent (record { clocks = old; heard = heard; words = words }) (record { clocks = new; heard = heard; words = words }) source request at t
+content_added heard words old new source request at t before after was updates same grows =
     let at : Source → Bool = λ s. is_at (source_cmp source) s in
     let there : (s : Source) → at s ≡ true → get source_cmp old s ≡ Some before =
     λ s h. moved (λ q. get source_cmp old q) source s (Some before) was h in

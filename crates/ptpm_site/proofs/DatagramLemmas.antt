@@ -7,8 +7,10 @@ use Rattle.ptpm_codec.specs.Layout.{message_octets}
 use Rattle.ptpm_codec.specs.Reading.{message_at, message_of, ok_unless, reading, some_unless}
 use Rattle.ptpm_codec.specs.Refusal.{refusal}
 use Rattle.ptpm_site.specs.declared.answer.Answer.{Answer}
+use Rattle.ptpm_site.specs.declared.arrival.Way.{Way}
 use Rattle.ptpm_site.specs.declared.heard.Heard.TheVariants as heard
 use Rattle.ptpm_site.specs.declared.site.Site.{Site}
+use Rattle.ptpm_site.specs.Arrivals.{arrival_in, arrival_of}
 use Rattle.ptpm_site.specs.Datagrams.{TakesAny, answer_in}
 use Rattle.ptpm_site.specs.Heard.{heard_in, heard_of, heard_or, sender_in}
 use Rattle.ptpm_site.specs.KeptAnswers.{Takes}
@@ -38,6 +40,15 @@ shown_by_none d e h = ap (λ o. heard_or o d) (refused (refusal d) (message_at (
 pub shown_by_one : (d : List ℕ) (m : Message) → reading d ≡ Ok m → heard_in d ≡ heard_of m
 unfolding heard_in message_of
 shown_by_one d m h = ap (λ o. heard_or o d) (read (refusal d) (message_at (message_octets d)) m h)
+
+-- and how it came
+pub arrived_by_none : (w : Way) (d : List ℕ) (e : DecodeError) → reading d ≡ Err e → arrival_in w d ≡ None
+unfolding arrival_in message_of
+arrived_by_none w d e h = ap (option_and_then (arrival_of w)) (refused (refusal d) (message_at (message_octets d)) e h)
+
+pub arrived_by_one : (w : Way) (d : List ℕ) (m : Message) → reading d ≡ Ok m → arrival_in w d ≡ arrival_of w m
+unfolding arrival_in message_of
+arrived_by_one w d m h = ap (option_and_then (arrival_of w)) (read (refusal d) (message_at (message_octets d)) m h)
 
 pub takes-none : (site : Site) (at : Option ℕ) (o : Option Answered) → o ≡ None → TakesAny site site at o
 takes-none site at o h = let P : Option Answered → Type 0 = λ x. TakesAny site site at x in subst P (sym h) refl

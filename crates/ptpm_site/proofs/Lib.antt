@@ -1,6 +1,7 @@
 pub mod Agreeing
 pub mod Alike
 pub mod AnswerOrder
+pub mod Arriving
 pub mod Below
 pub mod Circles
 pub mod Clocks

@@ -41,6 +41,7 @@ use Rattle.ptpm_site.specs.Reach.{out_of_reach}
 use Rattle.ptpm_site.specs.SiteAnswers.{SiteAnswers}
 use Rattle.ptpm_site.specs.Staying.{staying_state, unlocked_port}
 use Rattle.ptpm_site.specs.TaiAndUtc.{followers_off, offset_by_utc}
+use Rattle.ptpm_site.specs.TwoAddresses.{all_twins, twins_of}
 use Rattle.ptpm_site.specs.TwoOffsets.{two_offsets}
 use Rattle.ptpm_site.specs.Unseen.{subjects, unseen}
 
@@ -187,6 +188,7 @@ pub data Says : Type 0 where
   Plain : (what : What) → Says
   Loop : (clocks : List ClockIdentity) → Says
   Lacks : (ids : List Asked) → (ports : List (ℕ × ℕ)) → Says
+  Addresses : (first second : ℕ) → Says
   Otherwise : (how : Contradiction) → (port : Option ℕ) → (change : MemberChange) → Says
 
 -- a change of portState
@@ -210,6 +212,7 @@ says (what.Loop clocks) = Loop clocks.items
 says (what.Incomplete missing) = Lacks missing.asked.items missing.ports.items
 says (what.Changed port change) = Otherwise sort.Changed port (member_change change)
 says (what.IdentityTwice port change) = Otherwise sort.IdentityTwice port (member_change change)
+says (what.TwoAddresses two) = Addresses two.first.number two.second.number
 says w = Plain w
 
 unfoldable pub reported : List Finding → List Said
@@ -257,6 +260,10 @@ unfoldable pub twice_reported : SiteAnswers → Source → List Said
 twice_reported site s =
     if list_all is_of_state (contradictions_reported sort.IdentityTwice site s) then [] else contradictions_reported sort.IdentityTwice site s
 
+-- answers of one port to one request came from two addresses
+unfoldable pub addresses_reported : SiteAnswers → Source → List Said
+addresses_reported site s = option_to_list (option_map (λ t. said s (Addresses t.first t.second)) (twins_of (all_twins site.heard) s))
+
 -- two offsets to one request, in each of two looks
 unfoldable pub offsets_reported : SiteAnswers → Source → List Said
 offsets_reported site s = option_to_list (option_map (λ o. said s (says (what.TwoOffsets o))) (two_offsets (site.currents s)))
@@ -276,7 +283,7 @@ changes_reported site s = flat_map (change_reported s) (grandmaster_changes site
 unfoldable pub answers_reported : SiteAnswers → Source → List Said
 answers_reported site s =
     incomplete_reported site s ++ reach_reported site s ++ changes_reported site s ++ contradictions_reported sort.Changed site s ++ twice_reported site s
-    ++ offsets_reported site s
+    ++ addresses_reported site s ++ offsets_reported site s
 
 -- ---- all findings
 

@@ -2,6 +2,7 @@ pub mod Amounts
 pub mod Announcing
 pub mod AnswerOrder
 pub mod Answers
+pub mod Arrivals
 pub mod Changes
 pub mod Completeness
 pub mod Counted
@@ -38,6 +39,7 @@ pub mod StayLimits
 pub mod Staying
 pub mod TaiAndUtc
 pub mod Tree
+pub mod TwoAddresses
 pub mod TwoOffsets
 pub mod Unasked
 pub mod Unseen

@@ -1,10 +1,12 @@
 //! What is taken of datagrams.
 
 ghost use Rattle.std.specs.Prelude.{◌≡◌, ◌++◌, None, OnOk};
-ghost use Rattle.std.specs.Option.{option_to_list};
+ghost use Rattle.std.specs.Option.{option_map, option_to_list};
+ghost use Rattle.ptpm_site.specs.Arrivals.{arrival_in};
 ghost use Rattle.ptpm_site.specs.Datagrams.{TakesAny, TakesDatagram, all_heard_in, answer_in};
 
 use crate::answer::Answer;
+use crate::arrival::{Way, arrival_in};
 use crate::heard::Heard;
 use crate::origin::origin_in;
 use crate::site::Site;
@@ -40,6 +42,31 @@ impl Site {
     {
         self.keep(Heard::of(datagram))?;
         self.keep(origin_in(at, datagram).map(Heard::Timed))
+    }
+
+    /// Keeps from which address the answer came that a datagram is, and at which interface. If the line of the datagram says no
+    /// interface it is the empty one.
+    pub fn take_arrival(
+        &mut self,
+        alloc: Global,
+        from: &str,
+        on: &str,
+        datagram: &[u8],
+    ) -> Result<(), AllocError>
+        ensures clocks { OnOk result (self.new.clocks ≡ self.old.clocks) }
+    {
+        let from = self.words.number_of(alloc, from)?;
+        let on = self.words.number_of(alloc, on)?;
+        self.keep_arrival(Way { from, on }, datagram)
+    }
+
+    /// The same, by the numbers of both.
+    fn keep_arrival(&mut self, way: Way, datagram: &[u8]) -> Result<(), AllocError>
+        ensures clocks { OnOk result (self.new.clocks ≡ self.old.clocks) }
+        ensures heard { OnOk result (self.new.heard.items
+            ≡ self.old.heard.items ++ option_to_list (option_map Heard.Came (arrival_in way datagram.now))) }
+    {
+        self.keep(arrival_in(way, datagram).map(Heard::Came))
     }
 
     /// Keeps what was shown, if there is anything.

@@ -16,6 +16,7 @@ use crate::source::Source;
 use crate::stay::Stay;
 use crate::staying::Unlocked;
 use crate::tai_and_utc::OffByUtc;
+use crate::two_addresses::TwoAddresses;
 use crate::two_offsets::TwoOffsets;
 use crate::unseen::Absence;
 use ptpm_codec::{ClockIdentity, PortIdentity};
@@ -104,6 +105,8 @@ pub enum What<'a> {
     Changed(Option<u16>, Change<'a>),
     /// Answers to one request differ.
     IdentityTwice(Option<u16>, Change<'a>),
+    /// Answers of one port to one request came from two addresses.
+    TwoAddresses(TwoAddresses<'a>),
     /// Answers to one request have two offsets, in the last look and in the one before.
     TwoOffsets(TwoOffsets),
 }
@@ -145,7 +148,9 @@ impl What<'_> {
             What::OutOfReach(_) => "out_of_reach",
             What::GrandmasterChanged(_) => "grandmaster_changed",
             What::Changed(..) => "changed",
-            What::IdentityTwice(..) | What::TwoOffsets(_) => "identity_twice",
+            What::IdentityTwice(..) | What::TwoAddresses(_) | What::TwoOffsets(_) => {
+                "identity_twice"
+            }
         }
     }
 }
@@ -168,6 +173,7 @@ impl What<'_> {
             | What::Offset(_)
             | What::UtcOffset(_)
             | What::IdentityTwice(..)
+            | What::TwoAddresses(_)
             | What::TwoOffsets(_) => true,
             What::Degraded(degraded) => matches!(degraded.degradation, Degradation::Degraded),
             _ => false,

@@ -5,6 +5,7 @@ ghost use Rattle.std.specs.Option.{option_map};
 ghost use Rattle.ptpm_site.specs.Heard.{get_in, heard_in, heard_of, is_of_sender, is_to_all, sender_in, travel_in};
 
 use crate::answer::{Request, request_of, source_of};
+use crate::arrival::Arrival;
 use crate::asked::Asked;
 use crate::origin::Origin;
 use crate::source::Source;
@@ -62,6 +63,8 @@ pub enum Heard {
     Sent(Sender),
     /// What time its sender had.
     Timed(Origin),
+    /// From which address an answer came.
+    Came(Arrival),
 }
 
 impl Heard {

@@ -12,6 +12,7 @@ ghost use Rattle.ptpm_site.specs.Grandmasters.{leading_clocks};
 ghost use Rattle.ptpm_site.specs.Loops.{AreLeast, loop_of};
 ghost use Rattle.ptpm_site.specs.Reach.{IsReach};
 ghost use Rattle.ptpm_site.specs.Site.{site_answers};
+ghost use Rattle.ptpm_site.specs.TwoAddresses.{all_twins};
 
 use crate::evidence::Evidence;
 use crate::finding::Finding;
@@ -31,6 +32,7 @@ use crate::reach::Reach;
 use crate::site::Site;
 use crate::source::Source;
 use crate::subjects::subjects_of;
+use crate::two_addresses::{Twins, all_twins};
 use std::alloc::{AllocError, Global};
 
 /// All findings. Each loop is reported at its least clock, which is marked in `least`.
@@ -49,6 +51,7 @@ pub fn findings_of<'a>(
     let evidence = Evidence::of(alloc, site.all_heard())?;
     let reach = Reach::of(alloc, site.all_heard())?;
     let changes = grandmaster_changes(alloc, site, sources.as_slice())?;
+    let twins = all_twins(alloc, site.all_heard())?;
     let leading = leading(alloc, site, sources.as_slice())?;
     let given = Given {
         alloc,
@@ -56,6 +59,7 @@ pub fn findings_of<'a>(
         evidence: &evidence,
         reach: &reach,
         changes: changes.as_slice(),
+        twins: twins.as_slice(),
         leading: leading.as_slice(),
         least,
         limits,
@@ -77,6 +81,8 @@ struct Given<'a> {
     reach: &'a Reach,
     /// Which grandmasters changed.
     changes: &'a [GrandmasterChange],
+    /// Which answers came from two addresses.
+    twins: &'a [Twins],
     /// The clocks that lead.
     leading: &'a [Source],
     /// For each clock whether it is the least of a loop.
@@ -97,6 +103,7 @@ fn judge_all<'a>(
     requires of { IsOf (site_answers site.now).heard given.now.evidence.now }
     requires reach { IsReach (site_answers site.now).heard given.now.reach.now }
     requires changes { given.now.changes.now ≡ grandmaster_changes (site_answers site.now) }
+    requires twins { given.now.twins.now ≡ all_twins (site_answers site.now).heard }
     requires ordered { IsStrictlySortedBy source_cmp given.now.sources.now }
     ensures { OnOk result (reported findings.new.items
         ≡ reported findings.old.items ++ flat_map (found_at (site_answers site.now) given.now.limits) subjects.now) }
@@ -120,6 +127,7 @@ fn judge_one<'a>(
     requires of { IsOf (site_answers site.now).heard given.now.evidence.now }
     requires reach { IsReach (site_answers site.now).heard given.now.reach.now }
     requires changes { given.now.changes.now ≡ grandmaster_changes (site_answers site.now) }
+    requires twins { given.now.twins.now ≡ all_twins (site_answers site.now).heard }
     requires ordered { IsStrictlySortedBy source_cmp given.now.sources.now }
     ensures { OnOk result (reported findings.new.items
         ≡ reported findings.old.items ++ found_at (site_answers site.now) given.now.limits subject) }
@@ -176,6 +184,7 @@ fn judge<'a>(
     requires sources { given.now.sources.now ≡ (site_answers site.now).clocks }
     requires reach { IsReach (site_answers site.now).heard given.now.reach.now }
     requires changes { given.now.changes.now ≡ grandmaster_changes (site_answers site.now) }
+    requires twins { given.now.twins.now ≡ all_twins (site_answers site.now).heard }
     ensures { OnOk result (reported findings.new.items
         ≡ reported findings.old.items ++ found_of (site_answers site.now) given.now.limits source) }
 {
@@ -190,6 +199,7 @@ fn judge<'a>(
         site,
         given.reach,
         given.changes,
+        given.twins,
         source,
         ports.as_slice(),
         findings,

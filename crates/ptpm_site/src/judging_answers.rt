@@ -4,11 +4,12 @@ ghost use Rattle.std.specs.Prelude.{◌≡◌, ◌++◌, [], ◌∷◌, IfOk, On
 ghost use Rattle.std.specs.List.{flat_map, list_all};
 ghost use Rattle.std.specs.Option.{option_map};
 ghost use Rattle.ptpm_site.specs.Changes.{contradiction, member_change};
-ghost use Rattle.ptpm_site.specs.Findings.{Otherwise, answers_reported, change_reported, clock_sets_reported, contradictions_reported, incomplete_reported, is_of_state, member_reported, offsets_reported, port_set_reported, reach_reported, reported, said, says, set_reported, twice_reported};
+ghost use Rattle.ptpm_site.specs.Findings.{Otherwise, addresses_reported, answers_reported, change_reported, clock_sets_reported, contradictions_reported, incomplete_reported, is_of_state, member_reported, offsets_reported, port_set_reported, reach_reported, reported, said, says, set_reported, twice_reported};
 ghost use Rattle.ptpm_site.specs.Following.{is_own_grandmaster};
 ghost use Rattle.ptpm_site.specs.GrandmasterChanges.{grandmaster_changes};
 ghost use Rattle.ptpm_site.specs.Reach.{IsReach};
 ghost use Rattle.ptpm_site.specs.Site.{site_answers};
+ghost use Rattle.ptpm_site.specs.TwoAddresses.{all_twins};
 
 use crate::changes::{Change, Contradiction, first_change, first_contradiction, is_said_otherwise};
 use crate::clock::Received;
@@ -19,17 +20,19 @@ use crate::member::{DataSet, Member, Value};
 use crate::reach::{Reach, out_of_reach};
 use crate::site::Site;
 use crate::source::Source;
+use crate::two_addresses::{Twins, twins_of};
 use crate::two_offsets::two_offsets;
 use std::alloc::{AllocError, Global};
 
 /// `incomplete`, `out_of_reach`, `grandmaster_changed`, `changed` and `identity_twice`. `ports` are the clock's ports that answered, and
-/// `changes` all changes of a grandmaster.
+/// `changes` all changes of a grandmaster, and `twins` all answers from two addresses.
 #[tactic(auto, unfolding(crate::specs::Findings::answers_reported))]
 pub fn judge_answers<'a>(
     alloc: Global,
     site: &'a Site,
     reach: &Reach,
     changes: &[GrandmasterChange],
+    twins: &[Twins],
     source: Source,
     ports: &[u16],
     findings: &mut Vec<Finding<'a>>,
@@ -37,6 +40,7 @@ pub fn judge_answers<'a>(
     requires ports { ports.now ≡ (site_answers site.now).ports source }
     requires reach { IsReach (site_answers site.now).heard reach.now }
     requires changes { changes.now ≡ grandmaster_changes (site_answers site.now) }
+    requires twins { twins.now ≡ all_twins (site_answers site.now).heard }
     ensures { OnOk result (reported findings.new.items ≡ reported findings.old.items ++ answers_reported (site_answers site.now) source) }
 {
     judge_missing(alloc, site, source, ports, findings)?;
@@ -44,7 +48,28 @@ pub fn judge_answers<'a>(
     judge_changes(changes, source, findings)?;
     judge_contradictions(alloc, site, source, ports, Contradiction::Changed, findings)?;
     judge_twice(alloc, site, source, ports, findings)?;
+    judge_addresses(site, twins, source, findings)?;
     judge_offsets(site, source, findings)
+}
+
+/// `identity_twice`, by two addresses.
+#[tactic(auto, unfolding(crate::specs::Findings::addresses_reported))]
+fn judge_addresses<'a>(
+    site: &'a Site,
+    twins: &[Twins],
+    source: Source,
+    findings: &mut Vec<Finding<'a>>,
+) -> Result<(), AllocError>
+    requires { twins.now ≡ all_twins (site_answers site.now).heard }
+    ensures { OnOk result (reported findings.new.items ≡ reported findings.old.items ++ addresses_reported (site_answers site.now) source) }
+{
+    match twins_of(twins, source) {
+        Some(twins) => {
+            let two = site.words.two_addresses(twins);
+            report(findings, source, What::TwoAddresses(two))
+        }
+        None => Ok(()),
+    }
 }
 
 /// `identity_twice`, by two offsets in each of two looks.

@@ -16,6 +16,7 @@ use crate::data_sets::{
 use crate::heard::Heard;
 use crate::port_groups::PortGroup;
 use crate::source::Source;
+use crate::words::Words;
 use std::alloc::{AllocError, Global};
 use std::collections::BTreeMap;
 
@@ -25,6 +26,8 @@ pub struct Site {
     pub clocks: BTreeMap<Source, Clock>,
     /// What the datagrams show beside, in the order of the lines.
     pub heard: Vec<Heard>,
+    /// The addresses and the interfaces of the lines.
+    pub words: Words,
 }
 
 impl Site {
@@ -36,6 +39,7 @@ impl Site {
         Site {
             clocks: BTreeMap::new(alloc),
             heard: Vec::new(alloc),
+            words: Words::new(alloc),
         }
     }
 

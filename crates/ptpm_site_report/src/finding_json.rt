@@ -197,6 +197,12 @@ fn put_values(
         What::Changed(port, change) | What::IdentityTwice(port, change) => {
             put_change(alloc, map, *port, change)
         }
+        What::TwoAddresses(two) => {
+            let mut texts = Vec::new(alloc);
+            texts.push(text_value(alloc, two.first.text)?)?;
+            texts.push(text_value(alloc, two.second.text)?)?;
+            put(map, alloc, "addresses", Value::Array(texts))
+        }
         What::TwoOffsets(offsets) => {
             let both = json!(in alloc; [offsets.first, offsets.second])?;
             put(map, alloc, "offsets", both)

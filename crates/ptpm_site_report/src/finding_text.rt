@@ -4,6 +4,7 @@ use crate::expected_text::{
     ChoicesText, ClocksText, OutsideText, UnmetMember, WantedText, clock_of, unmet_value,
 };
 use crate::intervals::{Exact, Seconds, Whole};
+use crate::printable::Printable;
 use crate::seconds::whole_seconds;
 use ptpm_codec::PortIdentity;
 use ptpm_site::announcing::Seldom;
@@ -97,6 +98,12 @@ impl fmt::Display for Said<'_> {
             What::GrandmasterChanged(change) => write_grandmaster_change(change, f),
             What::Changed(port, change) => write_change(*port, change, "then", f),
             What::IdentityTwice(port, change) => write_change(*port, change, "and", f),
+            What::TwoAddresses(two) => write!(
+                f,
+                " answers come from {} and {}",
+                Printable(two.first.text),
+                Printable(two.second.text)
+            ),
             What::TwoOffsets(offsets) => write_two_offsets(offsets, f),
         }
     }

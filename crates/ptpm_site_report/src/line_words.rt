@@ -1,4 +1,4 @@
-//! The words before a datagram in a line: when it came. And those of a note: whether the host's clock has the right time.
+//! The words before a datagram in a line: when it came, from which address, and at which interface. And those of a note: whether the host's clock has the right time.
 
 use std::str::FromStr;
 
@@ -11,6 +11,16 @@ pub(crate) fn at_of(line: &str) -> Option<u64> {
     for word in line.split(' ') {
         if let Some(time) = word.strip_prefix("at=") {
             return nanoseconds_of(time);
+        }
+    }
+    None
+}
+
+/// The value of the first word with a name, such as `from=`. It is `None` if there is no such word, or if it has no value.
+pub(crate) fn value_of<'a>(line: &'a str, name: &str) -> Option<&'a str> {
+    for word in line.split(' ') {
+        if let Some(value) = word.strip_prefix(name) {
+            return if value.is_empty() { None } else { Some(value) };
         }
     }
     None

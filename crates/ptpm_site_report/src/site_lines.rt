@@ -1,13 +1,13 @@
 //! The answers among lines of datagrams.
 
 use crate::asked_domains::{AskedDomain, asked_domains};
-use crate::line_words::{at_of, synchronised_in};
+use crate::line_words::{at_of, synchronised_in, value_of};
 use crate::span::Span;
 use ptpm_commands::Fault;
 use ptpm_commands::lines::Lines;
 use ptpm_site::left_out::LeftOut;
 use ptpm_site::site::Site;
-use std::alloc::Global;
+use std::alloc::{AllocError, Global};
 use std::io::Read;
 
 /// What lines show of a site.
@@ -63,13 +63,28 @@ fn read_site<R: Read + Drop>(
         }
         let line = lines.text(number)?;
         if let Some(datagram) = lines.datagram(alloc, number)? {
-            let at = at_of(line);
-            notes.span = Span::with(notes.span, at);
-            site.take_datagram_at(alloc, at, datagram.as_slice())
-                .map_err(|_| Fault::OutOfMemory)?;
+            notes.span = Span::with(notes.span, at_of(line));
+            take_line(alloc, &mut site, line, datagram.as_slice()).map_err(|_| Fault::OutOfMemory)?;
         } else if let Some(says) = synchronised_in(line) {
             notes.is_synchronised = says;
         }
     }
     Ok(site)
+}
+
+/// Takes the datagram of a line, and the words before it. A line that says no interface counts as one of an interface without a name.
+fn take_line(
+    alloc: Global,
+    site: &mut Site,
+    line: &str,
+    datagram: &[u8],
+) -> Result<(), AllocError> {
+    site.take_datagram_at(alloc, at_of(line), datagram)?;
+    match value_of(line, "from=") {
+        Some(from) => {
+            let on = value_of(line, "on=").unwrap_or("");
+            site.take_arrival(alloc, from, on, datagram)
+        }
+        None => Ok(()),
+    }
 }
