@@ -1,7 +1,6 @@
 //! `ptpm site`: a site's tree and what is wrong with it, by the answers among lines of datagrams.
 
-ghost use Rattle.std.specs.Prelude.{◌≡◌, [], IfOk, length};
-ghost use Rattle.ptpm_expected.specs.Expected.{said_by};
+ghost use Rattle.std.specs.Prelude.{◌≡◌, IfOk};
 ghost use Rattle.ptpm_site.specs.Findings.{findings_of, reported};
 ghost use Rattle.ptpm_site.specs.Site.{site_answers};
 ghost use Rattle.ptpm_site_report.specs.Reporting.{outcome, status};
@@ -43,6 +42,16 @@ pub enum Form {
 pub struct Options {
     pub form: Form,
     pub limits: Limits,
+}
+
+impl Options {
+    /// The same, at a host whose clock has the right time or has not.
+    fn at_host(self, is_synchronised: bool) -> Options {
+        Options {
+            form: self.form,
+            limits: self.limits.at_host(is_synchronised),
+        }
+    }
 }
 
 /// What came of it.
@@ -101,7 +110,25 @@ pub fn report<R: Read + Drop, O: Write>(
         ignored: &Ignored::none(alloc),
         is_all: false,
     };
-    report_viewed(alloc, options, viewing, reader, out)
+    let shown = read_shown(alloc, reader)?;
+    let options = options.at_host(shown.notes.is_synchronised);
+    report_of(alloc, options, &viewing, &shown, out)
+}
+
+/// Prints a site that is held to nothing, with all its findings.
+fn report_of<O: Write>(
+    alloc: Global,
+    options: Options,
+    viewing: &Viewing<'_>,
+    shown: &SiteLines,
+    out: &mut O,
+) -> Result<Conclusion, Fault>
+    ensures { IfOk result (λ came. came ≡ outcome (site_answers shown.now.site).clocks (findings_of (site_answers shown.now.site) options.limits)) }
+{
+    match Picture::of(alloc, &shown.site, shown.left_out, options.limits) {
+        Ok(picture) => print_picture(alloc, options.form, viewing, shown, &picture, out),
+        Err(_) => Err(Fault::OutOfMemory),
+    }
 }
 
 /// The same, as an operator wants to see it.
@@ -113,23 +140,18 @@ pub fn report_viewed<R: Read + Drop, O: Write>(
     out: &mut O,
 ) -> Result<Conclusion, Fault> {
     let shown = read_shown(alloc, reader)?;
-    let limits = options.limits.at_host(shown.notes.is_synchronised);
-    let picture = judged(alloc, limits, &viewing, &shown).map_err(|_| Fault::OutOfMemory)?;
+    let options = options.at_host(shown.notes.is_synchronised);
+    let picture = judged(alloc, options.limits, &viewing, &shown).map_err(|_| Fault::OutOfMemory)?;
     print_picture(alloc, options.form, &viewing, &shown, &picture, out)
 }
 
-/// The picture of a site, without the findings that are left out. If none is, and there is no inventory, it has as many as the answers
-/// and the profile make.
+/// The picture of a site, without the findings that are left out.
 pub(crate) fn judged<'a>(
     alloc: Global,
     limits: Limits,
     viewing: &Viewing<'a>,
     shown: &'a SiteLines,
-) -> Result<Picture<'a>, AllocError>
-    ensures clocks { IfOk result (λ picture. picture.forest.sources.items ≡ (site_answers shown.now.site).clocks) }
-    ensures count { viewing.now.expectations.inventory ≡ None → viewing.now.ignored.now.ranks.items ≡ [] → IfOk result (λ picture. length picture.findings.items
-        ≡ length (said_by (site_answers shown.now.site) viewing.now.expectations.profile (findings_of (site_answers shown.now.site) limits))) }
-{
+) -> Result<Picture<'a>, AllocError> {
     let mut picture = picture_of(
         alloc,
         &shown.site,
