@@ -52,6 +52,12 @@ _ptpm() {
     make,make,*) _ptpm_offer get set command ;;
     site,--max-offset,*) _ptpm_offer none ;;
     site,--profile,*) _ptpm_offer default st2059-2 aes67 gptp ;;
+    site,--ignore,*)
+        _ptpm_offer absent unexpected not_as_expected gone own_host mute two_grandmasters no_master grandmaster_not_seen parent_not_seen \
+            parent_not_master steps grandmaster_differs loop port_state not_locked off_by_utc offset delay utc intervals gm_holdover \
+            gm_degraded gm_free_running not_traceable utc_invalid utc_offset leap better_clock profile incomplete out_of_reach \
+            grandmaster_changed changed identity_twice not_asked
+        ;;
     make,get,* | make,set,* | make,command,*) _ptpm_offer_lines < <(_ptpm_ids) ;;
     esac
 }

@@ -12,7 +12,7 @@ from .data_sets import (
 from .identity import Identity, PortIdentity
 from .settings import PortState
 
-_HEAD = ("domainNumber", "clockIdentity", "finding", "severity")
+_HEAD = ("domainNumber", "sdoId", "clockIdentity", "userDescription", "finding", "severity", "because")
 
 # The values of a finding that are of the member which its `member` names.
 _OF_MEMBER = ("value", "expected", "before", "after")
@@ -21,13 +21,14 @@ _OF_MEMBER = ("value", "expected", "before", "after")
 @dataclass(frozen=True)
 class Finding:
     """What is wrong with a clock: the name of the finding, its values by their names, and whether it is "critical" or a "warning"
-    (docs/ptpm-site.md)."""
+    (docs/ptpm-site.md). `because` is the name and the clock of the finding from which it follows, if it does."""
 
     domain: int
     clock: Identity
     name: str
     values: Mapping[str, Any]
     severity: str
+    because: Optional[Tuple[str, Identity]] = None
 
     def _value_text(self, name: str) -> str:
         """A value as a line has it. A description is in quotes, as it is in a clock's line."""
@@ -153,7 +154,9 @@ def _value(told: Mapping[str, Any], name: str) -> Any:
 def _finding(told: Mapping[str, Any]) -> Finding:
     values = {name: _value(told, name) for name in told if name not in _HEAD}
     head = number_of(told["domainNumber"]), identity_of(told["clockIdentity"]), text_of(told["finding"])
-    return Finding(*head, values, text_of(told["severity"]))
+    because = told.get("because")
+    cause = (text_of(because["finding"]), identity_of(because["clockIdentity"])) if because else None
+    return Finding(*head, values, text_of(told["severity"]), cause)
 
 
 def _clock(domain: int, told: Mapping[str, Any]) -> SiteClock:

@@ -15,6 +15,7 @@ use ptpm_findings::check_script;
 use ptpm_plan::Form as PlanForm;
 use ptpm_schedule::{Chances, schedule};
 use ptpm_site::limits::Limits;
+use ptpm_site_report::ignored::Ignored;
 use ptpm_site_report::names::Names;
 use ptpm_site_report::{Form, Options};
 use ptpm_world::{ScriptError, run_script};
@@ -242,6 +243,10 @@ fn parse<'a>(alloc: Global, words: &'a [&'a str]) -> Result<Task<'a>, clap::Erro
             ErrorKind::InvalidValue,
             "invalid value for '--name <ID=NAME>': not sixteen hexadecimal digits, '=' and a name",
         )?),
+        Err(WithoutTask::BadFinding) => Err(ptpm.error(
+            ErrorKind::InvalidValue,
+            "invalid value for '--ignore <NAME,..>': not the names of findings, with ',' between them",
+        )?),
         Err(WithoutTask::BadProfile) => Err(ptpm.error(
             ErrorKind::InvalidValue,
             "invalid value for '--profile <NAME>': none of default, st2059-2, aes67 and gptp",
@@ -259,6 +264,8 @@ enum WithoutTask {
     BadName,
     /// `--profile` has no name of a profile.
     BadProfile,
+    /// `--ignore` has a name that no finding has.
+    BadFinding,
 }
 
 /// The task of the words, or why there is none.
@@ -406,14 +413,12 @@ fn site_task<'a>(
     alloc: Global,
     values: &ArgMatches<'a>,
 ) -> Result<Result<Task<'a>, WithoutTask>, clap::Error> {
-    let mut names = Names::new(alloc);
-    if let Some(said) = values.get_strs("name") {
-        for words in said {
-            if !names.add(alloc, *words)? {
-                return Ok(Err(WithoutTask::BadName));
-            }
-        }
-    }
+    let Some(names) = site_names(alloc, values)? else {
+        return Ok(Err(WithoutTask::BadName));
+    };
+    let Some(ignored) = site_ignored(alloc, values)? else {
+        return Ok(Err(WithoutTask::BadFinding));
+    };
     let profile = match values.get_str("profile") {
         Some(name) => match Profile::of_name(name) {
             Some(profile) => Some(profile),
@@ -426,7 +431,35 @@ fn site_task<'a>(
         names,
         profile,
         expect: values.get_str("expect"),
+        ignored,
+        is_all: values.get_flag("all"),
     })))
+}
+
+/// The names that `--name` gives. `None` if one of the options is refused.
+fn site_names(alloc: Global, values: &ArgMatches<'_>) -> Result<Option<Names>, AllocError> {
+    let mut names = Names::new(alloc);
+    if let Some(said) = values.get_strs("name") {
+        for words in said {
+            if !names.add(alloc, *words)? {
+                return Ok(None);
+            }
+        }
+    }
+    Ok(Some(names))
+}
+
+/// The findings that `--ignore` leaves out. `None` if one of the options is refused.
+fn site_ignored(alloc: Global, values: &ArgMatches<'_>) -> Result<Option<Ignored>, AllocError> {
+    let mut ignored = Ignored::none(alloc);
+    if let Some(said) = values.get_strs("ignore") {
+        for names in said {
+            if !ignored.add(*names)? {
+                return Ok(None);
+            }
+        }
+    }
+    Ok(Some(ignored))
 }
 
 /// How `site` shows a site.
@@ -695,6 +728,7 @@ fn site_command<'a>(alloc: Global) -> Result<Command<'a>, AllocError> {
     );
     let site = with_forms(alloc, site)?;
     let site = with_limits(alloc, site)?;
+    let site = with_choice(alloc, site)?;
     let name = option(
         alloc,
         "name",
@@ -702,6 +736,23 @@ fn site_command<'a>(alloc: Global) -> Result<Command<'a>, AllocError> {
         "A person calls the clock with this identity NAME; may be given more than once",
     );
     with_expectations(alloc, with(site, name.action(ArgAction::Append)))
+}
+
+/// The command, with which findings are printed.
+fn with_choice<'a>(alloc: Global, site: Command<'a>) -> Result<Command<'a>, AllocError> {
+    let all = flag(
+        alloc,
+        "all",
+        "The text also has each finding that follows from another, and each of many lines that are alike",
+    );
+    let site = with(site, all)?;
+    let ignore = option(
+        alloc,
+        "ignore",
+        "NAME,..",
+        "Leaves out the findings of these names; may be given more than once",
+    );
+    with(site, ignore.action(ArgAction::Append))
 }
 
 /// The command, with what a site is held to.

@@ -8,8 +8,9 @@ use ptpm_expected::inventory_fault::InventoryFault;
 use ptpm_expected::inventory_file::read_inventory;
 use ptpm_expected::profile::Profile;
 use ptpm_site::limits::Limits;
+use ptpm_site_report::ignored::Ignored;
 use ptpm_site_report::names::Names;
-use ptpm_site_report::{Form, Options, report_expected, report_standing_expected, write_inventory};
+use ptpm_site_report::{Form, Options, Viewing, report_standing, report_viewed, write_inventory};
 use std::alloc::Global;
 use std::io;
 use std::io::{Read, Write};
@@ -23,6 +24,9 @@ pub(crate) struct SiteWords<'a> {
     pub(crate) profile: Option<Profile>,
     /// The path of an inventory.
     pub(crate) expect: Option<&'a str>,
+    pub(crate) ignored: Ignored,
+    /// Whether the text has all lines.
+    pub(crate) is_all: bool,
 }
 
 /// How a site is shown.
@@ -96,22 +100,30 @@ fn show<R: Read, O: Write>(
     reader: &mut R,
     out: &mut O,
 ) -> Result<u8, Fault> {
-    let expectations = Expectations {
-        profile: words.profile,
-        inventory,
-    };
-    let names = &words.names;
+    let viewing = viewing_of(words, inventory);
     match words.shown {
-        Shown::ByPlugin(limits) => {
-            Ok(report_standing_expected(alloc, limits, expectations, names, reader, out)?.status())
-        }
+        Shown::ByPlugin(limits) => Ok(report_standing(
+            alloc, limits, viewing, reader, out,
+        )?.status()),
         Shown::InForm(options) => {
-            let came = report_expected(alloc, options, expectations, names, reader, out)?;
+            let came = report_viewed(alloc, options, viewing, reader, out)?;
             Ok(match options.form {
                 Form::OpenMetrics => came.status_of_numbers(),
                 _ => came.status(),
             })
         }
         Shown::Inventory => Ok(write_inventory(alloc, reader, out)?.status()),
+    }
+}
+
+fn viewing_of<'a>(words: &'a SiteWords<'_>, inventory: Option<&'a Inventory>) -> Viewing<'a> {
+    Viewing {
+        expectations: Expectations {
+            profile: words.profile,
+            inventory,
+        },
+        names: &words.names,
+        ignored: &words.ignored,
+        is_all: words.is_all,
     }
 }

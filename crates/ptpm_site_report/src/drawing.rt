@@ -1,10 +1,10 @@
 //! A site as a picture in SVG 1.1: its tree, and below each clock what is wrong with it.
 
 use crate::escaped::Escaped;
-use crate::lines::{Frame, Line, lines_of};
-use crate::names::Names;
+use crate::lines::{DrawnRemark, Frame, Line, lines_of};
+use crate::look::Look;
+use crate::remarks::Weight;
 use ptpm_commands::Fault;
-use ptpm_site::picture::Picture;
 use std::alloc::Global;
 use std::io;
 use std::io::Write;
@@ -21,11 +21,11 @@ const ROW: usize = 32;
 /// How high the box of a name is.
 const BOX: usize = 22;
 
-/// From a finding to the next.
-const FINDING: usize = 18;
+/// From a finding, or what is open, to the next.
+const REMARK: usize = 18;
 
 /// How far the first finding's words are below the top of its row.
-const FIRST_FINDING: usize = 38;
+const FIRST_REMARK: usize = 38;
 
 /// How far to the right a row is that is below another.
 const STEP: usize = 32;
@@ -33,8 +33,38 @@ const STEP: usize = 32;
 /// How far the line to the rows below is from the left of a box.
 const STEM: usize = 12;
 
-/// The colour of what is wrong.
+/// The colours of what is wrong, of what follows from it, and of what is open.
 const WRONG: &str = "#b42318";
+
+const FOLLOWS: &str = "#57606a";
+
+const OPEN: &str = "#8a5300";
+
+impl Weight {
+    fn colour(self) -> &'static str {
+        match self {
+            Weight::Wrong => WRONG,
+            Weight::Follows => FOLLOWS,
+            Weight::Open => OPEN,
+        }
+    }
+
+    /// What is in the sign before the words.
+    fn sign(self) -> &'static str {
+        match self {
+            Weight::Wrong | Weight::Follows => "!",
+            Weight::Open => "?",
+        }
+    }
+
+    /// What is read aloud before the words.
+    fn aloud(self) -> &'static str {
+        match self {
+            Weight::Wrong | Weight::Follows => "wrong",
+            Weight::Open => "open",
+        }
+    }
+}
 
 impl Line {
     fn x(&self) -> usize {
@@ -46,7 +76,7 @@ impl Line {
     }
 
     fn height(&self) -> usize {
-        ROW.saturating_add(self.findings.len().saturating_mul(FINDING))
+        ROW.saturating_add(self.remarks.len().saturating_mul(REMARK))
     }
 }
 
@@ -78,9 +108,9 @@ fn sizes_of(lines: &[Line]) -> Sizes {
             sizes.facts = sizes.facts.max(end.saturating_add(MARGIN));
             longest = width_of(line.facts.as_str()).max(longest);
         }
-        for finding in line.findings.as_slice() {
+        for remark in line.remarks.as_slice() {
             let end = line.x().saturating_add(STEP + MARGIN);
-            let end = end.saturating_add(width_of(finding.as_str()));
+            let end = end.saturating_add(width_of(remark.words.as_str()));
             sizes.width = sizes.width.max(end);
         }
     }
@@ -92,13 +122,8 @@ fn sizes_of(lines: &[Line]) -> Sizes {
 }
 
 /// Draws a picture.
-pub(crate) fn draw<O: Write>(
-    alloc: Global,
-    picture: &Picture<'_>,
-    names: &Names,
-    out: &mut O,
-) -> Result<(), Fault> {
-    let lines = lines_of(alloc, picture, names).map_err(|_| Fault::OutOfMemory)?;
+pub(crate) fn draw<O: Write>(alloc: Global, look: &Look<'_>, out: &mut O) -> Result<(), Fault> {
+    let lines = lines_of(alloc, look).map_err(|_| Fault::OutOfMemory)?;
     write_drawing(alloc, lines.as_slice(), out)
 }
 
@@ -135,7 +160,7 @@ fn write_head<O: Write>(sizes: Sizes, lines: &[Line], out: &mut O) -> io::Result
         out,
         "<title>Which clock follows which, and what is wrong</title>"
     )?;
-    let findings = lines.iter().fold(0usize, |sum, line| sum.saturating_add(line.findings.len()));
+    let findings = count_wrong(lines);
     writeln!(
         out,
         "<desc>From top to bottom: the clocks of each domain, each below the clock that it follows. Findings: {findings}.</desc>"
@@ -146,7 +171,20 @@ fn write_head<O: Write>(sizes: Sizes, lines: &[Line], out: &mut O) -> io::Result
     )
 }
 
-/// Writes a row: what is read aloud, the line to the row that it is below, its box, its facts, and its findings. The box has
+/// How many findings follow from no other.
+fn count_wrong(lines: &[Line]) -> usize {
+    let mut count = 0usize;
+    for line in lines {
+        for remark in line.remarks.as_slice() {
+            if remark.weight == Weight::Wrong {
+                count = count.saturating_add(1);
+            }
+        }
+    }
+    count
+}
+
+/// Writes a row: what is read aloud, the line to the row that it is below, its box, its facts, and its remarks. The box has
 /// the name.
 fn write_line<O: Write>(
     line: &Line,
@@ -166,14 +204,10 @@ fn write_line<O: Write>(
     if !line.facts.as_str().is_empty() {
         write_text(facts, base, line.facts.as_str(), out)?;
     }
-    for (place, finding) in line.findings.as_slice().iter().enumerate() {
-        let below = FIRST_FINDING.saturating_add(place.saturating_mul(FINDING));
-        write_finding(
-            x.saturating_add(STEP),
-            top.saturating_add(below),
-            finding.as_str(),
-            out,
-        )?;
+    for (place, remark) in line.remarks.as_slice().iter().enumerate() {
+        let below = FIRST_REMARK.saturating_add(place.saturating_mul(REMARK));
+        let base = top.saturating_add(below);
+        write_remark(x.saturating_add(STEP), base, remark, out)?;
     }
     writeln!(out, "</g>")
 }
@@ -184,8 +218,9 @@ fn write_aloud<O: Write>(line: &Line, out: &mut O) -> io::Result<()> {
     write!(out, "{}</title>", Escaped(line.follows.as_str()))?;
     if !line.facts.as_str().is_empty() {
         write!(out, "<desc>{}", Escaped(line.facts.as_str()))?;
-        for finding in line.findings.as_slice() {
-            write!(out, "; wrong: {}", Escaped(finding.as_str()))?;
+        for remark in line.remarks.as_slice() {
+            let (aloud, words) = (remark.weight.aloud(), remark.words.as_str());
+            write!(out, "; {aloud}: {}", Escaped(words))?;
         }
         write!(out, "</desc>")?;
     }
@@ -222,20 +257,26 @@ fn write_text<O: Write>(x: usize, y: usize, text: &str, out: &mut O) -> io::Resu
     writeln!(out, r#"<text x="{x}" y="{y}">{}</text>"#, Escaped(text))
 }
 
-/// Writes a finding, with a sign before it: a triangle with an exclamation mark.
-fn write_finding<O: Write>(x: usize, base: usize, text: &str, out: &mut O) -> io::Result<()> {
+/// Writes a remark, with a sign before it: a triangle with an exclamation mark, or with a question mark for what is open.
+fn write_remark<O: Write>(
+    x: usize,
+    base: usize,
+    remark: &DrawnRemark,
+    out: &mut O,
+) -> io::Result<()> {
+    let (colour, sign) = (remark.weight.colour(), remark.weight.sign());
     let (middle, start) = (x.saturating_add(7), x.saturating_add(MARGIN + 4));
     writeln!(
         out,
-        r#"<path d="M{x} {base}h14l-7 -13z" fill="none" stroke="{WRONG}" stroke-width="1.5"/>"#
+        r#"<path d="M{x} {base}h14l-7 -13z" fill="none" stroke="{colour}" stroke-width="1.5"/>"#
     )?;
     writeln!(
         out,
-        r#"<text x="{middle}" y="{base}" text-anchor="middle" font-size="10" fill="{WRONG}">!</text>"#
+        r#"<text x="{middle}" y="{base}" text-anchor="middle" font-size="10" fill="{colour}">{sign}</text>"#
     )?;
     writeln!(
         out,
-        r#"<text x="{start}" y="{base}" fill="{WRONG}">{}</text>"#,
-        Escaped(text)
+        r#"<text x="{start}" y="{base}" fill="{colour}">{}</text>"#,
+        Escaped(remark.words.as_str())
     )
 }

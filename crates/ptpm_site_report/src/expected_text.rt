@@ -1,5 +1,6 @@
 //! How a site is not as a profile or an inventory wants it, in words.
 
+use ptpm_causes::{Cause, Kind};
 use ptpm_codec::ClockIdentity;
 use ptpm_expected::time_sources::source_name;
 use ptpm_site::data_sets::ClockQuality;
@@ -14,6 +15,16 @@ pub(crate) fn clock_of(finding: &Finding<'_>) -> Option<ClockIdentity> {
         What::OtherLeaders(other) if other.leading.is_empty() => None,
         What::NotAsked(_) => None,
         _ => Some(finding.source.clock),
+    }
+}
+
+/// The clock of a finding from which others follow. `None` if it is of the whole domain.
+pub(crate) fn clock_of_cause(cause: Cause) -> Option<ClockIdentity> {
+    let clock = cause.source.clock;
+    if matches!(cause.kind, Kind::NotAsExpected) && clock == ClockIdentity([0; 8]) {
+        None
+    } else {
+        Some(clock)
     }
 }
 

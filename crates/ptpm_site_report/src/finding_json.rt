@@ -1,9 +1,12 @@
 //! A finding as a JSON object.
 
 use crate::expected_json::{put_other_leaders, put_outside, put_unmet};
-use crate::expected_text::clock_of;
+use crate::expected_text::{clock_of, clock_of_cause};
 use crate::json::{identity_value, member_value, port_value, quality_value, text_value};
+use crate::look::Look;
 use crate::seconds::{NanosecondSeconds, whole_seconds};
+use ptpm_causes::Cause;
+use ptpm_codec::ClockIdentity;
 use ptpm_data::PortState;
 use ptpm_site::announcing::Seldom;
 use ptpm_site::changes::Change;
@@ -21,33 +24,79 @@ use ptpm_site::unseen::Absence;
 use serde_json::{Map, Value, json, put};
 use std::alloc::{AllocError, Global};
 
-/// A finding: its clock, its name, and its values.
-pub(crate) fn finding_value(alloc: Global, finding: &Finding<'_>) -> Result<Value, AllocError> {
+/// A finding: its clock, its name, from which other it follows, and its values.
+pub(crate) fn finding_value(
+    alloc: Global,
+    look: &Look<'_>,
+    finding: &Finding<'_>,
+    cause: Option<Cause>,
+) -> Result<Value, AllocError> {
     let mut map = Map::new(alloc);
-    let source = finding.source;
-    put(&mut map, alloc, "domainNumber", Value::from(source.domain))?;
+    put_place(alloc, &mut map, look, finding)?;
+    put_name(alloc, &mut map, &finding.what)?;
+    put(&mut map, alloc, "because", cause_value(alloc, cause)?)?;
+    put_values(alloc, &mut map, &finding.what)?;
+    Ok(Value::Object(map))
+}
+
+/// Puts the domain, the clock, and its description if it answered one.
+fn put_place(
+    alloc: Global,
+    map: &mut Map<String, Value>,
+    look: &Look<'_>,
+    finding: &Finding<'_>,
+) -> Result<(), AllocError> {
     put(
-        &mut map,
+        map,
         alloc,
-        "clockIdentity",
-        match clock_of(finding) {
-            Some(clock) => identity_value(alloc, clock)?,
-            None => text_value(alloc, "-")?,
-        },
+        "domainNumber",
+        Value::from(finding.source.domain),
     )?;
-    put(
-        &mut map,
-        alloc,
-        "finding",
-        text_value(alloc, finding.what.name())?,
-    )?;
-    let severity = if finding.what.is_critical() {
+    put(map, alloc, "sdoId", Value::from(0u8))?;
+    let clock = clock_value(alloc, clock_of(finding))?;
+    put(map, alloc, "clockIdentity", clock)?;
+    match look.picture.site.descriptions(finding.source).last() {
+        Some(received) => {
+            let text = text_value(alloc, received.set.text.as_str())?;
+            put(map, alloc, "userDescription", text)
+        }
+        None => Ok(()),
+    }
+}
+
+/// Puts the name and how bad it is.
+fn put_name(
+    alloc: Global,
+    map: &mut Map<String, Value>,
+    what: &What<'_>,
+) -> Result<(), AllocError> {
+    put(map, alloc, "finding", text_value(alloc, what.name())?)?;
+    let severity = if what.is_critical() {
         "critical"
     } else {
         "warning"
     };
-    put(&mut map, alloc, "severity", text_value(alloc, severity)?)?;
-    put_values(alloc, &mut map, &finding.what)?;
+    put(map, alloc, "severity", text_value(alloc, severity)?)
+}
+
+/// The identity of a clock, or a dash for a whole domain.
+fn clock_value(alloc: Global, clock: Option<ClockIdentity>) -> Result<Value, AllocError> {
+    match clock {
+        Some(clock) => identity_value(alloc, clock),
+        None => text_value(alloc, "-"),
+    }
+}
+
+/// The name and the clock of the finding from which one follows, or null.
+fn cause_value(alloc: Global, cause: Option<Cause>) -> Result<Value, AllocError> {
+    let Some(cause) = cause else {
+        return Ok(Value::Null);
+    };
+    let mut map = Map::new(alloc);
+    let clock = clock_value(alloc, clock_of_cause(cause))?;
+    put(&mut map, alloc, "clockIdentity", clock)?;
+    let name = text_value(alloc, cause.kind.name())?;
+    put(&mut map, alloc, "finding", name)?;
     Ok(Value::Object(map))
 }
 

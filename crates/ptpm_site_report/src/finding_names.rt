@@ -13,7 +13,7 @@ pub(crate) struct FindingName {
 }
 
 /// All names, in the order in which the findings of a clock are reported.
-pub(crate) const ALL: [FindingName; 35] = [
+pub(crate) const ALL: [FindingName; 36] = [
     FindingName {
         name: "absent",
         meaning: "The inventory names the clock, and it did not answer.",
@@ -189,7 +189,17 @@ pub(crate) const ALL: [FindingName; 35] = [
         meaning: "Two clocks have one identity.",
         is_critical: true,
     },
+    FindingName {
+        name: "not_asked",
+        meaning: "Clocks send in a domain in which none was asked.",
+        is_critical: false,
+    },
 ];
+
+/// The place of a name among all; none if it is no finding's.
+pub(crate) fn rank_of(name: &str) -> Option<usize> {
+    ALL.iter().position(|one| one.name == name)
+}
 
 /// What is wrong with a clock that has a finding of this name, in words.
 pub(crate) fn meaning_of(name: &str) -> &'static str {

@@ -2,7 +2,7 @@
 
 use crate::expected_text::{ChoicesText, WantedText};
 use crate::reporting::Conclusion;
-use crate::site_lines::{SiteLines, read_shown};
+use crate::site_lines::read_shown;
 use ptpm_commands::Fault;
 use ptpm_expected::inventory::{Entry, Inventory, MemberRule, Presence, Rule};
 use ptpm_expected::writing::inventory_of;
@@ -16,10 +16,10 @@ pub fn write_inventory<R: Read + Drop, O: Write>(
     reader: R,
     out: &mut O,
 ) -> Result<Conclusion, Fault> {
-    let SiteLines { site, .. } = read_shown(alloc, reader)?;
-    let inventory = inventory_of(alloc, &site).map_err(|_| Fault::OutOfMemory)?;
+    let shown = read_shown(alloc, reader)?;
+    let inventory = inventory_of(alloc, &shown.site).map_err(|_| Fault::OutOfMemory)?;
     print_inventory(&inventory, out)?;
-    Ok(if site.is_empty() {
+    Ok(if shown.site.is_empty() {
         Conclusion::NoClock
     } else {
         Conclusion::Sound

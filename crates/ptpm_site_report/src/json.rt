@@ -1,43 +1,37 @@
 //! A site as one JSON object, by the standard's names.
 
+use crate::asked_domains::AskedDomain;
 use crate::finding_json::finding_value;
+use crate::look::Look;
 use crate::names::Names;
+use crate::utc_text::UtcText;
 use ptpm_codec::{ClockIdentity, PortIdentity};
 use ptpm_commands::Fault;
 use ptpm_site::clock::{Clock, Received};
 use ptpm_site::data_sets::ClockQuality;
-use ptpm_site::finding::Finding;
 use ptpm_site::member::{DataSet, Member, Value as MemberValue, mechanism_name, state_name};
-use ptpm_site::picture::Picture;
 use ptpm_site::source::Source;
 use serde_json::{Map, Value, json, put};
 use std::alloc::{AllocError, Global};
+use std::io;
 use std::io::Write;
 
-/// A picture as JSON, with the names of its clocks.
+/// A site as JSON.
 #[derive(Clone, Copy)]
-pub(crate) struct Object<'a, 'b>(pub(crate) &'a Picture<'a>, pub(crate) &'b Names);
+pub(crate) struct Object<'a>(pub(crate) &'a Look<'a>);
 
-impl Object<'_, '_> {
-    /// Prints one object: the domains with their clocks, what is open, the findings, and how much was left out.
+impl Object<'_> {
+    /// Prints one object: what was asked and when, the domains with their clocks, what is open, the findings, and how much was left
+    /// out.
     pub(crate) fn print<O: Write>(&self, alloc: Global, out: &mut O) -> Result<(), Fault> {
-        write!(out, "{{\"domains\":[")?;
-        let mut domain = None;
-        for (source, clock) in self.0.site.clocks.iter() {
-            if domain == Some(source.domain) {
-                writeln!(out, ",")?;
-            } else {
-                let between = if domain.is_some() { "]}," } else { "" };
-                let number = source.domain;
-                writeln!(out, "{between}\n{{\"domainNumber\":{number},\"clocks\":[")?;
-                domain = Some(source.domain);
-            }
-            print_value(alloc, clock_value(alloc, *source, clock, self.1), out)?;
-        }
-        writeln!(out, "{}],", if domain.is_some() { "]}" } else { "" })?;
-        print_findings(alloc, "open", self.0.open_findings.as_slice(), out)?;
-        print_findings(alloc, "findings", self.0.findings.as_slice(), out)?;
-        let (clocks, ports) = (self.0.left_out.clocks, self.0.left_out.ports);
+        print_head(self.0, out)?;
+        print_domains(alloc, self.0, out)?;
+        print_open(alloc, self.0, out)?;
+        print_findings(alloc, self.0, out)?;
+        let (clocks, ports) = (
+            self.0.picture.left_out.clocks,
+            self.0.picture.left_out.ports,
+        );
         writeln!(
             out,
             "\"leftOut\":{{\"clocks\":{clocks},\"ports\":{ports}}}}}"
@@ -46,18 +40,110 @@ impl Object<'_, '_> {
     }
 }
 
-/// Prints a member with a list of findings, and what comes before the next member.
-fn print_findings<O: Write>(
+/// Prints when the datagrams came, and in which domains the clocks were asked.
+fn print_head<O: Write>(look: &Look<'_>, out: &mut O) -> io::Result<()> {
+    write!(out, "{{\"time\":{{\"begin\":")?;
+    print_time(look.span.map(|span| span.begin), out)?;
+    write!(out, ",\"end\":")?;
+    print_time(look.span.map(|span| span.end), out)?;
+    write!(out, "}},\n\"asked\":[")?;
+    let mut between = "";
+    for AskedDomain { domain, hops } in look.asked {
+        write!(
+            out,
+            "{between}{{\"domainNumber\":{domain},\"sdoId\":0,\"boundaryHops\":{hops}}}"
+        )?;
+        between = ",";
+    }
+    writeln!(out, "],")
+}
+
+fn print_time<O: Write>(time: Option<u64>, out: &mut O) -> io::Result<()> {
+    match time {
+        Some(time) => write!(out, "\"{}\"", UtcText(time)),
+        None => write!(out, "null"),
+    }
+}
+
+/// Prints the member with the domains, each with those of its clocks that lead, and with all its clocks.
+fn print_domains<O: Write>(alloc: Global, look: &Look<'_>, out: &mut O) -> Result<(), Fault> {
+    write!(out, "\"domains\":[")?;
+    let mut domain = None;
+    for (source, clock) in look.picture.site.clocks.iter() {
+        if domain == Some(source.domain) {
+            writeln!(out, ",")?;
+        } else {
+            let between = if domain.is_some() { "]}," } else { "" };
+            writeln!(out, "{between}")?;
+            print_domain_head(alloc, look, source.domain, out)?;
+            domain = Some(source.domain);
+        }
+        print_value(alloc, clock_value(alloc, *source, clock, look.names), out)?;
+    }
+    writeln!(out, "{}],", if domain.is_some() { "]}" } else { "" })?;
+    Ok(())
+}
+
+/// Prints what comes before the clocks of a domain.
+fn print_domain_head<O: Write>(
     alloc: Global,
-    name: &str,
-    findings: &[Finding<'_>],
+    look: &Look<'_>,
+    domain: u8,
     out: &mut O,
 ) -> Result<(), Fault> {
-    write!(out, "\"{name}\":[")?;
+    write!(
+        out,
+        "{{\"domainNumber\":{domain},\"sdoId\":0,\"grandmasters\":["
+    )?;
+    let mut between = "";
+    for source in look.picture.forest.sources.as_slice() {
+        if source.domain == domain && look.picture.site.leads(*source) {
+            write!(out, "{between}")?;
+            print_value(alloc, grandmaster_value(alloc, look, *source), out)?;
+            between = ",";
+        }
+    }
+    writeln!(out, "],\"clocks\":[")?;
+    Ok(())
+}
+
+/// A clock that leads: its identity, its quality, and what it says of its time. It said so itself.
+fn grandmaster_value(alloc: Global, look: &Look<'_>, source: Source) -> Result<Value, AllocError> {
+    let mut map = match look.picture.site.time(source) {
+        Some(time) => set_map(alloc, &time)?,
+        None => Map::new(alloc),
+    };
+    let identity = identity_value(alloc, source.clock)?;
+    put(&mut map, alloc, "clockIdentity", identity)?;
+    if let Some(default) = look.picture.site.default(source) {
+        let quality = quality_value(alloc, default.quality)?;
+        put(&mut map, alloc, "clockQuality", quality)?;
+    }
+    put(&mut map, alloc, "heard", text_value(alloc, "answer")?)?;
+    Ok(Value::Object(map))
+}
+
+/// Prints the member with what is open.
+fn print_open<O: Write>(alloc: Global, look: &Look<'_>, out: &mut O) -> Result<(), Fault> {
+    write!(out, "\"open\":[")?;
     let mut between = "\n";
-    for finding in findings {
+    for finding in look.picture.open_findings.as_slice() {
         write!(out, "{between}")?;
-        print_value(alloc, finding_value(alloc, finding), out)?;
+        print_value(alloc, finding_value(alloc, look, finding, None), out)?;
+        between = ",\n";
+    }
+    writeln!(out, "],")?;
+    Ok(())
+}
+
+/// Prints the member with the findings.
+fn print_findings<O: Write>(alloc: Global, look: &Look<'_>, out: &mut O) -> Result<(), Fault> {
+    write!(out, "\"findings\":[")?;
+    let mut between = "\n";
+    for (place, finding) in look.picture.findings.as_slice().iter().enumerate() {
+        write!(out, "{between}")?;
+        let cause = look.cause_of(place);
+        print_value(alloc, finding_value(alloc, look, finding, cause), out)?;
         between = ",\n";
     }
     writeln!(out, "],")?;

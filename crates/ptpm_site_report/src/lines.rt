@@ -2,13 +2,11 @@
 
 use crate::columns::Columns;
 use crate::expected_text::clock_of;
-use crate::finding_text::Said;
-use crate::names::Names;
+use crate::look::Look;
 use crate::ports_text::PortsText;
-use crate::rows::{Rows, found_at, notes_of};
+use crate::remarks::{Remark, Weight, remarks_at, remarks_of_unseen};
+use crate::rows::notes_of;
 use ptpm_site::clock::Clock;
-use ptpm_site::finding::Finding;
-use ptpm_site::picture::Picture;
 use ptpm_site::source::Source;
 use ptpm_site::tree::TreeRow;
 use std::alloc::{AllocError, Global};
@@ -37,20 +35,36 @@ pub(crate) struct Line {
     pub(crate) follows: String,
     /// What its clock answered.
     pub(crate) facts: String,
-    /// What is wrong with its clock.
-    pub(crate) findings: Vec<String>,
+    /// What is wrong with its clock, and what is open.
+    pub(crate) remarks: Vec<DrawnRemark>,
+}
+
+/// What is said below a row.
+#[derive(Drop)]
+pub(crate) struct DrawnRemark {
+    pub(crate) weight: Weight,
+    pub(crate) words: String,
 }
 
 /// The rows of a drawing.
-pub(crate) fn lines_of(
-    alloc: Global,
-    picture: &Picture<'_>,
-    names: &Names,
-) -> Result<Vec<Line>, AllocError> {
-    let all = Rows(picture, names);
+pub(crate) fn lines_of(alloc: Global, look: &Look<'_>) -> Result<Vec<Line>, AllocError> {
     let mut lines = Vec::new(alloc);
-    let mut rest = picture.rows.as_slice();
-    for _ in 0..picture.rows.len() {
+    add_trees(alloc, look, &mut lines)?;
+    let remarks = remarks_of_unseen(alloc, look)?;
+    for remark in remarks.as_slice() {
+        lines.push(unseen_line(alloc, look, remark)?)?;
+    }
+    for note in notes_of(alloc, look.picture)? {
+        lines.push(said(alloc, note))?;
+    }
+    Ok(lines)
+}
+
+/// Adds the rows of each domain's tree.
+fn add_trees(alloc: Global, look: &Look<'_>, lines: &mut Vec<Line>) -> Result<(), AllocError> {
+    let all = look.rows();
+    let mut rest = look.picture.rows.as_slice();
+    for _ in 0..look.picture.rows.len() {
         let Some(first) = rest.first() else {
             break;
         };
@@ -58,42 +72,40 @@ pub(crate) fn lines_of(
         let (rows, others) = rest.split_at(all.count_of(domain, rest));
         lines.push(said(alloc, all.head_of(alloc, domain, rows)?))?;
         for row in rows {
-            if let Some(line) = line_of(alloc, all, row)? {
+            if let Some(line) = line_of(alloc, look, row)? {
                 lines.push(line)?;
             }
         }
         rest = others;
     }
-    for finding in picture.findings.as_slice() {
-        if !picture.site.is_seen(finding.source) {
-            lines.push(unseen_line(alloc, finding, names)?)?;
-        }
-    }
-    for note in notes_of(alloc, picture)? {
-        lines.push(said(alloc, note))?;
-    }
-    Ok(lines)
+    Ok(())
 }
 
-/// A row of a clock that is not seen, or of a domain without a grandmaster, with what is wrong with it.
-fn unseen_line(alloc: Global, finding: &Finding<'_>, names: &Names) -> Result<Line, AllocError> {
+/// A row of a clock that is not seen, or of a whole domain, with what is said of it.
+fn unseen_line(alloc: Global, look: &Look<'_>, remark: &Remark<'_>) -> Result<Line, AllocError> {
+    let finding = remark.finding;
     let mut line = match clock_of(finding) {
         Some(clock) => Line {
             frame: Frame::Dashed,
             depth: 0,
-            name: format!(in alloc; "not seen: {clock}{}", names.quoted(clock))?,
+            name: format!(in alloc; "not seen: {clock}{}", look.names.quoted(clock))?,
             follows: String::new(alloc),
             facts: String::from_str(alloc, "did not answer")?,
-            findings: Vec::new(alloc),
+            remarks: Vec::new(alloc),
         },
         None => said(
             alloc,
             format!(in alloc; "domain {}", finding.source.domain)?,
         ),
     };
-    let words = format!(in alloc; "{}", Said(&finding.what))?;
-    line.findings.push(words)?;
+    line.remarks.push(drawn(alloc, remark)?)?;
     Ok(line)
+}
+
+fn drawn(alloc: Global, remark: &Remark<'_>) -> Result<DrawnRemark, AllocError> {
+    let words = format!(in alloc; "{remark}")?;
+    let weight = remark.weight;
+    Ok(DrawnRemark { weight, words })
 }
 
 /// A row that is said of the whole.
@@ -104,24 +116,24 @@ fn said(alloc: Global, name: String) -> Line {
         name,
         follows: String::new(alloc),
         facts: String::new(alloc),
-        findings: Vec::new(alloc),
+        remarks: Vec::new(alloc),
     }
 }
 
-fn line_of(alloc: Global, all: Rows<'_, '_>, row: &TreeRow) -> Result<Option<Line>, AllocError> {
+fn line_of(alloc: Global, look: &Look<'_>, row: &TreeRow) -> Result<Option<Line>, AllocError> {
     match row {
         TreeRow::NotSeen { parent, .. } => Ok(Some(Line {
             frame: Frame::Dashed,
             depth: 0,
-            name: format!(in alloc; "not seen: {parent}{}", all.1.quoted(parent.clock))?,
+            name: format!(in alloc; "not seen: {parent}{}", look.names.quoted(parent.clock))?,
             follows: String::new(alloc),
             facts: String::new(alloc),
-            findings: Vec::new(alloc),
+            remarks: Vec::new(alloc),
         })),
-        TreeRow::Clock { place, depth } => match all.clock_of(row) {
+        TreeRow::Clock { place, depth } => match look.rows().clock_of(row) {
             Some((source, clock)) => {
-                let cut = all.cut(*place, *depth);
-                Ok(Some(clock_line(alloc, all, source, clock, *depth, cut)?))
+                let cut = look.rows().cut(*place, *depth);
+                Ok(Some(clock_line(alloc, look, source, clock, *depth, cut)?))
             }
             None => Ok(None),
         },
@@ -130,41 +142,42 @@ fn line_of(alloc: Global, all: Rows<'_, '_>, row: &TreeRow) -> Result<Option<Lin
 
 fn clock_line(
     alloc: Global,
-    all: Rows<'_, '_>,
+    look: &Look<'_>,
     source: Source,
     clock: &Clock,
     depth: u32,
     cut: &str,
 ) -> Result<Line, AllocError> {
-    let columns = Columns::of(alloc, all.name_of(source, clock), clock)?;
-    let leads = all.0.site.leads(source);
+    let columns = Columns::of(alloc, look.rows().name_of(source, clock), clock)?;
+    let leads = look.picture.site.leads(source);
     Ok(Line {
         frame: if leads { Frame::Thick } else { Frame::Thin },
         depth: depth as usize,
         name: format!(in alloc; "{} {}", source.clock, columns.description)?,
-        follows: follows_of(alloc, all.0, source)?,
+        follows: follows_of(alloc, look, source)?,
         facts: format!(in alloc; "{columns}; {}{cut}", PortsText(clock))?,
-        findings: findings_of(alloc, all.0, source)?,
+        remarks: drawn_at(alloc, look, source)?,
     })
 }
 
 /// Whom a clock follows, in words; nothing if it follows nobody.
-fn follows_of(alloc: Global, picture: &Picture<'_>, source: Source) -> Result<String, AllocError> {
-    match picture.site.followed(source) {
+fn follows_of(alloc: Global, look: &Look<'_>, source: Source) -> Result<String, AllocError> {
+    match look.picture.site.followed(source) {
         Some(parent) => format!(in alloc; ", follows {parent}"),
         None => Ok(String::new(alloc)),
     }
 }
 
-/// What is wrong with a clock, in the order of the findings.
-fn findings_of(
+/// What is said of a clock.
+fn drawn_at(
     alloc: Global,
-    picture: &Picture<'_>,
+    look: &Look<'_>,
     source: Source,
-) -> Result<Vec<String>, AllocError> {
-    let mut texts = Vec::new(alloc);
-    for finding in found_at(picture, source) {
-        texts.push(format!(in alloc; "{}", Said(&finding.what))?)?;
+) -> Result<Vec<DrawnRemark>, AllocError> {
+    let remarks = remarks_at(alloc, look, source)?;
+    let mut all = Vec::new(alloc);
+    for remark in remarks.as_slice() {
+        all.push(drawn(alloc, remark)?)?;
     }
-    Ok(texts)
+    Ok(all)
 }

@@ -1,9 +1,9 @@
 //! A site as a plugin of Nagios, or of Icinga, shows it: a line, and the findings below it.
 
 use crate::finding_names::{ALL, FindingName};
-use crate::names::Names;
+use crate::finding_report::FindingReport;
+use crate::look::{Look, Severity};
 use crate::seconds::{IntervalSeconds, NanosecondSeconds};
-use crate::text::{Sheet, lines_of};
 use ptpm_commands::Fault;
 use ptpm_site::limits::Limits;
 use ptpm_site::picture::Picture;
@@ -47,39 +47,33 @@ impl Standing {
     }
 
     /// How a site is that is judged: the worst of its findings decides.
-    pub(crate) fn of(picture: &Picture<'_>) -> Standing {
-        if picture.site.is_empty() {
+    pub(crate) fn of(look: &Look<'_>) -> Standing {
+        if look.picture.site.is_empty() {
             return Standing::Unknown;
         }
-        let mut standing = Standing::Sound;
-        for finding in picture.findings.as_slice() {
-            if finding.what.is_critical() {
-                return Standing::Critical;
-            }
-            standing = Standing::Warning;
+        match look.severity() {
+            Severity::None => Standing::Sound,
+            Severity::Warning => Standing::Warning,
+            Severity::Critical => Standing::Critical,
         }
-        standing
     }
 }
 
-/// A picture as a plugin shows it.
+/// A site as a plugin shows it.
 #[derive(Clone, Copy)]
-pub(crate) struct Plugin<'a, 'b> {
-    pub(crate) picture: &'a Picture<'a>,
-    pub(crate) names: &'b Names,
+pub(crate) struct Plugin<'a> {
+    pub(crate) look: &'a Look<'a>,
     pub(crate) limits: Limits,
 }
 
-impl Plugin<'_, '_> {
+impl Plugin<'_> {
     /// Prints the line, and the findings as the text has them.
     pub(crate) fn print<O: Write>(&self, alloc: Global, out: &mut O) -> Result<(), Fault> {
-        let sheet = Sheet(self.picture, self.names);
-        let unseen = sheet.unseen(alloc).map_err(|_| Fault::OutOfMemory)?;
-        let count = lines_of(self.picture.findings.as_slice(), unseen.as_slice());
-        self.print_head(count, out)?;
+        let report = FindingReport::of(alloc, self.look).map_err(|_| Fault::OutOfMemory)?;
+        self.print_head(report.count, out)?;
         let mut lines: Vec<u8> = Vec::new(alloc);
-        sheet
-            .print_finding_lines(unseen.as_slice(), &mut lines)
+        report
+            .print(self.look, &mut lines)
             .map_err(|_| Fault::OutOfMemory)?;
         print_without_bars(lines.as_slice(), out)?;
         Ok(())
@@ -87,27 +81,32 @@ impl Plugin<'_, '_> {
 
     /// Prints the first line: how the site is, and after a bar the numbers that are drawn over time.
     fn print_head<O: Write>(&self, findings: usize, out: &mut O) -> io::Result<()> {
-        let standing = Standing::of(self.picture);
+        let standing = Standing::of(self.look);
         write!(out, "PTP {} - ", standing.word())?;
         match standing {
             Standing::Unknown => return writeln!(out, "no clock answered"),
             Standing::Sound => self.print_grandmasters(out)?,
-            _ => print_counts(self.picture, out)?,
+            _ => print_counts(self.look, out)?,
         }
-        let clocks = self.picture.forest.sources.len();
-        write!(out, " | clocks={clocks};;;0 findings={findings};;;0")?;
+        let clocks = self.look.picture.forest.sources.len();
+        let open = self.look.picture.open_findings.len();
+        write!(
+            out,
+            " | clocks={clocks};;;0 findings={findings};;;0 open={open};;;0"
+        )?;
         self.print_offset(out)?;
         writeln!(out)
     }
 
     /// Prints how many clocks there are, and whom they follow.
     fn print_grandmasters<O: Write>(&self, out: &mut O) -> io::Result<()> {
-        let clocks = self.picture.forest.sources.len();
+        let picture = self.look.picture;
+        let clocks = picture.forest.sources.len();
         let noun = if clocks == 1 { "clock" } else { "clocks" };
         write!(out, "{clocks} {noun}")?;
         let mut word = "grandmaster";
-        for source in self.picture.forest.sources.as_slice() {
-            if self.picture.site.leads(*source) {
+        for source in picture.forest.sources.as_slice() {
+            if picture.site.leads(*source) {
                 write!(out, ", {word} {}", source.clock)?;
                 self.print_class(*source, out)?;
                 word = "and";
@@ -117,7 +116,7 @@ impl Plugin<'_, '_> {
     }
 
     fn print_class<O: Write>(&self, source: Source, out: &mut O) -> io::Result<()> {
-        match self.picture.site.default(source) {
+        match self.look.picture.site.default(source) {
             Some(default) => write!(out, " of class {}", default.quality.class),
             None => Ok(()),
         }
@@ -125,7 +124,7 @@ impl Plugin<'_, '_> {
 
     /// Prints the greatest amount of an offset, and what it may be, if a clock has a port in SLAVE.
     fn print_offset<O: Write>(&self, out: &mut O) -> io::Result<()> {
-        let Some(greatest) = greatest_offset(self.picture) else {
+        let Some(greatest) = greatest_offset(self.look.picture) else {
             return Ok(());
         };
         write!(out, " max_offset={}s;;", IntervalSeconds(greatest))?;
@@ -154,35 +153,48 @@ fn greatest_offset(picture: &Picture<'_>) -> Option<i64> {
     greatest
 }
 
-/// Prints how many findings of each name there are, critical ones first.
-fn print_counts<O: Write>(picture: &Picture<'_>, out: &mut O) -> io::Result<()> {
-    let printed = print_counts_of(picture, true, false, out)?;
-    print_counts_of(picture, false, printed, out)?;
+/// Prints how many findings of each name there are that follow from no other, critical ones first.
+fn print_counts<O: Write>(look: &Look<'_>, out: &mut O) -> io::Result<()> {
+    let printed = print_counts_of(look, true, false, out)?;
+    print_counts_of(look, false, printed, out)?;
     Ok(())
 }
 
 /// Prints them for names that are critical, or for those that are not. `follows` says whether others are printed before.
 /// Answers whether any are printed by then.
 fn print_counts_of<O: Write>(
-    picture: &Picture<'_>,
+    look: &Look<'_>,
     is_critical: bool,
     follows: bool,
     out: &mut O,
 ) -> io::Result<bool> {
     let mut printed = follows;
-    for name in ALL {
-        let count = name.count_in(picture.findings.as_slice());
-        if name.is_critical == is_critical && count != 0 {
-            print_count(name, count, printed, out)?;
-            printed = true;
+    for name in &ALL {
+        if name.is_critical == is_critical {
+            let count = count_of(look, name);
+            if count != 0 {
+                print_count(name, count, printed, out)?;
+                printed = true;
+            }
         }
     }
     Ok(printed)
 }
 
+/// How many findings of a name follow from no other.
+fn count_of(look: &Look<'_>, name: &FindingName) -> usize {
+    let mut count = 0usize;
+    for (place, finding) in look.picture.findings.as_slice().iter().enumerate() {
+        if finding.what.name() == name.name && look.cause_of(place).is_none() {
+            count = count.saturating_add(1);
+        }
+    }
+    count
+}
+
 /// Prints how many findings have a name, after a comma if others are printed before.
 fn print_count<O: Write>(
-    name: FindingName,
+    name: &FindingName,
     count: usize,
     follows: bool,
     out: &mut O,

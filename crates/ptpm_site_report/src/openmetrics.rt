@@ -2,16 +2,29 @@
 
 use crate::finding_names::ALL;
 use crate::label::Label;
+use crate::look::Look;
 use crate::metric_families::{Family, OfClock, OfGrandmaster, OfPort};
-use crate::names::Names;
+use crate::seconds::NanosecondSeconds;
+use crate::span::Span;
 use ptpm_commands::Fault;
 use ptpm_expected::time_sources::source_name;
 use ptpm_site::clock::{Clock, last_of};
 use ptpm_site::finding::Finding;
-use ptpm_site::picture::Picture;
 use ptpm_site::source::Source;
 use std::io::Write;
 use std::{fmt, io};
+
+const TIMESTAMP: Family = Family {
+    name: "ptp_look_timestamp_seconds",
+    is_in_seconds: true,
+    help: "When the last datagram of this look came, as Unix time.",
+};
+
+const DURATION: Family = Family {
+    name: "ptp_look_duration_seconds",
+    is_in_seconds: true,
+    help: "From the first datagram of this look to the last.",
+};
 
 const CLOCKS: Family = Family {
     name: "ptp_clocks",
@@ -22,7 +35,13 @@ const CLOCKS: Family = Family {
 const FINDINGS: Family = Family {
     name: "ptp_findings",
     is_in_seconds: false,
-    help: "Findings, by name.",
+    help: "Findings, by name; those that follow from another are counted under their own name.",
+};
+
+const OPEN: Family = Family {
+    name: "ptp_open",
+    is_in_seconds: false,
+    help: "What this look could not decide.",
 };
 
 const CLOCK: Family = Family {
@@ -37,17 +56,17 @@ const GRANDMASTER: Family = Family {
     help: "Whom clocks follow, and where it has its time from.",
 };
 
-/// A picture as numbers.
+/// A site as numbers.
 #[derive(Clone, Copy)]
-pub(crate) struct Metrics<'a, 'b> {
-    pub(crate) picture: &'a Picture<'a>,
-    pub(crate) names: &'b Names,
-}
+pub(crate) struct Metrics<'a>(pub(crate) &'a Look<'a>);
 
-impl Metrics<'_, '_> {
+impl Metrics<'_> {
     /// Prints each family with its numbers. What was not answered has none.
     pub(crate) fn print<O: Write>(&self, out: &mut O) -> Result<(), Fault> {
-        self.print_domains(out)?;
+        print_times(self.0.span, out)?;
+        self.print_counts_of_clocks(out)?;
+        self.print_counts_of_findings(out)?;
+        self.print_counts_of_open(out)?;
         self.print_clocks(out)?;
         for family in [OfClock::Offset, OfClock::Delay, OfClock::Steps] {
             self.print_of_clocks(family, out)?;
@@ -70,37 +89,58 @@ impl Metrics<'_, '_> {
         Ok(())
     }
 
-    /// Prints how many clocks each domain has, and how many findings.
-    fn print_domains<O: Write>(&self, out: &mut O) -> io::Result<()> {
+    /// Prints how many clocks each domain has.
+    fn print_counts_of_clocks<O: Write>(&self, out: &mut O) -> io::Result<()> {
         CLOCKS.write_head(out)?;
         for domain in 0..=u8::MAX {
-            let places = self.picture.forest.places_of(domain);
-            let count = places.end.saturating_sub(places.start);
+            let count = self.clocks_in(domain);
             if count != 0 {
                 writeln!(out, "ptp_clocks{{{}}} {count}", OfDomain(domain))?;
             }
         }
+        Ok(())
+    }
+
+    /// Prints how many findings of each name each domain has.
+    fn print_counts_of_findings<O: Write>(&self, out: &mut O) -> io::Result<()> {
         FINDINGS.write_head(out)?;
         for domain in 0..=u8::MAX {
-            let places = self.picture.forest.places_of(domain);
-            let found = found_in(self.picture, domain);
-            if places.start < places.end || !found.is_empty() {
+            let found = found_in(self.0.picture.findings.as_slice(), domain);
+            if self.clocks_in(domain) != 0 || !found.is_empty() {
                 print_counts(domain, found, out)?;
             }
         }
         Ok(())
     }
 
+    /// Prints how much is open in each domain.
+    fn print_counts_of_open<O: Write>(&self, out: &mut O) -> io::Result<()> {
+        OPEN.write_head(out)?;
+        for domain in 0..=u8::MAX {
+            let open = found_in(self.0.picture.open_findings.as_slice(), domain);
+            if self.clocks_in(domain) != 0 || !open.is_empty() {
+                let count = open.len();
+                writeln!(out, "ptp_open{{{}}} {count}", OfDomain(domain))?;
+            }
+        }
+        Ok(())
+    }
+
+    fn clocks_in(&self, domain: u8) -> usize {
+        let places = self.0.picture.forest.places_of(domain);
+        places.end.saturating_sub(places.start)
+    }
+
     /// Prints what each clock says of itself in words.
     fn print_clocks<O: Write>(&self, out: &mut O) -> io::Result<()> {
         CLOCK.write_head(out)?;
-        for (source, clock) in self.picture.site.clocks.iter() {
+        for (source, clock) in self.0.picture.site.clocks.iter() {
             let labels = ClockLabels(*source);
             write!(out, "ptp_clock_info{{{labels}")?;
             if let Some(text) = clock.description() {
                 write!(out, ",description=\"{}\"", Label(text))?;
             }
-            if let Some(name) = self.names.get(source.clock) {
+            if let Some(name) = self.0.names.get(source.clock) {
                 write!(out, ",name=\"{}\"", Label(name))?;
             }
             write_follows(clock, out)?;
@@ -112,7 +152,7 @@ impl Metrics<'_, '_> {
     fn print_of_clocks<O: Write>(&self, family: OfClock, out: &mut O) -> io::Result<()> {
         family.family().write_head(out)?;
         let name = family.family().name;
-        for (source, clock) in self.picture.site.clocks.iter() {
+        for (source, clock) in self.0.picture.site.clocks.iter() {
             if let Some(amount) = family.amount(clock) {
                 writeln!(out, "{name}{{{}}} {amount}", ClockLabels(*source))?;
             }
@@ -123,7 +163,7 @@ impl Metrics<'_, '_> {
     fn print_of_ports<O: Write>(&self, family: OfPort, out: &mut O) -> io::Result<()> {
         family.family().write_head(out)?;
         let name = family.family().name;
-        for (source, clock) in self.picture.site.clocks.iter() {
+        for (source, clock) in self.0.picture.site.clocks.iter() {
             for (port, received) in clock.ports.iter() {
                 let Some(set) = last_of(received.as_slice()) else {
                     continue;
@@ -140,8 +180,8 @@ impl Metrics<'_, '_> {
     /// Prints what each clock that leads says in words.
     fn print_grandmasters<O: Write>(&self, out: &mut O) -> io::Result<()> {
         GRANDMASTER.write_head(out)?;
-        for (source, clock) in self.picture.site.clocks.iter() {
-            if self.picture.site.leads(*source) {
+        for (source, clock) in self.0.picture.site.clocks.iter() {
+            if self.0.picture.site.leads(*source) {
                 let labels = GrandmasterLabels(*source);
                 write!(out, "ptp_grandmaster_info{{{labels}")?;
                 write_time(clock, out)?;
@@ -158,8 +198,8 @@ impl Metrics<'_, '_> {
     ) -> io::Result<()> {
         family.family().write_head(out)?;
         let name = family.family().name;
-        for (source, clock) in self.picture.site.clocks.iter() {
-            if !self.picture.site.leads(*source) {
+        for (source, clock) in self.0.picture.site.clocks.iter() {
+            if !self.0.picture.site.leads(*source) {
                 continue;
             }
             if let Some(amount) = family.amount(clock) {
@@ -201,12 +241,25 @@ impl fmt::Display for GrandmasterLabels {
     }
 }
 
-/// The findings of a domain.
-fn found_in<'a>(picture: &'a Picture<'_>, domain: u8) -> &'a [Finding<'a>] {
-    let findings = picture.findings.as_slice();
+/// Those of findings, in the order of their domains, that are of one domain.
+fn found_in<'a>(findings: &'a [Finding<'a>], domain: u8) -> &'a [Finding<'a>] {
     let from = findings.partition_point(|finding| finding.source.domain < domain);
     let to = findings.partition_point(|finding| finding.source.domain <= domain);
     findings.get(from..to).unwrap_or(&[])
+}
+
+/// Prints when the datagrams came, if the lines say it.
+fn print_times<O: Write>(span: Option<Span>, out: &mut O) -> io::Result<()> {
+    TIMESTAMP.write_head(out)?;
+    if let Some(Span { end, .. }) = span {
+        writeln!(out, "{} {}", TIMESTAMP.name, NanosecondSeconds(end))?;
+    }
+    DURATION.write_head(out)?;
+    if let Some(Span { begin, end }) = span {
+        let duration = NanosecondSeconds(end.saturating_sub(begin));
+        writeln!(out, "{} {duration}", DURATION.name)?;
+    }
+    Ok(())
 }
 
 /// Prints how many findings of each name there are among those of a domain, also if there is none.

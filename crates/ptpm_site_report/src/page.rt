@@ -6,11 +6,12 @@ use crate::finding_names::meaning_of;
 use crate::finding_text::Said;
 use crate::grandmaster_line::GrandmasterLine;
 use crate::intervals::Whole;
-use crate::names::Names;
+use crate::look::{Look, Severity};
 use crate::page_style::STYLE;
 use crate::ports_text::PortsText;
 use crate::printable::Printable;
-use crate::rows::{Rows, found_at, notes_of};
+use crate::remarks::{Remark, Weight, remarks_at};
+use crate::rows::{Rows, notes_of};
 use ptpm_commands::Fault;
 use ptpm_site::clock::Clock;
 use ptpm_site::finding::Finding;
@@ -25,14 +26,14 @@ use std::{fmt, io};
 /// Prints a page.
 pub(crate) fn print_page<O: Write>(
     alloc: Global,
-    picture: &Picture<'_>,
-    names: &Names,
+    look: &Look<'_>,
     out: &mut O,
 ) -> Result<(), Fault> {
-    print_head(picture, out)?;
-    print_found(alloc, picture, names, out)?;
-    print_domains(alloc, picture, names, out)?;
-    let notes = notes_of(alloc, picture).map_err(|_| Fault::OutOfMemory)?;
+    print_head(look, out)?;
+    print_found(alloc, look, out)?;
+    print_open(alloc, look, out)?;
+    print_domains(alloc, look, out)?;
+    let notes = notes_of(alloc, look.picture).map_err(|_| Fault::OutOfMemory)?;
     for note in notes.as_slice() {
         writeln!(out, "<p>{}</p>", Escaped(note.as_str()))?;
     }
@@ -43,39 +44,52 @@ pub(crate) fn print_page<O: Write>(
 /// How many findings a site has.
 #[derive(Clone, Copy)]
 struct Counts {
+    /// Those that are critical and follow from no other, all that follow from no other, and those that follow.
     critical: usize,
     all: usize,
+    following: usize,
 }
 
-fn counts_of(picture: &Picture<'_>) -> Counts {
-    let mut critical = 0usize;
-    for finding in picture.findings.as_slice() {
+fn counts_of(look: &Look<'_>) -> Counts {
+    let (mut critical, mut all, mut following) = (0usize, 0usize, 0usize);
+    for (place, finding) in look.picture.findings.as_slice().iter().enumerate() {
+        if look.cause_of(place).is_some() {
+            following = following.saturating_add(1);
+            continue;
+        }
+        all = all.saturating_add(1);
         if finding.what.is_critical() {
             critical = critical.saturating_add(1);
         }
     }
     Counts {
         critical,
-        all: picture.findings.len(),
+        all,
+        following,
     }
 }
 
-/// In words, such as `3 findings, 1 of them critical`.
+/// In words, such as `3 findings, 1 of them critical, and 4 that follow`.
 impl fmt::Display for Counts {
     fn fmt<W: fmt::Write>(&self, f: &mut fmt::Formatter<W>) -> fmt::Result {
         match (self.all, self.critical) {
-            (0, _) => f.write_str("no findings"),
-            (1, 0) => f.write_str("1 finding"),
-            (1, _) => f.write_str("1 finding, which is critical"),
-            (all, 0) => write!(f, "{all} findings"),
-            (all, critical) => write!(f, "{all} findings, {critical} of them critical"),
+            (0, _) => f.write_str("no findings")?,
+            (1, 0) => f.write_str("1 finding")?,
+            (1, _) => f.write_str("1 finding, which is critical")?,
+            (all, 0) => write!(f, "{all} findings")?,
+            (all, critical) => write!(f, "{all} findings, {critical} of them critical")?,
+        }
+        match self.following {
+            0 => Ok(()),
+            1 => f.write_str(", and 1 that follows"),
+            following => write!(f, ", and {following} that follow"),
         }
     }
 }
 
 /// Prints what comes before the findings. The page may load nothing.
-fn print_head<O: Write>(picture: &Picture<'_>, out: &mut O) -> io::Result<()> {
-    let counts = counts_of(picture);
+fn print_head<O: Write>(look: &Look<'_>, out: &mut O) -> io::Result<()> {
+    let counts = counts_of(look);
     writeln!(
         out,
         "<!DOCTYPE html>\n<html lang=\"en\">\n<head>\n<meta charset=\"utf-8\">"
@@ -93,16 +107,19 @@ fn print_head<O: Write>(picture: &Picture<'_>, out: &mut O) -> io::Result<()> {
         out,
         "<style>\n{STYLE}</style>\n</head>\n<body>\n<h1>PTP site</h1>"
     )?;
-    let clocks = picture.forest.sources.len();
+    print_sum(look, &counts, out)?;
+    writeln!(out, "<p class=\"faint\">{}</p>", look.asked_text())
+}
+
+/// Prints how many clocks and findings there are.
+fn print_sum<O: Write>(look: &Look<'_>, counts: &Counts, out: &mut O) -> io::Result<()> {
+    let clocks = look.picture.forest.sources.len();
     let noun = if clocks == 1 { "clock" } else { "clocks" };
-    let class = if counts.critical != 0 {
-        "critical"
-    } else if counts.all != 0 {
-        "warning"
-    } else if clocks == 0 {
-        "faint"
-    } else {
-        "good"
+    let class = match look.severity() {
+        Severity::Critical => "critical",
+        Severity::Warning => "warning",
+        Severity::None if clocks == 0 => "faint",
+        Severity::None => "good",
     };
     writeln!(
         out,
@@ -110,58 +127,80 @@ fn print_head<O: Write>(picture: &Picture<'_>, out: &mut O) -> io::Result<()> {
     )
 }
 
-/// Prints all findings, each with a link to its clock.
-fn print_found<O: Write>(
-    alloc: Global,
-    picture: &Picture<'_>,
-    names: &Names,
-    out: &mut O,
-) -> Result<(), Fault> {
-    let findings = picture.findings.as_slice();
+/// Prints the findings that follow from no other, each with a link to its clock.
+fn print_found<O: Write>(alloc: Global, look: &Look<'_>, out: &mut O) -> Result<(), Fault> {
+    let findings = look.picture.findings.as_slice();
     if findings.is_empty() {
         return Ok(());
     }
-    writeln!(
-        out,
-        "<h2>What is wrong</h2>\n<div class=\"wide\"><table>\n<thead><tr><th>Severity</th><th>Domain</th><th>Clock</th><th>Finding</th><th>Values</th></tr></thead>"
-    )?;
-    for finding in findings {
-        let source = finding.source;
-        let name = called(alloc, picture, names, source);
-        let name = name.map_err(|_| Fault::OutOfMemory)?;
-        let words = words_of(alloc, finding).map_err(|_| Fault::OutOfMemory)?;
-        print_found_row(finding, name.as_str(), words.as_str(), out)?;
+    print_table_head("What is wrong", out)?;
+    for (place, finding) in findings.iter().enumerate() {
+        if look.cause_of(place).is_none() {
+            print_found_row(alloc, look, finding, severity_of(finding), out)?;
+        }
     }
     writeln!(out, "</table></div>")?;
     Ok(())
 }
 
+/// Prints what is open, each with a link to its clock.
+fn print_open<O: Write>(alloc: Global, look: &Look<'_>, out: &mut O) -> Result<(), Fault> {
+    let open = look.picture.open_findings.as_slice();
+    if open.is_empty() {
+        return Ok(());
+    }
+    print_table_head("What is open: it is wrong if it lasts", out)?;
+    for finding in open {
+        print_found_row(alloc, look, finding, "open", out)?;
+    }
+    writeln!(out, "</table></div>")?;
+    Ok(())
+}
+
+fn print_table_head<O: Write>(title: &str, out: &mut O) -> io::Result<()> {
+    writeln!(out, "<h2>{title}</h2>\n<div class=\"wide\"><table>")?;
+    writeln!(
+        out,
+        "<thead><tr><th>Severity</th><th>Domain</th><th>Clock</th><th>Finding</th><th>Values</th></tr></thead>"
+    )
+}
+
+/// Prints a row of the table of all findings, or of all that is open.
 fn print_found_row<O: Write>(
+    alloc: Global,
+    look: &Look<'_>,
     finding: &Finding<'_>,
-    name: &str,
-    words: &str,
+    severity: &str,
     out: &mut O,
-) -> io::Result<()> {
+) -> Result<(), Fault> {
+    let name = called(alloc, look, finding.source).map_err(|_| Fault::OutOfMemory)?;
+    let words = words_of(alloc, finding).map_err(|_| Fault::OutOfMemory)?;
     let domain = finding.source.domain;
-    let severity = severity_of(finding);
     write!(
         out,
         "<tr><td class=\"{severity}\">{severity}</td><td>{domain}</td>"
     )?;
+    print_link(finding, name.as_str(), out)?;
+    let meaning = meaning_of(finding.what.name());
+    writeln!(
+        out,
+        "<td>{meaning}</td><td class=\"faint\">{}</td></tr>",
+        Escaped(words.as_str())
+    )?;
+    Ok(())
+}
+
+/// Prints the column of a finding's clock.
+fn print_link<O: Write>(finding: &Finding<'_>, name: &str, out: &mut O) -> io::Result<()> {
+    let domain = finding.source.domain;
     match clock_of(finding) {
         Some(clock) => write!(
             out,
             "<td><a href=\"#d{domain}-{clock}\">{}</a> <span class=\"id faint\">{clock}</span></td>",
             Escaped(name)
-        )?,
-        None => write!(out, "<td>-</td>")?,
+        ),
+        None => write!(out, "<td>-</td>"),
     }
-    let meaning = meaning_of(finding.what.name());
-    writeln!(
-        out,
-        "<td>{meaning}</td><td class=\"faint\">{}</td></tr>",
-        Escaped(words)
-    )
 }
 
 fn severity_of(finding: &Finding<'_>) -> &'static str {
@@ -178,35 +217,21 @@ fn words_of(alloc: Global, finding: &Finding<'_>) -> Result<String, AllocError> 
 }
 
 /// What a person calls a clock; a dash if there is nothing.
-fn called(
-    alloc: Global,
-    picture: &Picture<'_>,
-    names: &Names,
-    source: Source,
-) -> Result<String, AllocError> {
-    if let Some(name) = names.get(source.clock) {
+fn called(alloc: Global, look: &Look<'_>, source: Source) -> Result<String, AllocError> {
+    if let Some(name) = look.names.get(source.clock) {
         return format!(in alloc; "{}", Printable(name));
     }
-    let text = match picture.site.descriptions(source).last() {
-        Some(received) => received.set.text.as_str(),
-        None => "",
-    };
-    if text.is_empty() {
-        return String::from_str(alloc, "-");
+    match look.description(source) {
+        Some(text) => format!(in alloc; "{}", Printable(text)),
+        None => String::from_str(alloc, "-"),
     }
-    format!(in alloc; "{}", Printable(text))
 }
 
 /// Prints the tree of each domain.
-fn print_domains<O: Write>(
-    alloc: Global,
-    picture: &Picture<'_>,
-    names: &Names,
-    out: &mut O,
-) -> Result<(), Fault> {
-    let all = Rows(picture, names);
-    let mut rest = picture.rows.as_slice();
-    for _ in 0..picture.rows.len() {
+fn print_domains<O: Write>(alloc: Global, look: &Look<'_>, out: &mut O) -> Result<(), Fault> {
+    let all = look.rows();
+    let mut rest = look.picture.rows.as_slice();
+    for _ in 0..look.picture.rows.len() {
         let Some(first) = rest.first() else {
             break;
         };
@@ -222,7 +247,7 @@ fn print_domains<O: Write>(
             "<div class=\"wide\"><table>\n<thead><tr><th>Clock</th><th>Identity</th><th class=\"number\">Steps</th><th class=\"number\">Offset</th><th class=\"number\">Mean delay</th><th>Ports</th></tr></thead>"
         )?;
         for row in rows {
-            print_row(alloc, picture, names, row, out)?;
+            print_row(alloc, look, row, out)?;
         }
         writeln!(out, "</table></div>")?;
         rest = others;
@@ -246,29 +271,39 @@ fn print_leaders<O: Write>(all: Rows<'_, '_>, rows: &[TreeRow], out: &mut O) -> 
 
 fn print_row<O: Write>(
     alloc: Global,
-    picture: &Picture<'_>,
-    names: &Names,
+    look: &Look<'_>,
     row: &TreeRow,
     out: &mut O,
 ) -> Result<(), Fault> {
     match row {
         TreeRow::NotSeen { parent, .. } => {
-            let name = format!(in alloc; "{}", names.quoted(parent.clock));
+            let name = format!(in alloc; "{}", look.names.quoted(parent.clock));
             let name = name.map_err(|_| Fault::OutOfMemory)?;
             write!(out, "<tr class=\"unseen\"><td colspan=\"6\">not seen: ")?;
             writeln!(out, "{parent}{}</td></tr>", Escaped(name.as_str()))?;
         }
         TreeRow::Clock { place, depth } => {
-            if let Some(source) = picture.forest.sources.get(*place) {
-                let name = called(alloc, picture, names, *source);
-                let name = name.map_err(|_| Fault::OutOfMemory)?;
-                print_clock(picture, *source, *depth, name.as_str(), out)?;
-                let cut = Rows(picture, names).cut(*place, *depth);
-                print_answers(picture, *source, cut, out)?;
-                print_found_at(alloc, picture, *source, *depth, out)?;
+            if let Some(source) = look.picture.forest.sources.get(*place) {
+                print_clock_row(alloc, look, *source, *depth, out)?;
+                let cut = look.rows().cut(*place, *depth);
+                print_answers(look.picture, *source, cut, out)?;
+                print_remarks(alloc, look, *source, *depth, out)?;
             }
         }
     }
+    Ok(())
+}
+
+/// Prints the first columns of a clock.
+fn print_clock_row<O: Write>(
+    alloc: Global,
+    look: &Look<'_>,
+    source: Source,
+    depth: u32,
+    out: &mut O,
+) -> Result<(), Fault> {
+    let name = called(alloc, look, source).map_err(|_| Fault::OutOfMemory)?;
+    print_clock(look.picture, source, depth, name.as_str(), out)?;
     Ok(())
 }
 
@@ -343,16 +378,16 @@ fn print_numbers<O: Write>(clock: &Clock, out: &mut O) -> io::Result<()> {
     )
 }
 
-/// Prints what is wrong with a clock, below it.
-fn print_found_at<O: Write>(
+/// Prints what is wrong with a clock, and what is open, below it.
+fn print_remarks<O: Write>(
     alloc: Global,
-    picture: &Picture<'_>,
+    look: &Look<'_>,
     source: Source,
     depth: u32,
     out: &mut O,
 ) -> Result<(), Fault> {
-    let findings = found_at(picture, source);
-    if findings.is_empty() {
+    let remarks = remarks_at(alloc, look, source).map_err(|_| Fault::OutOfMemory)?;
+    if remarks.is_empty() {
         return Ok(());
     }
     write!(
@@ -360,15 +395,27 @@ fn print_found_at<O: Write>(
         "<tr class=\"found\"><td colspan=\"6\" style=\"padding-left: {}rem\">",
         Shift(depth)
     )?;
-    for finding in findings {
-        let words = words_of(alloc, finding).map_err(|_| Fault::OutOfMemory)?;
-        let (severity, words) = (severity_of(finding), Escaped(words.as_str()));
-        let meaning = meaning_of(finding.what.name());
-        write!(
-            out,
-            "<p class=\"{severity}\"><span>{meaning}</span> <span class=\"faint\">{words}</span></p>"
-        )?;
+    for remark in remarks.as_slice() {
+        print_remark(alloc, remark, out)?;
     }
     writeln!(out, "</td></tr>")?;
+    Ok(())
+}
+
+fn print_remark<O: Write>(alloc: Global, remark: &Remark<'_>, out: &mut O) -> Result<(), Fault> {
+    let words = format!(in alloc; "{remark}").map_err(|_| Fault::OutOfMemory)?;
+    let class = match remark.weight {
+        Weight::Wrong => severity_of(remark.finding),
+        Weight::Follows => "follows",
+        Weight::Open => "open",
+    };
+    let (meaning, words) = (
+        meaning_of(remark.finding.what.name()),
+        Escaped(words.as_str()),
+    );
+    write!(
+        out,
+        "<p class=\"{class}\"><span>{meaning}</span> <span class=\"faint\">{words}</span></p>"
+    )?;
     Ok(())
 }

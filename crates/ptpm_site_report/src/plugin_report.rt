@@ -1,14 +1,13 @@
 //! `ptpm site --nagios`: a site as a plugin shows it, by the answers among lines of datagrams.
 
+use crate::look::Look;
 use crate::nagios::{Plugin, Standing};
-use crate::names::Names;
+use crate::reporting::{Viewing, judged};
 use crate::site_lines::{SiteLines, read_shown};
+use ptpm_causes::causes_of;
 use ptpm_commands::Fault;
-use ptpm_expected::expectations::{Expectations, picture_of};
-use ptpm_site::left_out::LeftOut;
 use ptpm_site::limits::Limits;
 use ptpm_site::picture::Picture;
-use ptpm_site::site::Site;
 use std::alloc::Global;
 use std::io::{Read, Write};
 
@@ -16,61 +15,30 @@ use std::io::{Read, Write};
 pub fn report_standing<R: Read + Drop, O: Write>(
     alloc: Global,
     limits: Limits,
-    names: &Names,
+    viewing: Viewing<'_>,
     reader: R,
     out: &mut O,
 ) -> Result<Standing, Fault> {
-    report_standing_expected(alloc, limits, Expectations::none(), names, reader, out)
-}
-
-/// The same, of a site that is held to what is expected of it.
-pub fn report_standing_expected<R: Read + Drop, O: Write>(
-    alloc: Global,
-    limits: Limits,
-    expectations: Expectations<'_>,
-    names: &Names,
-    reader: R,
-    out: &mut O,
-) -> Result<Standing, Fault> {
-    let SiteLines {
-        site,
-        left_out,
-        is_synchronised,
-    } = read_shown(alloc, reader)?;
-    let limits = limits.at_host(is_synchronised);
-    standing_of(alloc, limits, expectations, names, &site, left_out, out)
-}
-
-/// Prints a site as a plugin does.
-fn standing_of<'a, O: Write>(
-    alloc: Global,
-    limits: Limits,
-    expectations: Expectations<'a>,
-    names: &Names,
-    site: &'a Site,
-    left_out: LeftOut,
-    out: &mut O,
-) -> Result<Standing, Fault> {
-    match picture_of(alloc, site, left_out, limits, expectations) {
-        Ok(picture) => {
-            print_plugin(alloc, &picture, names, limits, out)?;
-            Ok(Standing::of(&picture))
-        }
-        Err(_) => Err(Fault::OutOfMemory),
-    }
+    let shown = read_shown(alloc, reader)?;
+    let limits = limits.at_host(shown.notes.is_synchronised);
+    let picture = judged(alloc, limits, &viewing, &shown).map_err(|_| Fault::OutOfMemory)?;
+    print_plugin(alloc, limits, &viewing, &shown, &picture, out)
 }
 
 fn print_plugin<O: Write>(
     alloc: Global,
-    picture: &Picture<'_>,
-    names: &Names,
     limits: Limits,
+    viewing: &Viewing<'_>,
+    shown: &SiteLines,
+    picture: &Picture<'_>,
     out: &mut O,
-) -> Result<(), Fault> {
+) -> Result<Standing, Fault> {
+    let causes = causes_of(alloc, picture).map_err(|_| Fault::OutOfMemory)?;
+    let look = Look::of(picture, causes.as_slice(), viewing, shown);
     let plugin = Plugin {
-        picture,
-        names,
+        look: &look,
         limits,
     };
-    plugin.print(alloc, out)
+    plugin.print(alloc, out)?;
+    Ok(Standing::of(&look))
 }

@@ -6,19 +6,20 @@ ghost use Rattle.ptpm_site.specs.Site.{site_answers};
 ghost use Rattle.ptpm_site_report.specs.Reporting.{outcome, status};
 
 use crate::drawing::draw;
+use crate::ignored::Ignored;
 use crate::json::Object;
+use crate::look::Look;
 use crate::names::Names;
 use crate::openmetrics::Metrics;
 use crate::page::print_page;
 use crate::site_lines::{SiteLines, read_shown};
 use crate::text::Sheet;
+use ptpm_causes::causes_of;
 use ptpm_commands::Fault;
 use ptpm_expected::expectations::{Expectations, picture_of};
-use ptpm_site::left_out::LeftOut;
 use ptpm_site::limits::Limits;
 use ptpm_site::picture::Picture;
-use ptpm_site::site::Site;
-use std::alloc::Global;
+use std::alloc::{AllocError, Global};
 use std::io::{Read, Write};
 
 /// How a site is printed.
@@ -85,6 +86,17 @@ impl Conclusion {
     }
 }
 
+/// What a site is held to, how its clocks are named, and what is printed of its findings.
+#[derive(Clone, Copy)]
+pub struct Viewing<'a> {
+    pub expectations: Expectations<'a>,
+    pub names: &'a Names,
+    /// The findings that are left out.
+    pub ignored: &'a Ignored,
+    /// Whether the text has what follows from another finding too, and each of many lines that are alike.
+    pub is_all: bool,
+}
+
 /// Prints the site of a reader's lines.
 pub fn report<R: Read + Drop, O: Write>(
     alloc: Global,
@@ -92,96 +104,95 @@ pub fn report<R: Read + Drop, O: Write>(
     reader: R,
     out: &mut O,
 ) -> Result<Conclusion, Fault> {
-    report_named(alloc, options, &Names::new(alloc), reader, out)
+    let viewing = Viewing {
+        expectations: Expectations::none(),
+        names: &Names::new(alloc),
+        ignored: &Ignored::none(alloc),
+        is_all: false,
+    };
+    let shown = read_shown(alloc, reader)?;
+    let options = options.at_host(shown.notes.is_synchronised);
+    report_of(alloc, options, &viewing, &shown, out)
 }
 
-/// The same, with names of clocks.
-pub fn report_named<R: Read + Drop, O: Write>(
-    alloc: Global,
-    options: Options,
-    names: &Names,
-    reader: R,
-    out: &mut O,
-) -> Result<Conclusion, Fault> {
-    let SiteLines {
-        site,
-        left_out,
-        is_synchronised,
-    } = read_shown(alloc, reader)?;
-    let options = options.at_host(is_synchronised);
-    report_of(alloc, options, names, &site, left_out, out)
-}
-
-/// The same, of a site that is held to what is expected of it.
-pub fn report_expected<R: Read + Drop, O: Write>(
-    alloc: Global,
-    options: Options,
-    expectations: Expectations<'_>,
-    names: &Names,
-    reader: R,
-    out: &mut O,
-) -> Result<Conclusion, Fault> {
-    let SiteLines {
-        site,
-        left_out,
-        is_synchronised,
-    } = read_shown(alloc, reader)?;
-    let options = options.at_host(is_synchronised);
-    report_held(alloc, options, expectations, names, &site, left_out, out)
-}
-
-/// Prints a site that is held to what is expected of it.
-fn report_held<'a, O: Write>(
-    alloc: Global,
-    options: Options,
-    expectations: Expectations<'a>,
-    names: &Names,
-    site: &'a Site,
-    left_out: LeftOut,
-    out: &mut O,
-) -> Result<Conclusion, Fault> {
-    match picture_of(alloc, site, left_out, options.limits, expectations) {
-        Ok(picture) => {
-            print_picture(alloc, options.form, &picture, names, out)?;
-            Ok(outcome_of(&picture))
-        }
-        Err(_) => Err(Fault::OutOfMemory),
-    }
-}
-
-/// Prints a site. `left_out` says how much of it is not shown.
+/// Prints a site that is held to nothing, with all its findings.
 fn report_of<O: Write>(
     alloc: Global,
     options: Options,
-    names: &Names,
-    site: &Site,
-    left_out: LeftOut,
+    viewing: &Viewing<'_>,
+    shown: &SiteLines,
     out: &mut O,
 ) -> Result<Conclusion, Fault>
-    ensures { IfOk result (λ came. came ≡ outcome (site_answers site.now).clocks (findings_of (site_answers site.now) options.limits)) }
+    ensures { IfOk result (λ came. came ≡ outcome (site_answers shown.now.site).clocks (findings_of (site_answers shown.now.site) options.limits)) }
 {
-    match Picture::of(alloc, site, left_out, options.limits) {
-        Ok(picture) => {
-            print_picture(alloc, options.form, &picture, names, out)?;
-            Ok(outcome_of(&picture))
-        }
+    match Picture::of(alloc, &shown.site, shown.left_out, options.limits) {
+        Ok(picture) => print_picture(alloc, options.form, viewing, shown, &picture, out),
         Err(_) => Err(Fault::OutOfMemory),
     }
 }
 
+/// The same, as an operator wants to see it.
+pub fn report_viewed<R: Read + Drop, O: Write>(
+    alloc: Global,
+    options: Options,
+    viewing: Viewing<'_>,
+    reader: R,
+    out: &mut O,
+) -> Result<Conclusion, Fault> {
+    let shown = read_shown(alloc, reader)?;
+    let options = options.at_host(shown.notes.is_synchronised);
+    let picture = judged(alloc, options.limits, &viewing, &shown).map_err(|_| Fault::OutOfMemory)?;
+    print_picture(alloc, options.form, &viewing, &shown, &picture, out)
+}
+
+/// The picture of a site, without the findings that are left out.
+pub(crate) fn judged<'a>(
+    alloc: Global,
+    limits: Limits,
+    viewing: &Viewing<'a>,
+    shown: &'a SiteLines,
+) -> Result<Picture<'a>, AllocError> {
+    let mut picture = picture_of(
+        alloc,
+        &shown.site,
+        shown.left_out,
+        limits,
+        viewing.expectations,
+    )?;
+    viewing.ignored.leave_out(&mut picture.findings);
+    viewing.ignored.leave_out(&mut picture.open_findings);
+    Ok(picture)
+}
+
+/// Prints a picture, and answers what came of its site.
 fn print_picture<O: Write>(
     alloc: Global,
     form: Form,
+    viewing: &Viewing<'_>,
+    shown: &SiteLines,
     picture: &Picture<'_>,
-    names: &Names,
+    out: &mut O,
+) -> Result<Conclusion, Fault>
+    ensures { IfOk result (λ came. came ≡ outcome picture.now.forest.sources.items (reported picture.now.findings.items)) }
+{
+    let causes = causes_of(alloc, picture).map_err(|_| Fault::OutOfMemory)?;
+    let look = Look::of(picture, causes.as_slice(), viewing, shown);
+    print_look(alloc, form, &look, out)?;
+    Ok(outcome_of(picture))
+}
+
+fn print_look<O: Write>(
+    alloc: Global,
+    form: Form,
+    look: &Look<'_>,
     out: &mut O,
 ) -> Result<(), Fault> {
     match form {
-        Form::Text => Sheet(picture, names).print(alloc, out),
-        Form::Json => Object(picture, names).print(alloc, out),
-        Form::Drawing => draw(alloc, picture, names, out),
-        Form::Page => print_page(alloc, picture, names, out),
-        Form::OpenMetrics => Metrics { picture, names }.print(out),
+        Form::Text => Sheet(look).print(alloc, out),
+        Form::Json => Object(look).print(alloc, out),
+        Form::Drawing => draw(alloc, look, out),
+        Form::Page => print_page(alloc, look, out),
+        Form::OpenMetrics => Metrics(look).print(out),
     }
 }
 

@@ -4,7 +4,6 @@ ghost use Rattle.std.specs.Prelude.{◌≤◌, length};
 
 use crate::names::Names;
 use ptpm_site::clock::Clock;
-use ptpm_site::finding::Finding;
 use ptpm_site::left_out::{CLOCKS, PORTS};
 use ptpm_site::picture::Picture;
 use ptpm_site::source::Source;
@@ -90,14 +89,6 @@ impl Rows<'_, '_> {
         }
         Ok(head)
     }
-}
-
-/// The findings of a clock, in their order.
-pub(crate) fn found_at<'a>(picture: &'a Picture<'_>, source: Source) -> &'a [Finding<'a>] {
-    let findings = picture.findings.as_slice();
-    let from = findings.partition_point(|finding| finding.source < source);
-    let to = findings.partition_point(|finding| finding.source <= source);
-    findings.get(from..to).unwrap_or(&[])
 }
 
 /// What is said of the whole: that no clock answered, and how much was left out.

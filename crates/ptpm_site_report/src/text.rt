@@ -1,15 +1,14 @@
 //! A site as text: for each domain its tree, a line a clock, and then the findings, one a line.
 
 use crate::columns::{Columns, Widths, print_spaces};
-use crate::expected_text::clock_of;
-use crate::finding_text::Words;
+use crate::finding_lines::FindingLines;
+use crate::finding_report::{FindingReport, print_open_line};
+use crate::followers::Followers;
 use crate::grandmaster_line::GrandmasterLine;
-use crate::names::Names;
+use crate::look::Look;
 use crate::ports_text::PortsText;
 use crate::rows::{Rows, notes_of};
 use ptpm_commands::Fault;
-use ptpm_site::finding::{Finding, What};
-use ptpm_site::picture::Picture;
 use ptpm_site::source::Source;
 use ptpm_site::tree::TreeRow;
 use std::alloc::{AllocError, Global};
@@ -19,117 +18,87 @@ use std::io::Write;
 /// How many characters are to the left of the first column. There are two more for each clock above.
 const MARGIN: usize = 2;
 
-/// A picture as text, with the names of its clocks.
+/// A site as text.
 #[derive(Clone, Copy)]
-pub(crate) struct Sheet<'a, 'b>(pub(crate) &'a Picture<'a>, pub(crate) &'b Names);
+pub(crate) struct Sheet<'a>(pub(crate) &'a Look<'a>);
 
-impl Sheet<'_, '_> {
-    /// Prints the tree of each domain, and the findings.
+impl Sheet<'_> {
+    /// Prints what was asked, the tree of each domain, and the findings.
     pub(crate) fn print<O: Write>(&self, alloc: Global, out: &mut O) -> Result<(), Fault> {
-        let all = Rows(self.0, self.1);
-        let mut rest = self.0.rows.as_slice();
-        for _ in 0..self.0.rows.len() {
-            let Some(first) = rest.first() else {
-                break;
-            };
-            let domain = all.domain_of(first);
-            let (rows, others) = rest.split_at(all.count_of(domain, rest));
-            let head = all
-                .head_of(alloc, domain, rows)
-                .map_err(|_| Fault::OutOfMemory)?;
-            writeln!(out, "{head}")?;
-            print_leaders(all, rows, out)?;
-            print_rows(alloc, all, rows, out)?;
-            writeln!(out)?;
-            rest = others;
-        }
-        if !self.0.site.is_empty() || !self.0.findings.is_empty() {
-            self.print_findings(alloc, out)?;
+        writeln!(out, "{}", self.0.asked_text())?;
+        print_trees(alloc, self.0, out)?;
+        let picture = self.0.picture;
+        if !picture.site.is_empty() || !picture.findings.is_empty() {
+            print_findings(alloc, self.0, out)?;
         } else {
-            self.print_open(out)?;
+            let followers = Followers::of(alloc, self.0).map_err(|_| Fault::OutOfMemory)?;
+            print_open(alloc, self.0, &followers, out)?;
         }
-        let notes = notes_of(alloc, self.0).map_err(|_| Fault::OutOfMemory)?;
+        let notes = notes_of(alloc, picture).map_err(|_| Fault::OutOfMemory)?;
         for note in notes.as_slice() {
             writeln!(out, "{note}")?;
         }
         Ok(())
     }
+}
 
-    /// The findings, one a line, and what is open. Each grandmaster that is not seen has one line, which says how many
-    /// clocks name it.
-    fn print_findings<O: Write>(&self, alloc: Global, out: &mut O) -> Result<(), Fault> {
-        let unseen = self.unseen(alloc).map_err(|_| Fault::OutOfMemory)?;
-        let lines = lines_of(self.0.findings.as_slice(), unseen.as_slice());
-        if lines == 0 {
-            writeln!(out, "findings: none")?;
-        } else {
-            writeln!(out, "findings: {lines}")?;
-        }
-        self.print_finding_lines(unseen.as_slice(), out)?;
-        self.print_open(out)
-    }
-
-    /// What is open, one a line, if there is any.
-    fn print_open<O: Write>(&self, out: &mut O) -> Result<(), Fault> {
-        let unsettled = self.0.open_findings.as_slice();
-        if unsettled.is_empty() {
-            return Ok(());
-        }
-        writeln!(out, "open: {}", unsettled.len())?;
-        for finding in unsettled {
-            write!(out, "{}", Words(finding))?;
-            match clock_of(finding) {
-                Some(_) => self.print_description(finding.source, out)?,
-                None => writeln!(out)?,
-            }
-        }
-        Ok(())
-    }
-
-    /// A line for each finding. `unseen` has the grandmasters that are not seen.
-    pub(crate) fn print_finding_lines<O: Write>(
-        &self,
-        unseen: &[Source],
-        out: &mut O,
-    ) -> Result<(), Fault> {
-        let mut unseen = unseen;
-        for finding in self.0.findings.as_slice() {
-            if let What::GrandmasterNotSeen(_) = finding.what {
-                continue;
-            }
-            unseen = print_unseen(unseen, Some(finding.source), self.1, out)?;
-            write!(out, "{}", Words(finding))?;
-            self.print_description(finding.source, out)?;
-        }
-        print_unseen(unseen, None, self.1, out)?;
-        Ok(())
-    }
-
-    /// Ends the line of a finding with the name of its clock, or else its description, if the clock has one.
-    fn print_description<O: Write>(&self, source: Source, out: &mut O) -> Result<(), Fault> {
-        if let Some(name) = self.1.get(source.clock) {
-            write!(out, " {name:?}")?;
-        } else if let Some(received) = self.0.site.descriptions(source).last() {
-            let text = received.set.text.as_str();
-            if !text.is_empty() {
-                write!(out, " {text:?}")?;
-            }
-        }
+/// Prints the tree of each domain.
+fn print_trees<O: Write>(alloc: Global, look: &Look<'_>, out: &mut O) -> Result<(), Fault> {
+    let all = look.rows();
+    let mut rest = look.picture.rows.as_slice();
+    for _ in 0..look.picture.rows.len() {
+        let Some(first) = rest.first() else {
+            break;
+        };
+        let domain = all.domain_of(first);
+        let (rows, others) = rest.split_at(all.count_of(domain, rest));
+        let head = all
+            .head_of(alloc, domain, rows)
+            .map_err(|_| Fault::OutOfMemory)?;
+        writeln!(out, "{head}")?;
+        print_leaders(all, rows, out)?;
+        print_rows(alloc, all, rows, out)?;
         writeln!(out)?;
-        Ok(())
+        rest = others;
     }
+    Ok(())
+}
 
-    /// The grandmasters that are not seen, in their order, each once for each clock that names it.
-    pub(crate) fn unseen(&self, alloc: Global) -> Result<Vec<Source>, AllocError> {
-        let mut unseen = Vec::new(alloc);
-        for finding in self.0.findings.as_slice() {
-            if let What::GrandmasterNotSeen(grandmaster) = finding.what {
-                unseen.push(finding.source.beside(grandmaster))?;
-            }
-        }
-        unseen.sort()?;
-        Ok(unseen)
+/// Prints the findings, one a line, and what is open.
+fn print_findings<O: Write>(alloc: Global, look: &Look<'_>, out: &mut O) -> Result<(), Fault> {
+    let report = FindingReport::of(alloc, look).map_err(|_| Fault::OutOfMemory)?;
+    print_count(report.count, look.count_following(), out)?;
+    report.print(look, out)?;
+    print_open(alloc, look, &report.followers, out)
+}
+
+/// Prints how many lines of findings come, and how many findings follow from these.
+fn print_count<O: Write>(lines: usize, following: usize, out: &mut O) -> io::Result<()> {
+    if lines == 0 {
+        return writeln!(out, "findings: none");
     }
+    if following == 0 {
+        writeln!(out, "findings: {lines}")
+    } else {
+        writeln!(out, "findings: {lines}, and {following} that follow")
+    }
+}
+
+/// Prints what is open, one a line, if there is any.
+fn print_open<O: Write>(
+    alloc: Global,
+    look: &Look<'_>,
+    followers: &Followers,
+    out: &mut O,
+) -> Result<(), Fault> {
+    let open = FindingLines::of_open(alloc, look, followers).map_err(|_| Fault::OutOfMemory)?;
+    if !open.lines.is_empty() {
+        writeln!(out, "open: {}", open.lines.len())?;
+        for line in open.lines.as_slice() {
+            print_open_line(look, line, out)?;
+        }
+    }
+    Ok(())
 }
 
 /// Prints a line for each clock of these rows that leads.
@@ -203,56 +172,4 @@ fn widths_of(alloc: Global, all: Rows<'_, '_>, rows: &[TreeRow]) -> Result<Width
 /// The place at which the identity of a clock at this depth begins.
 fn indent(depth: u32) -> usize {
     MARGIN + 2 * depth as usize
-}
-
-/// How many lines the findings take.
-pub(crate) fn lines_of(findings: &[Finding<'_>], unseen: &[Source]) -> usize {
-    let mut lines = 0usize;
-    for finding in findings {
-        if !matches!(finding.what, What::GrandmasterNotSeen(_)) {
-            lines = lines.saturating_add(1);
-        }
-    }
-    let mut last = None;
-    for source in unseen {
-        if last != Some(*source) {
-            lines = lines.saturating_add(1);
-        }
-        last = Some(*source);
-    }
-    lines
-}
-
-/// Prints those grandmasters that are not seen and come before a clock, or all of them. Answers those
-/// that are left.
-fn print_unseen<'a, O: Write>(
-    unseen: &'a [Source],
-    before: Option<Source>,
-    named: &Names,
-    out: &mut O,
-) -> io::Result<&'a [Source]> {
-    let mut rest = unseen;
-    for _ in 0..unseen.len() {
-        let Some(first) = rest.first() else {
-            break;
-        };
-        if before.is_some_and(|before| before <= *first) {
-            break;
-        }
-        let count = rest.partition_point(|source| source <= first);
-        let (domain, clock) = (first.domain, first.clock);
-        let names = if count == 1 {
-            "clock names"
-        } else {
-            "clocks name"
-        };
-        writeln!(
-            out,
-            "{domain} {clock} grandmaster_not_seen {count} {names} it{}",
-            named.quoted(clock)
-        )?;
-        let (_, others) = rest.split_at(count);
-        rest = others;
-    }
-    Ok(rest)
 }

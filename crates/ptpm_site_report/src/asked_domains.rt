@@ -1,0 +1,129 @@
+//! In which domains the GETs among the lines ask, and how far they go.
+
+use crate::span::Span;
+use crate::utc_text::UtcText;
+use ptpm_site::heard::{Heard, Query};
+use std::alloc::{AllocError, Global};
+use std::fmt;
+
+/// A domain in which a GET asks.
+#[derive(Clone, Copy)]
+pub(crate) struct AskedDomain {
+    pub(crate) domain: u8,
+    /// The most of startingBoundaryHops of its GETs.
+    pub(crate) hops: u8,
+}
+
+/// Each domain in which a GET asks, ascending.
+pub(crate) fn asked_domains(
+    alloc: Global,
+    heard: &[Heard],
+) -> Result<Vec<AskedDomain>, AllocError> {
+    let mut asked = Vec::new(alloc);
+    for one in heard {
+        if let Heard::Asked(query) = one {
+            add_query(&mut asked, query)?;
+        }
+    }
+    Ok(asked)
+}
+
+/// Adds the domain of a GET at its place, or its hops to the domain that is there.
+fn add_query(asked: &mut Vec<AskedDomain>, query: &Query) -> Result<(), AllocError> {
+    let (domain, hops) = (query.domain, query.hops);
+    let place = asked.partition_point(|one| one.domain < domain);
+    if let Some(here) = asked.get_mut(place) {
+        if here.domain == domain {
+            here.hops = here.hops.max(hops);
+            return Ok(());
+        }
+    }
+    asked.insert(place, AskedDomain { domain, hops })?;
+    Ok(())
+}
+
+/// Which domains were asked, with how many boundary hops, and when, as far as the lines have it.
+#[derive(Clone, Copy)]
+pub(crate) struct AskedText<'a> {
+    pub(crate) asked: &'a [AskedDomain],
+    pub(crate) span: Option<Span>,
+}
+
+impl fmt::Display for AskedText<'_> {
+    fn fmt<W: fmt::Write>(&self, f: &mut fmt::Formatter<W>) -> fmt::Result {
+        f.write_str("asked: ")?;
+        if self.asked.is_empty() {
+            return f.write_str("not in these lines");
+        }
+        write_domains(self.asked, f)?;
+        write_hops(self.asked, f)?;
+        match self.span {
+            Some(Span { begin, end }) => write!(f, "; {} to {}", UtcText(begin), UtcText(end)),
+            None => Ok(()),
+        }
+    }
+}
+
+/// Writes the domains, those one after another as the first and the last of them.
+fn write_domains<W: fmt::Write>(asked: &[AskedDomain], f: &mut fmt::Formatter<W>) -> fmt::Result {
+    let mut before: Option<Run> = None;
+    let mut between = "domain ";
+    for one in asked {
+        let next = Run {
+            first: one.domain,
+            last: one.domain,
+        };
+        before = match before {
+            Some(run) if run.goes_on(next) => Some(Run {
+                first: run.first,
+                last: next.last,
+            }),
+            Some(run) => {
+                run.write(between, f)?;
+                between = ", ";
+                Some(next)
+            }
+            None => Some(next),
+        };
+    }
+    match before {
+        Some(run) => run.write(between, f),
+        None => Ok(()),
+    }
+}
+
+/// Domains one after another.
+#[derive(Clone, Copy)]
+struct Run {
+    first: u8,
+    last: u8,
+}
+
+impl Run {
+    fn goes_on(self, next: Run) -> bool {
+        self.last.checked_add(1) == Some(next.first)
+    }
+
+    fn write<W: fmt::Write>(self, between: &str, f: &mut fmt::Formatter<W>) -> fmt::Result {
+        let Run { first, last } = self;
+        if first == last {
+            write!(f, "{between}{first}")
+        } else {
+            write!(f, "{between}{first}-{last}")
+        }
+    }
+}
+
+/// Writes with how many boundary hops the domains were asked: the least and the most, if these differ.
+fn write_hops<W: fmt::Write>(asked: &[AskedDomain], f: &mut fmt::Formatter<W>) -> fmt::Result {
+    let (mut least, mut most) = (u8::MAX, 0u8);
+    for one in asked {
+        least = least.min(one.hops);
+        most = most.max(one.hops);
+    }
+    if least < most {
+        return write!(f, "; {least} to {most} boundary hops");
+    }
+    let noun = if most == 1 { "hop" } else { "hops" };
+    write!(f, "; {most} boundary {noun}")
+}

@@ -1,0 +1,126 @@
+//! A site as it is shown: its picture, and what is said beside it.
+
+use crate::asked_domains::{AskedDomain, AskedText};
+use crate::names::Names;
+use crate::reporting::Viewing;
+use crate::rows::Rows;
+use crate::site_lines::SiteLines;
+use crate::span::Span;
+use ptpm_causes::{Cause, Kind};
+use ptpm_site::finding::Finding;
+use ptpm_site::picture::Picture;
+use ptpm_site::source::Source;
+
+/// A picture, with the names of its clocks, from which finding each finding follows, and what the lines have of GETs.
+#[derive(Clone, Copy)]
+pub(crate) struct Look<'a> {
+    pub(crate) picture: &'a Picture<'a>,
+    pub(crate) names: &'a Names,
+    /// Of each finding, in their order.
+    pub(crate) causes: &'a [Option<Cause>],
+    pub(crate) asked: &'a [AskedDomain],
+    /// `None` if no line says when its datagram came.
+    pub(crate) span: Option<Span>,
+    /// Whether what follows from another finding is printed too, and each of many lines that are alike.
+    pub(crate) is_all: bool,
+}
+
+impl<'a> Look<'a> {
+    /// A picture as an operator wants to see it.
+    pub(crate) fn of(
+        picture: &'a Picture<'a>,
+        causes: &'a [Option<Cause>],
+        viewing: &Viewing<'a>,
+        shown: &'a SiteLines,
+    ) -> Look<'a> {
+        Look {
+            picture,
+            names: viewing.names,
+            causes,
+            asked: shown.asked.as_slice(),
+            span: shown.notes.span,
+            is_all: viewing.is_all,
+        }
+    }
+}
+
+impl Look<'_> {
+    pub(crate) fn rows(&self) -> Rows<'_, '_> {
+        Rows(self.picture, self.names)
+    }
+
+    pub(crate) fn asked_text(&self) -> AskedText<'_> {
+        AskedText {
+            asked: self.asked,
+            span: self.span,
+        }
+    }
+
+    /// From which other finding the one at this place follows, if it does.
+    pub(crate) fn cause_of(&self, place: usize) -> Option<Cause> {
+        match self.causes.get(place) {
+            Some(Some(cause)) => Some(*cause),
+            _ => None,
+        }
+    }
+
+    /// How many findings follow from another.
+    pub(crate) fn count_following(&self) -> usize {
+        self.causes.iter().filter(|cause| cause.is_some()).count()
+    }
+
+    /// The userDescription of a clock, if it answered one that is not empty.
+    pub(crate) fn description(&self, source: Source) -> Option<&str> {
+        let received = self.picture.site.descriptions(source).last()?;
+        let text = received.set.text.as_str();
+        if text.is_empty() { None } else { Some(text) }
+    }
+
+    /// How bad the site is by its findings. What follows from a clock that can't answer makes it no worse: the time may be right.
+    pub(crate) fn severity(&self) -> Severity {
+        let mut severity = Severity::None;
+        for (place, finding) in self.picture.findings.as_slice().iter().enumerate() {
+            if is_of_silence(self.cause_of(place)) {
+                continue;
+            }
+            if finding.what.is_critical() {
+                return Severity::Critical;
+            }
+            severity = Severity::Warning;
+        }
+        severity
+    }
+}
+
+/// The worst of findings.
+#[derive(Clone, Copy, PartialEq, Eq)]
+pub(crate) enum Severity {
+    None,
+    Warning,
+    Critical,
+}
+
+/// Whether a cause is that a clock is there, and answers no management message.
+fn is_of_silence(cause: Option<Cause>) -> bool {
+    match cause {
+        Some(cause) => matches!(cause.kind, Kind::Mute | Kind::OwnHost),
+        None => false,
+    }
+}
+
+/// Those of findings, in the order of their clocks, that are of one clock.
+pub(crate) fn found_at<'a>(findings: &'a [Finding<'a>], source: Source) -> FoundAt<'a> {
+    let from = findings.partition_point(|finding| finding.source < source);
+    let to = findings.partition_point(|finding| finding.source <= source);
+    FoundAt {
+        from,
+        findings: findings.get(from..to).unwrap_or(&[]),
+    }
+}
+
+/// The findings of a clock, and the place of the first of them among all.
+#[derive(Clone, Copy)]
+pub(crate) struct FoundAt<'a> {
+    pub(crate) from: usize,
+    pub(crate) findings: &'a [Finding<'a>],
+}
