@@ -85,6 +85,8 @@ static const char site_text[] =
     "      --profile NAME      members that this profile does not allow are findings too: default,\n"
     "                          st2059-2, aes67 or gptp\n"
     "      --expect FILE       what is not as this inventory of the site says is a finding too\n"
+    "      --ignore NAME,..    findings of these names are left out\n"
+    "      --all               what follows from a finding has a line of its own too\n"
     "      --draw              status as an SVG file\n"
     "      --html              status as a page in HTML\n"
     "      --openmetrics       status as numbers for Prometheus\n"
@@ -156,7 +158,9 @@ static _Noreturn void version(void) {
 enum { WORD = 1, UDP = 256, TEXT, VERSION, GIVE_UP, JSON, ANY_SOURCE, NAMES, EXPECT, PROBE };
 
 /* The same, only for `collect` and `status`. */
-enum site_option { LISTEN = 512, DRAW, HTML, OPENMETRICS, NAGIOS, OUTPUT, MAX_OFFSET, MAX_DELAY, TAI_UTC, SETTLE, PROFILE, ONCE, WATCH };
+enum site_option {
+    LISTEN = 512, DRAW, HTML, OPENMETRICS, NAGIOS, OUTPUT, MAX_OFFSET, MAX_DELAY, TAI_UTC, SETTLE, PROFILE, IGNORE, ALL, ONCE, WATCH
+};
 
 enum { MOST_WORDS = 2 + MOST_FIELD_WORDS, MOST_FIELD = 1418, NOT_NAMED = -1 };
 
@@ -182,6 +186,7 @@ static const struct option options[] = {
     { "output", required_argument, NULL, OUTPUT }, { "max-offset", required_argument, NULL, MAX_OFFSET },
     { "max-delay", required_argument, NULL, MAX_DELAY }, { "tai-utc", required_argument, NULL, TAI_UTC },
     { "settle", required_argument, NULL, SETTLE }, { "profile", required_argument, NULL, PROFILE },
+    { "ignore", required_argument, NULL, IGNORE }, { "all", no_argument, NULL, ALL },
     { "once", no_argument, NULL, ONCE }, { "watch", required_argument, NULL, WATCH },
     { "hexadecimal", no_argument, NULL, 'x' }, { "text", no_argument, NULL, TEXT }, { "quiet", no_argument, NULL, 'q' },
     { "help", no_argument, NULL, 'h' }, { "version", no_argument, NULL, VERSION },
@@ -237,7 +242,7 @@ static void take_form(struct site_options *site, enum shown_as form) {
 static bool take_site_option(struct site_options *site, int option, const char *value) {
     static const char *const names[] = {
         "--listen", "--draw", "--html", "--openmetrics", "--nagios", "--output", "--max-offset", "--max-delay", "--tai-utc",
-        "--settle", "--profile", "--once", "--watch",
+        "--settle", "--profile", "--ignore", "--all", "--once", "--watch",
     };
     if (option < LISTEN || option > WATCH) return false;
     const char *name = names[option - LISTEN];
@@ -249,6 +254,8 @@ static bool take_site_option(struct site_options *site, int option, const char *
     case TAI_UTC: site->tai_utc = tai_utc(name, value); break;
     case SETTLE: site->settle = settle(name, value); break;
     case PROFILE: site->profile = value; break;
+    case IGNORE: site->ignored = value; break;
+    case ALL: site->is_all = true; break;
     case DRAW: take_form(site, AS_DRAWING); break;
     case HTML: take_form(site, AS_PAGE); break;
     case OPENMETRICS: take_form(site, AS_NUMBERS); break;
