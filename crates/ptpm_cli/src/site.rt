@@ -93,10 +93,10 @@ fn end_refused<O: Write>(shown: Shown, out: &mut O) -> Result<u8, Fault> {
     }
 }
 
-fn show<R: Read, O: Write>(
+fn show<'a, R: Read, O: Write>(
     alloc: Global,
-    words: &SiteWords<'_>,
-    inventory: Option<&Inventory>,
+    words: &'a SiteWords<'_>,
+    inventory: Option<&'a Inventory>,
     reader: &mut R,
     out: &mut O,
 ) -> Result<u8, Fault> {

@@ -25,12 +25,12 @@ pub fn report_standing<R: Read + Drop, O: Write>(
     print_plugin(alloc, limits, &viewing, &shown, &picture, out)
 }
 
-fn print_plugin<O: Write>(
+fn print_plugin<'a, O: Write>(
     alloc: Global,
     limits: Limits,
-    viewing: &Viewing<'_>,
-    shown: &SiteLines,
-    picture: &Picture<'_>,
+    viewing: &Viewing<'a>,
+    shown: &'a SiteLines,
+    picture: &'a Picture<'a>,
     out: &mut O,
 ) -> Result<Standing, Fault> {
     let causes = causes_of(alloc, picture).map_err(|_| Fault::OutOfMemory)?;

@@ -165,12 +165,12 @@ pub(crate) fn judged<'a>(
 }
 
 /// Prints a picture, and answers what came of its site.
-fn print_picture<O: Write>(
+fn print_picture<'a, O: Write>(
     alloc: Global,
     form: Form,
-    viewing: &Viewing<'_>,
-    shown: &SiteLines,
-    picture: &Picture<'_>,
+    viewing: &Viewing<'a>,
+    shown: &'a SiteLines,
+    picture: &'a Picture<'a>,
     out: &mut O,
 ) -> Result<Conclusion, Fault>
     ensures { IfOk result (λ came. came ≡ outcome picture.now.forest.sources.items (reported picture.now.findings.items)) }
