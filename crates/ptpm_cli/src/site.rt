@@ -93,37 +93,33 @@ fn end_refused<O: Write>(shown: Shown, out: &mut O) -> Result<u8, Fault> {
     }
 }
 
-fn show<'a, R: Read, O: Write>(
+fn show<R: Read, O: Write>(
     alloc: Global,
-    words: &'a SiteWords<'_>,
-    inventory: Option<&'a Inventory>,
+    words: &SiteWords<'_>,
+    inventory: Option<&Inventory>,
     reader: &mut R,
     out: &mut O,
 ) -> Result<u8, Fault> {
-    let viewing = viewing_of(words, inventory);
+    let expectations = Expectations {
+        profile: words.profile,
+        inventory,
+    };
+    let viewing = Viewing {
+        names: &words.names,
+        ignored: &words.ignored,
+        is_all: words.is_all,
+    };
     match words.shown {
-        Shown::ByPlugin(limits) => Ok(report_standing(
-            alloc, limits, viewing, reader, out,
-        )?.status()),
+        Shown::ByPlugin(limits) => {
+            Ok(report_standing(alloc, limits, expectations, viewing, reader, out)?.status())
+        }
         Shown::InForm(options) => {
-            let came = report_viewed(alloc, options, viewing, reader, out)?;
+            let came = report_viewed(alloc, options, expectations, viewing, reader, out)?;
             Ok(match options.form {
                 Form::OpenMetrics => came.status_of_numbers(),
                 _ => came.status(),
             })
         }
         Shown::Inventory => Ok(write_inventory(alloc, reader, out)?.status()),
-    }
-}
-
-fn viewing_of<'a>(words: &'a SiteWords<'_>, inventory: Option<&'a Inventory>) -> Viewing<'a> {
-    Viewing {
-        expectations: Expectations {
-            profile: words.profile,
-            inventory,
-        },
-        names: &words.names,
-        ignored: &words.ignored,
-        is_all: words.is_all,
     }
 }

@@ -122,7 +122,7 @@ fn sizes_of(lines: &[Line]) -> Sizes {
 }
 
 /// Draws a picture.
-pub(crate) fn draw<O: Write>(alloc: Global, look: &Look<'_>, out: &mut O) -> Result<(), Fault> {
+pub(crate) fn draw<O: Write>(alloc: Global, look: &Look<'_, '_>, out: &mut O) -> Result<(), Fault> {
     let lines = lines_of(alloc, look).map_err(|_| Fault::OutOfMemory)?;
     write_drawing(alloc, lines.as_slice(), out)
 }

@@ -27,7 +27,7 @@ use std::alloc::{AllocError, Global};
 /// A finding: its clock, its name, from which other it follows, and its values.
 pub(crate) fn finding_value(
     alloc: Global,
-    look: &Look<'_>,
+    look: &Look<'_, '_>,
     finding: &Finding<'_>,
     cause: Option<Cause>,
 ) -> Result<Value, AllocError> {
@@ -43,7 +43,7 @@ pub(crate) fn finding_value(
 fn put_place(
     alloc: Global,
     map: &mut Map<String, Value>,
-    look: &Look<'_>,
+    look: &Look<'_, '_>,
     finding: &Finding<'_>,
 ) -> Result<(), AllocError> {
     put(

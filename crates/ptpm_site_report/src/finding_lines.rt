@@ -38,7 +38,7 @@ impl FindingLines {
     /// Those of a site's findings that follow from no other.
     pub(crate) fn of(
         alloc: Global,
-        look: &Look<'_>,
+        look: &Look<'_, '_>,
         followers: &Followers,
     ) -> Result<FindingLines, AllocError> {
         let lines = each_line(alloc, look, false)?;
@@ -54,7 +54,7 @@ impl FindingLines {
     /// Those of what is open.
     pub(crate) fn of_open(
         alloc: Global,
-        look: &Look<'_>,
+        look: &Look<'_, '_>,
         followers: &Followers,
     ) -> Result<FindingLines, AllocError> {
         let lines = open_lines(alloc, look)?;
@@ -63,7 +63,7 @@ impl FindingLines {
     }
 }
 
-fn open_lines(alloc: Global, look: &Look<'_>) -> Result<Vec<FindingLine>, AllocError> {
+fn open_lines(alloc: Global, look: &Look<'_, '_>) -> Result<Vec<FindingLine>, AllocError> {
     let mut lines = Vec::new(alloc);
     let is_first = false;
     for place in 0..look.picture.open_findings.len() {
@@ -75,7 +75,7 @@ fn open_lines(alloc: Global, look: &Look<'_>) -> Result<Vec<FindingLine>, AllocE
 /// A line for each finding that follows from no other, or for each if `is_all` holds. A grandmaster that is not seen has one.
 pub(crate) fn each_line(
     alloc: Global,
-    look: &Look<'_>,
+    look: &Look<'_, '_>,
     is_all: bool,
 ) -> Result<Vec<FindingLine>, AllocError> {
     let unseen = unseen_of(alloc, look, is_all)?;
@@ -97,7 +97,7 @@ pub(crate) fn each_line(
 }
 
 /// The grandmasters that are not seen, in their order, each once for each clock that names it.
-fn unseen_of(alloc: Global, look: &Look<'_>, is_all: bool) -> Result<Vec<Source>, AllocError> {
+fn unseen_of(alloc: Global, look: &Look<'_, '_>, is_all: bool) -> Result<Vec<Source>, AllocError> {
     let mut unseen = Vec::new(alloc);
     for (place, finding) in look.picture.findings.as_slice().iter().enumerate() {
         if is_of_unseen(finding) && (is_all || look.cause_of(place).is_none()) {
@@ -137,13 +137,13 @@ fn add_unseen<'a>(
 /// The same lines, with one in place of those past the first ones that say the same. If all are wanted nothing changes.
 fn alike_together(
     alloc: Global,
-    look: &Look<'_>,
+    look: &Look<'_, '_>,
     findings: &[Finding<'_>],
     lines: Vec<FindingLine>,
     followers: &Followers,
 ) -> Result<FindingLines, AllocError> {
     let mut of_many = Vec::new(alloc);
-    if look.is_all {
+    if look.beside.is_all {
         let of_many = Followers::in_order(of_many)?;
         return Ok(FindingLines { lines, of_many });
     }

@@ -22,11 +22,11 @@ pub(crate) struct FindingReport {
 }
 
 impl FindingReport {
-    pub(crate) fn of(alloc: Global, look: &Look<'_>) -> Result<FindingReport, AllocError> {
+    pub(crate) fn of(alloc: Global, look: &Look<'_, '_>) -> Result<FindingReport, AllocError> {
         let followers = Followers::of(alloc, look)?;
         let mut lines = FindingLines::of(alloc, look, &followers)?;
         let count = lines.lines.len();
-        if look.is_all {
+        if look.beside.is_all {
             lines.lines = each_line(alloc, look, true)?;
         }
         Ok(FindingReport {
@@ -37,7 +37,7 @@ impl FindingReport {
     }
 
     /// Prints the lines.
-    pub(crate) fn print<O: Write>(&self, look: &Look<'_>, out: &mut O) -> io::Result<()> {
+    pub(crate) fn print<O: Write>(&self, look: &Look<'_, '_>, out: &mut O) -> io::Result<()> {
         for line in self.lines.lines.as_slice() {
             self.print_line(look, line, out)?;
         }
@@ -46,7 +46,7 @@ impl FindingReport {
 
     fn print_line<O: Write>(
         &self,
-        look: &Look<'_>,
+        look: &Look<'_, '_>,
         line: &FindingLine,
         out: &mut O,
     ) -> io::Result<()> {
@@ -74,13 +74,13 @@ impl FindingReport {
     /// Prints the line of a finding. `is_first`: no line before it is of this name at this clock.
     fn print_one<O: Write>(
         &self,
-        look: &Look<'_>,
+        look: &Look<'_, '_>,
         finding: &Finding<'_>,
         is_first: bool,
         out: &mut O,
     ) -> io::Result<()> {
         write!(out, "{}", Words(finding))?;
-        if is_first && !look.is_all {
+        if is_first && !look.beside.is_all {
             let head = Head::of(named(finding));
             write!(out, "{}", SoToo(self.followers.at(head)))?;
         }
@@ -90,7 +90,7 @@ impl FindingReport {
     /// Prints that a grandmaster is not seen, and how many clocks name it.
     fn print_unseen<O: Write>(
         &self,
-        look: &Look<'_>,
+        look: &Look<'_, '_>,
         source: Source,
         count: usize,
         out: &mut O,
@@ -105,10 +105,10 @@ impl FindingReport {
             out,
             "{domain} {clock} grandmaster_not_seen {count} {names} it"
         )?;
-        if !look.is_all {
+        if !look.beside.is_all {
             write!(out, "{}", SoToo(self.followers.at(Head::of_unseen(source))))?;
         }
-        writeln!(out, "{}", look.names.quoted(clock))
+        writeln!(out, "{}", look.beside.names.quoted(clock))
     }
 }
 
@@ -126,7 +126,7 @@ fn print_many<O: Write>(
 
 /// Prints a line of what is open.
 pub(crate) fn print_open_line<O: Write>(
-    look: &Look<'_>,
+    look: &Look<'_, '_>,
     line: &FindingLine,
     out: &mut O,
 ) -> io::Result<()> {
@@ -151,8 +151,8 @@ pub(crate) fn print_open_line<O: Write>(
 }
 
 /// Ends the line of a finding with the name of its clock, or else its description, if the clock has one.
-fn print_description<O: Write>(look: &Look<'_>, source: Source, out: &mut O) -> io::Result<()> {
-    if let Some(name) = look.names.get(source.clock) {
+fn print_description<O: Write>(look: &Look<'_, '_>, source: Source, out: &mut O) -> io::Result<()> {
+    if let Some(name) = look.beside.names.get(source.clock) {
         write!(out, " {name:?}")?;
     } else if let Some(text) = look.description(source) {
         write!(out, " {text:?}")?;

@@ -49,7 +49,7 @@ pub(crate) struct Followers {
 
 impl Followers {
     /// All of a site.
-    pub(crate) fn of(alloc: Global, look: &Look<'_>) -> Result<Followers, AllocError> {
+    pub(crate) fn of(alloc: Global, look: &Look<'_, '_>) -> Result<Followers, AllocError> {
         let mut sorted = Vec::new(alloc);
         for (place, finding) in look.picture.findings.as_slice().iter().enumerate() {
             if let Some(cause) = look.cause_of(place) {

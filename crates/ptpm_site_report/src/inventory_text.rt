@@ -16,7 +16,7 @@ pub fn write_inventory<R: Read + Drop, O: Write>(
     reader: R,
     out: &mut O,
 ) -> Result<Conclusion, Fault> {
-    let shown = read_shown(alloc, reader)?;
+    let shown = read_shown(alloc, reader)?.shown;
     let inventory = inventory_of(alloc, &shown.site).map_err(|_| Fault::OutOfMemory)?;
     print_inventory(&inventory, out)?;
     Ok(if shown.site.is_empty() {

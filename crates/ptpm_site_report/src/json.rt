@@ -18,7 +18,7 @@ use std::io::Write;
 
 /// A site as JSON.
 #[derive(Clone, Copy)]
-pub(crate) struct Object<'a>(pub(crate) &'a Look<'a>);
+pub(crate) struct Object<'a>(pub(crate) &'a Look<'a, 'a>);
 
 impl Object<'_> {
     /// Prints one object: what was asked and when, the domains with their clocks, what is open, the findings, and how much was left
@@ -41,14 +41,14 @@ impl Object<'_> {
 }
 
 /// Prints when the datagrams came, and in which domains the clocks were asked.
-fn print_head<O: Write>(look: &Look<'_>, out: &mut O) -> io::Result<()> {
+fn print_head<O: Write>(look: &Look<'_, '_>, out: &mut O) -> io::Result<()> {
     write!(out, "{{\"time\":{{\"begin\":")?;
-    print_time(look.span.map(|span| span.begin), out)?;
+    print_time(look.beside.span.map(|span| span.begin), out)?;
     write!(out, ",\"end\":")?;
-    print_time(look.span.map(|span| span.end), out)?;
+    print_time(look.beside.span.map(|span| span.end), out)?;
     write!(out, "}},\n\"asked\":[")?;
     let mut between = "";
-    for AskedDomain { domain, hops } in look.asked {
+    for AskedDomain { domain, hops } in look.beside.asked.as_slice() {
         write!(
             out,
             "{between}{{\"domainNumber\":{domain},\"sdoId\":0,\"boundaryHops\":{hops}}}"
@@ -66,7 +66,7 @@ fn print_time<O: Write>(time: Option<u64>, out: &mut O) -> io::Result<()> {
 }
 
 /// Prints the member with the domains, each with those of its clocks that lead, and with all its clocks.
-fn print_domains<O: Write>(alloc: Global, look: &Look<'_>, out: &mut O) -> Result<(), Fault> {
+fn print_domains<O: Write>(alloc: Global, look: &Look<'_, '_>, out: &mut O) -> Result<(), Fault> {
     write!(out, "\"domains\":[")?;
     let mut domain = None;
     for (source, clock) in look.picture.site.clocks.iter() {
@@ -78,7 +78,11 @@ fn print_domains<O: Write>(alloc: Global, look: &Look<'_>, out: &mut O) -> Resul
             print_domain_head(alloc, look, source.domain, out)?;
             domain = Some(source.domain);
         }
-        print_value(alloc, clock_value(alloc, *source, clock, look.names), out)?;
+        print_value(
+            alloc,
+            clock_value(alloc, *source, clock, look.beside.names),
+            out,
+        )?;
     }
     writeln!(out, "{}],", if domain.is_some() { "]}" } else { "" })?;
     Ok(())
@@ -87,7 +91,7 @@ fn print_domains<O: Write>(alloc: Global, look: &Look<'_>, out: &mut O) -> Resul
 /// Prints what comes before the clocks of a domain.
 fn print_domain_head<O: Write>(
     alloc: Global,
-    look: &Look<'_>,
+    look: &Look<'_, '_>,
     domain: u8,
     out: &mut O,
 ) -> Result<(), Fault> {
@@ -108,7 +112,11 @@ fn print_domain_head<O: Write>(
 }
 
 /// A clock that leads: its identity, its quality, and what it says of its time. It said so itself.
-fn grandmaster_value(alloc: Global, look: &Look<'_>, source: Source) -> Result<Value, AllocError> {
+fn grandmaster_value(
+    alloc: Global,
+    look: &Look<'_, '_>,
+    source: Source,
+) -> Result<Value, AllocError> {
     let mut map = match look.picture.site.time(source) {
         Some(time) => set_map(alloc, &time)?,
         None => Map::new(alloc),
@@ -124,7 +132,7 @@ fn grandmaster_value(alloc: Global, look: &Look<'_>, source: Source) -> Result<V
 }
 
 /// Prints the member with what is open.
-fn print_open<O: Write>(alloc: Global, look: &Look<'_>, out: &mut O) -> Result<(), Fault> {
+fn print_open<O: Write>(alloc: Global, look: &Look<'_, '_>, out: &mut O) -> Result<(), Fault> {
     write!(out, "\"open\":[")?;
     let mut between = "\n";
     for finding in look.picture.open_findings.as_slice() {
@@ -137,7 +145,7 @@ fn print_open<O: Write>(alloc: Global, look: &Look<'_>, out: &mut O) -> Result<(
 }
 
 /// Prints the member with the findings.
-fn print_findings<O: Write>(alloc: Global, look: &Look<'_>, out: &mut O) -> Result<(), Fault> {
+fn print_findings<O: Write>(alloc: Global, look: &Look<'_, '_>, out: &mut O) -> Result<(), Fault> {
     write!(out, "\"findings\":[")?;
     let mut between = "\n";
     for (place, finding) in look.picture.findings.as_slice().iter().enumerate() {

@@ -47,7 +47,7 @@ pub(crate) struct DrawnRemark {
 }
 
 /// The rows of a drawing.
-pub(crate) fn lines_of(alloc: Global, look: &Look<'_>) -> Result<Vec<Line>, AllocError> {
+pub(crate) fn lines_of(alloc: Global, look: &Look<'_, '_>) -> Result<Vec<Line>, AllocError> {
     let mut lines = Vec::new(alloc);
     add_trees(alloc, look, &mut lines)?;
     let remarks = remarks_of_unseen(alloc, look)?;
@@ -61,7 +61,7 @@ pub(crate) fn lines_of(alloc: Global, look: &Look<'_>) -> Result<Vec<Line>, Allo
 }
 
 /// Adds the rows of each domain's tree.
-fn add_trees(alloc: Global, look: &Look<'_>, lines: &mut Vec<Line>) -> Result<(), AllocError> {
+fn add_trees(alloc: Global, look: &Look<'_, '_>, lines: &mut Vec<Line>) -> Result<(), AllocError> {
     let all = look.rows();
     let mut rest = look.picture.rows.as_slice();
     for _ in 0..look.picture.rows.len() {
@@ -82,13 +82,17 @@ fn add_trees(alloc: Global, look: &Look<'_>, lines: &mut Vec<Line>) -> Result<()
 }
 
 /// A row of a clock that is not seen, or of a whole domain, with what is said of it.
-fn unseen_line(alloc: Global, look: &Look<'_>, remark: &Remark<'_>) -> Result<Line, AllocError> {
+fn unseen_line(
+    alloc: Global,
+    look: &Look<'_, '_>,
+    remark: &Remark<'_>,
+) -> Result<Line, AllocError> {
     let finding = remark.finding;
     let mut line = match clock_of(finding) {
         Some(clock) => Line {
             frame: Frame::Dashed,
             depth: 0,
-            name: format!(in alloc; "not seen: {clock}{}", look.names.quoted(clock))?,
+            name: format!(in alloc; "not seen: {clock}{}", look.beside.names.quoted(clock))?,
             follows: String::new(alloc),
             facts: String::from_str(alloc, "did not answer")?,
             remarks: Vec::new(alloc),
@@ -120,12 +124,15 @@ fn said(alloc: Global, name: String) -> Line {
     }
 }
 
-fn line_of(alloc: Global, look: &Look<'_>, row: &TreeRow) -> Result<Option<Line>, AllocError> {
+fn line_of(alloc: Global, look: &Look<'_, '_>, row: &TreeRow) -> Result<Option<Line>, AllocError> {
     match row {
         TreeRow::NotSeen { parent, .. } => Ok(Some(Line {
             frame: Frame::Dashed,
             depth: 0,
-            name: format!(in alloc; "not seen: {parent}{}", look.names.quoted(parent.clock))?,
+            name: format!(in alloc;
+                "not seen: {parent}{}",
+                look.beside.names.quoted(parent.clock)
+            )?,
             follows: String::new(alloc),
             facts: String::new(alloc),
             remarks: Vec::new(alloc),
@@ -142,7 +149,7 @@ fn line_of(alloc: Global, look: &Look<'_>, row: &TreeRow) -> Result<Option<Line>
 
 fn clock_line(
     alloc: Global,
-    look: &Look<'_>,
+    look: &Look<'_, '_>,
     source: Source,
     clock: &Clock,
     depth: u32,
@@ -161,7 +168,7 @@ fn clock_line(
 }
 
 /// Whom a clock follows, in words; nothing if it follows nobody.
-fn follows_of(alloc: Global, look: &Look<'_>, source: Source) -> Result<String, AllocError> {
+fn follows_of(alloc: Global, look: &Look<'_, '_>, source: Source) -> Result<String, AllocError> {
     match look.picture.site.followed(source) {
         Some(parent) => format!(in alloc; ", follows {parent}"),
         None => Ok(String::new(alloc)),
@@ -171,7 +178,7 @@ fn follows_of(alloc: Global, look: &Look<'_>, source: Source) -> Result<String, 
 /// What is said of a clock.
 fn drawn_at(
     alloc: Global,
-    look: &Look<'_>,
+    look: &Look<'_, '_>,
     source: Source,
 ) -> Result<Vec<DrawnRemark>, AllocError> {
     let remarks = remarks_at(alloc, look, source)?;

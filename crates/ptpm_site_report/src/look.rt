@@ -2,57 +2,44 @@
 
 use crate::asked_domains::{AskedDomain, AskedText};
 use crate::names::Names;
-use crate::reporting::Viewing;
 use crate::rows::Rows;
-use crate::site_lines::SiteLines;
 use crate::span::Span;
 use ptpm_causes::{Cause, Kind};
 use ptpm_site::finding::Finding;
 use ptpm_site::picture::Picture;
 use ptpm_site::source::Source;
 
-/// A picture, with the names of its clocks, from which finding each finding follows, and what the lines have of GETs.
-#[derive(Clone, Copy)]
-pub(crate) struct Look<'a> {
+/// A picture, from which finding each of its findings follows, and what is said beside it.
+#[derive(Drop)]
+pub(crate) struct Look<'a, 'b> {
     pub(crate) picture: &'a Picture<'a>,
-    pub(crate) names: &'a Names,
     /// Of each finding, in their order.
-    pub(crate) causes: &'a [Option<Cause>],
-    pub(crate) asked: &'a [AskedDomain],
+    pub(crate) causes: Vec<Option<Cause>>,
+    pub(crate) beside: Beside<'b>,
+}
+
+/// What is said beside a picture.
+#[derive(Drop)]
+pub(crate) struct Beside<'a> {
+    /// The names of clocks.
+    pub(crate) names: &'a Names,
+    /// The domains in which GETs among the lines ask.
+    pub(crate) asked: Vec<AskedDomain>,
     /// `None` if no line says when its datagram came.
     pub(crate) span: Option<Span>,
     /// Whether what follows from another finding is printed too, and each of many lines that are alike.
     pub(crate) is_all: bool,
 }
 
-impl<'a> Look<'a> {
-    /// A picture as an operator wants to see it.
-    pub(crate) fn of(
-        picture: &'a Picture<'a>,
-        causes: &'a [Option<Cause>],
-        viewing: &Viewing<'a>,
-        shown: &'a SiteLines,
-    ) -> Look<'a> {
-        Look {
-            picture,
-            names: viewing.names,
-            causes,
-            asked: shown.asked.as_slice(),
-            span: shown.notes.span,
-            is_all: viewing.is_all,
-        }
-    }
-}
-
-impl Look<'_> {
+impl Look<'_, '_> {
     pub(crate) fn rows(&self) -> Rows<'_, '_> {
-        Rows(self.picture, self.names)
+        Rows(self.picture, self.beside.names)
     }
 
     pub(crate) fn asked_text(&self) -> AskedText<'_> {
         AskedText {
-            asked: self.asked,
-            span: self.span,
+            asked: self.beside.asked.as_slice(),
+            span: self.beside.span,
         }
     }
 

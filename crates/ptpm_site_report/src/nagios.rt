@@ -47,7 +47,7 @@ impl Standing {
     }
 
     /// How a site is that is judged: the worst of its findings decides.
-    pub(crate) fn of(look: &Look<'_>) -> Standing {
+    pub(crate) fn of(look: &Look<'_, '_>) -> Standing {
         if look.picture.site.is_empty() {
             return Standing::Unknown;
         }
@@ -62,7 +62,7 @@ impl Standing {
 /// A site as a plugin shows it.
 #[derive(Clone, Copy)]
 pub(crate) struct Plugin<'a> {
-    pub(crate) look: &'a Look<'a>,
+    pub(crate) look: &'a Look<'a, 'a>,
     pub(crate) limits: Limits,
 }
 
@@ -154,7 +154,7 @@ fn greatest_offset(picture: &Picture<'_>) -> Option<i64> {
 }
 
 /// Prints how many findings of each name there are that follow from no other, critical ones first.
-fn print_counts<O: Write>(look: &Look<'_>, out: &mut O) -> io::Result<()> {
+fn print_counts<O: Write>(look: &Look<'_, '_>, out: &mut O) -> io::Result<()> {
     let printed = print_counts_of(look, true, false, out)?;
     print_counts_of(look, false, printed, out)?;
     Ok(())
@@ -163,7 +163,7 @@ fn print_counts<O: Write>(look: &Look<'_>, out: &mut O) -> io::Result<()> {
 /// Prints them for names that are critical, or for those that are not. `follows` says whether others are printed before.
 /// Answers whether any are printed by then.
 fn print_counts_of<O: Write>(
-    look: &Look<'_>,
+    look: &Look<'_, '_>,
     is_critical: bool,
     follows: bool,
     out: &mut O,
@@ -182,7 +182,7 @@ fn print_counts_of<O: Write>(
 }
 
 /// How many findings of a name follow from no other.
-fn count_of(look: &Look<'_>, name: &FindingName) -> usize {
+fn count_of(look: &Look<'_, '_>, name: &FindingName) -> usize {
     let mut count = 0usize;
     for (place, finding) in look.picture.findings.as_slice().iter().enumerate() {
         if finding.what.name() == name.name && look.cause_of(place).is_none() {

@@ -58,12 +58,12 @@ const GRANDMASTER: Family = Family {
 
 /// A site as numbers.
 #[derive(Clone, Copy)]
-pub(crate) struct Metrics<'a>(pub(crate) &'a Look<'a>);
+pub(crate) struct Metrics<'a>(pub(crate) &'a Look<'a, 'a>);
 
 impl Metrics<'_> {
     /// Prints each family with its numbers. What was not answered has none.
     pub(crate) fn print<O: Write>(&self, out: &mut O) -> Result<(), Fault> {
-        print_times(self.0.span, out)?;
+        print_times(self.0.beside.span, out)?;
         self.print_counts_of_clocks(out)?;
         self.print_counts_of_findings(out)?;
         self.print_counts_of_open(out)?;
@@ -140,7 +140,7 @@ impl Metrics<'_> {
             if let Some(text) = clock.description() {
                 write!(out, ",description=\"{}\"", Label(text))?;
             }
-            if let Some(name) = self.0.names.get(source.clock) {
+            if let Some(name) = self.0.beside.names.get(source.clock) {
                 write!(out, ",name=\"{}\"", Label(name))?;
             }
             write_follows(clock, out)?;

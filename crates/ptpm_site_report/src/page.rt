@@ -26,7 +26,7 @@ use std::{fmt, io};
 /// Prints a page.
 pub(crate) fn print_page<O: Write>(
     alloc: Global,
-    look: &Look<'_>,
+    look: &Look<'_, '_>,
     out: &mut O,
 ) -> Result<(), Fault> {
     print_head(look, out)?;
@@ -50,7 +50,7 @@ struct Counts {
     following: usize,
 }
 
-fn counts_of(look: &Look<'_>) -> Counts {
+fn counts_of(look: &Look<'_, '_>) -> Counts {
     let (mut critical, mut all, mut following) = (0usize, 0usize, 0usize);
     for (place, finding) in look.picture.findings.as_slice().iter().enumerate() {
         if look.cause_of(place).is_some() {
@@ -88,7 +88,7 @@ impl fmt::Display for Counts {
 }
 
 /// Prints what comes before the findings. The page may load nothing.
-fn print_head<O: Write>(look: &Look<'_>, out: &mut O) -> io::Result<()> {
+fn print_head<O: Write>(look: &Look<'_, '_>, out: &mut O) -> io::Result<()> {
     let counts = counts_of(look);
     writeln!(
         out,
@@ -112,7 +112,7 @@ fn print_head<O: Write>(look: &Look<'_>, out: &mut O) -> io::Result<()> {
 }
 
 /// Prints how many clocks and findings there are.
-fn print_sum<O: Write>(look: &Look<'_>, counts: &Counts, out: &mut O) -> io::Result<()> {
+fn print_sum<O: Write>(look: &Look<'_, '_>, counts: &Counts, out: &mut O) -> io::Result<()> {
     let clocks = look.picture.forest.sources.len();
     let noun = if clocks == 1 { "clock" } else { "clocks" };
     let class = match look.severity() {
@@ -128,7 +128,7 @@ fn print_sum<O: Write>(look: &Look<'_>, counts: &Counts, out: &mut O) -> io::Res
 }
 
 /// Prints the findings that follow from no other, each with a link to its clock.
-fn print_found<O: Write>(alloc: Global, look: &Look<'_>, out: &mut O) -> Result<(), Fault> {
+fn print_found<O: Write>(alloc: Global, look: &Look<'_, '_>, out: &mut O) -> Result<(), Fault> {
     let findings = look.picture.findings.as_slice();
     if findings.is_empty() {
         return Ok(());
@@ -144,7 +144,7 @@ fn print_found<O: Write>(alloc: Global, look: &Look<'_>, out: &mut O) -> Result<
 }
 
 /// Prints what is open, each with a link to its clock.
-fn print_open<O: Write>(alloc: Global, look: &Look<'_>, out: &mut O) -> Result<(), Fault> {
+fn print_open<O: Write>(alloc: Global, look: &Look<'_, '_>, out: &mut O) -> Result<(), Fault> {
     let open = look.picture.open_findings.as_slice();
     if open.is_empty() {
         return Ok(());
@@ -168,7 +168,7 @@ fn print_table_head<O: Write>(title: &str, out: &mut O) -> io::Result<()> {
 /// Prints a row of the table of all findings, or of all that is open.
 fn print_found_row<O: Write>(
     alloc: Global,
-    look: &Look<'_>,
+    look: &Look<'_, '_>,
     finding: &Finding<'_>,
     severity: &str,
     out: &mut O,
@@ -217,8 +217,8 @@ fn words_of(alloc: Global, finding: &Finding<'_>) -> Result<String, AllocError> 
 }
 
 /// What a person calls a clock; a dash if there is nothing.
-fn called(alloc: Global, look: &Look<'_>, source: Source) -> Result<String, AllocError> {
-    if let Some(name) = look.names.get(source.clock) {
+fn called(alloc: Global, look: &Look<'_, '_>, source: Source) -> Result<String, AllocError> {
+    if let Some(name) = look.beside.names.get(source.clock) {
         return format!(in alloc; "{}", Printable(name));
     }
     match look.description(source) {
@@ -228,7 +228,7 @@ fn called(alloc: Global, look: &Look<'_>, source: Source) -> Result<String, Allo
 }
 
 /// Prints the tree of each domain.
-fn print_domains<O: Write>(alloc: Global, look: &Look<'_>, out: &mut O) -> Result<(), Fault> {
+fn print_domains<O: Write>(alloc: Global, look: &Look<'_, '_>, out: &mut O) -> Result<(), Fault> {
     let all = look.rows();
     let mut rest = look.picture.rows.as_slice();
     for _ in 0..look.picture.rows.len() {
@@ -271,13 +271,13 @@ fn print_leaders<O: Write>(all: Rows<'_, '_>, rows: &[TreeRow], out: &mut O) -> 
 
 fn print_row<O: Write>(
     alloc: Global,
-    look: &Look<'_>,
+    look: &Look<'_, '_>,
     row: &TreeRow,
     out: &mut O,
 ) -> Result<(), Fault> {
     match row {
         TreeRow::NotSeen { parent, .. } => {
-            let name = format!(in alloc; "{}", look.names.quoted(parent.clock));
+            let name = format!(in alloc; "{}", look.beside.names.quoted(parent.clock));
             let name = name.map_err(|_| Fault::OutOfMemory)?;
             write!(out, "<tr class=\"unseen\"><td colspan=\"6\">not seen: ")?;
             writeln!(out, "{parent}{}</td></tr>", Escaped(name.as_str()))?;
@@ -297,7 +297,7 @@ fn print_row<O: Write>(
 /// Prints the first columns of a clock.
 fn print_clock_row<O: Write>(
     alloc: Global,
-    look: &Look<'_>,
+    look: &Look<'_, '_>,
     source: Source,
     depth: u32,
     out: &mut O,
@@ -381,7 +381,7 @@ fn print_numbers<O: Write>(clock: &Clock, out: &mut O) -> io::Result<()> {
 /// Prints what is wrong with a clock, and what is open, below it.
 fn print_remarks<O: Write>(
     alloc: Global,
-    look: &Look<'_>,
+    look: &Look<'_, '_>,
     source: Source,
     depth: u32,
     out: &mut O,

@@ -77,7 +77,7 @@ fn write_cause<W: fmt::Write>(
 /// What is said of a clock: its findings in their order, and then what is open.
 pub(crate) fn remarks_at<'a>(
     alloc: Global,
-    look: &'a Look<'a>,
+    look: &'a Look<'a, 'a>,
     source: Source,
 ) -> Result<Vec<Remark<'a>>, AllocError> {
     let mut remarks = Vec::new(alloc);
@@ -95,7 +95,7 @@ pub(crate) fn remarks_at<'a>(
 /// What is said of clocks that are not seen and of whole domains.
 pub(crate) fn remarks_of_unseen<'a>(
     alloc: Global,
-    look: &'a Look<'a>,
+    look: &'a Look<'a, 'a>,
 ) -> Result<Vec<Remark<'a>>, AllocError> {
     let site = look.picture.site;
     let mut remarks = Vec::new(alloc);

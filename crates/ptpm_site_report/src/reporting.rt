@@ -8,11 +8,11 @@ ghost use Rattle.ptpm_site_report.specs.Reporting.{outcome, status};
 use crate::drawing::draw;
 use crate::ignored::Ignored;
 use crate::json::Object;
-use crate::look::Look;
+use crate::look::{Beside, Look};
 use crate::names::Names;
 use crate::openmetrics::Metrics;
 use crate::page::print_page;
-use crate::site_lines::{SiteLines, read_shown};
+use crate::site_lines::{ShownSite, SiteLines, read_shown};
 use crate::text::Sheet;
 use ptpm_causes::causes_of;
 use ptpm_commands::Fault;
@@ -86,13 +86,12 @@ impl Conclusion {
     }
 }
 
-/// What a site is held to, how its clocks are named, and what is printed of its findings.
+/// How the clocks of a site are named, and what is printed of its findings.
 #[derive(Clone, Copy)]
-pub struct Viewing<'a> {
-    pub expectations: Expectations<'a>,
+pub struct Viewing<'a, 'b> {
     pub names: &'a Names,
     /// The findings that are left out.
-    pub ignored: &'a Ignored,
+    pub ignored: &'b Ignored,
     /// Whether the text has what follows from another finding too, and each of many lines that are alike.
     pub is_all: bool,
 }
@@ -104,79 +103,121 @@ pub fn report<R: Read + Drop, O: Write>(
     reader: R,
     out: &mut O,
 ) -> Result<Conclusion, Fault> {
-    let viewing = Viewing {
-        expectations: Expectations::none(),
-        names: &Names::new(alloc),
-        ignored: &Ignored::none(alloc),
+    let names = Names::new(alloc);
+    let SiteLines {
+        shown,
+        asked,
+        notes,
+    } = read_shown(alloc, reader)?;
+    let beside = Beside {
+        names: &names,
+        asked,
+        span: notes.span,
         is_all: false,
     };
-    let shown = read_shown(alloc, reader)?;
-    let options = options.at_host(shown.notes.is_synchronised);
-    report_of(alloc, options, &viewing, &shown, out)
+    report_of(
+        alloc,
+        options.at_host(notes.is_synchronised),
+        beside,
+        &shown,
+        out,
+    )
 }
 
 /// Prints a site that is held to nothing, with all its findings.
 fn report_of<O: Write>(
     alloc: Global,
     options: Options,
-    viewing: &Viewing<'_>,
-    shown: &SiteLines,
+    beside: Beside<'_>,
+    shown: &ShownSite,
     out: &mut O,
 ) -> Result<Conclusion, Fault>
     ensures { IfOk result (λ came. came ≡ outcome (site_answers shown.now.site).clocks (findings_of (site_answers shown.now.site) options.limits)) }
 {
     match Picture::of(alloc, &shown.site, shown.left_out, options.limits) {
-        Ok(picture) => print_picture(alloc, options.form, viewing, shown, &picture, out),
+        Ok(picture) => print_picture(alloc, options.form, &picture, beside, out),
         Err(_) => Err(Fault::OutOfMemory),
     }
 }
 
-/// The same, as an operator wants to see it.
+/// The same, of a site that is held to what is expected of it, and as an operator wants to see it.
 pub fn report_viewed<R: Read + Drop, O: Write>(
     alloc: Global,
     options: Options,
-    viewing: Viewing<'_>,
+    expectations: Expectations<'_>,
+    viewing: Viewing<'_, '_>,
     reader: R,
     out: &mut O,
 ) -> Result<Conclusion, Fault> {
-    let shown = read_shown(alloc, reader)?;
-    let options = options.at_host(shown.notes.is_synchronised);
-    let picture = judged(alloc, options.limits, &viewing, &shown).map_err(|_| Fault::OutOfMemory)?;
-    print_picture(alloc, options.form, &viewing, &shown, &picture, out)
+    let SiteLines {
+        shown,
+        asked,
+        notes,
+    } = read_shown(alloc, reader)?;
+    let beside = Beside {
+        names: viewing.names,
+        asked,
+        span: notes.span,
+        is_all: viewing.is_all,
+    };
+    let options = options.at_host(notes.is_synchronised);
+    report_held(
+        alloc,
+        options,
+        expectations,
+        viewing.ignored,
+        beside,
+        &shown,
+        out,
+    )
+}
+
+/// Prints a site that is held to what is expected of it.
+fn report_held<'a, O: Write>(
+    alloc: Global,
+    options: Options,
+    expectations: Expectations<'a>,
+    ignored: &Ignored,
+    beside: Beside<'_>,
+    shown: &'a ShownSite,
+    out: &mut O,
+) -> Result<Conclusion, Fault> {
+    match judged(alloc, options.limits, expectations, ignored, shown) {
+        Ok(picture) => print_picture(alloc, options.form, &picture, beside, out),
+        Err(_) => Err(Fault::OutOfMemory),
+    }
 }
 
 /// The picture of a site, without the findings that are left out.
 pub(crate) fn judged<'a>(
     alloc: Global,
     limits: Limits,
-    viewing: &Viewing<'a>,
-    shown: &'a SiteLines,
+    expectations: Expectations<'a>,
+    ignored: &Ignored,
+    shown: &'a ShownSite,
 ) -> Result<Picture<'a>, AllocError> {
-    let mut picture = picture_of(
-        alloc,
-        &shown.site,
-        shown.left_out,
-        limits,
-        viewing.expectations,
-    )?;
-    viewing.ignored.leave_out(&mut picture.findings);
-    viewing.ignored.leave_out(&mut picture.open_findings);
+    let mut picture = picture_of(alloc, &shown.site, shown.left_out, limits, expectations)?;
+    ignored.leave_out(&mut picture.findings);
+    ignored.leave_out(&mut picture.open_findings);
     Ok(picture)
 }
 
 /// Prints a picture, and answers what came of its site.
-fn print_picture<'a, O: Write>(
+fn print_picture<O: Write>(
     alloc: Global,
     form: Form,
-    viewing: &Viewing<'a>,
-    shown: &'a SiteLines,
-    picture: &'a Picture<'a>,
+    picture: &Picture<'_>,
+    beside: Beside<'_>,
     out: &mut O,
 ) -> Result<Conclusion, Fault>
     ensures { IfOk result (λ came. came ≡ outcome picture.now.forest.sources.items (reported picture.now.findings.items)) }
 {
     let causes = causes_of(alloc, picture).map_err(|_| Fault::OutOfMemory)?;
-    let look = Look::of(picture, causes.as_slice(), viewing, shown);
+    let look = Look {
+        picture,
+        causes,
+        beside,
+    };
     print_look(alloc, form, &look, out)?;
     Ok(outcome_of(picture))
 }
@@ -184,7 +225,7 @@ fn print_picture<'a, O: Write>(
 fn print_look<O: Write>(
     alloc: Global,
     form: Form,
-    look: &Look<'_>,
+    look: &Look<'_, '_>,
     out: &mut O,
 ) -> Result<(), Fault> {
     match form {

@@ -13,12 +13,17 @@ use std::io::Read;
 /// What lines show of a site.
 #[derive(Drop)]
 pub(crate) struct SiteLines {
-    /// No more clocks and ports than there is room for, and no clocks that are gone.
+    pub(crate) shown: ShownSite,
+    pub(crate) asked: Vec<AskedDomain>,
+    pub(crate) notes: LineNotes,
+}
+
+/// A site: no more clocks and ports than there is room for, and no clocks that are gone.
+#[derive(Drop)]
+pub(crate) struct ShownSite {
     pub(crate) site: Site,
     /// How much there is no room for.
     pub(crate) left_out: LeftOut,
-    pub(crate) asked: Vec<AskedDomain>,
-    pub(crate) notes: LineNotes,
 }
 
 /// What lines say beside their datagrams.
@@ -40,9 +45,9 @@ pub(crate) fn read_shown<R: Read + Drop>(alloc: Global, reader: R) -> Result<Sit
     let asked = asked_domains(alloc, site.all_heard()).map_err(|_| Fault::OutOfMemory)?;
     let left_out = site.keep_first();
     site.drop_gone(alloc).map_err(|_| Fault::OutOfMemory)?;
+    let shown = ShownSite { site, left_out };
     Ok(SiteLines {
-        site,
-        left_out,
+        shown,
         asked,
         notes,
     })

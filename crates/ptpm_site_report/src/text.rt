@@ -20,7 +20,7 @@ const MARGIN: usize = 2;
 
 /// A site as text.
 #[derive(Clone, Copy)]
-pub(crate) struct Sheet<'a>(pub(crate) &'a Look<'a>);
+pub(crate) struct Sheet<'a>(pub(crate) &'a Look<'a, 'a>);
 
 impl Sheet<'_> {
     /// Prints what was asked, the tree of each domain, and the findings.
@@ -43,7 +43,7 @@ impl Sheet<'_> {
 }
 
 /// Prints the tree of each domain.
-fn print_trees<O: Write>(alloc: Global, look: &Look<'_>, out: &mut O) -> Result<(), Fault> {
+fn print_trees<O: Write>(alloc: Global, look: &Look<'_, '_>, out: &mut O) -> Result<(), Fault> {
     let all = look.rows();
     let mut rest = look.picture.rows.as_slice();
     for _ in 0..look.picture.rows.len() {
@@ -65,7 +65,7 @@ fn print_trees<O: Write>(alloc: Global, look: &Look<'_>, out: &mut O) -> Result<
 }
 
 /// Prints the findings, one a line, and what is open.
-fn print_findings<O: Write>(alloc: Global, look: &Look<'_>, out: &mut O) -> Result<(), Fault> {
+fn print_findings<O: Write>(alloc: Global, look: &Look<'_, '_>, out: &mut O) -> Result<(), Fault> {
     let report = FindingReport::of(alloc, look).map_err(|_| Fault::OutOfMemory)?;
     print_count(report.count, look.count_following(), out)?;
     report.print(look, out)?;
@@ -87,7 +87,7 @@ fn print_count<O: Write>(lines: usize, following: usize, out: &mut O) -> io::Res
 /// Prints what is open, one a line, if there is any.
 fn print_open<O: Write>(
     alloc: Global,
-    look: &Look<'_>,
+    look: &Look<'_, '_>,
     followers: &Followers,
     out: &mut O,
 ) -> Result<(), Fault> {
