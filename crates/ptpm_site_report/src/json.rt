@@ -101,7 +101,7 @@ fn print_domain_head<O: Write>(
     )?;
     let mut between = "";
     for source in look.picture.forest.sources.as_slice() {
-        if source.domain == domain && look.picture.site.leads(*source) {
+        if leads_in(look, *source, domain) {
             write!(out, "{between}")?;
             print_value(alloc, grandmaster_value(alloc, look, *source), out)?;
             between = ",";
@@ -109,6 +109,11 @@ fn print_domain_head<O: Write>(
     }
     writeln!(out, "],\"clocks\":[")?;
     Ok(())
+}
+
+/// Whether a clock is of a domain, and leads.
+fn leads_in(look: &Look<'_, '_>, source: Source, domain: u8) -> bool {
+    source.domain == domain && look.picture.site.leads(source)
 }
 
 /// A clock that leads: its identity, its quality, and what it says of its time. It said so itself.
