@@ -97,18 +97,22 @@ fn print_domain_head<O: Write>(
 ) -> Result<(), Fault> {
     write!(
         out,
-        "{{\"domainNumber\":{domain},\"sdoId\":0,\"grandmasters\":["
+        "{{\"domainNumber\":{domain},\"sdoId\":0,\"grandmasters\":"
     )?;
-    let mut between = "";
+    print_value(alloc, grandmasters_value(alloc, look, domain), out)?;
+    writeln!(out, ",\"clocks\":[")?;
+    Ok(())
+}
+
+/// The clocks that lead a domain.
+fn grandmasters_value(alloc: Global, look: &Look<'_, '_>, domain: u8) -> Result<Value, AllocError> {
+    let mut values = Vec::new(alloc);
     for source in look.picture.forest.sources.as_slice() {
         if leads_in(look, *source, domain) {
-            write!(out, "{between}")?;
-            print_value(alloc, grandmaster_value(alloc, look, *source), out)?;
-            between = ",";
+            values.push(grandmaster_value(alloc, look, *source)?)?;
         }
     }
-    writeln!(out, "],\"clocks\":[")?;
-    Ok(())
+    Ok(Value::Array(values))
 }
 
 /// Whether a clock is of a domain, and leads.
