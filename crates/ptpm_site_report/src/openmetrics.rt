@@ -134,13 +134,14 @@ impl Metrics<'_> {
     /// Prints what each clock says of itself in words.
     fn print_clocks<O: Write>(&self, out: &mut O) -> io::Result<()> {
         CLOCK.write_head(out)?;
-        for (source, clock) in self.0.picture.site.clocks.iter() {
+        let look = self.0;
+        for (source, clock) in look.picture.site.clocks.iter() {
             let labels = ClockLabels(*source);
             write!(out, "ptp_clock_info{{{labels}")?;
             if let Some(text) = clock.description() {
                 write!(out, ",description=\"{}\"", Label(text))?;
             }
-            if let Some(name) = self.0.beside.names.get(source.clock) {
+            if let Some(name) = look.beside.names.get(source.clock) {
                 write!(out, ",name=\"{}\"", Label(name))?;
             }
             write_follows(clock, out)?;
