@@ -87,7 +87,8 @@ findings() { sed -n '/^"\{0,1\}findings/,$p' | sed '/^open: /,$d; s/ "clock"$//'
 
 # Of what `ptpm site --json` prints: each finding that follows, and from which.
 followers() {
-    short | sed -n 's/.*"because":{"clockIdentity":"\([^"]*\)","finding":"\([^"]*\)"},.*"clockIdentity":"\([^"]*\)","domainNumber".*"finding":"\([^"]*\)".*/\4 \3 < \2 \1/p'
+    short | sed -n -e 's/"before":\({[^}]*}\|"[^"]*"\|[^,{]*\),//' \
+        -e 's/.*"because":{"clockIdentity":"\([^"]*\)","finding":"\([^"]*\)"},"clockIdentity":"\([^"]*\)".*"finding":"\([^"]*\)".*/\4 \3 < \2 \1/p'
 }
 
 # play NETWORK: runs the events on standard input in a network of data/ and prints what each did. Its trace is then in the file
