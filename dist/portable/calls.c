@@ -28,6 +28,9 @@ u32 portable_ptpm_image_unseal(address a0, u64 a1, address a2, address a3);
 void portable_ptpm_limit_range(address a0, u32 a1, u32 a2);
 u16 portable_ptpm_limits_say(address a0, u64 a1, address a2);
 u64 portable_ptpm_newest_image_in(address a0, u64 a1, u64 a2, address a3, address a4);
+u32 portable_ptpm_other_id_at(u64 a0);
+u64 portable_ptpm_other_id_name(u16 a0, address a1, u64 a2);
+u32 portable_ptpm_other_id_named(address a0, u64 a1);
 u8 portable_ptpm_passed_on_is_first(address a0, address a1, u64 a2, u64 a3, u64 a4);
 void portable_ptpm_port_defaults(address a0);
 void portable_ptpm_rate_start(address a0, u64 a1, u64 a2);
@@ -752,6 +755,21 @@ uint32_t ptpm_id_at(size_t place) {
 size_t ptpm_id_name(uint16_t id, char *text, size_t room) {
     fill();
     return (size_t)portable_ptpm_id_name(id, ADDRESS(text), room);
+}
+
+uint32_t ptpm_other_id_named(const char *name, size_t size) {
+    fill();
+    return (uint32_t)portable_ptpm_other_id_named(ADDRESS(name), size);
+}
+
+uint32_t ptpm_other_id_at(size_t place) {
+    fill();
+    return (uint32_t)portable_ptpm_other_id_at(place);
+}
+
+size_t ptpm_other_id_name(uint16_t id, char *text, size_t room) {
+    fill();
+    return (size_t)portable_ptpm_other_id_name(id, ADDRESS(text), room);
 }
 
 size_t ptpm_answer_name(uint32_t number, char *text, size_t room) {

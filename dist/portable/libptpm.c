@@ -69,546 +69,756 @@ static const union { u8 octets[4]; u64 aligned; } octets_of_c26 = { { 70,85,76,7
 #define c27 (octets_of_c27.octets)
 static const union { u8 octets[12]; u64 aligned; } octets_of_c27 = { { 65,83,75,69,68,95,67,72,65,78,71,69 } };
 #define c28 (octets_of_c28.octets)
-static const union { u8 octets[8]; u64 aligned; } octets_of_c28 = { { 78,79,95,67,76,79,67,75 } };
+static const union { u8 octets[11]; u64 aligned; } octets_of_c28 = { { 65,83,75,69,68,95,86,65,76,85,69 } };
 #define c29 (octets_of_c29.octets)
-static const union { u8 octets[7]; u64 aligned; } octets_of_c29 = { { 78,79,95,80,79,82,84 } };
+static const union { u8 octets[8]; u64 aligned; } octets_of_c29 = { { 78,79,95,67,76,79,67,75 } };
 #define c30 (octets_of_c30.octets)
-static const union { u8 octets[7]; u64 aligned; } octets_of_c30 = { { 78,79,95,82,79,79,77 } };
+static const union { u8 octets[7]; u64 aligned; } octets_of_c30 = { { 78,79,95,80,79,82,84 } };
 #define c31 (octets_of_c31.octets)
-static const union { u8 octets[9]; u64 aligned; } octets_of_c31 = { { 78,79,95,77,69,77,79,82,89 } };
+static const union { u8 octets[7]; u64 aligned; } octets_of_c31 = { { 78,79,95,82,79,79,77 } };
 #define c32 (octets_of_c32.octets)
-static const union { u8 octets[12]; u64 aligned; } octets_of_c32 = { { 78,79,84,95,82,69,65,68,65,66,76,69 } };
+static const union { u8 octets[9]; u64 aligned; } octets_of_c32 = { { 78,79,95,77,69,77,79,82,89 } };
 #define c33 (octets_of_c33.octets)
-static const union { u8 octets[10]; u64 aligned; } octets_of_c33 = { { 78,79,95,83,69,83,83,73,79,78 } };
+static const union { u8 octets[12]; u64 aligned; } octets_of_c33 = { { 78,79,84,95,82,69,65,68,65,66,76,69 } };
 #define c34 (octets_of_c34.octets)
-static const union { u8 octets[4]; u64 aligned; } octets_of_c34 = { { 66,85,83,89 } };
+static const union { u8 octets[10]; u64 aligned; } octets_of_c34 = { { 78,79,95,83,69,83,83,73,79,78 } };
 #define c35 (octets_of_c35.octets)
-static const union { u8 octets[10]; u64 aligned; } octets_of_c35 = { { 78,69,69,68,83,95,80,79,82,84 } };
+static const union { u8 octets[4]; u64 aligned; } octets_of_c35 = { { 66,85,83,89 } };
 #define c36 (octets_of_c36.octets)
-static const union { u8 octets[13]; u64 aligned; } octets_of_c36 = { { 78,79,84,95,80,69,82,77,73,84,84,69,68 } };
+static const union { u8 octets[10]; u64 aligned; } octets_of_c36 = { { 78,69,69,68,83,95,80,79,82,84 } };
 #define c37 (octets_of_c37.octets)
-static const union { u8 octets[9]; u64 aligned; } octets_of_c37 = { { 66,65,68,95,86,65,76,85,69 } };
+static const union { u8 octets[13]; u64 aligned; } octets_of_c37 = { { 78,79,84,95,80,69,82,77,73,84,84,69,68 } };
 #define c38 (octets_of_c38.octets)
-static const union { u8 octets[16]; u64 aligned; } octets_of_c38 = { { 67,79,85,78,84,95,65,84,95,77,65,88,73,77,85,77 } };
+static const union { u8 octets[9]; u64 aligned; } octets_of_c38 = { { 66,65,68,95,86,65,76,85,69 } };
 #define c39 (octets_of_c39.octets)
-static const union { u8 octets[4]; u64 aligned; } octets_of_c39 = { { 73,68,76,69 } };
+static const union { u8 octets[16]; u64 aligned; } octets_of_c39 = { { 67,79,85,78,84,95,65,84,95,77,65,88,73,77,85,77 } };
 #define c40 (octets_of_c40.octets)
-static const union { u8 octets[7]; u64 aligned; } octets_of_c40 = { { 71,65,86,69,95,85,80 } };
+static const union { u8 octets[4]; u64 aligned; } octets_of_c40 = { { 73,68,76,69 } };
 #define c41 (octets_of_c41.octets)
-static const union { u8 octets[9]; u64 aligned; } octets_of_c41 = { { 78,79,95,82,69,80,79,82,84 } };
+static const union { u8 octets[7]; u64 aligned; } octets_of_c41 = { { 71,65,86,69,95,85,80 } };
 #define c42 (octets_of_c42.octets)
-static const union { u8 octets[9]; u64 aligned; } octets_of_c42 = { { 78,79,95,83,85,82,86,69,89 } };
+static const union { u8 octets[9]; u64 aligned; } octets_of_c42 = { { 78,79,95,82,69,80,79,82,84 } };
 #define c43 (octets_of_c43.octets)
-static const union { u8 octets[11]; u64 aligned; } octets_of_c43 = { { 79,84,72,69,82,95,83,73,90,69,83 } };
+static const union { u8 octets[9]; u64 aligned; } octets_of_c43 = { { 78,79,95,83,85,82,86,69,89 } };
 #define c44 (octets_of_c44.octets)
-static const union { u8 octets[8]; u64 aligned; } octets_of_c44 = { { 78,79,95,80,79,82,84,83 } };
+static const union { u8 octets[11]; u64 aligned; } octets_of_c44 = { { 79,84,72,69,82,95,83,73,90,69,83 } };
 #define c45 (octets_of_c45.octets)
-static const union { u8 octets[14]; u64 aligned; } octets_of_c45 = { { 84,79,79,95,77,65,78,89,95,80,79,82,84,83 } };
+static const union { u8 octets[8]; u64 aligned; } octets_of_c45 = { { 78,79,95,80,79,82,84,83 } };
 #define c46 (octets_of_c46.octets)
-static const union { u8 octets[19]; u64 aligned; } octets_of_c46 = { { 71,82,65,78,68,77,65,83,84,69,82,95,68,73,70,70,69,82,83 } };
+static const union { u8 octets[14]; u64 aligned; } octets_of_c46 = { { 84,79,79,95,77,65,78,89,95,80,79,82,84,83 } };
 #define c47 (octets_of_c47.octets)
-static const union { u8 octets[17]; u64 aligned; } octets_of_c47 = { { 84,79,79,95,77,65,78,89,95,77,65,78,65,71,69,82,83 } };
+static const union { u8 octets[19]; u64 aligned; } octets_of_c47 = { { 71,82,65,78,68,77,65,83,84,69,82,95,68,73,70,70,69,82,83 } };
 #define c48 (octets_of_c48.octets)
-static const union { u8 octets[13]; u64 aligned; } octets_of_c48 = { { 77,65,78,65,71,69,82,95,84,87,73,67,69 } };
+static const union { u8 octets[17]; u64 aligned; } octets_of_c48 = { { 84,79,79,95,77,65,78,89,95,77,65,78,65,71,69,82,83 } };
 #define c49 (octets_of_c49.octets)
-static const union { u8 octets[16]; u64 aligned; } octets_of_c49 = { { 77,65,78,65,71,69,82,95,73,83,95,69,86,69,82,89 } };
+static const union { u8 octets[13]; u64 aligned; } octets_of_c49 = { { 77,65,78,65,71,69,82,95,84,87,73,67,69 } };
 #define c50 (octets_of_c50.octets)
-static const union { u8 octets[15]; u64 aligned; } octets_of_c50 = { { 84,65,82,71,69,84,95,73,83,95,69,86,69,82,89 } };
+static const union { u8 octets[16]; u64 aligned; } octets_of_c50 = { { 77,65,78,65,71,69,82,95,73,83,95,69,86,69,82,89 } };
 #define c51 (octets_of_c51.octets)
-static const union { u8 octets[10]; u64 aligned; } octets_of_c51 = { { 83,65,77,69,95,67,76,79,67,75 } };
+static const union { u8 octets[15]; u64 aligned; } octets_of_c51 = { { 84,65,82,71,69,84,95,73,83,95,69,86,69,82,89 } };
 #define c52 (octets_of_c52.octets)
-static const union { u8 octets[16]; u64 aligned; } octets_of_c52 = { { 73,68,69,78,84,73,84,89,95,73,83,95,90,69,82,79 } };
+static const union { u8 octets[10]; u64 aligned; } octets_of_c52 = { { 83,65,77,69,95,67,76,79,67,75 } };
 #define c53 (octets_of_c53.octets)
-static const union { u8 octets[14]; u64 aligned; } octets_of_c53 = { { 84,65,82,71,69,84,95,73,83,95,90,69,82,79 } };
+static const union { u8 octets[16]; u64 aligned; } octets_of_c53 = { { 73,68,69,78,84,73,84,89,95,73,83,95,90,69,82,79 } };
 #define c54 (octets_of_c54.octets)
-static const union { u8 octets[12]; u64 aligned; } octets_of_c54 = { { 78,79,84,95,65,78,95,73,77,65,71,69 } };
+static const union { u8 octets[14]; u64 aligned; } octets_of_c54 = { { 84,65,82,71,69,84,95,73,83,95,90,69,82,79 } };
 #define c55 (octets_of_c55.octets)
-static const union { u8 octets[13]; u64 aligned; } octets_of_c55 = { { 79,84,72,69,82,95,86,69,82,83,73,79,78 } };
+static const union { u8 octets[12]; u64 aligned; } octets_of_c55 = { { 78,79,84,95,65,78,95,73,77,65,71,69 } };
 #define c56 (octets_of_c56.octets)
-static const union { u8 octets[10]; u64 aligned; } octets_of_c56 = { { 79,84,72,69,82,95,75,73,78,68 } };
+static const union { u8 octets[13]; u64 aligned; } octets_of_c56 = { { 79,84,72,69,82,95,86,69,82,83,73,79,78 } };
 #define c57 (octets_of_c57.octets)
-static const union { u8 octets[7]; u64 aligned; } octets_of_c57 = { { 68,65,77,65,71,69,68 } };
+static const union { u8 octets[10]; u64 aligned; } octets_of_c57 = { { 79,84,72,69,82,95,75,73,78,68 } };
 #define c58 (octets_of_c58.octets)
-static const union { u8 octets[11]; u64 aligned; } octets_of_c58 = { { 79,84,72,69,82,95,67,76,79,67,75 } };
+static const union { u8 octets[7]; u64 aligned; } octets_of_c58 = { { 68,65,77,65,71,69,68 } };
 #define c59 (octets_of_c59.octets)
-static const union { u8 octets[11]; u64 aligned; } octets_of_c59 = { { 79,84,72,69,82,95,80,79,82,84,83 } };
+static const union { u8 octets[11]; u64 aligned; } octets_of_c59 = { { 79,84,72,69,82,95,67,76,79,67,75 } };
 #define c60 (octets_of_c60.octets)
-static const union { u8 octets[13]; u64 aligned; } octets_of_c60 = { { 79,84,72,69,82,95,83,69,83,83,73,79,78 } };
+static const union { u8 octets[11]; u64 aligned; } octets_of_c60 = { { 79,84,72,69,82,95,80,79,82,84,83 } };
 #define c61 (octets_of_c61.octets)
-static const union { u8 octets[12]; u64 aligned; } octets_of_c61 = { { 79,85,84,95,79,70,95,82,69,65,67,72 } };
+static const union { u8 octets[13]; u64 aligned; } octets_of_c61 = { { 79,84,72,69,82,95,83,69,83,83,73,79,78 } };
 #define c62 (octets_of_c62.octets)
-static const union { u8 octets[9]; u64 aligned; } octets_of_c62 = { { 78,79,84,95,87,79,82,68,83 } };
+static const union { u8 octets[12]; u64 aligned; } octets_of_c62 = { { 79,85,84,95,79,70,95,82,69,65,67,72 } };
 #define c63 (octets_of_c63.octets)
-static const union { u8 octets[10]; u64 aligned; } octets_of_c63 = { { 85,78,75,78,79,87,78,95,73,68 } };
+static const union { u8 octets[9]; u64 aligned; } octets_of_c63 = { { 78,79,84,95,87,79,82,68,83 } };
 #define c64 (octets_of_c64.octets)
-static const union { u8 octets[10]; u64 aligned; } octets_of_c64 = { { 87,79,82,68,95,67,79,85,78,84 } };
+static const union { u8 octets[10]; u64 aligned; } octets_of_c64 = { { 85,78,75,78,79,87,78,95,73,68 } };
 #define c65 (octets_of_c65.octets)
-static const union { u8 octets[10]; u64 aligned; } octets_of_c65 = { { 79,84,72,69,82,95,78,65,77,69 } };
+static const union { u8 octets[10]; u64 aligned; } octets_of_c65 = { { 87,79,82,68,95,67,79,85,78,84 } };
 #define c66 (octets_of_c66.octets)
-static const union { u8 octets[8]; u64 aligned; } octets_of_c66 = { { 78,79,95,86,65,76,85,69 } };
+static const union { u8 octets[10]; u64 aligned; } octets_of_c66 = { { 79,84,72,69,82,95,78,65,77,69 } };
 #define c67 (octets_of_c67.octets)
-static const union { u8 octets[7]; u64 aligned; } octets_of_c67 = { { 85,78,83,65,86,69,68 } };
+static const union { u8 octets[8]; u64 aligned; } octets_of_c67 = { { 78,79,95,86,65,76,85,69 } };
 #define c68 (octets_of_c68.octets)
-static const union { u8 octets[11]; u64 aligned; } octets_of_c68 = { { 79,84,72,69,82,95,73,77,65,71,69 } };
+static const union { u8 octets[7]; u64 aligned; } octets_of_c68 = { { 85,78,83,65,86,69,68 } };
 #define c69 (octets_of_c69.octets)
-static const union { u8 octets[8]; u64 aligned; } octets_of_c69 = { { 78,79,95,65,83,75,69,82 } };
+static const union { u8 octets[11]; u64 aligned; } octets_of_c69 = { { 79,84,72,69,82,95,73,77,65,71,69 } };
 #define c70 (octets_of_c70.octets)
-static const union { u8 octets[7]; u64 aligned; } octets_of_c70 = { { 66,65,68,95,83,65,89 } };
+static const union { u8 octets[8]; u64 aligned; } octets_of_c70 = { { 78,79,95,65,83,75,69,82 } };
 #define c71 (octets_of_c71.octets)
-static const union { u8 octets[11]; u64 aligned; } octets_of_c71 = { { 67,65,78,84,95,79,66,74,69,67,84 } };
+static const union { u8 octets[7]; u64 aligned; } octets_of_c71 = { { 66,65,68,95,83,65,89 } };
 #define c72 (octets_of_c72.octets)
-static const union { u8 octets[12]; u64 aligned; } octets_of_c72 = { { 66,65,68,95,73,68,69,78,84,73,84,89 } };
+static const union { u8 octets[11]; u64 aligned; } octets_of_c72 = { { 67,65,78,84,95,79,66,74,69,67,84 } };
 #define c73 (octets_of_c73.octets)
-static const union { u8 octets[10]; u64 aligned; } octets_of_c73 = { { 66,65,68,95,68,79,77,65,73,78 } };
+static const union { u8 octets[12]; u64 aligned; } octets_of_c73 = { { 66,65,68,95,73,68,69,78,84,73,84,89 } };
 #define c74 (octets_of_c74.octets)
-static const union { u8 octets[20]; u64 aligned; } octets_of_c74 = { { 66,65,68,95,85,83,69,82,95,68,69,83,67,82,73,80,84,73,79,78 } };
+static const union { u8 octets[10]; u64 aligned; } octets_of_c74 = { { 66,65,68,95,68,79,77,65,73,78 } };
 #define c75 (octets_of_c75.octets)
-static const union { u8 octets[12]; u64 aligned; } octets_of_c75 = { { 66,65,68,95,84,87,79,95,83,84,69,80 } };
+static const union { u8 octets[20]; u64 aligned; } octets_of_c75 = { { 66,65,68,95,85,83,69,82,95,68,69,83,67,82,73,80,84,73,79,78 } };
 #define c76 (octets_of_c76.octets)
-static const union { u8 octets[13]; u64 aligned; } octets_of_c76 = { { 66,65,68,95,80,82,73,79,82,73,84,89,49 } };
+static const union { u8 octets[12]; u64 aligned; } octets_of_c76 = { { 66,65,68,95,84,87,79,95,83,84,69,80 } };
 #define c77 (octets_of_c77.octets)
-static const union { u8 octets[15]; u64 aligned; } octets_of_c77 = { { 66,65,68,95,67,76,79,67,75,95,67,76,65,83,83 } };
+static const union { u8 octets[13]; u64 aligned; } octets_of_c77 = { { 66,65,68,95,80,82,73,79,82,73,84,89,49 } };
 #define c78 (octets_of_c78.octets)
-static const union { u8 octets[18]; u64 aligned; } octets_of_c78 = { { 66,65,68,95,67,76,79,67,75,95,65,67,67,85,82,65,67,89 } };
+static const union { u8 octets[15]; u64 aligned; } octets_of_c78 = { { 66,65,68,95,67,76,79,67,75,95,67,76,65,83,83 } };
 #define c79 (octets_of_c79.octets)
-static const union { u8 octets[12]; u64 aligned; } octets_of_c79 = { { 66,65,68,95,86,65,82,73,65,78,67,69 } };
+static const union { u8 octets[18]; u64 aligned; } octets_of_c79 = { { 66,65,68,95,67,76,79,67,75,95,65,67,67,85,82,65,67,89 } };
 #define c80 (octets_of_c80.octets)
-static const union { u8 octets[13]; u64 aligned; } octets_of_c80 = { { 66,65,68,95,80,82,73,79,82,73,84,89,50 } };
+static const union { u8 octets[12]; u64 aligned; } octets_of_c80 = { { 66,65,68,95,86,65,82,73,65,78,67,69 } };
 #define c81 (octets_of_c81.octets)
-static const union { u8 octets[17]; u64 aligned; } octets_of_c81 = { { 66,65,68,95,83,84,69,80,83,95,82,69,77,79,86,69,68 } };
+static const union { u8 octets[13]; u64 aligned; } octets_of_c81 = { { 66,65,68,95,80,82,73,79,82,73,84,89,50 } };
 #define c82 (octets_of_c82.octets)
-static const union { u8 octets[22]; u64 aligned; } octets_of_c82 = { { 66,65,68,95,79,70,70,83,69,84,95,70,82,79,77,95,77,65,83,84,69,82 } };
+static const union { u8 octets[17]; u64 aligned; } octets_of_c82 = { { 66,65,68,95,83,84,69,80,83,95,82,69,77,79,86,69,68 } };
 #define c83 (octets_of_c83.octets)
-static const union { u8 octets[19]; u64 aligned; } octets_of_c83 = { { 66,65,68,95,77,69,65,78,95,80,65,84,72,95,68,69,76,65,89 } };
+static const union { u8 octets[22]; u64 aligned; } octets_of_c83 = { { 66,65,68,95,79,70,70,83,69,84,95,70,82,79,77,95,77,65,83,84,69,82 } };
 #define c84 (octets_of_c84.octets)
-static const union { u8 octets[15]; u64 aligned; } octets_of_c84 = { { 66,65,68,95,80,65,82,69,78,84,95,80,79,82,84 } };
+static const union { u8 octets[19]; u64 aligned; } octets_of_c84 = { { 66,65,68,95,77,69,65,78,95,80,65,84,72,95,68,69,76,65,89 } };
 #define c85 (octets_of_c85.octets)
-static const union { u8 octets[16]; u64 aligned; } octets_of_c85 = { { 66,65,68,95,80,65,82,69,78,84,95,83,84,65,84,83 } };
+static const union { u8 octets[15]; u64 aligned; } octets_of_c85 = { { 66,65,68,95,80,65,82,69,78,84,95,80,79,82,84 } };
 #define c86 (octets_of_c86.octets)
-static const union { u8 octets[21]; u64 aligned; } octets_of_c86 = { { 66,65,68,95,79,66,83,69,82,86,69,68,95,86,65,82,73,65,78,67,69 } };
+static const union { u8 octets[16]; u64 aligned; } octets_of_c86 = { { 66,65,68,95,80,65,82,69,78,84,95,83,84,65,84,83 } };
 #define c87 (octets_of_c87.octets)
-static const union { u8 octets[17]; u64 aligned; } octets_of_c87 = { { 66,65,68,95,79,66,83,69,82,86,69,68,95,82,65,84,69 } };
+static const union { u8 octets[21]; u64 aligned; } octets_of_c87 = { { 66,65,68,95,79,66,83,69,82,86,69,68,95,86,65,82,73,65,78,67,69 } };
 #define c88 (octets_of_c88.octets)
-static const union { u8 octets[25]; u64 aligned; } octets_of_c88 = { { 66,65,68,95,71,82,65,78,68,77,65,83,84,69,82,95,80,82,73,79,82,73,84,89,49 } };
+static const union { u8 octets[17]; u64 aligned; } octets_of_c88 = { { 66,65,68,95,79,66,83,69,82,86,69,68,95,82,65,84,69 } };
 #define c89 (octets_of_c89.octets)
-static const union { u8 octets[21]; u64 aligned; } octets_of_c89 = { { 66,65,68,95,71,82,65,78,68,77,65,83,84,69,82,95,67,76,65,83,83 } };
+static const union { u8 octets[25]; u64 aligned; } octets_of_c89 = { { 66,65,68,95,71,82,65,78,68,77,65,83,84,69,82,95,80,82,73,79,82,73,84,89,49 } };
 #define c90 (octets_of_c90.octets)
-static const union { u8 octets[24]; u64 aligned; } octets_of_c90 = { { 66,65,68,95,71,82,65,78,68,77,65,83,84,69,82,95,65,67,67,85,82,65,67,89 } };
+static const union { u8 octets[21]; u64 aligned; } octets_of_c90 = { { 66,65,68,95,71,82,65,78,68,77,65,83,84,69,82,95,67,76,65,83,83 } };
 #define c91 (octets_of_c91.octets)
-static const union { u8 octets[24]; u64 aligned; } octets_of_c91 = { { 66,65,68,95,71,82,65,78,68,77,65,83,84,69,82,95,86,65,82,73,65,78,67,69 } };
+static const union { u8 octets[24]; u64 aligned; } octets_of_c91 = { { 66,65,68,95,71,82,65,78,68,77,65,83,84,69,82,95,65,67,67,85,82,65,67,89 } };
 #define c92 (octets_of_c92.octets)
-static const union { u8 octets[25]; u64 aligned; } octets_of_c92 = { { 66,65,68,95,71,82,65,78,68,77,65,83,84,69,82,95,80,82,73,79,82,73,84,89,50 } };
+static const union { u8 octets[24]; u64 aligned; } octets_of_c92 = { { 66,65,68,95,71,82,65,78,68,77,65,83,84,69,82,95,86,65,82,73,65,78,67,69 } };
 #define c93 (octets_of_c93.octets)
-static const union { u8 octets[15]; u64 aligned; } octets_of_c93 = { { 66,65,68,95,71,82,65,78,68,77,65,83,84,69,82 } };
+static const union { u8 octets[25]; u64 aligned; } octets_of_c93 = { { 66,65,68,95,71,82,65,78,68,77,65,83,84,69,82,95,80,82,73,79,82,73,84,89,50 } };
 #define c94 (octets_of_c94.octets)
-static const union { u8 octets[14]; u64 aligned; } octets_of_c94 = { { 66,65,68,95,85,84,67,95,79,70,70,83,69,84 } };
+static const union { u8 octets[15]; u64 aligned; } octets_of_c94 = { { 66,65,68,95,71,82,65,78,68,77,65,83,84,69,82 } };
 #define c95 (octets_of_c95.octets)
-static const union { u8 octets[10]; u64 aligned; } octets_of_c95 = { { 66,65,68,95,76,69,65,80,54,49 } };
+static const union { u8 octets[14]; u64 aligned; } octets_of_c95 = { { 66,65,68,95,85,84,67,95,79,70,70,83,69,84 } };
 #define c96 (octets_of_c96.octets)
-static const union { u8 octets[10]; u64 aligned; } octets_of_c96 = { { 66,65,68,95,76,69,65,80,53,57 } };
+static const union { u8 octets[10]; u64 aligned; } octets_of_c96 = { { 66,65,68,95,76,69,65,80,54,49 } };
 #define c97 (octets_of_c97.octets)
-static const union { u8 octets[13]; u64 aligned; } octets_of_c97 = { { 66,65,68,95,85,84,67,95,86,65,76,73,68 } };
+static const union { u8 octets[10]; u64 aligned; } octets_of_c97 = { { 66,65,68,95,76,69,65,80,53,57 } };
 #define c98 (octets_of_c98.octets)
-static const union { u8 octets[17]; u64 aligned; } octets_of_c98 = { { 66,65,68,95,80,84,80,95,84,73,77,69,83,67,65,76,69 } };
+static const union { u8 octets[13]; u64 aligned; } octets_of_c98 = { { 66,65,68,95,85,84,67,95,86,65,76,73,68 } };
 #define c99 (octets_of_c99.octets)
-static const union { u8 octets[18]; u64 aligned; } octets_of_c99 = { { 66,65,68,95,84,73,77,69,95,84,82,65,67,69,65,66,76,69 } };
+static const union { u8 octets[17]; u64 aligned; } octets_of_c99 = { { 66,65,68,95,80,84,80,95,84,73,77,69,83,67,65,76,69 } };
 #define c100 (octets_of_c100.octets)
-static const union { u8 octets[23]; u64 aligned; } octets_of_c100 = { { 66,65,68,95,70,82,69,81,85,69,78,67,89,95,84,82,65,67,69,65,66,76,69 } };
+static const union { u8 octets[18]; u64 aligned; } octets_of_c100 = { { 66,65,68,95,84,73,77,69,95,84,82,65,67,69,65,66,76,69 } };
 #define c101 (octets_of_c101.octets)
-static const union { u8 octets[15]; u64 aligned; } octets_of_c101 = { { 66,65,68,95,84,73,77,69,95,83,79,85,82,67,69 } };
+static const union { u8 octets[23]; u64 aligned; } octets_of_c101 = { { 66,65,68,95,70,82,69,81,85,69,78,67,89,95,84,82,65,67,69,65,66,76,69 } };
 #define c102 (octets_of_c102.octets)
-static const union { u8 octets[9]; u64 aligned; } octets_of_c102 = { { 66,65,68,95,83,84,65,84,69 } };
+static const union { u8 octets[15]; u64 aligned; } octets_of_c102 = { { 66,65,68,95,84,73,77,69,95,83,79,85,82,67,69 } };
 #define c103 (octets_of_c103.octets)
-static const union { u8 octets[21]; u64 aligned; } octets_of_c103 = { { 66,65,68,95,76,79,71,95,77,73,78,95,68,69,76,65,89,95,82,69,81 } };
+static const union { u8 octets[9]; u64 aligned; } octets_of_c103 = { { 66,65,68,95,83,84,65,84,69 } };
 #define c104 (octets_of_c104.octets)
-static const union { u8 octets[14]; u64 aligned; } octets_of_c104 = { { 66,65,68,95,80,69,69,82,95,68,69,76,65,89 } };
+static const union { u8 octets[21]; u64 aligned; } octets_of_c104 = { { 66,65,68,95,76,79,71,95,77,73,78,95,68,69,76,65,89,95,82,69,81 } };
 #define c105 (octets_of_c105.octets)
-static const union { u8 octets[16]; u64 aligned; } octets_of_c105 = { { 66,65,68,95,76,79,71,95,65,78,78,79,85,78,67,69 } };
+static const union { u8 octets[14]; u64 aligned; } octets_of_c105 = { { 66,65,68,95,80,69,69,82,95,68,69,76,65,89 } };
 #define c106 (octets_of_c106.octets)
-static const union { u8 octets[19]; u64 aligned; } octets_of_c106 = { { 66,65,68,95,82,69,67,69,73,80,84,95,84,73,77,69,79,85,84 } };
+static const union { u8 octets[16]; u64 aligned; } octets_of_c106 = { { 66,65,68,95,76,79,71,95,65,78,78,79,85,78,67,69 } };
 #define c107 (octets_of_c107.octets)
-static const union { u8 octets[12]; u64 aligned; } octets_of_c107 = { { 66,65,68,95,76,79,71,95,83,89,78,67 } };
+static const union { u8 octets[19]; u64 aligned; } octets_of_c107 = { { 66,65,68,95,82,69,67,69,73,80,84,95,84,73,77,69,79,85,84 } };
 #define c108 (octets_of_c108.octets)
-static const union { u8 octets[19]; u64 aligned; } octets_of_c108 = { { 66,65,68,95,68,69,76,65,89,95,77,69,67,72,65,78,73,83,77 } };
+static const union { u8 octets[12]; u64 aligned; } octets_of_c108 = { { 66,65,68,95,76,79,71,95,83,89,78,67 } };
 #define c109 (octets_of_c109.octets)
-static const union { u8 octets[18]; u64 aligned; } octets_of_c109 = { { 66,65,68,95,76,79,71,95,77,73,78,95,80,68,69,76,65,89 } };
+static const union { u8 octets[19]; u64 aligned; } octets_of_c109 = { { 66,65,68,95,68,69,76,65,89,95,77,69,67,72,65,78,73,83,77 } };
 #define c110 (octets_of_c110.octets)
-static const union { u8 octets[8]; u64 aligned; } octets_of_c110 = { { 112,116,112,109,2,1,0,0 } };
+static const union { u8 octets[18]; u64 aligned; } octets_of_c110 = { { 66,65,68,95,76,79,71,95,77,73,78,95,80,68,69,76,65,89 } };
 #define c111 (octets_of_c111.octets)
-static const union { u8 octets[1]; u64 aligned; } octets_of_c111 = { { 0 } };
-#if IS_LITTLE_ENDIAN
-static const struct form_of_c112 { slot slot0; u8 octets8[8]; } octets_of_c112;
-#define c112 ((const u8 *)&octets_of_c112)
-#else
-static union form_of_c112 { u8 octets[16]; u64 aligned; } octets_of_c112;
+static const union { u8 octets[8]; u64 aligned; } octets_of_c111 = { { 112,116,112,109,2,1,0,0 } };
 #define c112 (octets_of_c112.octets)
-#endif
+static const union { u8 octets[1]; u64 aligned; } octets_of_c112 = { { 0 } };
+#if IS_LITTLE_ENDIAN
+static const struct form_of_c113 { slot slot0; u8 octets8[8]; } octets_of_c113;
+#define c113 ((const u8 *)&octets_of_c113)
+#else
+static union form_of_c113 { u8 octets[16]; u64 aligned; } octets_of_c113;
 #define c113 (octets_of_c113.octets)
-static const union { u8 octets[19]; u64 aligned; } octets_of_c113 = { { 78,85,76,76,95,80,84,80,95,77,65,78,65,71,69,77,69,78,84 } };
+#endif
 #define c114 (octets_of_c114.octets)
-static const union { u8 octets[16]; u64 aligned; } octets_of_c114 = { { 85,83,69,82,95,68,69,83,67,82,73,80,84,73,79,78 } };
+static const union { u8 octets[19]; u64 aligned; } octets_of_c114 = { { 78,85,76,76,95,80,84,80,95,77,65,78,65,71,69,77,69,78,84 } };
 #define c115 (octets_of_c115.octets)
-static const union { u8 octets[16]; u64 aligned; } octets_of_c115 = { { 68,69,70,65,85,76,84,95,68,65,84,65,95,83,69,84 } };
+static const union { u8 octets[16]; u64 aligned; } octets_of_c115 = { { 85,83,69,82,95,68,69,83,67,82,73,80,84,73,79,78 } };
 #define c116 (octets_of_c116.octets)
-static const union { u8 octets[16]; u64 aligned; } octets_of_c116 = { { 67,85,82,82,69,78,84,95,68,65,84,65,95,83,69,84 } };
+static const union { u8 octets[16]; u64 aligned; } octets_of_c116 = { { 68,69,70,65,85,76,84,95,68,65,84,65,95,83,69,84 } };
 #define c117 (octets_of_c117.octets)
-static const union { u8 octets[15]; u64 aligned; } octets_of_c117 = { { 80,65,82,69,78,84,95,68,65,84,65,95,83,69,84 } };
+static const union { u8 octets[16]; u64 aligned; } octets_of_c117 = { { 67,85,82,82,69,78,84,95,68,65,84,65,95,83,69,84 } };
 #define c118 (octets_of_c118.octets)
-static const union { u8 octets[24]; u64 aligned; } octets_of_c118 = { { 84,73,77,69,95,80,82,79,80,69,82,84,73,69,83,95,68,65,84,65,95,83,69,84 } };
+static const union { u8 octets[15]; u64 aligned; } octets_of_c118 = { { 80,65,82,69,78,84,95,68,65,84,65,95,83,69,84 } };
 #define c119 (octets_of_c119.octets)
-static const union { u8 octets[13]; u64 aligned; } octets_of_c119 = { { 80,79,82,84,95,68,65,84,65,95,83,69,84 } };
+static const union { u8 octets[24]; u64 aligned; } octets_of_c119 = { { 84,73,77,69,95,80,82,79,80,69,82,84,73,69,83,95,68,65,84,65,95,83,69,84 } };
 #define c120 (octets_of_c120.octets)
-static const union { u8 octets[9]; u64 aligned; } octets_of_c120 = { { 80,82,73,79,82,73,84,89,49 } };
+static const union { u8 octets[13]; u64 aligned; } octets_of_c120 = { { 80,79,82,84,95,68,65,84,65,95,83,69,84 } };
 #define c121 (octets_of_c121.octets)
-static const union { u8 octets[9]; u64 aligned; } octets_of_c121 = { { 80,82,73,79,82,73,84,89,50 } };
+static const union { u8 octets[9]; u64 aligned; } octets_of_c121 = { { 80,82,73,79,82,73,84,89,49 } };
 #define c122 (octets_of_c122.octets)
-static const union { u8 octets[6]; u64 aligned; } octets_of_c122 = { { 68,79,77,65,73,78 } };
+static const union { u8 octets[9]; u64 aligned; } octets_of_c122 = { { 80,82,73,79,82,73,84,89,50 } };
 #define c123 (octets_of_c123.octets)
-static const union { u8 octets[10]; u64 aligned; } octets_of_c123 = { { 83,76,65,86,69,95,79,78,76,89 } };
+static const union { u8 octets[6]; u64 aligned; } octets_of_c123 = { { 68,79,77,65,73,78 } };
 #define c124 (octets_of_c124.octets)
-static const union { u8 octets[14]; u64 aligned; } octets_of_c124 = { { 86,69,82,83,73,79,78,95,78,85,77,66,69,82 } };
+static const union { u8 octets[10]; u64 aligned; } octets_of_c124 = { { 83,76,65,86,69,95,79,78,76,89 } };
 #define c125 (octets_of_c125.octets)
-static const union { u8 octets[11]; u64 aligned; } octets_of_c125 = { { 69,78,65,66,76,69,95,80,79,82,84 } };
+static const union { u8 octets[14]; u64 aligned; } octets_of_c125 = { { 86,69,82,83,73,79,78,95,78,85,77,66,69,82 } };
 #define c126 (octets_of_c126.octets)
-static const union { u8 octets[12]; u64 aligned; } octets_of_c126 = { { 68,73,83,65,66,76,69,95,80,79,82,84 } };
+static const union { u8 octets[11]; u64 aligned; } octets_of_c126 = { { 69,78,65,66,76,69,95,80,79,82,84 } };
 #define c127 (octets_of_c127.octets)
-static const union { u8 octets[14]; u64 aligned; } octets_of_c127 = { { 67,76,79,67,75,95,65,67,67,85,82,65,67,89 } };
+static const union { u8 octets[12]; u64 aligned; } octets_of_c127 = { { 68,73,83,65,66,76,69,95,80,79,82,84 } };
 #define c128 (octets_of_c128.octets)
-static const union { u8 octets[14]; u64 aligned; } octets_of_c128 = { { 85,84,67,95,80,82,79,80,69,82,84,73,69,83 } };
+static const union { u8 octets[14]; u64 aligned; } octets_of_c128 = { { 67,76,79,67,75,95,65,67,67,85,82,65,67,89 } };
 #define c129 (octets_of_c129.octets)
-static const union { u8 octets[21]; u64 aligned; } octets_of_c129 = { { 76,79,71,95,65,78,78,79,85,78,67,69,95,73,78,84,69,82,86,65,76 } };
+static const union { u8 octets[14]; u64 aligned; } octets_of_c129 = { { 85,84,67,95,80,82,79,80,69,82,84,73,69,83 } };
 #define c130 (octets_of_c130.octets)
-static const union { u8 octets[19]; u64 aligned; } octets_of_c130 = { { 108,111,103,65,110,110,111,117,110,99,101,73,110,116,101,114,118,97,108 } };
+static const union { u8 octets[21]; u64 aligned; } octets_of_c130 = { { 76,79,71,95,65,78,78,79,85,78,67,69,95,73,78,84,69,82,86,65,76 } };
 #define c131 (octets_of_c131.octets)
-static const union { u8 octets[24]; u64 aligned; } octets_of_c131 = { { 65,78,78,79,85,78,67,69,95,82,69,67,69,73,80,84,95,84,73,77,69,79,85,84 } };
+static const union { u8 octets[19]; u64 aligned; } octets_of_c131 = { { 108,111,103,65,110,110,111,117,110,99,101,73,110,116,101,114,118,97,108 } };
 #define c132 (octets_of_c132.octets)
-static const union { u8 octets[22]; u64 aligned; } octets_of_c132 = { { 97,110,110,111,117,110,99,101,82,101,99,101,105,112,116,84,105,109,101,111,117,116 } };
+static const union { u8 octets[24]; u64 aligned; } octets_of_c132 = { { 65,78,78,79,85,78,67,69,95,82,69,67,69,73,80,84,95,84,73,77,69,79,85,84 } };
 #define c133 (octets_of_c133.octets)
-static const union { u8 octets[17]; u64 aligned; } octets_of_c133 = { { 76,79,71,95,83,89,78,67,95,73,78,84,69,82,86,65,76 } };
+static const union { u8 octets[22]; u64 aligned; } octets_of_c133 = { { 97,110,110,111,117,110,99,101,82,101,99,101,105,112,116,84,105,109,101,111,117,116 } };
 #define c134 (octets_of_c134.octets)
-static const union { u8 octets[15]; u64 aligned; } octets_of_c134 = { { 108,111,103,83,121,110,99,73,110,116,101,114,118,97,108 } };
+static const union { u8 octets[17]; u64 aligned; } octets_of_c134 = { { 76,79,71,95,83,89,78,67,95,73,78,84,69,82,86,65,76 } };
 #define c135 (octets_of_c135.octets)
-static const union { u8 octets[15]; u64 aligned; } octets_of_c135 = { { 68,69,76,65,89,95,77,69,67,72,65,78,73,83,77 } };
+static const union { u8 octets[15]; u64 aligned; } octets_of_c135 = { { 108,111,103,83,121,110,99,73,110,116,101,114,118,97,108 } };
 #define c136 (octets_of_c136.octets)
-static const union { u8 octets[14]; u64 aligned; } octets_of_c136 = { { 100,101,108,97,121,77,101,99,104,97,110,105,115,109 } };
+static const union { u8 octets[15]; u64 aligned; } octets_of_c136 = { { 68,69,76,65,89,95,77,69,67,72,65,78,73,83,77 } };
 #define c137 (octets_of_c137.octets)
-static const union { u8 octets[27]; u64 aligned; } octets_of_c137 = { { 76,79,71,95,77,73,78,95,80,68,69,76,65,89,95,82,69,81,95,73,78,84,69,82,86,65,76 } };
+static const union { u8 octets[14]; u64 aligned; } octets_of_c137 = { { 100,101,108,97,121,77,101,99,104,97,110,105,115,109 } };
 #define c138 (octets_of_c138.octets)
-static const union { u8 octets[23]; u64 aligned; } octets_of_c138 = { { 108,111,103,77,105,110,80,100,101,108,97,121,82,101,113,73,110,116,101,114,118,97,108 } };
-#if IS_LITTLE_ENDIAN
-static const struct form_of_c139 { slot slot0; u8 octets8[1472]; } octets_of_c139;
-#define c139 ((const u8 *)&octets_of_c139)
-#else
-static union form_of_c139 { u8 octets[1480]; u64 aligned; } octets_of_c139;
+static const union { u8 octets[27]; u64 aligned; } octets_of_c138 = { { 76,79,71,95,77,73,78,95,80,68,69,76,65,89,95,82,69,81,95,73,78,84,69,82,86,65,76 } };
 #define c139 (octets_of_c139.octets)
-#endif
+static const union { u8 octets[23]; u64 aligned; } octets_of_c139 = { { 108,111,103,77,105,110,80,100,101,108,97,121,82,101,113,73,110,116,101,114,118,97,108 } };
+#if IS_LITTLE_ENDIAN
+static const struct form_of_c140 { slot slot0; u8 octets8[1472]; } octets_of_c140;
+#define c140 ((const u8 *)&octets_of_c140)
+#else
+static union form_of_c140 { u8 octets[1480]; u64 aligned; } octets_of_c140;
 #define c140 (octets_of_c140.octets)
-static const union { u8 octets[12]; u64 aligned; } octets_of_c140 = { { 0,2,0,0,0,0,0,0,0,0,0,0 } };
+#endif
 #define c141 (octets_of_c141.octets)
-static const union { u8 octets[16]; u64 aligned; } octets_of_c141 = { { 82,69,83,80,79,78,83,69,95,84,79,79,95,66,73,71 } };
+static const union { u8 octets[12]; u64 aligned; } octets_of_c141 = { { 0,2,0,0,0,0,0,0,0,0,0,0 } };
 #define c142 (octets_of_c142.octets)
-static const union { u8 octets[10]; u64 aligned; } octets_of_c142 = { { 78,79,95,83,85,67,72,95,73,68 } };
+static const union { u8 octets[16]; u64 aligned; } octets_of_c142 = { { 82,69,83,80,79,78,83,69,95,84,79,79,95,66,73,71 } };
 #define c143 (octets_of_c143.octets)
-static const union { u8 octets[12]; u64 aligned; } octets_of_c143 = { { 87,82,79,78,71,95,76,69,78,71,84,72 } };
+static const union { u8 octets[10]; u64 aligned; } octets_of_c143 = { { 78,79,95,83,85,67,72,95,73,68 } };
 #define c144 (octets_of_c144.octets)
-static const union { u8 octets[11]; u64 aligned; } octets_of_c144 = { { 87,82,79,78,71,95,86,65,76,85,69 } };
+static const union { u8 octets[12]; u64 aligned; } octets_of_c144 = { { 87,82,79,78,71,95,76,69,78,71,84,72 } };
 #define c145 (octets_of_c145.octets)
-static const union { u8 octets[11]; u64 aligned; } octets_of_c145 = { { 78,79,84,95,83,69,84,65,66,76,69 } };
+static const union { u8 octets[11]; u64 aligned; } octets_of_c145 = { { 87,82,79,78,71,95,86,65,76,85,69 } };
 #define c146 (octets_of_c146.octets)
-static const union { u8 octets[13]; u64 aligned; } octets_of_c146 = { { 78,79,84,95,83,85,80,80,79,82,84,69,68 } };
+static const union { u8 octets[11]; u64 aligned; } octets_of_c146 = { { 78,79,84,95,83,69,84,65,66,76,69 } };
 #define c147 (octets_of_c147.octets)
-static const union { u8 octets[13]; u64 aligned; } octets_of_c147 = { { 71,69,78,69,82,65,76,95,69,82,82,79,82 } };
+static const union { u8 octets[13]; u64 aligned; } octets_of_c147 = { { 78,79,84,95,83,85,80,80,79,82,84,69,68 } };
 #define c148 (octets_of_c148.octets)
-static const union { u8 octets[6]; u64 aligned; } octets_of_c148 = { { 0,2,0,0,11,0 } };
+static const union { u8 octets[13]; u64 aligned; } octets_of_c148 = { { 71,69,78,69,82,65,76,95,69,82,82,79,82 } };
 #define c149 (octets_of_c149.octets)
-static const union { u8 octets[60]; u64 aligned; } octets_of_c149 = { { 0,3,0,0,3,1,2,0,0,0,3,2,1,0,0,2,0,2,0,4,0,4,0,1,0,5,0,5,0,1,0,6,0,6,1,1,0,7,0,7,1,2,0,8,0,9,0,1,0,0,0,10,7,0,0,1,0,18,0,1 } };
+static const union { u8 octets[6]; u64 aligned; } octets_of_c149 = { { 0,2,0,0,11,0 } };
 #define c150 (octets_of_c150.octets)
-static const union { u8 octets[18]; u64 aligned; } octets_of_c150 = { { 0,9,0,0,0,2,0,10,0,2,6,0,0,11,0,10,6,0 } };
+static const union { u8 octets[60]; u64 aligned; } octets_of_c150 = { { 0,3,0,0,3,1,2,0,0,0,3,2,1,0,0,2,0,2,0,4,0,4,0,1,0,5,0,5,0,1,0,6,0,6,1,1,0,7,0,7,1,2,0,8,0,9,0,1,0,0,0,10,7,0,0,1,0,18,0,1 } };
 #define c151 (octets_of_c151.octets)
-static const union { u8 octets[60]; u64 aligned; } octets_of_c151 = { { 0,12,0,0,8,0,0,13,0,10,3,1,0,14,0,12,1,2,0,15,0,14,2,4,0,16,0,18,0,1,0,17,0,19,0,1,0,18,0,20,1,1,0,19,0,21,1,2,0,20,0,23,0,1,0,21,0,24,7,0 } };
+static const union { u8 octets[18]; u64 aligned; } octets_of_c151 = { { 0,9,0,0,0,2,0,10,0,2,6,0,0,11,0,10,6,0 } };
 #define c152 (octets_of_c152.octets)
-static const union { u8 octets[48]; u64 aligned; } octets_of_c152 = { { 0,22,0,0,2,2,0,23,0,2,3,1,0,24,0,2,3,2,0,25,0,2,3,4,0,26,0,2,3,8,0,27,0,2,3,16,0,28,0,2,3,32,0,29,0,3,1,1 } };
+static const union { u8 octets[60]; u64 aligned; } octets_of_c152 = { { 0,12,0,0,8,0,0,13,0,10,3,1,0,14,0,12,1,2,0,15,0,14,2,4,0,16,0,18,0,1,0,17,0,19,0,1,0,18,0,20,1,1,0,19,0,21,1,2,0,20,0,23,0,1,0,21,0,24,7,0 } };
 #define c153 (octets_of_c153.octets)
-static const union { u8 octets[60]; u64 aligned; } octets_of_c153 = { { 3,0,0,0,8,0,0,30,0,10,9,0,0,31,0,11,2,1,0,32,0,12,6,0,0,33,0,20,2,1,0,33,1,21,0,1,0,33,2,22,2,1,0,33,3,23,10,0,0,33,4,24,2,1,4,0,0,25,5,0 } };
+static const union { u8 octets[48]; u64 aligned; } octets_of_c153 = { { 0,22,0,0,2,2,0,23,0,2,3,1,0,24,0,2,3,2,0,25,0,2,3,4,0,26,0,2,3,8,0,27,0,2,3,16,0,28,0,2,3,32,0,29,0,3,1,1 } };
 #define c154 (octets_of_c154.octets)
-static const union { u8 octets[6]; u64 aligned; } octets_of_c154 = { { 0,4,0,0,0,1 } };
+static const union { u8 octets[60]; u64 aligned; } octets_of_c154 = { { 3,0,0,0,8,0,0,30,0,10,9,0,0,31,0,11,2,1,0,32,0,12,6,0,0,33,0,20,2,1,0,33,1,21,0,1,0,33,2,22,2,1,0,33,3,23,10,0,0,33,4,24,2,1,4,0,0,25,5,0 } };
 #define c155 (octets_of_c155.octets)
-static const union { u8 octets[6]; u64 aligned; } octets_of_c155 = { { 0,8,0,0,0,1 } };
+static const union { u8 octets[6]; u64 aligned; } octets_of_c155 = { { 0,4,0,0,0,1 } };
 #define c156 (octets_of_c156.octets)
-static const union { u8 octets[6]; u64 aligned; } octets_of_c156 = { { 0,1,0,0,0,1 } };
+static const union { u8 octets[6]; u64 aligned; } octets_of_c156 = { { 0,8,0,0,0,1 } };
 #define c157 (octets_of_c157.octets)
-static const union { u8 octets[6]; u64 aligned; } octets_of_c157 = { { 2,0,0,0,4,0 } };
+static const union { u8 octets[6]; u64 aligned; } octets_of_c157 = { { 0,1,0,0,0,1 } };
 #define c158 (octets_of_c158.octets)
-static const union { u8 octets[6]; u64 aligned; } octets_of_c158 = { { 0,33,0,0,2,1 } };
+static const union { u8 octets[6]; u64 aligned; } octets_of_c158 = { { 2,0,0,0,4,0 } };
 #define c159 (octets_of_c159.octets)
-static const union { u8 octets[6]; u64 aligned; } octets_of_c159 = { { 0,33,1,0,0,1 } };
+static const union { u8 octets[6]; u64 aligned; } octets_of_c159 = { { 0,33,0,0,2,1 } };
 #define c160 (octets_of_c160.octets)
-static const union { u8 octets[6]; u64 aligned; } octets_of_c160 = { { 0,33,2,0,2,1 } };
+static const union { u8 octets[6]; u64 aligned; } octets_of_c160 = { { 0,33,1,0,0,1 } };
 #define c161 (octets_of_c161.octets)
-static const union { u8 octets[6]; u64 aligned; } octets_of_c161 = { { 0,33,3,0,10,0 } };
+static const union { u8 octets[6]; u64 aligned; } octets_of_c161 = { { 0,33,2,0,2,1 } };
 #define c162 (octets_of_c162.octets)
-static const union { u8 octets[6]; u64 aligned; } octets_of_c162 = { { 0,33,4,0,2,1 } };
+static const union { u8 octets[6]; u64 aligned; } octets_of_c162 = { { 0,33,3,0,10,0 } };
 #define c163 (octets_of_c163.octets)
-static const union { u8 octets[6]; u64 aligned; } octets_of_c163 = { { 4,0,0,0,5,0 } };
+static const union { u8 octets[6]; u64 aligned; } octets_of_c163 = { { 0,33,4,0,2,1 } };
 #define c164 (octets_of_c164.octets)
-static const union { u8 octets[6]; u64 aligned; } octets_of_c164 = { { 5,0,0,0,1,1 } };
+static const union { u8 octets[6]; u64 aligned; } octets_of_c164 = { { 4,0,0,0,5,0 } };
 #define c165 (octets_of_c165.octets)
-static const union { u8 octets[24]; u64 aligned; } octets_of_c165 = { { 0,22,0,0,2,2,0,23,0,2,3,1,0,24,0,2,3,2,0,25,0,2,3,4 } };
+static const union { u8 octets[6]; u64 aligned; } octets_of_c165 = { { 5,0,0,0,1,1 } };
 #define c166 (octets_of_c166.octets)
-static const union { u8 octets[4]; u64 aligned; } octets_of_c166 = { { 116,114,117,101 } };
+static const union { u8 octets[24]; u64 aligned; } octets_of_c166 = { { 0,22,0,0,2,2,0,23,0,2,3,1,0,24,0,2,3,2,0,25,0,2,3,4 } };
 #define c167 (octets_of_c167.octets)
-static const union { u8 octets[5]; u64 aligned; } octets_of_c167 = { { 102,97,108,115,101 } };
+static const union { u8 octets[4]; u64 aligned; } octets_of_c167 = { { 116,114,117,101 } };
 #define c168 (octets_of_c168.octets)
-static const union { u8 octets[3]; u64 aligned; } octets_of_c168 = { { 69,50,69 } };
+static const union { u8 octets[5]; u64 aligned; } octets_of_c168 = { { 102,97,108,115,101 } };
 #define c169 (octets_of_c169.octets)
-static const union { u8 octets[3]; u64 aligned; } octets_of_c169 = { { 80,50,80 } };
+static const union { u8 octets[3]; u64 aligned; } octets_of_c169 = { { 69,50,69 } };
 #define c170 (octets_of_c170.octets)
-static const union { u8 octets[12]; u64 aligned; } octets_of_c170 = { { 78,79,95,77,69,67,72,65,78,73,83,77 } };
+static const union { u8 octets[3]; u64 aligned; } octets_of_c170 = { { 80,50,80 } };
 #define c171 (octets_of_c171.octets)
-static const union { u8 octets[10]; u64 aligned; } octets_of_c171 = { { 67,79,77,77,79,78,95,80,50,80 } };
+static const union { u8 octets[12]; u64 aligned; } octets_of_c171 = { { 78,79,95,77,69,67,72,65,78,73,83,77 } };
 #define c172 (octets_of_c172.octets)
-static const union { u8 octets[7]; u64 aligned; } octets_of_c172 = { { 83,80,69,67,73,65,76 } };
+static const union { u8 octets[10]; u64 aligned; } octets_of_c172 = { { 67,79,77,77,79,78,95,80,50,80 } };
 #define c173 (octets_of_c173.octets)
-static const union { u8 octets[11]; u64 aligned; } octets_of_c173 = { { 110,117,109,98,101,114,80,111,114,116,115 } };
+static const union { u8 octets[7]; u64 aligned; } octets_of_c173 = { { 83,80,69,67,73,65,76 } };
 #define c174 (octets_of_c174.octets)
-static const union { u8 octets[9]; u64 aligned; } octets_of_c174 = { { 115,108,97,118,101,79,110,108,121 } };
+static const union { u8 octets[11]; u64 aligned; } octets_of_c174 = { { 110,117,109,98,101,114,80,111,114,116,115 } };
 #define c175 (octets_of_c175.octets)
-static const union { u8 octets[12]; u64 aligned; } octets_of_c175 = { { 112,111,114,116,73,100,101,110,116,105,116,121 } };
+static const union { u8 octets[9]; u64 aligned; } octets_of_c175 = { { 115,108,97,118,101,79,110,108,121 } };
 #define c176 (octets_of_c176.octets)
-static const union { u8 octets[13]; u64 aligned; } octets_of_c176 = { { 118,101,114,115,105,111,110,78,117,109,98,101,114 } };
+static const union { u8 octets[12]; u64 aligned; } octets_of_c176 = { { 112,111,114,116,73,100,101,110,116,105,116,121 } };
 #define c177 (octets_of_c177.octets)
-static const union { u8 octets[13]; u64 aligned; } octets_of_c177 = { { 99,108,111,99,107,65,99,99,117,114,97,99,121 } };
+static const union { u8 octets[13]; u64 aligned; } octets_of_c177 = { { 118,101,114,115,105,111,110,78,117,109,98,101,114 } };
 #define c178 (octets_of_c178.octets)
-static const union { u8 octets[13]; u64 aligned; } octets_of_c178 = { { 99,108,111,99,107,73,100,101,110,116,105,116,121 } };
+static const union { u8 octets[13]; u64 aligned; } octets_of_c178 = { { 99,108,111,99,107,65,99,99,117,114,97,99,121 } };
 #define c179 (octets_of_c179.octets)
-static const union { u8 octets[12]; u64 aligned; } octets_of_c179 = { { 100,111,109,97,105,110,78,117,109,98,101,114 } };
+static const union { u8 octets[9]; u64 aligned; } octets_of_c179 = { { 99,108,111,99,107,84,121,112,101 } };
 #define c180 (octets_of_c180.octets)
-static const union { u8 octets[15]; u64 aligned; } octets_of_c180 = { { 117,115,101,114,68,101,115,99,114,105,112,116,105,111,110 } };
+static const union { u8 octets[21]; u64 aligned; } octets_of_c180 = { { 112,104,121,115,105,99,97,108,76,97,121,101,114,80,114,111,116,111,99,111,108 } };
 #define c181 (octets_of_c181.octets)
-static const union { u8 octets[11]; u64 aligned; } octets_of_c181 = { { 116,119,111,83,116,101,112,70,108,97,103 } };
+static const union { u8 octets[15]; u64 aligned; } octets_of_c181 = { { 112,104,121,115,105,99,97,108,65,100,100,114,101,115,115 } };
 #define c182 (octets_of_c182.octets)
-static const union { u8 octets[9]; u64 aligned; } octets_of_c182 = { { 112,114,105,111,114,105,116,121,49 } };
+static const union { u8 octets[15]; u64 aligned; } octets_of_c182 = { { 110,101,116,119,111,114,107,80,114,111,116,111,99,111,108 } };
 #define c183 (octets_of_c183.octets)
-static const union { u8 octets[23]; u64 aligned; } octets_of_c183 = { { 99,108,111,99,107,81,117,97,108,105,116,121,46,99,108,111,99,107,67,108,97,115,115 } };
+static const union { u8 octets[12]; u64 aligned; } octets_of_c183 = { { 97,100,100,114,101,115,115,70,105,101,108,100 } };
 #define c184 (octets_of_c184.octets)
-static const union { u8 octets[26]; u64 aligned; } octets_of_c184 = { { 99,108,111,99,107,81,117,97,108,105,116,121,46,99,108,111,99,107,65,99,99,117,114,97,99,121 } };
+static const union { u8 octets[20]; u64 aligned; } octets_of_c184 = { { 109,97,110,117,102,97,99,116,117,114,101,114,73,100,101,110,116,105,116,121 } };
 #define c185 (octets_of_c185.octets)
-static const union { u8 octets[36]; u64 aligned; } octets_of_c185 = { { 99,108,111,99,107,81,117,97,108,105,116,121,46,111,102,102,115,101,116,83,99,97,108,101,100,76,111,103,86,97,114,105,97,110,99,101 } };
+static const union { u8 octets[18]; u64 aligned; } octets_of_c185 = { { 112,114,111,100,117,99,116,68,101,115,99,114,105,112,116,105,111,110 } };
 #define c186 (octets_of_c186.octets)
-static const union { u8 octets[9]; u64 aligned; } octets_of_c186 = { { 112,114,105,111,114,105,116,121,50 } };
+static const union { u8 octets[12]; u64 aligned; } octets_of_c186 = { { 114,101,118,105,115,105,111,110,68,97,116,97 } };
 #define c187 (octets_of_c187.octets)
-static const union { u8 octets[12]; u64 aligned; } octets_of_c187 = { { 115,116,101,112,115,82,101,109,111,118,101,100 } };
+static const union { u8 octets[15]; u64 aligned; } octets_of_c187 = { { 112,114,111,102,105,108,101,73,100,101,110,116,105,116,121 } };
 #define c188 (octets_of_c188.octets)
-static const union { u8 octets[16]; u64 aligned; } octets_of_c188 = { { 111,102,102,115,101,116,70,114,111,109,77,97,115,116,101,114 } };
+static const union { u8 octets[12]; u64 aligned; } octets_of_c188 = { { 115,101,99,111,110,100,115,70,105,101,108,100 } };
 #define c189 (octets_of_c189.octets)
-static const union { u8 octets[9]; u64 aligned; } octets_of_c189 = { { 109,101,97,110,68,101,108,97,121 } };
+static const union { u8 octets[16]; u64 aligned; } octets_of_c189 = { { 110,97,110,111,115,101,99,111,110,100,115,70,105,101,108,100 } };
 #define c190 (octets_of_c190.octets)
-static const union { u8 octets[18]; u64 aligned; } octets_of_c190 = { { 112,97,114,101,110,116,80,111,114,116,73,100,101,110,116,105,116,121 } };
+static const union { u8 octets[12]; u64 aligned; } octets_of_c190 = { { 112,97,116,104,83,101,113,117,101,110,99,101 } };
 #define c191 (octets_of_c191.octets)
-static const union { u8 octets[11]; u64 aligned; } octets_of_c191 = { { 112,97,114,101,110,116,83,116,97,116,115 } };
+static const union { u8 octets[13]; u64 aligned; } octets_of_c191 = { { 109,97,115,116,101,114,95,111,102,102,115,101,116 } };
 #define c192 (octets_of_c192.octets)
-static const union { u8 octets[37]; u64 aligned; } octets_of_c192 = { { 111,98,115,101,114,118,101,100,80,97,114,101,110,116,79,102,102,115,101,116,83,99,97,108,101,100,76,111,103,86,97,114,105,97,110,99,101 } };
+static const union { u8 octets[12]; u64 aligned; } octets_of_c192 = { { 105,110,103,114,101,115,115,95,116,105,109,101 } };
 #define c193 (octets_of_c193.octets)
-static const union { u8 octets[34]; u64 aligned; } octets_of_c193 = { { 111,98,115,101,114,118,101,100,80,97,114,101,110,116,67,108,111,99,107,80,104,97,115,101,67,104,97,110,103,101,82,97,116,101 } };
+static const union { u8 octets[26]; u64 aligned; } octets_of_c193 = { { 99,117,109,117,108,97,116,105,118,101,83,99,97,108,101,100,82,97,116,101,79,102,102,115,101,116 } };
 #define c194 (octets_of_c194.octets)
-static const union { u8 octets[20]; u64 aligned; } octets_of_c194 = { { 103,114,97,110,100,109,97,115,116,101,114,80,114,105,111,114,105,116,121,49 } };
+static const union { u8 octets[23]; u64 aligned; } octets_of_c194 = { { 115,99,97,108,101,100,76,97,115,116,71,109,80,104,97,115,101,67,104,97,110,103,101 } };
 #define c195 (octets_of_c195.octets)
-static const union { u8 octets[34]; u64 aligned; } octets_of_c195 = { { 103,114,97,110,100,109,97,115,116,101,114,67,108,111,99,107,81,117,97,108,105,116,121,46,99,108,111,99,107,67,108,97,115,115 } };
+static const union { u8 octets[19]; u64 aligned; } octets_of_c195 = { { 103,109,84,105,109,101,66,97,115,101,73,110,100,105,99,97,116,111,114 } };
 #define c196 (octets_of_c196.octets)
-static const union { u8 octets[37]; u64 aligned; } octets_of_c196 = { { 103,114,97,110,100,109,97,115,116,101,114,67,108,111,99,107,81,117,97,108,105,116,121,46,99,108,111,99,107,65,99,99,117,114,97,99,121 } };
+static const union { u8 octets[17]; u64 aligned; } octets_of_c196 = { { 108,97,115,116,71,109,80,104,97,115,101,67,104,97,110,103,101 } };
 #define c197 (octets_of_c197.octets)
-static const union { u8 octets[47]; u64 aligned; } octets_of_c197 = { { 103,114,97,110,100,109,97,115,116,101,114,67,108,111,99,107,81,117,97,108,105,116,121,46,111,102,102,115,101,116,83,99,97,108,101,100,76,111,103,86,97,114,105,97,110,99,101 } };
+static const union { u8 octets[9]; u64 aligned; } octets_of_c197 = { { 103,109,80,114,101,115,101,110,116 } };
 #define c198 (octets_of_c198.octets)
-static const union { u8 octets[20]; u64 aligned; } octets_of_c198 = { { 103,114,97,110,100,109,97,115,116,101,114,80,114,105,111,114,105,116,121,50 } };
+static const union { u8 octets[10]; u64 aligned; } octets_of_c198 = { { 103,109,73,100,101,110,116,105,116,121 } };
 #define c199 (octets_of_c199.octets)
-static const union { u8 octets[19]; u64 aligned; } octets_of_c199 = { { 103,114,97,110,100,109,97,115,116,101,114,73,100,101,110,116,105,116,121 } };
+static const union { u8 octets[23]; u64 aligned; } octets_of_c199 = { { 110,101,105,103,104,98,111,114,80,114,111,112,68,101,108,97,121,84,104,114,101,115,104 } };
 #define c200 (octets_of_c200.octets)
-static const union { u8 octets[16]; u64 aligned; } octets_of_c200 = { { 99,117,114,114,101,110,116,85,116,99,79,102,102,115,101,116 } };
+static const union { u8 octets[9]; u64 aligned; } octets_of_c200 = { { 97,115,67,97,112,97,98,108,101 } };
 #define c201 (octets_of_c201.octets)
-static const union { u8 octets[6]; u64 aligned; } octets_of_c201 = { { 108,101,97,112,54,49 } };
+static const union { u8 octets[12]; u64 aligned; } octets_of_c201 = { { 116,105,109,101,115,116,97,109,112,105,110,103 } };
 #define c202 (octets_of_c202.octets)
-static const union { u8 octets[6]; u64 aligned; } octets_of_c202 = { { 108,101,97,112,53,57 } };
+static const union { u8 octets[9]; u64 aligned; } octets_of_c202 = { { 105,110,116,101,114,102,97,99,101 } };
 #define c203 (octets_of_c203.octets)
-static const union { u8 octets[21]; u64 aligned; } octets_of_c203 = { { 99,117,114,114,101,110,116,85,116,99,79,102,102,115,101,116,86,97,108,105,100 } };
+static const union { u8 octets[7]; u64 aligned; } octets_of_c203 = { { 114,120,95,83,121,110,99 } };
 #define c204 (octets_of_c204.octets)
-static const union { u8 octets[12]; u64 aligned; } octets_of_c204 = { { 112,116,112,84,105,109,101,115,99,97,108,101 } };
+static const union { u8 octets[12]; u64 aligned; } octets_of_c204 = { { 114,120,95,68,101,108,97,121,95,82,101,113 } };
 #define c205 (octets_of_c205.octets)
-static const union { u8 octets[13]; u64 aligned; } octets_of_c205 = { { 116,105,109,101,84,114,97,99,101,97,98,108,101 } };
+static const union { u8 octets[13]; u64 aligned; } octets_of_c205 = { { 114,120,95,80,100,101,108,97,121,95,82,101,113 } };
 #define c206 (octets_of_c206.octets)
-static const union { u8 octets[18]; u64 aligned; } octets_of_c206 = { { 102,114,101,113,117,101,110,99,121,84,114,97,99,101,97,98,108,101 } };
+static const union { u8 octets[14]; u64 aligned; } octets_of_c206 = { { 114,120,95,80,100,101,108,97,121,95,82,101,115,112 } };
 #define c207 (octets_of_c207.octets)
-static const union { u8 octets[10]; u64 aligned; } octets_of_c207 = { { 116,105,109,101,83,111,117,114,99,101 } };
+static const union { u8 octets[12]; u64 aligned; } octets_of_c207 = { { 114,120,95,70,111,108,108,111,119,95,85,112 } };
 #define c208 (octets_of_c208.octets)
-static const union { u8 octets[9]; u64 aligned; } octets_of_c208 = { { 112,111,114,116,83,116,97,116,101 } };
+static const union { u8 octets[13]; u64 aligned; } octets_of_c208 = { { 114,120,95,68,101,108,97,121,95,82,101,115,112 } };
 #define c209 (octets_of_c209.octets)
-static const union { u8 octets[22]; u64 aligned; } octets_of_c209 = { { 108,111,103,77,105,110,68,101,108,97,121,82,101,113,73,110,116,101,114,118,97,108 } };
+static const union { u8 octets[24]; u64 aligned; } octets_of_c209 = { { 114,120,95,80,100,101,108,97,121,95,82,101,115,112,95,70,111,108,108,111,119,95,85,112 } };
 #define c210 (octets_of_c210.octets)
-static const union { u8 octets[13]; u64 aligned; } octets_of_c210 = { { 109,101,97,110,76,105,110,107,68,101,108,97,121 } };
+static const union { u8 octets[11]; u64 aligned; } octets_of_c210 = { { 114,120,95,65,110,110,111,117,110,99,101 } };
 #define c211 (octets_of_c211.octets)
-static const union { u8 octets[6]; u64 aligned; } octets_of_c211 = { { 118,97,108,117,101,32 } };
+static const union { u8 octets[12]; u64 aligned; } octets_of_c211 = { { 114,120,95,83,105,103,110,97,108,105,110,103 } };
 #define c212 (octets_of_c212.octets)
-static const union { u8 octets[2]; u64 aligned; } octets_of_c212 = { { 48,120 } };
+static const union { u8 octets[13]; u64 aligned; } octets_of_c212 = { { 114,120,95,77,97,110,97,103,101,109,101,110,116 } };
 #define c213 (octets_of_c213.octets)
-static const union { u8 octets[200]; u64 aligned; } octets_of_c213 = { { 48,48,48,49,48,50,48,51,48,52,48,53,48,54,48,55,48,56,48,57,49,48,49,49,49,50,49,51,49,52,49,53,49,54,49,55,49,56,49,57,50,48,50,49,50,50,50,51,50,52,50,53,50,54,50,55,50,56,50,57,51,48,51,49,51,50,51,51,51,52,51,53,51,54,51,55,51,56,51,57,52,48,52,49,52,50,52,51,52,52,52,53,52,54,52,55,52,56,52,57,53,48,53,49,53,50,53,51,53,52,53,53,53,54,53,55,53,56,53,57,54,48,54,49,54,50,54,51,54,52,54,53,54,54,54,55,54,56,54,57,55,48,55,49,55,50,55,51,55,52,55,53,55,54,55,55,55,56,55,57,56,48,56,49,56,50,56,51,56,52,56,53,56,54,56,55,56,56,56,57,57,48,57,49,57,50,57,51,57,52,57,53,57,54,57,55,57,56,57,57 } };
+static const union { u8 octets[7]; u64 aligned; } octets_of_c213 = { { 116,120,95,83,121,110,99 } };
 #define c214 (octets_of_c214.octets)
-static const union { u8 octets[12]; u64 aligned; } octets_of_c214 = { { 73,78,73,84,73,65,76,73,90,73,78,71 } };
+static const union { u8 octets[12]; u64 aligned; } octets_of_c214 = { { 116,120,95,68,101,108,97,121,95,82,101,113 } };
 #define c215 (octets_of_c215.octets)
-static const union { u8 octets[6]; u64 aligned; } octets_of_c215 = { { 70,65,85,76,84,89 } };
+static const union { u8 octets[13]; u64 aligned; } octets_of_c215 = { { 116,120,95,80,100,101,108,97,121,95,82,101,113 } };
 #define c216 (octets_of_c216.octets)
-static const union { u8 octets[8]; u64 aligned; } octets_of_c216 = { { 68,73,83,65,66,76,69,68 } };
+static const union { u8 octets[14]; u64 aligned; } octets_of_c216 = { { 116,120,95,80,100,101,108,97,121,95,82,101,115,112 } };
 #define c217 (octets_of_c217.octets)
-static const union { u8 octets[9]; u64 aligned; } octets_of_c217 = { { 76,73,83,84,69,78,73,78,71 } };
+static const union { u8 octets[12]; u64 aligned; } octets_of_c217 = { { 116,120,95,70,111,108,108,111,119,95,85,112 } };
 #define c218 (octets_of_c218.octets)
-static const union { u8 octets[10]; u64 aligned; } octets_of_c218 = { { 80,82,69,95,77,65,83,84,69,82 } };
+static const union { u8 octets[13]; u64 aligned; } octets_of_c218 = { { 116,120,95,68,101,108,97,121,95,82,101,115,112 } };
 #define c219 (octets_of_c219.octets)
-static const union { u8 octets[6]; u64 aligned; } octets_of_c219 = { { 77,65,83,84,69,82 } };
+static const union { u8 octets[24]; u64 aligned; } octets_of_c219 = { { 116,120,95,80,100,101,108,97,121,95,82,101,115,112,95,70,111,108,108,111,119,95,85,112 } };
 #define c220 (octets_of_c220.octets)
-static const union { u8 octets[7]; u64 aligned; } octets_of_c220 = { { 80,65,83,83,73,86,69 } };
+static const union { u8 octets[11]; u64 aligned; } octets_of_c220 = { { 116,120,95,65,110,110,111,117,110,99,101 } };
 #define c221 (octets_of_c221.octets)
-static const union { u8 octets[12]; u64 aligned; } octets_of_c221 = { { 85,78,67,65,76,73,66,82,65,84,69,68 } };
+static const union { u8 octets[12]; u64 aligned; } octets_of_c221 = { { 116,120,95,83,105,103,110,97,108,105,110,103 } };
 #define c222 (octets_of_c222.octets)
-static const union { u8 octets[5]; u64 aligned; } octets_of_c222 = { { 83,76,65,86,69 } };
+static const union { u8 octets[13]; u64 aligned; } octets_of_c222 = { { 116,120,95,77,97,110,97,103,101,109,101,110,116 } };
 #define c223 (octets_of_c223.octets)
-static const union { u8 octets[2]; u64 aligned; } octets_of_c223 = { { 92,120 } };
+static const union { u8 octets[13]; u64 aligned; } octets_of_c223 = { { 99,108,111,99,107,73,100,101,110,116,105,116,121 } };
 #define c224 (octets_of_c224.octets)
-static const union { u8 octets[42]; u64 aligned; } octets_of_c224 = { { 0,0,2,0,0,32,1,32,2,32,3,32,4,32,5,32,6,32,7,32,8,32,9,32,10,32,11,32,12,32,13,32,14,32,16,32,17,32,0,96,1,96 } };
+static const union { u8 octets[12]; u64 aligned; } octets_of_c224 = { { 100,111,109,97,105,110,78,117,109,98,101,114 } };
 #define c225 (octets_of_c225.octets)
-static const union { u8 octets[4]; u64 aligned; } octets_of_c225 = { { 112,116,112,115 } };
+static const union { u8 octets[15]; u64 aligned; } octets_of_c225 = { { 117,115,101,114,68,101,115,99,114,105,112,116,105,111,110 } };
 #define c226 (octets_of_c226.octets)
-static const union { u8 octets[4]; u64 aligned; } octets_of_c226 = { { 112,116,112,109 } };
+static const union { u8 octets[11]; u64 aligned; } octets_of_c226 = { { 116,119,111,83,116,101,112,70,108,97,103 } };
 #define c227 (octets_of_c227.octets)
-static const union { u8 octets[144]; u64 aligned; } octets_of_c227 = { { 16,0,0,0,0,0,0,0,216,0,0,0,0,0,0,0,16,0,0,0,0,0,0,0,88,0,0,0,0,0,0,0,16,0,0,0,0,0,0,0,12,0,0,0,0,0,0,0,196,5,0,0,0,0,0,0,12,0,0,0,0,0,0,0,16,0,0,0,0,0,0,0,26,0,0,0,0,0,0,0,16,0,0,0,0,0,0,0,16,0,0,0,0,0,0,0,10,0,0,0,0,0,0,0,8,0,3,0,0,0,0,0,24,0,0,0,0,0,0,0,16,0,0,0,0,0,0,0,36,0,0,0,0,0,0,0,24,0,0,0,0,0,0,0 } };
+static const union { u8 octets[9]; u64 aligned; } octets_of_c227 = { { 112,114,105,111,114,105,116,121,49 } };
 #define c228 (octets_of_c228.octets)
-static const union { u8 octets[40]; u64 aligned; } octets_of_c228 = { { 19,0,0,0,0,0,0,0,22,0,0,0,0,0,0,0,15,0,0,0,0,0,0,0,14,0,0,0,0,0,0,0,23,0,0,0,0,0,0,0 } };
-#if IS_LITTLE_ENDIAN
-static const struct form_of_c229 { slot slot0; slot slot8; slot slot16; slot slot24; slot slot32; } octets_of_c229;
-#define c229 ((const u8 *)&octets_of_c229)
-#else
-static union form_of_c229 { u8 octets[40]; u64 aligned; } octets_of_c229;
+static const union { u8 octets[23]; u64 aligned; } octets_of_c228 = { { 99,108,111,99,107,81,117,97,108,105,116,121,46,99,108,111,99,107,67,108,97,115,115 } };
 #define c229 (octets_of_c229.octets)
-#endif
+static const union { u8 octets[26]; u64 aligned; } octets_of_c229 = { { 99,108,111,99,107,81,117,97,108,105,116,121,46,99,108,111,99,107,65,99,99,117,114,97,99,121 } };
 #define c230 (octets_of_c230.octets)
-static const union { u8 octets[20]; u64 aligned; } octets_of_c230 = { { 0,0,0,0,1,0,0,0,2,0,0,0,3,0,0,0,3,0,0,0 } };
+static const union { u8 octets[36]; u64 aligned; } octets_of_c230 = { { 99,108,111,99,107,81,117,97,108,105,116,121,46,111,102,102,115,101,116,83,99,97,108,101,100,76,111,103,86,97,114,105,97,110,99,101 } };
 #define c231 (octets_of_c231.octets)
-static const union { u8 octets[12]; u64 aligned; } octets_of_c231 = { { 51,0,0,0,52,0,0,0,35,0,0,0 } };
+static const union { u8 octets[9]; u64 aligned; } octets_of_c231 = { { 112,114,105,111,114,105,116,121,50 } };
 #define c232 (octets_of_c232.octets)
-static const union { u8 octets[72]; u64 aligned; } octets_of_c232 = { { 13,0,0,0,0,0,0,0,0,0,0,0,0,0,0,0,0,0,0,0,0,0,0,0,16,0,0,0,0,0,0,0,10,0,0,0,0,0,0,0,12,0,0,0,0,0,0,0,11,0,0,0,0,0,0,0,11,0,0,0,0,0,0,0,13,0,0,0,0,0,0,0 } };
-#if IS_LITTLE_ENDIAN
-static const struct form_of_c233 { slot slot0; u8 octets8[16]; slot slot24; slot slot32; slot slot40; slot slot48; slot slot56; slot slot64; } octets_of_c233;
-#define c233 ((const u8 *)&octets_of_c233)
-#else
-static union form_of_c233 { u8 octets[72]; u64 aligned; } octets_of_c233;
+static const union { u8 octets[12]; u64 aligned; } octets_of_c232 = { { 115,116,101,112,115,82,101,109,111,118,101,100 } };
 #define c233 (octets_of_c233.octets)
-#endif
-#if IS_LITTLE_ENDIAN
-static const struct form_of_c234 { slot slot0; slot slot8; slot slot16; slot slot24; slot slot32; } octets_of_c234;
-#define c234 ((const u8 *)&octets_of_c234)
-#else
-static union form_of_c234 { u8 octets[40]; u64 aligned; } octets_of_c234;
+static const union { u8 octets[16]; u64 aligned; } octets_of_c233 = { { 111,102,102,115,101,116,70,114,111,109,77,97,115,116,101,114 } };
 #define c234 (octets_of_c234.octets)
-#endif
-#if IS_LITTLE_ENDIAN
-static const struct form_of_c235 { slot slot0; slot slot8; slot slot16; slot slot24; slot slot32; slot slot40; slot slot48; slot slot56; slot slot64; } octets_of_c235;
-#define c235 ((const u8 *)&octets_of_c235)
-#else
-static union form_of_c235 { u8 octets[72]; u64 aligned; } octets_of_c235;
+static const union { u8 octets[9]; u64 aligned; } octets_of_c234 = { { 109,101,97,110,68,101,108,97,121 } };
 #define c235 (octets_of_c235.octets)
-#endif
+static const union { u8 octets[18]; u64 aligned; } octets_of_c235 = { { 112,97,114,101,110,116,80,111,114,116,73,100,101,110,116,105,116,121 } };
 #define c236 (octets_of_c236.octets)
-static const union { u8 octets[72]; u64 aligned; } octets_of_c236 = { { 12,0,0,0,0,0,0,0,6,0,0,0,0,0,0,0,8,0,0,0,0,0,0,0,9,0,0,0,0,0,0,0,10,0,0,0,0,0,0,0,6,0,0,0,0,0,0,0,7,0,0,0,0,0,0,0,12,0,0,0,0,0,0,0,5,0,0,0,0,0,0,0 } };
+static const union { u8 octets[11]; u64 aligned; } octets_of_c236 = { { 112,97,114,101,110,116,83,116,97,116,115 } };
 #define c237 (octets_of_c237.octets)
-static const union { u8 octets[56]; u64 aligned; } octets_of_c237 = { { 1,0,0,0,0,0,0,0,0,0,0,0,0,0,0,0,0,0,0,0,0,0,0,0,1,0,0,0,0,0,0,0,1,0,0,0,0,0,0,0,1,0,0,0,0,0,0,0,1,0,0,0,0,0,0,0 } };
-#if IS_LITTLE_ENDIAN
-static const struct form_of_c238 { slot slot0; u8 octets8[16]; slot slot24; slot slot32; slot slot40; slot slot48; } octets_of_c238;
-#define c238 ((const u8 *)&octets_of_c238)
-#else
-static union form_of_c238 { u8 octets[56]; u64 aligned; } octets_of_c238;
+static const union { u8 octets[37]; u64 aligned; } octets_of_c237 = { { 111,98,115,101,114,118,101,100,80,97,114,101,110,116,79,102,102,115,101,116,83,99,97,108,101,100,76,111,103,86,97,114,105,97,110,99,101 } };
 #define c238 (octets_of_c238.octets)
-#endif
+static const union { u8 octets[34]; u64 aligned; } octets_of_c238 = { { 111,98,115,101,114,118,101,100,80,97,114,101,110,116,67,108,111,99,107,80,104,97,115,101,67,104,97,110,103,101,82,97,116,101 } };
 #define c239 (octets_of_c239.octets)
-static const union { u8 octets[56]; u64 aligned; } octets_of_c239 = { { 12,0,0,0,0,0,0,0,0,0,0,0,0,0,0,0,0,0,0,0,0,0,0,0,3,0,0,0,0,0,0,0,3,0,0,0,0,0,0,0,10,0,0,0,0,0,0,0,7,0,0,0,0,0,0,0 } };
+static const union { u8 octets[20]; u64 aligned; } octets_of_c239 = { { 103,114,97,110,100,109,97,115,116,101,114,80,114,105,111,114,105,116,121,49 } };
 #define c240 (octets_of_c240.octets)
-static const union { u8 octets[24]; u64 aligned; } octets_of_c240 = { { 104,0,0,0,105,0,0,0,106,0,0,0,107,0,0,0,110,0,0,0,35,0,0,0 } };
+static const union { u8 octets[34]; u64 aligned; } octets_of_c240 = { { 103,114,97,110,100,109,97,115,116,101,114,67,108,111,99,107,81,117,97,108,105,116,121,46,99,108,111,99,107,67,108,97,115,115 } };
 #define c241 (octets_of_c241.octets)
-static const union { u8 octets[9]; u64 aligned; } octets_of_c241 = { { 6,0,0,0,0,0,3,4,5 } };
+static const union { u8 octets[37]; u64 aligned; } octets_of_c241 = { { 103,114,97,110,100,109,97,115,116,101,114,67,108,111,99,107,81,117,97,108,105,116,121,46,99,108,111,99,107,65,99,99,117,114,97,99,121 } };
 #define c242 (octets_of_c242.octets)
-static const union { u8 octets[14]; u64 aligned; } octets_of_c242 = { { 1,0,2,0,3,0,4,0,5,0,6,0,254,255 } };
+static const union { u8 octets[47]; u64 aligned; } octets_of_c242 = { { 103,114,97,110,100,109,97,115,116,101,114,67,108,111,99,107,81,117,97,108,105,116,121,46,111,102,102,115,101,116,83,99,97,108,101,100,76,111,103,86,97,114,105,97,110,99,101 } };
 #define c243 (octets_of_c243.octets)
-static const union { u8 octets[12]; u64 aligned; } octets_of_c243 = { { 33,0,0,0,40,0,0,0,41,0,0,0 } };
+static const union { u8 octets[20]; u64 aligned; } octets_of_c243 = { { 103,114,97,110,100,109,97,115,116,101,114,80,114,105,111,114,105,116,121,50 } };
 #define c244 (octets_of_c244.octets)
-static const union { u8 octets[24]; u64 aligned; } octets_of_c244 = { { 38,0,0,0,39,0,0,0,40,0,0,0,41,0,0,0,42,0,0,0,35,0,0,0 } };
+static const union { u8 octets[19]; u64 aligned; } octets_of_c244 = { { 103,114,97,110,100,109,97,115,116,101,114,73,100,101,110,116,105,116,121 } };
+#define c245 (octets_of_c245.octets)
+static const union { u8 octets[16]; u64 aligned; } octets_of_c245 = { { 99,117,114,114,101,110,116,85,116,99,79,102,102,115,101,116 } };
+#define c246 (octets_of_c246.octets)
+static const union { u8 octets[6]; u64 aligned; } octets_of_c246 = { { 108,101,97,112,54,49 } };
+#define c247 (octets_of_c247.octets)
+static const union { u8 octets[6]; u64 aligned; } octets_of_c247 = { { 108,101,97,112,53,57 } };
+#define c248 (octets_of_c248.octets)
+static const union { u8 octets[21]; u64 aligned; } octets_of_c248 = { { 99,117,114,114,101,110,116,85,116,99,79,102,102,115,101,116,86,97,108,105,100 } };
+#define c249 (octets_of_c249.octets)
+static const union { u8 octets[12]; u64 aligned; } octets_of_c249 = { { 112,116,112,84,105,109,101,115,99,97,108,101 } };
+#define c250 (octets_of_c250.octets)
+static const union { u8 octets[13]; u64 aligned; } octets_of_c250 = { { 116,105,109,101,84,114,97,99,101,97,98,108,101 } };
+#define c251 (octets_of_c251.octets)
+static const union { u8 octets[18]; u64 aligned; } octets_of_c251 = { { 102,114,101,113,117,101,110,99,121,84,114,97,99,101,97,98,108,101 } };
+#define c252 (octets_of_c252.octets)
+static const union { u8 octets[10]; u64 aligned; } octets_of_c252 = { { 116,105,109,101,83,111,117,114,99,101 } };
+#define c253 (octets_of_c253.octets)
+static const union { u8 octets[9]; u64 aligned; } octets_of_c253 = { { 112,111,114,116,83,116,97,116,101 } };
+#define c254 (octets_of_c254.octets)
+static const union { u8 octets[22]; u64 aligned; } octets_of_c254 = { { 108,111,103,77,105,110,68,101,108,97,121,82,101,113,73,110,116,101,114,118,97,108 } };
+#define c255 (octets_of_c255.octets)
+static const union { u8 octets[13]; u64 aligned; } octets_of_c255 = { { 109,101,97,110,76,105,110,107,68,101,108,97,121 } };
+#define c256 (octets_of_c256.octets)
+static const union { u8 octets[60]; u64 aligned; } octets_of_c256 = { { 6,0,0,0,1,2,7,0,0,0,16,0,8,0,0,0,16,1,9,0,0,0,16,2,10,0,0,0,16,3,11,0,0,0,16,4,12,0,0,0,16,5,13,0,0,0,16,6,0,2,0,0,16,7,14,0,0,0,16,8 } };
+#define c257 (octets_of_c257.octets)
+static const union { u8 octets[12]; u64 aligned; } octets_of_c257 = { { 15,0,0,0,0,6,16,0,0,6,0,4 } };
+#define c258 (octets_of_c258.octets)
+static const union { u8 octets[12]; u64 aligned; } octets_of_c258 = { { 0,27,0,0,3,16,0,28,0,0,3,32 } };
+#define c259 (octets_of_c259.octets)
+static const union { u8 octets[12]; u64 aligned; } octets_of_c259 = { { 0,26,0,0,3,8,0,29,0,1,1,1 } };
+#define c260 (octets_of_c260.octets)
+static const union { u8 octets[6]; u64 aligned; } octets_of_c260 = { { 17,0,0,0,15,0 } };
+#define c261 (octets_of_c261.octets)
+static const union { u8 octets[48]; u64 aligned; } octets_of_c261 = { { 18,0,0,0,2,8,19,0,0,8,2,8,20,0,0,16,2,4,21,0,0,20,2,4,22,0,0,24,0,2,23,0,0,26,13,12,24,0,0,41,3,1,25,0,0,42,7,0 } };
+#define c262 (octets_of_c262.octets)
+static const union { u8 octets[66]; u64 aligned; } octets_of_c262 = { { 0,5,0,0,0,1,0,6,0,1,1,1,0,7,0,2,1,2,0,22,0,4,2,2,0,23,0,6,3,1,0,24,0,6,3,2,0,25,0,6,3,4,0,26,0,6,3,8,0,27,0,6,3,16,0,28,0,6,3,32,0,29,0,7,1,1 } };
+#define c263 (octets_of_c263.octets)
+static const union { u8 octets[12]; u64 aligned; } octets_of_c263 = { { 26,0,0,0,0,4,27,0,0,4,2,4 } };
+#define c264 (octets_of_c264.octets)
+static const union { u8 octets[24]; u64 aligned; } octets_of_c264 = { { 3,0,0,0,8,0,0,30,0,10,9,0,28,0,0,11,14,0,29,0,0,12,11,0 } };
+#define c265 (octets_of_c265.octets)
+static const union { u8 octets[126]; u64 aligned; } octets_of_c265 = { { 3,0,0,0,8,0,30,0,0,10,12,8,31,0,0,18,12,8,32,0,0,26,12,8,33,0,0,34,12,8,34,0,0,74,12,8,35,0,0,82,12,8,36,0,0,90,12,8,37,0,0,98,12,8,38,0,0,106,12,8,39,0,0,114,12,8,40,0,0,138,12,8,41,0,0,146,12,8,42,0,0,154,12,8,43,0,0,162,12,8,44,0,0,202,12,8,45,0,0,210,12,8,46,0,0,218,12,8,47,0,0,226,12,8,48,0,0,234,12,8,49,0,0,242,12,8 } };
+#define c266 (octets_of_c266.octets)
+static const union { u8 octets[6]; u64 aligned; } octets_of_c266 = { { 118,97,108,117,101,32 } };
+#define c267 (octets_of_c267.octets)
+static const union { u8 octets[2]; u64 aligned; } octets_of_c267 = { { 48,120 } };
+#define c268 (octets_of_c268.octets)
+static const union { u8 octets[200]; u64 aligned; } octets_of_c268 = { { 48,48,48,49,48,50,48,51,48,52,48,53,48,54,48,55,48,56,48,57,49,48,49,49,49,50,49,51,49,52,49,53,49,54,49,55,49,56,49,57,50,48,50,49,50,50,50,51,50,52,50,53,50,54,50,55,50,56,50,57,51,48,51,49,51,50,51,51,51,52,51,53,51,54,51,55,51,56,51,57,52,48,52,49,52,50,52,51,52,52,52,53,52,54,52,55,52,56,52,57,53,48,53,49,53,50,53,51,53,52,53,53,53,54,53,55,53,56,53,57,54,48,54,49,54,50,54,51,54,52,54,53,54,54,54,55,54,56,54,57,55,48,55,49,55,50,55,51,55,52,55,53,55,54,55,55,55,56,55,57,56,48,56,49,56,50,56,51,56,52,56,53,56,54,56,55,56,56,56,57,57,48,57,49,57,50,57,51,57,52,57,53,57,54,57,55,57,56,57,57 } };
+#define c269 (octets_of_c269.octets)
+static const union { u8 octets[12]; u64 aligned; } octets_of_c269 = { { 73,78,73,84,73,65,76,73,90,73,78,71 } };
+#define c270 (octets_of_c270.octets)
+static const union { u8 octets[6]; u64 aligned; } octets_of_c270 = { { 70,65,85,76,84,89 } };
+#define c271 (octets_of_c271.octets)
+static const union { u8 octets[8]; u64 aligned; } octets_of_c271 = { { 68,73,83,65,66,76,69,68 } };
+#define c272 (octets_of_c272.octets)
+static const union { u8 octets[9]; u64 aligned; } octets_of_c272 = { { 76,73,83,84,69,78,73,78,71 } };
+#define c273 (octets_of_c273.octets)
+static const union { u8 octets[10]; u64 aligned; } octets_of_c273 = { { 80,82,69,95,77,65,83,84,69,82 } };
+#define c274 (octets_of_c274.octets)
+static const union { u8 octets[6]; u64 aligned; } octets_of_c274 = { { 77,65,83,84,69,82 } };
+#define c275 (octets_of_c275.octets)
+static const union { u8 octets[7]; u64 aligned; } octets_of_c275 = { { 80,65,83,83,73,86,69 } };
+#define c276 (octets_of_c276.octets)
+static const union { u8 octets[12]; u64 aligned; } octets_of_c276 = { { 85,78,67,65,76,73,66,82,65,84,69,68 } };
+#define c277 (octets_of_c277.octets)
+static const union { u8 octets[5]; u64 aligned; } octets_of_c277 = { { 83,76,65,86,69 } };
+#define c278 (octets_of_c278.octets)
+static const union { u8 octets[2]; u64 aligned; } octets_of_c278 = { { 92,120 } };
+#define c279 (octets_of_c279.octets)
+static const union { u8 octets[8]; u64 aligned; } octets_of_c279 = { { 83,79,70,84,87,65,82,69 } };
+#define c280 (octets_of_c280.octets)
+static const union { u8 octets[8]; u64 aligned; } octets_of_c280 = { { 72,65,82,68,87,65,82,69 } };
+#define c281 (octets_of_c281.octets)
+static const union { u8 octets[9]; u64 aligned; } octets_of_c281 = { { 76,69,71,65,67,89,95,72,87 } };
+#define c282 (octets_of_c282.octets)
+static const union { u8 octets[7]; u64 aligned; } octets_of_c282 = { { 79,78,69,83,84,69,80 } };
+#define c283 (octets_of_c283.octets)
+static const union { u8 octets[8]; u64 aligned; } octets_of_c283 = { { 80,50,80,49,83,84,69,80 } };
+#define c284 (octets_of_c284.octets)
+static const union { u8 octets[42]; u64 aligned; } octets_of_c284 = { { 0,0,2,0,0,32,1,32,2,32,3,32,4,32,5,32,6,32,7,32,8,32,9,32,10,32,11,32,12,32,13,32,14,32,16,32,17,32,0,96,1,96 } };
+#define c285 (octets_of_c285.octets)
+static const union { u8 octets[4]; u64 aligned; } octets_of_c285 = { { 112,116,112,115 } };
+#define c286 (octets_of_c286.octets)
+static const union { u8 octets[4]; u64 aligned; } octets_of_c286 = { { 112,116,112,109 } };
+#define c287 (octets_of_c287.octets)
+static const union { u8 octets[10]; u64 aligned; } octets_of_c287 = { { 0,1,2,3,4,5,6,7,8,9 } };
+#define c288 (octets_of_c288.octets)
+static const union { u8 octets[17]; u64 aligned; } octets_of_c288 = { { 67,76,79,67,75,95,68,69,83,67,82,73,80,84,73,79,78 } };
+#define c289 (octets_of_c289.octets)
+static const union { u8 octets[4]; u64 aligned; } octets_of_c289 = { { 84,73,77,69 } };
+#define c290 (octets_of_c290.octets)
+static const union { u8 octets[23]; u64 aligned; } octets_of_c290 = { { 84,82,65,67,69,65,66,73,76,73,84,89,95,80,82,79,80,69,82,84,73,69,83 } };
+#define c291 (octets_of_c291.octets)
+static const union { u8 octets[20]; u64 aligned; } octets_of_c291 = { { 84,73,77,69,83,67,65,76,69,95,80,82,79,80,69,82,84,73,69,83 } };
+#define c292 (octets_of_c292.octets)
+static const union { u8 octets[15]; u64 aligned; } octets_of_c292 = { { 80,65,84,72,95,84,82,65,67,69,95,76,73,83,84 } };
+#define c293 (octets_of_c293.octets)
+static const union { u8 octets[14]; u64 aligned; } octets_of_c293 = { { 84,73,77,69,95,83,84,65,84,85,83,95,78,80 } };
+#define c294 (octets_of_c294.octets)
+static const union { u8 octets[23]; u64 aligned; } octets_of_c294 = { { 71,82,65,78,68,77,65,83,84,69,82,95,83,69,84,84,73,78,71,83,95,78,80 } };
+#define c295 (octets_of_c295.octets)
+static const union { u8 octets[16]; u64 aligned; } octets_of_c295 = { { 80,79,82,84,95,68,65,84,65,95,83,69,84,95,78,80 } };
+#define c296 (octets_of_c296.octets)
+static const union { u8 octets[18]; u64 aligned; } octets_of_c296 = { { 80,79,82,84,95,80,82,79,80,69,82,84,73,69,83,95,78,80 } };
+#define c297 (octets_of_c297.octets)
+static const union { u8 octets[13]; u64 aligned; } octets_of_c297 = { { 80,79,82,84,95,83,84,65,84,83,95,78,80 } };
+#define c298 (octets_of_c298.octets)
+static const union { u8 octets[168]; u64 aligned; } octets_of_c298 = { { 16,0,0,0,0,0,0,0,216,0,0,0,0,0,0,0,16,0,0,0,0,0,0,0,88,0,0,0,0,0,0,0,16,0,0,0,0,0,0,0,12,0,0,0,0,0,0,0,196,5,0,0,0,0,0,0,12,0,0,0,0,0,0,0,16,0,0,0,0,0,0,0,26,0,0,0,0,0,0,0,16,0,0,0,0,0,0,0,16,0,0,0,0,0,0,0,10,0,0,0,0,0,0,0,8,0,3,0,0,0,0,0,24,0,0,0,0,0,0,0,16,0,0,0,0,0,0,0,36,0,0,0,0,0,0,0,24,0,0,0,0,0,0,0,150,0,0,0,0,0,0,0,144,5,0,0,0,0,0,0,36,0,0,0,0,0,0,0 } };
+#define c299 (octets_of_c299.octets)
+static const union { u8 octets[40]; u64 aligned; } octets_of_c299 = { { 19,0,0,0,0,0,0,0,22,0,0,0,0,0,0,0,15,0,0,0,0,0,0,0,14,0,0,0,0,0,0,0,23,0,0,0,0,0,0,0 } };
 #if IS_LITTLE_ENDIAN
-static const struct form_of_c112 octets_of_c112 = { SLOT(c112 + 8), { 112,116,112,109,0,0,0,0 } };
+static const struct form_of_c300 { slot slot0; slot slot8; slot slot16; slot slot24; slot slot32; } octets_of_c300;
+#define c300 ((const u8 *)&octets_of_c300)
 #else
-static union form_of_c112 octets_of_c112 = { { 0,0,0,0,0,0,0,0,112,116,112,109,0,0,0,0 } };
+static union form_of_c300 { u8 octets[40]; u64 aligned; } octets_of_c300;
+#define c300 (octets_of_c300.octets)
+#endif
+#define c301 (octets_of_c301.octets)
+static const union { u8 octets[20]; u64 aligned; } octets_of_c301 = { { 0,0,0,0,1,0,0,0,2,0,0,0,3,0,0,0,3,0,0,0 } };
+#define c302 (octets_of_c302.octets)
+static const union { u8 octets[12]; u64 aligned; } octets_of_c302 = { { 51,0,0,0,52,0,0,0,35,0,0,0 } };
+#define c303 (octets_of_c303.octets)
+static const union { u8 octets[72]; u64 aligned; } octets_of_c303 = { { 13,0,0,0,0,0,0,0,0,0,0,0,0,0,0,0,0,0,0,0,0,0,0,0,16,0,0,0,0,0,0,0,10,0,0,0,0,0,0,0,12,0,0,0,0,0,0,0,11,0,0,0,0,0,0,0,11,0,0,0,0,0,0,0,13,0,0,0,0,0,0,0 } };
+#if IS_LITTLE_ENDIAN
+static const struct form_of_c304 { slot slot0; u8 octets8[16]; slot slot24; slot slot32; slot slot40; slot slot48; slot slot56; slot slot64; } octets_of_c304;
+#define c304 ((const u8 *)&octets_of_c304)
+#else
+static union form_of_c304 { u8 octets[72]; u64 aligned; } octets_of_c304;
+#define c304 (octets_of_c304.octets)
 #endif
 #if IS_LITTLE_ENDIAN
-static const struct form_of_c139 octets_of_c139 = { SLOT(c139 + 8), { 0 } };
+static const struct form_of_c305 { slot slot0; slot slot8; slot slot16; slot slot24; slot slot32; } octets_of_c305;
+#define c305 ((const u8 *)&octets_of_c305)
 #else
-static union form_of_c139 octets_of_c139 = { { 0 } };
+static union form_of_c305 { u8 octets[40]; u64 aligned; } octets_of_c305;
+#define c305 (octets_of_c305.octets)
+#endif
+#define c306 (octets_of_c306.octets)
+static const union { u8 octets[72]; u64 aligned; } octets_of_c306 = { { 2,0,0,0,0,0,0,0,2,0,0,0,0,0,0,0,2,0,0,0,0,0,0,0,1,0,0,0,0,0,0,0,8,0,0,0,0,0,0,0,11,0,0,0,0,0,0,0,2,0,0,0,0,0,0,0,4,0,0,0,0,0,0,0,21,0,0,0,0,0,0,0 } };
+#if IS_LITTLE_ENDIAN
+static const struct form_of_c307 { slot slot0; slot slot8; slot slot16; slot slot24; slot slot32; slot slot40; slot slot48; slot slot56; slot slot64; } octets_of_c307;
+#define c307 ((const u8 *)&octets_of_c307)
+#else
+static union form_of_c307 { u8 octets[72]; u64 aligned; } octets_of_c307;
+#define c307 (octets_of_c307.octets)
 #endif
 #if IS_LITTLE_ENDIAN
-static const struct form_of_c229 octets_of_c229 = { SLOT(c130 + 0), SLOT(c132 + 0), SLOT(c134 + 0), SLOT(c136 + 0), SLOT(c138 + 0) };
+static const struct form_of_c308 { slot slot0; slot slot8; slot slot16; slot slot24; slot slot32; slot slot40; slot slot48; slot slot56; slot slot64; } octets_of_c308;
+#define c308 ((const u8 *)&octets_of_c308)
 #else
-static union form_of_c229 octets_of_c229 = { { 0 } };
+static union form_of_c308 { u8 octets[72]; u64 aligned; } octets_of_c308;
+#define c308 (octets_of_c308.octets)
+#endif
+#define c309 (octets_of_c309.octets)
+static const union { u8 octets[72]; u64 aligned; } octets_of_c309 = { { 12,0,0,0,0,0,0,0,6,0,0,0,0,0,0,0,8,0,0,0,0,0,0,0,9,0,0,0,0,0,0,0,10,0,0,0,0,0,0,0,6,0,0,0,0,0,0,0,7,0,0,0,0,0,0,0,12,0,0,0,0,0,0,0,5,0,0,0,0,0,0,0 } };
+#define c310 (octets_of_c310.octets)
+static const union { u8 octets[56]; u64 aligned; } octets_of_c310 = { { 1,0,0,0,0,0,0,0,0,0,0,0,0,0,0,0,0,0,0,0,0,0,0,0,1,0,0,0,0,0,0,0,1,0,0,0,0,0,0,0,1,0,0,0,0,0,0,0,1,0,0,0,0,0,0,0 } };
+#if IS_LITTLE_ENDIAN
+static const struct form_of_c311 { slot slot0; u8 octets8[16]; slot slot24; slot slot32; slot slot40; slot slot48; } octets_of_c311;
+#define c311 ((const u8 *)&octets_of_c311)
+#else
+static union form_of_c311 { u8 octets[56]; u64 aligned; } octets_of_c311;
+#define c311 (octets_of_c311.octets)
+#endif
+#define c312 (octets_of_c312.octets)
+static const union { u8 octets[56]; u64 aligned; } octets_of_c312 = { { 12,0,0,0,0,0,0,0,0,0,0,0,0,0,0,0,0,0,0,0,0,0,0,0,3,0,0,0,0,0,0,0,3,0,0,0,0,0,0,0,10,0,0,0,0,0,0,0,7,0,0,0,0,0,0,0 } };
+#define c313 (octets_of_c313.octets)
+static const union { u8 octets[40]; u64 aligned; } octets_of_c313 = { { 8,0,0,0,0,0,0,0,8,0,0,0,0,0,0,0,9,0,0,0,0,0,0,0,7,0,0,0,0,0,0,0,8,0,0,0,0,0,0,0 } };
+#if IS_LITTLE_ENDIAN
+static const struct form_of_c314 { slot slot0; slot slot8; slot slot16; slot slot24; slot slot32; } octets_of_c314;
+#define c314 ((const u8 *)&octets_of_c314)
+#else
+static union form_of_c314 { u8 octets[40]; u64 aligned; } octets_of_c314;
+#define c314 (octets_of_c314.octets)
+#endif
+#define c315 (octets_of_c315.octets)
+static const union { u8 octets[80]; u64 aligned; } octets_of_c315 = { { 17,0,0,0,0,0,0,0,4,0,0,0,0,0,0,0,23,0,0,0,0,0,0,0,20,0,0,0,0,0,0,0,15,0,0,0,0,0,0,0,14,0,0,0,0,0,0,0,23,0,0,0,0,0,0,0,16,0,0,0,0,0,0,0,18,0,0,0,0,0,0,0,13,0,0,0,0,0,0,0 } };
+#if IS_LITTLE_ENDIAN
+static const struct form_of_c316 { slot slot0; slot slot8; slot slot16; slot slot24; slot slot32; slot slot40; slot slot48; slot slot56; slot slot64; slot slot72; } octets_of_c316;
+#define c316 ((const u8 *)&octets_of_c316)
+#else
+static union form_of_c316 { u8 octets[80]; u64 aligned; } octets_of_c316;
+#define c316 (octets_of_c316.octets)
+#endif
+#define c317 (octets_of_c317.octets)
+static const union { u8 octets[40]; u64 aligned; } octets_of_c317 = { { 1,0,0,0,15,32,0,0,18,32,0,0,19,32,0,0,21,32,0,0,0,192,0,0,1,192,0,0,2,192,0,0,4,192,0,0,5,192,0,0 } };
+#define c318 (octets_of_c318.octets)
+static const union { u8 octets[24]; u64 aligned; } octets_of_c318 = { { 104,0,0,0,105,0,0,0,106,0,0,0,107,0,0,0,110,0,0,0,35,0,0,0 } };
+#define c319 (octets_of_c319.octets)
+static const union { u8 octets[9]; u64 aligned; } octets_of_c319 = { { 6,0,0,0,0,0,3,4,5 } };
+#define c320 (octets_of_c320.octets)
+static const union { u8 octets[14]; u64 aligned; } octets_of_c320 = { { 1,0,2,0,3,0,4,0,5,0,6,0,254,255 } };
+#define c321 (octets_of_c321.octets)
+static const union { u8 octets[12]; u64 aligned; } octets_of_c321 = { { 33,0,0,0,40,0,0,0,41,0,0,0 } };
+#define c322 (octets_of_c322.octets)
+static const union { u8 octets[24]; u64 aligned; } octets_of_c322 = { { 38,0,0,0,39,0,0,0,40,0,0,0,41,0,0,0,42,0,0,0,35,0,0,0 } };
+#if IS_LITTLE_ENDIAN
+static const struct form_of_c113 octets_of_c113 = { SLOT(c113 + 8), { 112,116,112,109,0,0,0,0 } };
+#else
+static union form_of_c113 octets_of_c113 = { { 0,0,0,0,0,0,0,0,112,116,112,109,0,0,0,0 } };
 #endif
 #if IS_LITTLE_ENDIAN
-static const struct form_of_c233 octets_of_c233 = { SLOT(c147 + 0), { 0 }, SLOT(c141 + 0), SLOT(c142 + 0), SLOT(c143 + 0), SLOT(c144 + 0), SLOT(c145 + 0), SLOT(c146 + 0) };
+static const struct form_of_c140 octets_of_c140 = { SLOT(c140 + 8), { 0 } };
 #else
-static union form_of_c233 octets_of_c233 = { { 0 } };
+static union form_of_c140 octets_of_c140 = { { 0 } };
 #endif
 #if IS_LITTLE_ENDIAN
-static const struct form_of_c234 octets_of_c234 = { SLOT(c158 + 0), SLOT(c159 + 0), SLOT(c160 + 0), SLOT(c161 + 0), SLOT(c162 + 0) };
+static const struct form_of_c300 octets_of_c300 = { SLOT(c131 + 0), SLOT(c133 + 0), SLOT(c135 + 0), SLOT(c137 + 0), SLOT(c139 + 0) };
 #else
-static union form_of_c234 octets_of_c234 = { { 0 } };
+static union form_of_c300 octets_of_c300 = { { 0 } };
 #endif
 #if IS_LITTLE_ENDIAN
-static const struct form_of_c235 octets_of_c235 = { SLOT(c214 + 0), SLOT(c215 + 0), SLOT(c216 + 0), SLOT(c217 + 0), SLOT(c218 + 0), SLOT(c219 + 0), SLOT(c220 + 0), SLOT(c221 + 0), SLOT(c222 + 0) };
+static const struct form_of_c304 octets_of_c304 = { SLOT(c148 + 0), { 0 }, SLOT(c142 + 0), SLOT(c143 + 0), SLOT(c144 + 0), SLOT(c145 + 0), SLOT(c146 + 0), SLOT(c147 + 0) };
 #else
-static union form_of_c235 octets_of_c235 = { { 0 } };
+static union form_of_c304 octets_of_c304 = { { 0 } };
 #endif
 #if IS_LITTLE_ENDIAN
-static const struct form_of_c238 octets_of_c238 = { SLOT(c170 + 0), { 0 }, SLOT(c168 + 0), SLOT(c169 + 0), SLOT(c171 + 0), SLOT(c172 + 0) };
+static const struct form_of_c305 octets_of_c305 = { SLOT(c159 + 0), SLOT(c160 + 0), SLOT(c161 + 0), SLOT(c162 + 0), SLOT(c163 + 0) };
 #else
-static union form_of_c238 octets_of_c238 = { { 0 } };
+static union form_of_c305 octets_of_c305 = { { 0 } };
+#endif
+#if IS_LITTLE_ENDIAN
+static const struct form_of_c307 octets_of_c307 = { SLOT(c257 + 0), SLOT(c258 + 0), SLOT(c259 + 0), SLOT(c260 + 0), SLOT(c261 + 0), SLOT(c262 + 0), SLOT(c263 + 0), SLOT(c264 + 0), SLOT(c265 + 0) };
+#else
+static union form_of_c307 octets_of_c307 = { { 0 } };
+#endif
+#if IS_LITTLE_ENDIAN
+static const struct form_of_c308 octets_of_c308 = { SLOT(c269 + 0), SLOT(c270 + 0), SLOT(c271 + 0), SLOT(c272 + 0), SLOT(c273 + 0), SLOT(c274 + 0), SLOT(c275 + 0), SLOT(c276 + 0), SLOT(c277 + 0) };
+#else
+static union form_of_c308 octets_of_c308 = { { 0 } };
+#endif
+#if IS_LITTLE_ENDIAN
+static const struct form_of_c311 octets_of_c311 = { SLOT(c171 + 0), { 0 }, SLOT(c169 + 0), SLOT(c170 + 0), SLOT(c172 + 0), SLOT(c173 + 0) };
+#else
+static union form_of_c311 octets_of_c311 = { { 0 } };
+#endif
+#if IS_LITTLE_ENDIAN
+static const struct form_of_c314 octets_of_c314 = { SLOT(c279 + 0), SLOT(c280 + 0), SLOT(c281 + 0), SLOT(c282 + 0), SLOT(c283 + 0) };
+#else
+static union form_of_c314 octets_of_c314 = { { 0 } };
+#endif
+#if IS_LITTLE_ENDIAN
+static const struct form_of_c316 octets_of_c316 = { SLOT(c288 + 0), SLOT(c289 + 0), SLOT(c290 + 0), SLOT(c291 + 0), SLOT(c292 + 0), SLOT(c293 + 0), SLOT(c294 + 0), SLOT(c295 + 0), SLOT(c296 + 0), SLOT(c297 + 0) };
+#else
+static union form_of_c316 octets_of_c316 = { { 0 } };
 #endif
 
 #if !IS_LITTLE_ENDIAN
 void portable_fill(void);
 void portable_fill(void) {
-    store_address(ADDRESS(c112) + 0u, ADDRESS(c112) + 8u);
-    store_address(ADDRESS(c139) + 0u, ADDRESS(c139) + 8u);
-    store_address(ADDRESS(c229) + 0u, ADDRESS(c130) + 0u);
-    store_address(ADDRESS(c229) + 8u, ADDRESS(c132) + 0u);
-    store_address(ADDRESS(c229) + 16u, ADDRESS(c134) + 0u);
-    store_address(ADDRESS(c229) + 24u, ADDRESS(c136) + 0u);
-    store_address(ADDRESS(c229) + 32u, ADDRESS(c138) + 0u);
-    store_address(ADDRESS(c233) + 0u, ADDRESS(c147) + 0u);
-    store_address(ADDRESS(c233) + 24u, ADDRESS(c141) + 0u);
-    store_address(ADDRESS(c233) + 32u, ADDRESS(c142) + 0u);
-    store_address(ADDRESS(c233) + 40u, ADDRESS(c143) + 0u);
-    store_address(ADDRESS(c233) + 48u, ADDRESS(c144) + 0u);
-    store_address(ADDRESS(c233) + 56u, ADDRESS(c145) + 0u);
-    store_address(ADDRESS(c233) + 64u, ADDRESS(c146) + 0u);
-    store_address(ADDRESS(c234) + 0u, ADDRESS(c158) + 0u);
-    store_address(ADDRESS(c234) + 8u, ADDRESS(c159) + 0u);
-    store_address(ADDRESS(c234) + 16u, ADDRESS(c160) + 0u);
-    store_address(ADDRESS(c234) + 24u, ADDRESS(c161) + 0u);
-    store_address(ADDRESS(c234) + 32u, ADDRESS(c162) + 0u);
-    store_address(ADDRESS(c235) + 0u, ADDRESS(c214) + 0u);
-    store_address(ADDRESS(c235) + 8u, ADDRESS(c215) + 0u);
-    store_address(ADDRESS(c235) + 16u, ADDRESS(c216) + 0u);
-    store_address(ADDRESS(c235) + 24u, ADDRESS(c217) + 0u);
-    store_address(ADDRESS(c235) + 32u, ADDRESS(c218) + 0u);
-    store_address(ADDRESS(c235) + 40u, ADDRESS(c219) + 0u);
-    store_address(ADDRESS(c235) + 48u, ADDRESS(c220) + 0u);
-    store_address(ADDRESS(c235) + 56u, ADDRESS(c221) + 0u);
-    store_address(ADDRESS(c235) + 64u, ADDRESS(c222) + 0u);
-    store_address(ADDRESS(c238) + 0u, ADDRESS(c170) + 0u);
-    store_address(ADDRESS(c238) + 24u, ADDRESS(c168) + 0u);
-    store_address(ADDRESS(c238) + 32u, ADDRESS(c169) + 0u);
-    store_address(ADDRESS(c238) + 40u, ADDRESS(c171) + 0u);
-    store_address(ADDRESS(c238) + 48u, ADDRESS(c172) + 0u);
+    store_address(ADDRESS(c113) + 0u, ADDRESS(c113) + 8u);
+    store_address(ADDRESS(c140) + 0u, ADDRESS(c140) + 8u);
+    store_address(ADDRESS(c300) + 0u, ADDRESS(c131) + 0u);
+    store_address(ADDRESS(c300) + 8u, ADDRESS(c133) + 0u);
+    store_address(ADDRESS(c300) + 16u, ADDRESS(c135) + 0u);
+    store_address(ADDRESS(c300) + 24u, ADDRESS(c137) + 0u);
+    store_address(ADDRESS(c300) + 32u, ADDRESS(c139) + 0u);
+    store_address(ADDRESS(c304) + 0u, ADDRESS(c148) + 0u);
+    store_address(ADDRESS(c304) + 24u, ADDRESS(c142) + 0u);
+    store_address(ADDRESS(c304) + 32u, ADDRESS(c143) + 0u);
+    store_address(ADDRESS(c304) + 40u, ADDRESS(c144) + 0u);
+    store_address(ADDRESS(c304) + 48u, ADDRESS(c145) + 0u);
+    store_address(ADDRESS(c304) + 56u, ADDRESS(c146) + 0u);
+    store_address(ADDRESS(c304) + 64u, ADDRESS(c147) + 0u);
+    store_address(ADDRESS(c305) + 0u, ADDRESS(c159) + 0u);
+    store_address(ADDRESS(c305) + 8u, ADDRESS(c160) + 0u);
+    store_address(ADDRESS(c305) + 16u, ADDRESS(c161) + 0u);
+    store_address(ADDRESS(c305) + 24u, ADDRESS(c162) + 0u);
+    store_address(ADDRESS(c305) + 32u, ADDRESS(c163) + 0u);
+    store_address(ADDRESS(c307) + 0u, ADDRESS(c257) + 0u);
+    store_address(ADDRESS(c307) + 8u, ADDRESS(c258) + 0u);
+    store_address(ADDRESS(c307) + 16u, ADDRESS(c259) + 0u);
+    store_address(ADDRESS(c307) + 24u, ADDRESS(c260) + 0u);
+    store_address(ADDRESS(c307) + 32u, ADDRESS(c261) + 0u);
+    store_address(ADDRESS(c307) + 40u, ADDRESS(c262) + 0u);
+    store_address(ADDRESS(c307) + 48u, ADDRESS(c263) + 0u);
+    store_address(ADDRESS(c307) + 56u, ADDRESS(c264) + 0u);
+    store_address(ADDRESS(c307) + 64u, ADDRESS(c265) + 0u);
+    store_address(ADDRESS(c308) + 0u, ADDRESS(c269) + 0u);
+    store_address(ADDRESS(c308) + 8u, ADDRESS(c270) + 0u);
+    store_address(ADDRESS(c308) + 16u, ADDRESS(c271) + 0u);
+    store_address(ADDRESS(c308) + 24u, ADDRESS(c272) + 0u);
+    store_address(ADDRESS(c308) + 32u, ADDRESS(c273) + 0u);
+    store_address(ADDRESS(c308) + 40u, ADDRESS(c274) + 0u);
+    store_address(ADDRESS(c308) + 48u, ADDRESS(c275) + 0u);
+    store_address(ADDRESS(c308) + 56u, ADDRESS(c276) + 0u);
+    store_address(ADDRESS(c308) + 64u, ADDRESS(c277) + 0u);
+    store_address(ADDRESS(c311) + 0u, ADDRESS(c171) + 0u);
+    store_address(ADDRESS(c311) + 24u, ADDRESS(c169) + 0u);
+    store_address(ADDRESS(c311) + 32u, ADDRESS(c170) + 0u);
+    store_address(ADDRESS(c311) + 40u, ADDRESS(c172) + 0u);
+    store_address(ADDRESS(c311) + 48u, ADDRESS(c173) + 0u);
+    store_address(ADDRESS(c314) + 0u, ADDRESS(c279) + 0u);
+    store_address(ADDRESS(c314) + 8u, ADDRESS(c280) + 0u);
+    store_address(ADDRESS(c314) + 16u, ADDRESS(c281) + 0u);
+    store_address(ADDRESS(c314) + 24u, ADDRESS(c282) + 0u);
+    store_address(ADDRESS(c314) + 32u, ADDRESS(c283) + 0u);
+    store_address(ADDRESS(c316) + 0u, ADDRESS(c288) + 0u);
+    store_address(ADDRESS(c316) + 8u, ADDRESS(c289) + 0u);
+    store_address(ADDRESS(c316) + 16u, ADDRESS(c290) + 0u);
+    store_address(ADDRESS(c316) + 24u, ADDRESS(c291) + 0u);
+    store_address(ADDRESS(c316) + 32u, ADDRESS(c292) + 0u);
+    store_address(ADDRESS(c316) + 40u, ADDRESS(c293) + 0u);
+    store_address(ADDRESS(c316) + 48u, ADDRESS(c294) + 0u);
+    store_address(ADDRESS(c316) + 56u, ADDRESS(c295) + 0u);
+    store_address(ADDRESS(c316) + 64u, ADDRESS(c296) + 0u);
+    store_address(ADDRESS(c316) + 72u, ADDRESS(c297) + 0u);
 }
 #endif
 
@@ -650,64 +860,70 @@ static void f34(address a0, address a1, u16 a2, address a3, address a4);
 static void f35(address a0, address a1, u64 a2);
 static void f36(address a0, u64 a1, u16 a2, u16 a3, address a4, u64 a5);
 static u8 f37(address a0);
-static void f38(address a0, address a1, address a2, u64 a3, address a4);
-static struct s4 f39(u16 a0, address a1, u64 a2);
-static struct s2 f40(address a0, u64 a1);
+static u64 f38(u8 a0, u8 a1);
+static void f39(address a0, address a1, address a2, u64 a3, address a4);
+static struct s4 f40(u16 a0, address a1, u64 a2);
 static struct s2 f41(address a0, u64 a1);
-static struct s5 f42(address a0);
-static u64 f43(u16 a0, address a1);
-static void f44(u64 a0, address a1);
-static void f45(address a0, u8 a1, address a2);
-static u32 f46(address a0, u64 a1, address a2, u64 a3);
-static void f47(address a0, address a1, u64 a2);
-static u8 f48(address a0, u64 a1, address a2);
-static u32 f49(address a0, address a1);
-static void f50(address a0, address a1, address a2, u64 a3);
-static struct s2 f51(address a0, address a1, u16 a2, address a3);
-static void f52(address a0, address a1, u8 a2, address a3);
-static u8 f53(address a0, address a1, u64 a2);
-static void f54(address a0, u8 a1, u8 a2, address a3);
-static void f55(address a0, u8 a1, address a2);
-static void f56(address a0, address a1, address a2, u8 a3, u8 a4, address a5);
-static void f57(address a0, address a1);
-static void f58(address a0, u64 a1);
-static struct s2 f59(address a0, address a1);
-static struct s2 f60(address a0, u8 a1, u16 a2, u8 a3, u16 a4, address a5, u64 a6);
-static void f61(address a0, address a1, address a2, u64 a3);
-static struct s2 f62(address a0, address a1, address a2);
-static void f63(address a0, address a1, address a2, u64 a3);
-static void f64(address a0, address a1, address a2, u64 a3, u16 a4, u8 a5);
-static u32 f65(address a0, u16 a1, address a2, u64 a3, address a4, u64 a5, address a6);
-static u32 f66(address a0, u16 a1, address a2, u64 a3, address a4, u64 a5, address a6);
-static u32 f67(address a0, u16 a1, address a2, u64 a3, address a4, u64 a5, address a6);
-static void f68(address a0, address a1, u16 a2, address a3, u64 a4, address a5, u64 a6);
-static u8 f69(address a0, address a1);
-static u8 f70(address a0, address a1);
-static void f71(address a0, u16 a1, address a2, u8 a3, address a4);
-static void f72(address a0, address a1, u8 a2, address a3);
-static void f73(address a0, u16 a1, u16 a2, u16 a3, address a4);
-static void f74(address a0, u8 a1, address a2);
-static void f75(address a0, address a1, address a2, u8 a3, u8 a4, address a5);
-static void f76(address a0, address a1, u64 a2);
-static void f77(address a0, address a1, u64 a2);
-static void f78(address a0, address a1, address a2);
-static void f79(address a0, u64 a1, address a2, address a3, u16 a4, address a5);
-static void f80(address a0, u8 a1, u16 a2, address a3, address a4, address a5);
-static void f81(address a0, u16 a1, address a2, address a3);
-static void f82(address a0, address a1, address a2);
-static u32 f83(address a0, u16 a1, address a2, u64 a3, address a4, u64 a5, address a6, address a7);
-static void f84(address a0, address a1, address a2);
-static u32 f85(address a0, address a1, address a2, u64 a3, address a4);
-static void f86(address a0, address a1, address a2, address a3, u64 a4);
-static void f87(address a0, address a1, address a2, address a3);
-static void f88(address a0, address a1, u8 a2);
+static struct s2 f42(address a0, u64 a1);
+static struct s5 f43(address a0);
+static struct s5 f44(u8 a0, u8 a1);
+static u64 f45(u16 a0, address a1);
+static struct s5 f46(address a0, u64 a1);
+static void f47(u64 a0, address a1);
+static void f48(address a0, u8 a1, address a2);
+static u32 f49(address a0, u64 a1, address a2, u64 a3);
+static void f50(address a0, address a1, u64 a2);
+static u8 f51(address a0, u64 a1, address a2);
+static u32 f52(address a0, address a1);
+static void f53(address a0, address a1, address a2, u64 a3);
+static struct s2 f54(address a0, address a1, u16 a2, address a3);
+static void f55(address a0, address a1, u8 a2, address a3);
+static u8 f56(address a0, address a1, u64 a2);
+static void f57(address a0, u8 a1, u8 a2, address a3);
+static void f58(address a0, u8 a1, address a2);
+static void f59(address a0, address a1, address a2, u8 a3, u8 a4, address a5);
+static u8 f60(address a0);
+static u8 f61(address a0, address a1);
+static void f62(address a0, address a1);
+static void f63(address a0, u64 a1);
+static struct s2 f64(address a0, address a1);
+static struct s2 f65(address a0, u8 a1, u16 a2, u8 a3, u16 a4, address a5, u64 a6);
+static void f66(address a0, address a1, address a2, u64 a3);
+static struct s2 f67(address a0, address a1, address a2);
+static void f68(address a0, address a1, address a2, u64 a3);
+static void f69(address a0, address a1, address a2, u64 a3, u16 a4, u8 a5);
+static u32 f70(address a0, u16 a1, address a2, u64 a3, address a4, u64 a5, address a6);
+static u32 f71(address a0, u16 a1, address a2, u64 a3, address a4, u64 a5, address a6);
+static u32 f72(address a0, u16 a1, address a2, u64 a3, address a4, u64 a5, address a6);
+static void f73(address a0, address a1, u16 a2, address a3, u64 a4, address a5, u64 a6);
+static u8 f74(address a0, address a1);
+static u8 f75(address a0, address a1);
+static void f76(address a0, u16 a1, address a2, u8 a3, address a4);
+static void f77(address a0, address a1, u8 a2, address a3);
+static void f78(address a0, u16 a1, u16 a2, u16 a3, address a4);
+static void f79(address a0, u8 a1, address a2);
+static void f80(address a0, address a1, address a2, u8 a3, u8 a4, address a5);
+static void f81(address a0, address a1, u64 a2);
+static void f82(address a0, address a1, u64 a2);
+static void f83(address a0, address a1, address a2);
+static void f84(address a0, u64 a1, address a2, address a3, u16 a4, address a5);
+static void f85(address a0, u8 a1, u16 a2, address a3, address a4, address a5);
+static void f86(address a0, u16 a1, address a2, address a3);
+static void f87(address a0, address a1, address a2);
+static u32 f88(address a0, u16 a1, address a2, u64 a3, address a4, u64 a5, address a6, address a7);
 static void f89(address a0, address a1, address a2);
-static void f90(address a0, u8 a1, address a2);
-static void f91(address a0, address a1, address a2, u8 a3, address a4);
-static void f92(address a0, address a1, u8 a2, u16 a3, u16 a4, address a5, u64 a6);
-static u8 f93(address a0);
-static u8 f94(address a0);
-static u8 f95(address a0, u64 a1);
+static u32 f90(address a0, address a1, address a2, u64 a3, address a4);
+static void f91(address a0, address a1, address a2, address a3, u64 a4);
+static void f92(address a0, address a1, address a2, address a3);
+static void f93(address a0, address a1, u8 a2);
+static void f94(address a0, address a1, address a2);
+static void f95(address a0, u8 a1, address a2);
+static void f96(address a0, address a1, address a2, u8 a3, address a4);
+static void f97(address a0, address a1, address a2, u64 a3);
+static void f98(address a0, address a1, u8 a2, u16 a3, u16 a4, address a5, u64 a6);
+static u8 f99(address a0);
+static u8 f100(address a0);
+static u8 f101(address a0, u64 a1);
 u64 portable_ptpm_answer_name(u32 a0, address a1, u64 a2);
 u32 portable_ptpm_asker_earlier(address a0, u8 a1, address a2);
 u32 portable_ptpm_asker_image(address a0, address a1, u64 a2, address a3);
@@ -733,6 +949,9 @@ u32 portable_ptpm_image_unseal(address a0, u64 a1, address a2, address a3);
 void portable_ptpm_limit_range(address a0, u32 a1, u32 a2);
 u16 portable_ptpm_limits_say(address a0, u64 a1, address a2);
 u64 portable_ptpm_newest_image_in(address a0, u64 a1, u64 a2, address a3, address a4);
+u32 portable_ptpm_other_id_at(u64 a0);
+u64 portable_ptpm_other_id_name(u16 a0, address a1, u64 a2);
+u32 portable_ptpm_other_id_named(address a0, u64 a1);
 u8 portable_ptpm_passed_on_is_first(address a0, address a1, u64 a2, u64 a3, u64 a4);
 void portable_ptpm_port_defaults(address a0);
 void portable_ptpm_rate_start(address a0, u64 a1, u64 a2);
@@ -868,7 +1087,7 @@ L3:;
 L4:;
     memory_cpy(a1, v14, v58);
     v61 = a1 + v58 * 1u;
-    v8 = v61; v9 = 0u; v10 = ADDRESS(c111); goto L6;
+    v8 = v61; v9 = 0u; v10 = ADDRESS(c112); goto L6;
 L5:;
     v62 = load_address(v47);
     v63 = load64(v48);
@@ -1109,7 +1328,7 @@ L10:;
 L11:;
     v130 = v9 + v127 * 1u;
     v131 = (u64)v130;
-    v132 = (u64)((u64)v131 - (u64)ADDRESS(c110));
+    v132 = (u64)((u64)v131 - (u64)ADDRESS(c111));
     v133 = v132 < 8u;
     if (v133) { goto L12; }
     else { goto L13; }
@@ -1237,7 +1456,7 @@ L1:;
     if (v67) { v16 = 0u; goto L38; }
     else { goto L2; }
 L2:;
-    v68 = f4(a1, 4u, (ADDRESS(c112) + 8u * 1u), 4u);
+    v68 = f4(a1, 4u, (ADDRESS(c113) + 8u * 1u), 4u);
     if (v68) { goto L3; }
     else { v16 = 0u; goto L38; }
 L3:;
@@ -1506,7 +1725,7 @@ L18:;
     v256 = v255 == 0u;
     v257 = load_address(v228);
     v258 = load64(v229);
-    v259 = v256 ? ADDRESS(c111) : v257;
+    v259 = v256 ? ADDRESS(c112) : v257;
     v260 = v256 ? 0u : v258;
     v261 = a2 < v254;
     if (v261) { goto L33; }
@@ -4445,7 +4664,7 @@ L4:;
     if (v35) { v7 = 1u; v8 = 2u; v9 = 0u; v10 = 0u; goto L12; }
     else { goto L5; }
 L5:;
-    v36 = f4(a5, 4u, (ADDRESS(c112) + 8u * 1u), 4u);
+    v36 = f4(a5, 4u, (ADDRESS(c113) + 8u * 1u), 4u);
     if (v36) { goto L6; }
     else { v7 = 1u; v8 = 2u; v9 = 0u; v10 = 0u; goto L12; }
 L6:;
@@ -6157,16 +6376,16 @@ L2:;
 L3:;
     v12 = a0 + v2 * 1u;
     v13 = (u64)v12;
-    v14 = (u64)((u64)v13 - (u64)(ADDRESS(c139) + 8u * 1u));
+    v14 = (u64)((u64)v13 - (u64)(ADDRESS(c140) + 8u * 1u));
     v15 = v14 < v9;
     if (v15) { v3 = 0u; goto L5; }
     else { goto L4; }
 L4:;
-    memory_cpy(v12, (ADDRESS(c139) + 8u * 1u), v9);
+    memory_cpy(v12, (ADDRESS(c140) + 8u * 1u), v9);
     goto L6;
 L5:;
     v16 = v12 + v3 * 1u;
-    v17 = (ADDRESS(c139) + 8u * 1u) + v3 * 1u;
+    v17 = (ADDRESS(c140) + 8u * 1u) + v3 * 1u;
     v18 = load8(v17);
     store8(v16, v18);
     v19 = (u64)((u64)v3 + (u64)1u);
@@ -9245,7 +9464,7 @@ L17:;
     v139 = load8(v138);
     switch (v139) {
     case 0u: goto L18;
-    case 1u: v11 = ADDRESS(c111); v12 = 0u; goto L28;
+    case 1u: v11 = ADDRESS(c112); v12 = 0u; goto L28;
     case 2u: goto L19;
     default: goto L27;
     }
@@ -9258,7 +9477,7 @@ L19:;
     v143 = v133 + 9u * 1u;
     v144 = load8(v143);
     switch (v144) {
-    case 0u: v13 = 0u; v14 = ADDRESS(c111); v15 = v87; v16 = 1u; v17 = 1u; v18 = 60u; goto L29;
+    case 0u: v13 = 0u; v14 = ADDRESS(c112); v15 = v87; v16 = 1u; v17 = 1u; v18 = 60u; goto L29;
     case 1u: goto L20;
     case 2u: goto L21;
     case 3u: goto L22;
@@ -9268,17 +9487,17 @@ L19:;
     default: goto L26;
     }
 L20:;
-    v13 = 0u; v14 = ADDRESS(c111); v15 = v87; v16 = 2u; v17 = 1u; v18 = 60u; goto L29;
+    v13 = 0u; v14 = ADDRESS(c112); v15 = v87; v16 = 2u; v17 = 1u; v18 = 60u; goto L29;
 L21:;
-    v13 = 0u; v14 = ADDRESS(c111); v15 = v87; v16 = 3u; v17 = 1u; v18 = 60u; goto L29;
+    v13 = 0u; v14 = ADDRESS(c112); v15 = v87; v16 = 3u; v17 = 1u; v18 = 60u; goto L29;
 L22:;
-    v13 = 0u; v14 = ADDRESS(c111); v15 = v87; v16 = 4u; v17 = 1u; v18 = 60u; goto L29;
+    v13 = 0u; v14 = ADDRESS(c112); v15 = v87; v16 = 4u; v17 = 1u; v18 = 60u; goto L29;
 L23:;
-    v13 = 0u; v14 = ADDRESS(c111); v15 = v87; v16 = 5u; v17 = 1u; v18 = 60u; goto L29;
+    v13 = 0u; v14 = ADDRESS(c112); v15 = v87; v16 = 5u; v17 = 1u; v18 = 60u; goto L29;
 L24:;
-    v13 = 0u; v14 = ADDRESS(c111); v15 = v87; v16 = 6u; v17 = 1u; v18 = 60u; goto L29;
+    v13 = 0u; v14 = ADDRESS(c112); v15 = v87; v16 = 6u; v17 = 1u; v18 = 60u; goto L29;
 L25:;
-    v13 = 0u; v14 = ADDRESS(c111); v15 = v87; v16 = 65534u; v17 = 1u; v18 = 60u; goto L29;
+    v13 = 0u; v14 = ADDRESS(c112); v15 = v87; v16 = 65534u; v17 = 1u; v18 = 60u; goto L29;
 L26:;
     UNREACHABLE;
 L27:;
@@ -9295,16 +9514,16 @@ L29:;
 L30:;
     v149 = v89 + v146 * 1u;
     v150 = (u64)v149;
-    v151 = (u64)((u64)v150 - (u64)(ADDRESS(c139) + 8u * 1u));
+    v151 = (u64)((u64)v150 - (u64)(ADDRESS(c140) + 8u * 1u));
     v152 = v151 < v18;
     if (v152) { v19 = 0u; goto L32; }
     else { goto L31; }
 L31:;
-    memory_cpy(v149, (ADDRESS(c139) + 8u * 1u), v18);
+    memory_cpy(v149, (ADDRESS(c140) + 8u * 1u), v18);
     goto L33;
 L32:;
     v153 = v149 + v19 * 1u;
-    v154 = (ADDRESS(c139) + 8u * 1u) + v19 * 1u;
+    v154 = (ADDRESS(c140) + 8u * 1u) + v19 * 1u;
     v155 = load8(v154);
     store8(v153, v155);
     v156 = (u64)((u64)v19 + (u64)1u);
@@ -9542,7 +9761,7 @@ static void f36(address a0, u64 a1, u16 a2, u16 a3, address a4, u64 a5) {
     v12 = (u64)((u64)v11 + (u64)v10);
     v13 = (u16)(v12);
     v14 = (u64)a0;
-    v15 = (u64)((u64)v14 - (u64)ADDRESS(c140));
+    v15 = (u64)((u64)v14 - (u64)ADDRESS(c141));
     v16 = v15 < 12u;
     if (v16) { goto L1; }
     else { goto L2; }
@@ -9554,7 +9773,7 @@ L1:;
     store32(v18, 0u);
     goto L3;
 L2:;
-    memory_cpy(a0, ADDRESS(c140), 12u);
+    memory_cpy(a0, ADDRESS(c141), 12u);
     goto L3;
 L3:;
     v19 = (u16)((u32)v13 + (u32)8u);
@@ -9668,7 +9887,111 @@ L6:;
     v1 = 1u; goto L1;
 }
 
-static void f38(address a0, address a1, address a2, u64 a3, address a4) {
+static u64 f38(u8 a0, u8 a1) {
+    u64 v2, v4, v5, v6, v12, v17, v18, v19, v20;
+    address v3, v7, v8, v9, v10, v13, v15;
+    u8 v11, v14, v16;
+    switch (a0) {
+    case 1u: v2 = 6u; v3 = ADDRESS(c149); goto L15;
+    case 2u: goto L1;
+    case 3u: goto L2;
+    case 4u: goto L3;
+    case 5u: goto L4;
+    case 6u: goto L5;
+    case 7u: goto L6;
+    case 8u: goto L7;
+    case 9u: goto L8;
+    case 10u: goto L9;
+    case 11u: goto L14;
+    case 12u: goto L10;
+    case 15u: goto L11;
+    case 16u: goto L12;
+    case 0u: v5 = 0u; goto L22;
+    case 13u: v5 = 0u; goto L22;
+    case 14u: v5 = 0u; goto L22;
+    default: goto L13;
+    }
+L1:;
+    v2 = 60u; v3 = ADDRESS(c150); goto L15;
+L2:;
+    v2 = 18u; v3 = ADDRESS(c151); goto L15;
+L3:;
+    v2 = 60u; v3 = ADDRESS(c152); goto L15;
+L4:;
+    v2 = 48u; v3 = ADDRESS(c153); goto L15;
+L5:;
+    v2 = 60u; v3 = ADDRESS(c154); goto L15;
+L6:;
+    v2 = 6u; v3 = ADDRESS(c155); goto L15;
+L7:;
+    v2 = 6u; v3 = ADDRESS(c156); goto L15;
+L8:;
+    v2 = 6u; v3 = ADDRESS(c157); goto L15;
+L9:;
+    v2 = 6u; v3 = ADDRESS(c158); goto L15;
+L10:;
+    v2 = 6u; v3 = ADDRESS(c164); goto L15;
+L11:;
+    v2 = 6u; v3 = ADDRESS(c165); goto L15;
+L12:;
+    v2 = 24u; v3 = ADDRESS(c166); goto L15;
+L13:;
+    UNREACHABLE;
+L14:;
+    v6 = (u64)a1;
+    v7 = ADDRESS(c305) + v6 * 8u;
+    v8 = load_address(v7);
+    v2 = 6u; v3 = v8; goto L15;
+L15:;
+    v9 = v3 + v2 * 1u;
+    v10 = v9 + UINT64_C(18446744073709551613) * 1u;
+    v11 = load8(v10);
+    v12 = (u64)v11;
+    v13 = v9 + UINT64_C(18446744073709551614) * 1u;
+    v14 = load8(v13);
+    switch (v14) {
+    case 0u: goto L19;
+    case 1u: goto L19;
+    case 2u: goto L19;
+    case 12u: goto L19;
+    case 13u: goto L19;
+    case 3u: v4 = 1u; goto L21;
+    case 4u: v4 = 1u; goto L21;
+    case 5u: v4 = 1u; goto L21;
+    case 9u: v4 = 1u; goto L21;
+    case 10u: v4 = 1u; goto L21;
+    case 14u: v4 = 1u; goto L21;
+    case 6u: goto L16;
+    case 7u: goto L16;
+    case 8u: goto L17;
+    case 11u: goto L18;
+    case 15u: goto L18;
+    case 16u: goto L18;
+    default: goto L20;
+    }
+L16:;
+    v4 = 8u; goto L21;
+L17:;
+    v4 = 10u; goto L21;
+L18:;
+    v4 = 0u; goto L21;
+L19:;
+    v15 = v9 + UINT64_C(18446744073709551615) * 1u;
+    v16 = load8(v15);
+    v17 = (u64)v16;
+    v4 = v17; goto L21;
+L20:;
+    UNREACHABLE;
+L21:;
+    v18 = (u64)((u64)v4 + (u64)v12);
+    v5 = v18; goto L22;
+L22:;
+    v19 = (u64)((u64)v5 & (u64)1u);
+    v20 = (u64)((u64)v19 + (u64)v5);
+    return v20;
+}
+
+static void f39(address a0, address a1, address a2, u64 a3, address a4) {
     u64 v5, v7, v10, v11, v13, v14, v15, v20, v21, v22, v79, v82, v88, v89, v90, v91;
     u64 v93, v95, v98, v99, v102, v300, v315, v316, v323, v324;
     address v6, v28, v29, v30, v31, v33, v35, v37, v39, v41, v44, v49, v52, v53, v80, v81;
@@ -9725,6 +10048,11 @@ static void f38(address a0, address a1, address a2, u64 a3, address a4) {
     case 7u: v23 = v34; v24 = 3u; v25 = 1u; v26 = v32; v27 = v36; goto L70;
     case 8u: v23 = v34; v24 = 3u; v25 = 1u; v26 = v32; v27 = v36; goto L70;
     case 9u: v23 = v34; v24 = 3u; v25 = 1u; v26 = v32; v27 = v36; goto L70;
+    case 16u: v23 = v34; v24 = 3u; v25 = 1u; v26 = v32; v27 = v36; goto L70;
+    case 12u: v23 = v34; v24 = 3u; v25 = 1u; v26 = v32; v27 = v36; goto L70;
+    case 13u: v23 = v34; v24 = 3u; v25 = 1u; v26 = v32; v27 = v36; goto L70;
+    case 14u: v23 = v34; v24 = 3u; v25 = 1u; v26 = v32; v27 = v36; goto L70;
+    case 15u: v23 = v34; v24 = 3u; v25 = 1u; v26 = v32; v27 = v36; goto L70;
     default: goto L66;
     }
 L1:;
@@ -9873,7 +10201,7 @@ L24:;
     default: v23 = v34; v24 = 3u; v25 = 1u; v26 = v32; v27 = v36; goto L70;
     }
 L25:;
-    v107 = f39(127u, a2, a3);
+    v107 = f40(127u, a2, a3);
     v108 = v107.m0;
     v109 = (u8)((v108) & UINT64_C(1));
     if (v109) { goto L26; }
@@ -9883,7 +10211,7 @@ L26:;
     v111 = (u8)(v110);
     v18 = 0u; v19 = v111; v20 = 1u; goto L65;
 L27:;
-    v112 = f39(32767u, a2, a3);
+    v112 = f40(32767u, a2, a3);
     v113 = v112.m0;
     v114 = (u8)((v113) & UINT64_C(1));
     if (v114) { goto L28; }
@@ -9896,7 +10224,7 @@ L28:;
     v119 = (u8)(v118);
     v18 = v119; v19 = v117; v20 = 2u; goto L65;
 L29:;
-    v120 = f40(a2, a3);
+    v120 = f41(a2, a3);
     v121 = v120.m0;
     v122 = (u8)((v121) & UINT64_C(1));
     if (v122) { goto L30; }
@@ -9907,7 +10235,7 @@ L30:;
     v125 = v124 ? v42 : 0u;
     v18 = 0u; v19 = v125; v20 = 1u; goto L65;
 L31:;
-    v126 = f40(a2, a3);
+    v126 = f41(a2, a3);
     v127 = v126.m0;
     v128 = (u8)((v127) & UINT64_C(1));
     if (v128) { goto L32; }
@@ -9917,7 +10245,7 @@ L32:;
     v130 = (u8)((u32)v129 & (u32)1u);
     v18 = 0u; v19 = v130; v20 = 1u; goto L65;
 L33:;
-    v131 = f41(a2, a3);
+    v131 = f42(a2, a3);
     v132 = v131.m0;
     v133 = v132 == 1u;
     v134 = v131.m1;
@@ -10155,7 +10483,7 @@ L56:;
 L57:;
     v287 = a2 + v15 * 1u;
     v288 = load8(v287);
-    v289 = ADDRESS(c170) + v15 * 1u;
+    v289 = ADDRESS(c171) + v15 * 1u;
     v290 = load8(v289);
     v291 = (u8)((u32)v288 + (u32)191u);
     v292 = v291 < 26u;
@@ -10178,7 +10506,7 @@ L59:;
     v302.m1 = v16;
     v17 = v302; goto L61;
 L60:;
-    v303 = f41(a2, a3);
+    v303 = f42(a2, a3);
     v17 = v303; goto L61;
 L61:;
     v304 = v17.m0;
@@ -10189,7 +10517,7 @@ L62:;
     v306 = v17.m1;
     v18 = 0u; v19 = v306; v20 = 1u; goto L65;
 L63:;
-    v307 = f41(a2, a3);
+    v307 = f42(a2, a3);
     v308 = v307.m0;
     v309 = v308 == 1u;
     if (v309) { goto L64; }
@@ -10242,7 +10570,7 @@ L70:;
     return;
 }
 
-static struct s4 f39(u16 a0, address a1, u64 a2) {
+static struct s4 f40(u16 a0, address a1, u64 a2) {
     u64 v3, v5, v6, v7, v8, v48, v50, v60, v62, v63, v65, v66, v71, v79, v81, v82;
     u64 v84, v85;
     u32 v4, v15, v20, v22, v23, v24, v28, v30, v31, v32, v33, v34, v38, v39, v40, v41;
@@ -10396,7 +10724,7 @@ L21:;
     return v93;
 }
 
-static struct s2 f40(address a0, u64 a1) {
+static struct s2 f41(address a0, u64 a1) {
     u64 v2, v3, v4, v34, v58, v60, v61, v63, v64;
     u8 v5, v6, v8, v9, v10, v11, v12, v13, v15, v16, v17, v18, v19, v20, v22, v23;
     u8 v24, v25, v26, v27, v28, v29, v30, v31, v32, v33, v35, v37, v39, v40, v41, v42;
@@ -10457,7 +10785,7 @@ L5:;
 L6:;
     v36 = a0 + v2 * 1u;
     v37 = load8(v36);
-    v38 = ADDRESS(c167) + v2 * 1u;
+    v38 = ADDRESS(c168) + v2 * 1u;
     v39 = load8(v38);
     v40 = (u8)((u32)v37 + (u32)191u);
     v41 = v40 < 26u;
@@ -10518,7 +10846,7 @@ L14:;
     return v70;
 }
 
-static struct s2 f41(address a0, u64 a1) {
+static struct s2 f42(address a0, u64 a1) {
     u8 v2, v3, v4, v7, v8, v9, v10, v11, v12, v13, v15, v16, v18, v20, v21, v22;
     u8 v23, v24, v25, v26, v27, v28, v29, v30, v31, v32, v33, v34, v35, v36, v37, v38;
     u8 v39, v40, v41, v42, v43, v44, v45, v47, v48, v49, v50, v51, v53, v56, v60, v61;
@@ -10646,156 +10974,304 @@ L20:;
     return v67;
 }
 
-static struct s5 f42(address a0) {
-    u64 v1, v8, v10, v11;
-    address v2, v4, v6, v9, v12, v13;
+static struct s5 f43(address a0) {
+    u64 v1, v10;
+    address v2, v4, v6, v9;
     u8 v3, v5, v7;
-    struct s5 v14, v15;
+    struct s5 v8, v11, v12;
     v3 = load8(a0);
     switch (v3) {
     case 0u: goto L1;
-    case 1u: v1 = 11u; v2 = ADDRESS(c173); goto L40;
-    case 2u: goto L36;
-    case 3u: goto L37;
-    case 4u: goto L38;
-    case 5u: goto L39;
-    default: goto L41;
+    case 1u: v1 = 11u; v2 = ADDRESS(c174); goto L50;
+    case 2u: goto L2;
+    case 3u: goto L3;
+    case 4u: goto L4;
+    case 5u: goto L5;
+    case 6u: goto L6;
+    case 7u: goto L7;
+    case 8u: goto L8;
+    case 9u: goto L9;
+    case 10u: goto L10;
+    case 11u: goto L11;
+    case 12u: goto L12;
+    case 13u: goto L13;
+    case 14u: goto L14;
+    case 15u: goto L15;
+    case 16u: goto L16;
+    case 17u: goto L17;
+    case 18u: goto L18;
+    case 19u: goto L19;
+    case 20u: goto L20;
+    case 21u: goto L21;
+    case 22u: goto L22;
+    case 23u: goto L23;
+    case 24u: goto L24;
+    case 25u: goto L25;
+    case 26u: goto L26;
+    case 27u: goto L27;
+    case 28u: goto L28;
+    case 29u: goto L29;
+    case 30u: goto L30;
+    case 31u: goto L31;
+    case 32u: goto L32;
+    case 33u: goto L33;
+    case 34u: goto L34;
+    case 35u: goto L35;
+    case 36u: goto L36;
+    case 37u: goto L37;
+    case 38u: goto L38;
+    case 39u: goto L39;
+    case 40u: goto L40;
+    case 41u: goto L41;
+    case 42u: goto L42;
+    case 43u: goto L43;
+    case 44u: goto L44;
+    case 45u: goto L45;
+    case 46u: goto L46;
+    case 47u: goto L47;
+    case 48u: goto L48;
+    case 49u: goto L49;
+    default: goto L51;
     }
 L1:;
-    v4 = a0 + 1u * 1u;
+    v4 = a0 + 2u * 1u;
     v5 = load8(v4);
-    switch (v5) {
-    case 0u: v1 = 13u; v2 = ADDRESS(c178); goto L40;
-    case 1u: goto L2;
-    case 2u: goto L3;
-    case 3u: goto L4;
-    case 4u: goto L5;
-    case 5u: goto L6;
-    case 6u: goto L7;
-    case 7u: goto L8;
-    case 8u: goto L9;
-    case 9u: goto L10;
-    case 10u: goto L11;
-    case 11u: goto L12;
-    case 12u: goto L13;
-    case 13u: goto L14;
-    case 14u: goto L15;
-    case 15u: goto L16;
-    case 16u: goto L17;
-    case 17u: goto L18;
-    case 18u: goto L19;
-    case 19u: goto L20;
-    case 20u: goto L21;
-    case 21u: goto L22;
-    case 22u: goto L23;
-    case 23u: goto L24;
-    case 24u: goto L25;
-    case 25u: goto L26;
-    case 26u: goto L27;
-    case 27u: goto L28;
-    case 28u: goto L29;
-    case 29u: goto L30;
-    case 30u: goto L31;
-    case 31u: goto L32;
-    case 32u: goto L33;
-    case 33u: goto L34;
-    default: goto L35;
-    }
-L2:;
-    v1 = 12u; v2 = ADDRESS(c179); goto L40;
-L3:;
-    v1 = 15u; v2 = ADDRESS(c180); goto L40;
-L4:;
-    v1 = 11u; v2 = ADDRESS(c181); goto L40;
-L5:;
-    v1 = 9u; v2 = ADDRESS(c182); goto L40;
-L6:;
-    v1 = 23u; v2 = ADDRESS(c183); goto L40;
-L7:;
-    v1 = 26u; v2 = ADDRESS(c184); goto L40;
-L8:;
-    v1 = 36u; v2 = ADDRESS(c185); goto L40;
-L9:;
-    v1 = 9u; v2 = ADDRESS(c186); goto L40;
-L10:;
-    v1 = 12u; v2 = ADDRESS(c187); goto L40;
-L11:;
-    v1 = 16u; v2 = ADDRESS(c188); goto L40;
-L12:;
-    v1 = 9u; v2 = ADDRESS(c189); goto L40;
-L13:;
-    v1 = 18u; v2 = ADDRESS(c190); goto L40;
-L14:;
-    v1 = 11u; v2 = ADDRESS(c191); goto L40;
-L15:;
-    v1 = 37u; v2 = ADDRESS(c192); goto L40;
-L16:;
-    v1 = 34u; v2 = ADDRESS(c193); goto L40;
-L17:;
-    v1 = 20u; v2 = ADDRESS(c194); goto L40;
-L18:;
-    v1 = 34u; v2 = ADDRESS(c195); goto L40;
-L19:;
-    v1 = 37u; v2 = ADDRESS(c196); goto L40;
-L20:;
-    v1 = 47u; v2 = ADDRESS(c197); goto L40;
-L21:;
-    v1 = 20u; v2 = ADDRESS(c198); goto L40;
-L22:;
-    v1 = 19u; v2 = ADDRESS(c199); goto L40;
-L23:;
-    v1 = 16u; v2 = ADDRESS(c200); goto L40;
-L24:;
-    v1 = 6u; v2 = ADDRESS(c201); goto L40;
-L25:;
-    v1 = 6u; v2 = ADDRESS(c202); goto L40;
-L26:;
-    v1 = 21u; v2 = ADDRESS(c203); goto L40;
-L27:;
-    v1 = 12u; v2 = ADDRESS(c204); goto L40;
-L28:;
-    v1 = 13u; v2 = ADDRESS(c205); goto L40;
-L29:;
-    v1 = 18u; v2 = ADDRESS(c206); goto L40;
-L30:;
-    v1 = 10u; v2 = ADDRESS(c207); goto L40;
-L31:;
-    v1 = 9u; v2 = ADDRESS(c208); goto L40;
-L32:;
-    v1 = 22u; v2 = ADDRESS(c209); goto L40;
-L33:;
-    v1 = 13u; v2 = ADDRESS(c210); goto L40;
-L34:;
-    v6 = a0 + 2u * 1u;
+    v6 = a0 + 1u * 1u;
     v7 = load8(v6);
-    v8 = (u64)v7;
-    v9 = ADDRESS(c228) + v8 * 8u;
-    v10 = load64(v9);
-    v11 = (u64)v7;
-    v12 = ADDRESS(c229) + v11 * 8u;
-    v13 = load_address(v12);
-    v1 = v10; v2 = v13; goto L40;
+    v8 = f44(v7, v5);
+    v9 = v8.m0;
+    v10 = v8.m1;
+    v1 = v10; v2 = v9; goto L50;
+L2:;
+    v1 = 9u; v2 = ADDRESS(c175); goto L50;
+L3:;
+    v1 = 12u; v2 = ADDRESS(c176); goto L50;
+L4:;
+    v1 = 13u; v2 = ADDRESS(c177); goto L50;
+L5:;
+    v1 = 13u; v2 = ADDRESS(c178); goto L50;
+L6:;
+    v1 = 9u; v2 = ADDRESS(c179); goto L50;
+L7:;
+    v1 = 21u; v2 = ADDRESS(c180); goto L50;
+L8:;
+    v1 = 15u; v2 = ADDRESS(c181); goto L50;
+L9:;
+    v1 = 15u; v2 = ADDRESS(c182); goto L50;
+L10:;
+    v1 = 12u; v2 = ADDRESS(c183); goto L50;
+L11:;
+    v1 = 20u; v2 = ADDRESS(c184); goto L50;
+L12:;
+    v1 = 18u; v2 = ADDRESS(c185); goto L50;
+L13:;
+    v1 = 12u; v2 = ADDRESS(c186); goto L50;
+L14:;
+    v1 = 15u; v2 = ADDRESS(c187); goto L50;
+L15:;
+    v1 = 12u; v2 = ADDRESS(c188); goto L50;
+L16:;
+    v1 = 16u; v2 = ADDRESS(c189); goto L50;
+L17:;
+    v1 = 12u; v2 = ADDRESS(c190); goto L50;
+L18:;
+    v1 = 13u; v2 = ADDRESS(c191); goto L50;
+L19:;
+    v1 = 12u; v2 = ADDRESS(c192); goto L50;
+L20:;
+    v1 = 26u; v2 = ADDRESS(c193); goto L50;
+L21:;
+    v1 = 23u; v2 = ADDRESS(c194); goto L50;
+L22:;
+    v1 = 19u; v2 = ADDRESS(c195); goto L50;
+L23:;
+    v1 = 17u; v2 = ADDRESS(c196); goto L50;
+L24:;
+    v1 = 9u; v2 = ADDRESS(c197); goto L50;
+L25:;
+    v1 = 10u; v2 = ADDRESS(c198); goto L50;
+L26:;
+    v1 = 23u; v2 = ADDRESS(c199); goto L50;
+L27:;
+    v1 = 9u; v2 = ADDRESS(c200); goto L50;
+L28:;
+    v1 = 12u; v2 = ADDRESS(c201); goto L50;
+L29:;
+    v1 = 9u; v2 = ADDRESS(c202); goto L50;
+L30:;
+    v1 = 7u; v2 = ADDRESS(c203); goto L50;
+L31:;
+    v1 = 12u; v2 = ADDRESS(c204); goto L50;
+L32:;
+    v1 = 13u; v2 = ADDRESS(c205); goto L50;
+L33:;
+    v1 = 14u; v2 = ADDRESS(c206); goto L50;
+L34:;
+    v1 = 12u; v2 = ADDRESS(c207); goto L50;
 L35:;
-    UNREACHABLE;
+    v1 = 13u; v2 = ADDRESS(c208); goto L50;
 L36:;
-    v1 = 9u; v2 = ADDRESS(c174); goto L40;
+    v1 = 24u; v2 = ADDRESS(c209); goto L50;
 L37:;
-    v1 = 12u; v2 = ADDRESS(c175); goto L40;
+    v1 = 11u; v2 = ADDRESS(c210); goto L50;
 L38:;
-    v1 = 13u; v2 = ADDRESS(c176); goto L40;
+    v1 = 12u; v2 = ADDRESS(c211); goto L50;
 L39:;
-    v1 = 13u; v2 = ADDRESS(c177); goto L40;
+    v1 = 13u; v2 = ADDRESS(c212); goto L50;
 L40:;
-    v14 = (struct s5){ 0 };
-    v14.m0 = v2;
-    v15 = v14;
-    v15.m1 = v1;
-    return v15;
+    v1 = 7u; v2 = ADDRESS(c213); goto L50;
 L41:;
+    v1 = 12u; v2 = ADDRESS(c214); goto L50;
+L42:;
+    v1 = 13u; v2 = ADDRESS(c215); goto L50;
+L43:;
+    v1 = 14u; v2 = ADDRESS(c216); goto L50;
+L44:;
+    v1 = 12u; v2 = ADDRESS(c217); goto L50;
+L45:;
+    v1 = 13u; v2 = ADDRESS(c218); goto L50;
+L46:;
+    v1 = 24u; v2 = ADDRESS(c219); goto L50;
+L47:;
+    v1 = 11u; v2 = ADDRESS(c220); goto L50;
+L48:;
+    v1 = 12u; v2 = ADDRESS(c221); goto L50;
+L49:;
+    v1 = 13u; v2 = ADDRESS(c222); goto L50;
+L50:;
+    v11 = (struct s5){ 0 };
+    v11.m0 = v2;
+    v12 = v11;
+    v12.m1 = v1;
+    return v12;
+L51:;
     UNREACHABLE;
 }
 
-static u64 f43(u16 a0, address a1) {
+static struct s5 f44(u8 a0, u8 a1) {
+    u64 v2, v4, v6, v7;
+    address v3, v5, v8, v9;
+    struct s5 v10, v11;
+    switch (a0) {
+    case 0u: v2 = 13u; v3 = ADDRESS(c223); goto L34;
+    case 1u: goto L1;
+    case 2u: goto L2;
+    case 3u: goto L3;
+    case 4u: goto L4;
+    case 5u: goto L5;
+    case 6u: goto L6;
+    case 7u: goto L7;
+    case 8u: goto L8;
+    case 9u: goto L9;
+    case 10u: goto L10;
+    case 11u: goto L11;
+    case 12u: goto L12;
+    case 13u: goto L13;
+    case 14u: goto L14;
+    case 15u: goto L15;
+    case 16u: goto L16;
+    case 17u: goto L17;
+    case 18u: goto L18;
+    case 19u: goto L19;
+    case 20u: goto L20;
+    case 21u: goto L21;
+    case 22u: goto L22;
+    case 23u: goto L23;
+    case 24u: goto L24;
+    case 25u: goto L25;
+    case 26u: goto L26;
+    case 27u: goto L27;
+    case 28u: goto L28;
+    case 29u: goto L29;
+    case 30u: goto L30;
+    case 31u: goto L31;
+    case 32u: goto L32;
+    case 33u: goto L33;
+    default: goto L35;
+    }
+L1:;
+    v2 = 12u; v3 = ADDRESS(c224); goto L34;
+L2:;
+    v2 = 15u; v3 = ADDRESS(c225); goto L34;
+L3:;
+    v2 = 11u; v3 = ADDRESS(c226); goto L34;
+L4:;
+    v2 = 9u; v3 = ADDRESS(c227); goto L34;
+L5:;
+    v2 = 23u; v3 = ADDRESS(c228); goto L34;
+L6:;
+    v2 = 26u; v3 = ADDRESS(c229); goto L34;
+L7:;
+    v2 = 36u; v3 = ADDRESS(c230); goto L34;
+L8:;
+    v2 = 9u; v3 = ADDRESS(c231); goto L34;
+L9:;
+    v2 = 12u; v3 = ADDRESS(c232); goto L34;
+L10:;
+    v2 = 16u; v3 = ADDRESS(c233); goto L34;
+L11:;
+    v2 = 9u; v3 = ADDRESS(c234); goto L34;
+L12:;
+    v2 = 18u; v3 = ADDRESS(c235); goto L34;
+L13:;
+    v2 = 11u; v3 = ADDRESS(c236); goto L34;
+L14:;
+    v2 = 37u; v3 = ADDRESS(c237); goto L34;
+L15:;
+    v2 = 34u; v3 = ADDRESS(c238); goto L34;
+L16:;
+    v2 = 20u; v3 = ADDRESS(c239); goto L34;
+L17:;
+    v2 = 34u; v3 = ADDRESS(c240); goto L34;
+L18:;
+    v2 = 37u; v3 = ADDRESS(c241); goto L34;
+L19:;
+    v2 = 47u; v3 = ADDRESS(c242); goto L34;
+L20:;
+    v2 = 20u; v3 = ADDRESS(c243); goto L34;
+L21:;
+    v2 = 19u; v3 = ADDRESS(c244); goto L34;
+L22:;
+    v2 = 16u; v3 = ADDRESS(c245); goto L34;
+L23:;
+    v2 = 6u; v3 = ADDRESS(c246); goto L34;
+L24:;
+    v2 = 6u; v3 = ADDRESS(c247); goto L34;
+L25:;
+    v2 = 21u; v3 = ADDRESS(c248); goto L34;
+L26:;
+    v2 = 12u; v3 = ADDRESS(c249); goto L34;
+L27:;
+    v2 = 13u; v3 = ADDRESS(c250); goto L34;
+L28:;
+    v2 = 18u; v3 = ADDRESS(c251); goto L34;
+L29:;
+    v2 = 10u; v3 = ADDRESS(c252); goto L34;
+L30:;
+    v2 = 9u; v3 = ADDRESS(c253); goto L34;
+L31:;
+    v2 = 22u; v3 = ADDRESS(c254); goto L34;
+L32:;
+    v2 = 13u; v3 = ADDRESS(c255); goto L34;
+L33:;
+    v4 = (u64)a1;
+    v5 = ADDRESS(c299) + v4 * 8u;
+    v6 = load64(v5);
+    v7 = (u64)a1;
+    v8 = ADDRESS(c300) + v7 * 8u;
+    v9 = load_address(v8);
+    v2 = v6; v3 = v9; goto L34;
+L34:;
+    v10 = (struct s5){ 0 };
+    v10.m0 = v3;
+    v11 = v10;
+    v11.m1 = v2;
+    return v11;
+L35:;
+    UNREACHABLE;
+}
+
+static u64 f45(u16 a0, address a1) {
     u64 v2, v4, v12, v22;
     address v3, v6, v8, v13, v16, v19;
     u8 v5, v7, v9, v10, v11, v14, v15, v17, v18, v20, v21, v23;
@@ -10807,7 +11283,7 @@ static u64 f43(u16 a0, address a1) {
     switch (a0) {
     case 0u: goto L27;
     case 2u: goto L1;
-    case 8192u: v2 = 10u; v3 = ADDRESS(c149); goto L18;
+    case 8192u: v2 = 10u; v3 = ADDRESS(c150); goto L18;
     case 8193u: goto L3;
     case 8194u: goto L4;
     case 8195u: goto L5;
@@ -10829,39 +11305,39 @@ static u64 f43(u16 a0, address a1) {
     default: goto L19;
     }
 L1:;
-    v2 = 1u; v3 = ADDRESS(c148); goto L18;
+    v2 = 1u; v3 = ADDRESS(c149); goto L18;
 L2:;
-    v2 = 1u; v3 = ADDRESS(c158); goto L18;
-L3:;
-    v2 = 3u; v3 = ADDRESS(c150); goto L18;
-L4:;
-    v2 = 10u; v3 = ADDRESS(c151); goto L18;
-L5:;
-    v2 = 8u; v3 = ADDRESS(c152); goto L18;
-L6:;
-    v2 = 10u; v3 = ADDRESS(c153); goto L18;
-L7:;
-    v2 = 1u; v3 = ADDRESS(c154); goto L18;
-L8:;
-    v2 = 1u; v3 = ADDRESS(c155); goto L18;
-L9:;
-    v2 = 1u; v3 = ADDRESS(c156); goto L18;
-L10:;
-    v2 = 1u; v3 = ADDRESS(c157); goto L18;
-L11:;
     v2 = 1u; v3 = ADDRESS(c159); goto L18;
-L12:;
+L3:;
+    v2 = 3u; v3 = ADDRESS(c151); goto L18;
+L4:;
+    v2 = 10u; v3 = ADDRESS(c152); goto L18;
+L5:;
+    v2 = 8u; v3 = ADDRESS(c153); goto L18;
+L6:;
+    v2 = 10u; v3 = ADDRESS(c154); goto L18;
+L7:;
+    v2 = 1u; v3 = ADDRESS(c155); goto L18;
+L8:;
+    v2 = 1u; v3 = ADDRESS(c156); goto L18;
+L9:;
+    v2 = 1u; v3 = ADDRESS(c157); goto L18;
+L10:;
+    v2 = 1u; v3 = ADDRESS(c158); goto L18;
+L11:;
     v2 = 1u; v3 = ADDRESS(c160); goto L18;
-L13:;
+L12:;
     v2 = 1u; v3 = ADDRESS(c161); goto L18;
-L14:;
+L13:;
     v2 = 1u; v3 = ADDRESS(c162); goto L18;
-L15:;
+L14:;
     v2 = 1u; v3 = ADDRESS(c163); goto L18;
-L16:;
+L15:;
     v2 = 1u; v3 = ADDRESS(c164); goto L18;
+L16:;
+    v2 = 1u; v3 = ADDRESS(c165); goto L18;
 L17:;
-    v2 = 4u; v3 = ADDRESS(c165); goto L18;
+    v2 = 4u; v3 = ADDRESS(c166); goto L18;
 L18:;
     v10 = v5 == 0u;
     v11 = v7 == 33u;
@@ -10906,7 +11382,115 @@ L27:;
     UNREACHABLE;
 }
 
-static void f44(u64 a0, address a1) {
+static struct s5 f46(address a0, u64 a1) {
+    u64 v2, v3, v5, v7, v11, v13, v16, v20, v21, v23, v24, v26, v29, v31, v34, v36;
+    u64 v40, v41, v43, v44, v47, v50, v52, v58, v60, v63, v66, v68, v71, v73;
+    address v4, v6, v9, v10, v15, v18, v25, v28, v30, v33, v35, v38, v45, v46, v49, v51;
+    address v54, v55, v57, v62, v65, v70, v72;
+    u8 v8, v12, v14, v17, v19, v22, v27, v32, v37, v39, v42, v48, v53, v56, v59, v61;
+    u8 v64, v67, v69;
+    struct s5 v74, v75;
+    v8 = a1 < 3u;
+    if (v8) { v2 = 0u; v3 = 0u; v4 = ADDRESS(c112); goto L4; }
+    else { goto L1; }
+L1:;
+    v9 = a0 + 2u * 1u;
+    v10 = a0 + 3u * 1u;
+    v11 = (u64)((u64)a1 + (u64)UINT64_C(18446744073709551613));
+    v12 = load8(v9);
+    v13 = (u64)v12;
+    v14 = v11 < v13;
+    v15 = v10 + v13 * 1u;
+    v16 = v11 > v13 ? (u64)((u64)v11 - (u64)v13) : 0u;
+    if (v14) { v2 = 0u; v3 = 0u; v4 = ADDRESS(c112); goto L4; }
+    else { goto L2; }
+L2:;
+    v17 = v16 < 2u;
+    if (v17) { v2 = 0u; v3 = v16; v4 = ADDRESS(c112); goto L4; }
+    else { goto L3; }
+L3:;
+    v18 = v15 + 1u * 1u;
+    v19 = load8(v15);
+    v20 = (u64)v19;
+    v21 = (u64)((u64)v20 << (8u & 63u));
+    v22 = load8(v18);
+    v23 = (u64)v22;
+    v24 = (u64)((u64)v21 | (u64)v23);
+    v25 = v15 + 2u * 1u;
+    v2 = v24; v3 = v16; v4 = v25; goto L4;
+L4:;
+    v26 = v3 > 2u ? (u64)((u64)v3 - (u64)2u) : 0u;
+    v27 = v26 < v2;
+    v28 = v4 + v2 * 1u;
+    v29 = v26 > v2 ? (u64)((u64)v26 - (u64)v2) : 0u;
+    v30 = v27 ? ADDRESS(c112) : v28;
+    v31 = v27 ? 0u : v29;
+    v32 = v31 < 2u;
+    v33 = v30 + 2u * 1u;
+    v34 = v31 > 2u ? (u64)((u64)v31 - (u64)2u) : 0u;
+    v35 = v32 ? ADDRESS(c112) : v33;
+    v36 = v32 ? 0u : v34;
+    v37 = v36 < 2u;
+    if (v37) { v5 = 0u; goto L6; }
+    else { goto L5; }
+L5:;
+    v38 = v35 + 1u * 1u;
+    v39 = load8(v35);
+    v40 = (u64)v39;
+    v41 = (u64)((u64)v40 << (8u & 63u));
+    v42 = load8(v38);
+    v43 = (u64)v42;
+    v44 = (u64)((u64)v41 | (u64)v43);
+    v5 = v44; goto L6;
+L6:;
+    v45 = v35 + 2u * 1u;
+    v46 = v37 ? ADDRESS(c112) : v45;
+    v47 = v36 > 2u ? (u64)((u64)v36 - (u64)2u) : 0u;
+    v48 = v47 < v5;
+    v49 = v46 + v5 * 1u;
+    v50 = v47 > v5 ? (u64)((u64)v47 - (u64)v5) : 0u;
+    v51 = v48 ? ADDRESS(c112) : v49;
+    v52 = v48 ? 0u : v50;
+    v53 = v52 < 4u;
+    v54 = v51 + 4u * 1u;
+    v55 = v53 ? ADDRESS(c112) : v54;
+    v56 = v52 < 5u;
+    if (v56) { v6 = v55; v7 = 0u; goto L10; }
+    else { goto L7; }
+L7:;
+    v57 = v51 + 5u * 1u;
+    v58 = (u64)((u64)v52 + (u64)UINT64_C(18446744073709551611));
+    v59 = load8(v54);
+    v60 = (u64)v59;
+    v61 = v58 < v60;
+    v62 = v57 + v60 * 1u;
+    v63 = v58 > v60 ? (u64)((u64)v58 - (u64)v60) : 0u;
+    if (v61) { v6 = ADDRESS(c112); v7 = 0u; goto L10; }
+    else { goto L8; }
+L8:;
+    v64 = v58 > v60;
+    if (v64) { goto L9; }
+    else { v6 = v62; v7 = 0u; goto L10; }
+L9:;
+    v65 = v62 + 1u * 1u;
+    v66 = (u64)((u64)v63 + (u64)UINT64_C(18446744073709551615));
+    v67 = load8(v62);
+    v68 = (u64)v67;
+    v69 = v66 < v68;
+    v70 = v65 + v68 * 1u;
+    v71 = v66 > v68 ? (u64)((u64)v66 - (u64)v68) : 0u;
+    v72 = v69 ? ADDRESS(c112) : v70;
+    v73 = v69 ? 0u : v71;
+    v6 = v72; v7 = v73; goto L10;
+L10:;
+    v74 = (struct s5){ 0 };
+    v74.m0 = v6;
+    v75 = v74;
+    v75.m1 = v7;
+    return v75;
+}
+
+static void f47(u64 a0, address a1) {
     u64 v2, v3, v4, v5, v6, v7, v8, v11, v12, v13, v14, v20, v28, v30, v42, v44;
     u64 v45, v57, v68, v70, v72, v80, v85, v87, v89, v93;
     address v9, v21, v23, v25, v26, v27, v31, v33, v35, v36, v43, v46, v48, v50, v51, v58;
@@ -10931,7 +11515,7 @@ L1:;
     v18 = (u16)((u32)v15 - (u32)v17);
     v19 = (u16)((u32)v18 << (1u & 15u));
     v20 = (u64)v19;
-    v21 = ADDRESS(c213) + v20 * 1u;
+    v21 = ADDRESS(c268) + v20 * 1u;
     v22 = load8(v21);
     v23 = v21 + 1u * 1u;
     v24 = load8(v23);
@@ -10943,7 +11527,7 @@ L1:;
     v28 = (u64)((u64)v3 + (u64)UINT64_C(18446744073709551612));
     v29 = (u16)((u32)v16 << (1u & 15u));
     v30 = (u64)v29;
-    v31 = ADDRESS(c213) + v30 * 1u;
+    v31 = ADDRESS(c268) + v30 * 1u;
     v32 = load8(v31);
     v33 = v31 + 1u * 1u;
     v34 = load8(v33);
@@ -10972,7 +11556,7 @@ L4:;
 L5:;
     v44 = (u64)((u64)v4 + (u64)UINT64_C(18446744073709551614));
     v45 = (u64)((u64)v5 << (1u & 63u));
-    v46 = ADDRESS(c213) + v45 * 1u;
+    v46 = ADDRESS(c268) + v45 * 1u;
     v47 = load8(v46);
     v48 = v46 + 1u * 1u;
     v49 = load8(v48);
@@ -10988,7 +11572,7 @@ L6:;
     v55 = (u16)((u32)v52 - (u32)v54);
     v56 = (u16)((u32)v55 << (1u & 15u));
     v57 = (u64)v56;
-    v58 = ADDRESS(c213) + v57 * 1u;
+    v58 = ADDRESS(c268) + v57 * 1u;
     v59 = load8(v58);
     v60 = v58 + 1u * 1u;
     v61 = load8(v60);
@@ -11011,7 +11595,7 @@ L8:;
     v70 = (u64)((u64)v4 + (u64)UINT64_C(18446744073709551612));
     v71 = (u16)((u32)v53 << (1u & 15u));
     v72 = (u64)v71;
-    v73 = ADDRESS(c213) + v72 * 1u;
+    v73 = ADDRESS(c268) + v72 * 1u;
     v74 = load8(v73);
     v75 = v73 + 1u * 1u;
     v76 = load8(v75);
@@ -11053,7 +11637,7 @@ L13:;
     return;
 }
 
-static void f45(address a0, u8 a1, address a2) {
+static void f48(address a0, u8 a1, address a2) {
     u64 v3, v4, v5, v6, v7, v11, v18, v20, v22, v26, v28, v29, v30, v35, v41, v43;
     u64 v45, v49, v51, v52, v55, v63, v65, v73;
     u8 v8, v9, v15, v16, v21, v23, v24, v31, v34, v36, v38, v39, v44, v46, v47, v53;
@@ -11133,7 +11717,7 @@ L9:;
     v49 = (u64)((u64)v41 + (u64)2u);
     v50 = v48 + v41 * 1u;
     v51 = (u64)v50;
-    v52 = (u64)((u64)v51 - (u64)ADDRESS(c212));
+    v52 = (u64)((u64)v51 - (u64)ADDRESS(c267));
     v53 = v52 < 2u;
     if (v53) { goto L10; }
     else { goto L11; }
@@ -11189,7 +11773,7 @@ L18:;
     return;
 }
 
-static u32 f46(address a0, u64 a1, address a2, u64 a3) {
+static u32 f49(address a0, u64 a1, address a2, u64 a3) {
     u32 v4, v6, v7, v9, v13, v14, v15, v17, v18, v19, v20, v22, v23, v24, v25, v27;
     u32 v28, v29, v30, v32, v33, v34, v35, v37, v38, v39, v40, v42, v43, v44, v45, v47;
     u32 v48, v49, v50, v52, v53, v54, v60, v61, v62, v64, v65, v66, v67, v69, v70, v71;
@@ -11309,7 +11893,7 @@ L4:;
     return v104;
 }
 
-static void f47(address a0, address a1, u64 a2) {
+static void f50(address a0, address a1, u64 a2) {
     u32 v3, v31, v32, v33, v34, v35, v36, v37, v38, v39, v40, v41, v77, v78, v79, v81;
     u32 v82, v83, v84, v86, v87, v88, v89, v91, v92, v93, v94, v96, v97, v98, v99, v101;
     u32 v102, v103, v104, v106, v107, v108, v109, v111, v112, v113, v114, v116, v117, v118, v121, v122;
@@ -11344,7 +11928,7 @@ L1:;
     if (v19) { goto L4; }
     else { goto L2; }
 L2:;
-    v20 = f4(a1, 4u, ADDRESS(c226), 4u);
+    v20 = f4(a1, 4u, ADDRESS(c286), 4u);
     if (v20) { goto L5; }
     else { goto L4; }
 L3:;
@@ -11414,7 +11998,7 @@ L8:;
     if (v64) { goto L13; }
     else { goto L9; }
 L9:;
-    v65 = f4(v50, 4u, ADDRESS(c225), 4u);
+    v65 = f4(v50, 4u, ADDRESS(c285), 4u);
     if (v65) { goto L10; }
     else { goto L13; }
 L10:;
@@ -11550,7 +12134,7 @@ L14:;
     goto L3;
 }
 
-static u8 f48(address a0, u64 a1, address a2) {
+static u8 f51(address a0, u64 a1, address a2) {
     address v3, v7, v8, v10, v14, v21, v24, v27, v30, v33, v36, v39, v42, v45, v48, v51;
     address v54, v57, v60, v63, v66, v69, v72, v75, v78, v81, v84, v87, v90, v93, v96, v99;
     address v102, v105, v108, v111, v114;
@@ -11789,7 +12373,7 @@ L38:;
     return v5;
 }
 
-static u32 f49(address a0, address a1) {
+static u32 f52(address a0, address a1) {
     u32 v2;
     u64 v3, v4, v11, v13, v17, v19, v23, v25, v29, v31, v33, v35, v37, v39, v42, v46;
     u64 v50, v56, v62, v83, v87, v93;
@@ -12003,7 +12587,7 @@ L28:;
     v2 = 35u; goto L2;
 }
 
-static void f50(address a0, address a1, address a2, u64 a3) {
+static void f53(address a0, address a1, address a2, u64 a3) {
     address v4, v5, v6, v7, v8, v9, v12, v13, v14, v16, v18, v23, v25, v27, v29, v31;
     address v33, v43, v44, v45, v46, v47, v48, v51, v53, v57, v61, v63, v66, v71, v75, v77;
     address v83, v84, v86, v98, v99, v100, v101, v102, v103, v104, v105, v106, v107, v108, v109, v110;
@@ -12011,10 +12595,10 @@ static void f50(address a0, address a1, address a2, u64 a3) {
     address v157, v158, v159;
     u8 v10, v11, v17, v19, v20, v24, v26, v28, v30, v49, v50, v55, v56, v58, v59, v60;
     u8 v62, v64, v65, v68, v69, v70, v74, v76, v78, v85, v87, v93, v94, v95, v96, v97;
-    u8 v118, v121, v122, v123, v125, v126, v131, v132, v137, v138, v139, v140;
+    u8 v118, v121, v122, v123, v125, v126, v127, v128, v129, v130, v131, v132;
     u64 v15, v21, v22, v32, v34, v52, v54, v67, v72, v120, v124;
     u16 v35, v36, v37, v38, v39, v40, v41, v42, v73, v79, v80, v81, v82, v88, v89, v90;
-    u16 v91, v127, v128, v129, v130, v133, v134, v135, v136, v141, v142, v143, v144, v145, v146, v147;
+    u16 v91, v133, v134, v135, v136, v137, v138, v139, v140, v141, v142, v143, v144, v145, v146, v147;
     u16 v148;
     struct s2 v92;
     u64 block0[162];
@@ -12057,7 +12641,7 @@ L1:;
     v30 = load8(v29);
     v31 = v13 + 54u * 1u;
     v32 = (u64)((u64)v15 + (u64)UINT64_C(18446744073709551562));
-    v33 = v20 ? v31 : ADDRESS(c111);
+    v33 = v20 ? v31 : ADDRESS(c112);
     v34 = v20 ? v32 : 0u;
     v35 = (u16)v28;
     v36 = (u16)((u32)v35 << (8u & 15u));
@@ -12146,7 +12730,7 @@ L7:;
     v89 = (u16)((u32)v88 << (8u & 15u));
     v90 = (u16)v87;
     v91 = (u16)((u32)v89 | (u32)v90);
-    v92 = f51(v53, v8, v91, v7);
+    v92 = f54(v53, v8, v91, v7);
     v93 = v92.m0;
     v94 = v93 == 1u;
     if (v94) { goto L9; }
@@ -12201,7 +12785,7 @@ L9:;
     store8(v116, 1u);
     v117 = v4 + 1137u * 1u;
     memory_set(v117, 0u, 159u);
-    f52(v5, v7, v95, v4);
+    f55(v5, v7, v95, v4);
     v118 = load8(v102);
     v119 = v4 + 1288u * 1u;
     v120 = load64(v119);
@@ -12222,33 +12806,33 @@ L13:;
     v124 = load64(v66);
     v125 = load8(v75);
     v126 = load8(v77);
-    v127 = (u16)v125;
-    v128 = (u16)((u32)v127 << (8u & 15u));
-    v129 = (u16)v126;
-    v130 = (u16)((u32)v128 | (u32)v129);
-    v131 = load8(v84);
-    v132 = load8(v86);
-    v133 = (u16)v131;
+    v127 = load8(v84);
+    v128 = load8(v86);
+    v129 = load8(v23);
+    v130 = load8(v25);
+    v131 = load8(v27);
+    v132 = load8(v29);
+    v133 = (u16)v127;
     v134 = (u16)((u32)v133 << (8u & 15u));
-    v135 = (u16)v132;
+    v135 = (u16)v128;
     v136 = (u16)((u32)v134 | (u32)v135);
-    v137 = load8(v23);
-    v138 = load8(v25);
-    v139 = load8(v27);
-    v140 = load8(v29);
-    v141 = (u16)v139;
+    v137 = (u16)v125;
+    v138 = (u16)((u32)v137 << (8u & 15u));
+    v139 = (u16)v126;
+    v140 = (u16)((u32)v138 | (u32)v139);
+    v141 = (u16)v131;
     v142 = (u16)((u32)v141 << (8u & 15u));
-    v143 = (u16)v140;
+    v143 = (u16)v132;
     v144 = (u16)((u32)v142 | (u32)v143);
-    v145 = (u16)v137;
+    v145 = (u16)v129;
     v146 = (u16)((u32)v145 << (8u & 15u));
-    v147 = (u16)v138;
+    v147 = (u16)v130;
     v148 = (u16)((u32)v146 | (u32)v147);
     store64(a0, 1u);
     v149 = a0 + 8u * 1u;
     store64(v149, v124);
     v150 = a0 + 16u * 1u;
-    store16(v150, v130);
+    store16(v150, v140);
     v151 = a0 + 18u * 1u;
     store16(v151, v136);
     v152 = a0 + 20u * 1u;
@@ -12270,7 +12854,7 @@ L13:;
     goto L10;
 }
 
-static struct s2 f51(address a0, address a1, u16 a2, address a3) {
+static struct s2 f54(address a0, address a1, u16 a2, address a3) {
     address v4, v10, v13, v14, v15, v17, v19, v22, v27, v30, v32, v34, v36, v43, v47, v50;
     address v53, v54, v55, v62, v63, v68, v69, v74, v75, v81, v82, v90;
     u64 v5, v6, v11, v18, v23, v24, v37, v56, v86;
@@ -12433,7 +13017,7 @@ L22:;
     return v93;
 }
 
-static void f52(address a0, address a1, u8 a2, address a3) {
+static void f55(address a0, address a1, u8 a2, address a3) {
     address v4, v25, v26, v27, v28, v29, v31, v32, v33, v34, v35, v36, v37, v38, v48, v49;
     address v50, v76, v77, v78, v80, v81, v84, v85, v86, v87, v91, v92, v95, v96, v97, v99;
     address v101, v102, v105, v106, v107, v108, v110, v111, v114, v115, v116, v117;
@@ -12454,7 +13038,7 @@ static void f52(address a0, address a1, u8 a2, address a3) {
     v29 = a1 + 2u * 1u;
     v30 = load16(v29);
     switch (v30) {
-    case 0u: v4 = ADDRESS(c113); v5 = 19u; v6 = 0u; v7 = 2u; v8 = 0u; v9 = 1u; v10 = 0u; v11 = 7u; v12 = 0u; v13 = 0u; goto L21;
+    case 0u: v4 = ADDRESS(c114); v5 = 19u; v6 = 0u; v7 = 2u; v8 = 0u; v9 = 1u; v10 = 0u; v11 = 7u; v12 = 0u; v13 = 0u; goto L21;
     case 2u: goto L1;
     case 8192u: goto L2;
     case 8193u: goto L3;
@@ -12478,45 +13062,45 @@ static void f52(address a0, address a1, u8 a2, address a3) {
     default: goto L64;
     }
 L1:;
-    v4 = ADDRESS(c114); v5 = 16u; v6 = 0u; v7 = 1u; v8 = 1u; v9 = 0u; v10 = 1u; v11 = 3u; v12 = 1u; v13 = 0u; goto L21;
+    v4 = ADDRESS(c115); v5 = 16u; v6 = 0u; v7 = 1u; v8 = 1u; v9 = 0u; v10 = 1u; v11 = 3u; v12 = 1u; v13 = 0u; goto L21;
 L2:;
-    v4 = ADDRESS(c115); v5 = 16u; v6 = 0u; v7 = 1u; v8 = 1u; v9 = 0u; v10 = 1u; v11 = 1u; v12 = 2u; v13 = 0u; goto L21;
+    v4 = ADDRESS(c116); v5 = 16u; v6 = 0u; v7 = 1u; v8 = 1u; v9 = 0u; v10 = 1u; v11 = 1u; v12 = 2u; v13 = 0u; goto L21;
 L3:;
-    v4 = ADDRESS(c116); v5 = 16u; v6 = 0u; v7 = 1u; v8 = 1u; v9 = 0u; v10 = 1u; v11 = 1u; v12 = 3u; v13 = 0u; goto L21;
+    v4 = ADDRESS(c117); v5 = 16u; v6 = 0u; v7 = 1u; v8 = 1u; v9 = 0u; v10 = 1u; v11 = 1u; v12 = 3u; v13 = 0u; goto L21;
 L4:;
-    v4 = ADDRESS(c117); v5 = 15u; v6 = 0u; v7 = 1u; v8 = 1u; v9 = 0u; v10 = 1u; v11 = 1u; v12 = 4u; v13 = 0u; goto L21;
+    v4 = ADDRESS(c118); v5 = 15u; v6 = 0u; v7 = 1u; v8 = 1u; v9 = 0u; v10 = 1u; v11 = 1u; v12 = 4u; v13 = 0u; goto L21;
 L5:;
-    v4 = ADDRESS(c118); v5 = 24u; v6 = 0u; v7 = 1u; v8 = 1u; v9 = 0u; v10 = 1u; v11 = 1u; v12 = 5u; v13 = 0u; goto L21;
+    v4 = ADDRESS(c119); v5 = 24u; v6 = 0u; v7 = 1u; v8 = 1u; v9 = 0u; v10 = 1u; v11 = 1u; v12 = 5u; v13 = 0u; goto L21;
 L6:;
-    v4 = ADDRESS(c119); v5 = 13u; v6 = 4u; v7 = 2u; v8 = 0u; v9 = 1u; v10 = 1u; v11 = 1u; v12 = 6u; v13 = 0u; goto L21;
+    v4 = ADDRESS(c120); v5 = 13u; v6 = 4u; v7 = 2u; v8 = 0u; v9 = 1u; v10 = 1u; v11 = 1u; v12 = 6u; v13 = 0u; goto L21;
 L7:;
-    v4 = ADDRESS(c120); v5 = 9u; v6 = 0u; v7 = 1u; v8 = 1u; v9 = 0u; v10 = 1u; v11 = 3u; v12 = 7u; v13 = 0u; goto L21;
+    v4 = ADDRESS(c121); v5 = 9u; v6 = 0u; v7 = 1u; v8 = 1u; v9 = 0u; v10 = 1u; v11 = 3u; v12 = 7u; v13 = 0u; goto L21;
 L8:;
-    v4 = ADDRESS(c121); v5 = 9u; v6 = 0u; v7 = 1u; v8 = 1u; v9 = 0u; v10 = 1u; v11 = 3u; v12 = 8u; v13 = 0u; goto L21;
+    v4 = ADDRESS(c122); v5 = 9u; v6 = 0u; v7 = 1u; v8 = 1u; v9 = 0u; v10 = 1u; v11 = 3u; v12 = 8u; v13 = 0u; goto L21;
 L9:;
-    v4 = ADDRESS(c122); v5 = 6u; v6 = 0u; v7 = 1u; v8 = 1u; v9 = 0u; v10 = 1u; v11 = 3u; v12 = 9u; v13 = 0u; goto L21;
+    v4 = ADDRESS(c123); v5 = 6u; v6 = 0u; v7 = 1u; v8 = 1u; v9 = 0u; v10 = 1u; v11 = 3u; v12 = 9u; v13 = 0u; goto L21;
 L10:;
-    v4 = ADDRESS(c123); v5 = 10u; v6 = 0u; v7 = 1u; v8 = 1u; v9 = 0u; v10 = 1u; v11 = 1u; v12 = 10u; v13 = 0u; goto L21;
+    v4 = ADDRESS(c124); v5 = 10u; v6 = 0u; v7 = 1u; v8 = 1u; v9 = 0u; v10 = 1u; v11 = 1u; v12 = 10u; v13 = 0u; goto L21;
 L11:;
-    v4 = ADDRESS(c129); v5 = 21u; v6 = 4u; v7 = 2u; v8 = 0u; v9 = 1u; v10 = 1u; v11 = 3u; v12 = 11u; v13 = 0u; goto L21;
+    v4 = ADDRESS(c130); v5 = 21u; v6 = 4u; v7 = 2u; v8 = 0u; v9 = 1u; v10 = 1u; v11 = 3u; v12 = 11u; v13 = 0u; goto L21;
 L12:;
-    v4 = ADDRESS(c131); v5 = 24u; v6 = 4u; v7 = 2u; v8 = 0u; v9 = 1u; v10 = 1u; v11 = 3u; v12 = 11u; v13 = 1u; goto L21;
+    v4 = ADDRESS(c132); v5 = 24u; v6 = 4u; v7 = 2u; v8 = 0u; v9 = 1u; v10 = 1u; v11 = 3u; v12 = 11u; v13 = 1u; goto L21;
 L13:;
-    v4 = ADDRESS(c133); v5 = 17u; v6 = 4u; v7 = 2u; v8 = 0u; v9 = 1u; v10 = 1u; v11 = 3u; v12 = 11u; v13 = 2u; goto L21;
+    v4 = ADDRESS(c134); v5 = 17u; v6 = 4u; v7 = 2u; v8 = 0u; v9 = 1u; v10 = 1u; v11 = 3u; v12 = 11u; v13 = 2u; goto L21;
 L14:;
-    v4 = ADDRESS(c124); v5 = 14u; v6 = 4u; v7 = 2u; v8 = 0u; v9 = 1u; v10 = 1u; v11 = 1u; v12 = 12u; v13 = 0u; goto L21;
+    v4 = ADDRESS(c125); v5 = 14u; v6 = 4u; v7 = 2u; v8 = 0u; v9 = 1u; v10 = 1u; v11 = 1u; v12 = 12u; v13 = 0u; goto L21;
 L15:;
-    v4 = ADDRESS(c125); v5 = 11u; v6 = 4u; v7 = 2u; v8 = 0u; v9 = 1u; v10 = 0u; v11 = 4u; v12 = 13u; v13 = 0u; goto L21;
+    v4 = ADDRESS(c126); v5 = 11u; v6 = 4u; v7 = 2u; v8 = 0u; v9 = 1u; v10 = 0u; v11 = 4u; v12 = 13u; v13 = 0u; goto L21;
 L16:;
-    v4 = ADDRESS(c126); v5 = 12u; v6 = 4u; v7 = 2u; v8 = 0u; v9 = 1u; v10 = 0u; v11 = 4u; v12 = 14u; v13 = 0u; goto L21;
+    v4 = ADDRESS(c127); v5 = 12u; v6 = 4u; v7 = 2u; v8 = 0u; v9 = 1u; v10 = 0u; v11 = 4u; v12 = 14u; v13 = 0u; goto L21;
 L17:;
-    v4 = ADDRESS(c127); v5 = 14u; v6 = 0u; v7 = 1u; v8 = 1u; v9 = 0u; v10 = 1u; v11 = 3u; v12 = 15u; v13 = 0u; goto L21;
+    v4 = ADDRESS(c128); v5 = 14u; v6 = 0u; v7 = 1u; v8 = 1u; v9 = 0u; v10 = 1u; v11 = 3u; v12 = 15u; v13 = 0u; goto L21;
 L18:;
-    v4 = ADDRESS(c128); v5 = 14u; v6 = 0u; v7 = 1u; v8 = 1u; v9 = 0u; v10 = 1u; v11 = 3u; v12 = 16u; v13 = 0u; goto L21;
+    v4 = ADDRESS(c129); v5 = 14u; v6 = 0u; v7 = 1u; v8 = 1u; v9 = 0u; v10 = 1u; v11 = 3u; v12 = 16u; v13 = 0u; goto L21;
 L19:;
-    v4 = ADDRESS(c135); v5 = 15u; v6 = 4u; v7 = 2u; v8 = 0u; v9 = 1u; v10 = 1u; v11 = 3u; v12 = 11u; v13 = 3u; goto L21;
+    v4 = ADDRESS(c136); v5 = 15u; v6 = 4u; v7 = 2u; v8 = 0u; v9 = 1u; v10 = 1u; v11 = 3u; v12 = 11u; v13 = 3u; goto L21;
 L20:;
-    v4 = ADDRESS(c137); v5 = 27u; v6 = 4u; v7 = 2u; v8 = 0u; v9 = 1u; v10 = 1u; v11 = 3u; v12 = 11u; v13 = 4u; goto L21;
+    v4 = ADDRESS(c138); v5 = 27u; v6 = 4u; v7 = 2u; v8 = 0u; v9 = 1u; v10 = 1u; v11 = 3u; v12 = 11u; v13 = 4u; goto L21;
 L21:;
     memory_set(v26, 0u, 6u);
     memory_cpy(v28, v26, 6u);
@@ -12698,7 +13282,7 @@ L48:;
     store8(v77, v17);
     v78 = v25 + 3u * 1u;
     store8(v78, v18);
-    v79 = f53(v25, v49, v51);
+    v79 = f56(v25, v49, v51);
     if (v79) { goto L51; }
     else { v19 = 3u; goto L49; }
 L49:;
@@ -12707,7 +13291,7 @@ L49:;
 L50:;
     goto L51;
 L51:;
-    f54(a0, v12, v13, a1);
+    f57(a0, v12, v13, a1);
     if (v8) { goto L53; }
     else { v23 = 0u; v24 = 0u; goto L62; }
 L52:;
@@ -12793,10 +13377,10 @@ L60:;
     store64(v102, v109);
     goto L63;
 L61:;
-    f55(a0, v12, a3);
+    f58(a0, v12, a3);
     goto L63;
 L62:;
-    f56(a0, v27, a1, v24, v23, a3);
+    f59(a0, v27, a1, v24, v23, a3);
     goto L63;
 L63:;
     return;
@@ -12818,7 +13402,7 @@ L64:;
     goto L63;
 }
 
-static u8 f53(address a0, address a1, u64 a2) {
+static u8 f56(address a0, address a1, u64 a2) {
     address v3, v6, v8, v10, v12, v15, v29;
     u64 v4, v17;
     u8 v5, v7, v9, v11, v13, v14, v16, v18, v19, v20, v21, v25, v27, v28, v30, v31;
@@ -12919,7 +13503,7 @@ L14:;
     UNREACHABLE;
 }
 
-static void f54(address a0, u8 a1, u8 a2, address a3) {
+static void f57(address a0, u8 a1, u8 a2, address a3) {
     u64 v4, v6, v7, v8, v9, v10, v17, v21, v23, v24, v25, v27, v29, v32, v33, v35;
     u64 v36, v37, v42, v45, v50, v51, v57, v58, v64, v65, v92, v95, v96, v100, v102, v103;
     u64 v106, v112, v115, v119, v121, v122, v129, v132, v134, v136, v137;
@@ -13238,7 +13822,7 @@ L44:;
     UNREACHABLE;
 }
 
-static void f55(address a0, u8 a1, address a2) {
+static void f58(address a0, u8 a1, address a2) {
     address v3, v4, v5, v6, v7, v9, v12, v13, v14, v15, v16, v19, v20, v22, v25, v26;
     address v27, v28, v31, v32;
     u8 v8, v11, v24;
@@ -13317,7 +13901,7 @@ L7:;
     return;
 }
 
-static void f56(address a0, address a1, address a2, u8 a3, u8 a4, address a5) {
+static void f59(address a0, address a1, address a2, u8 a3, u8 a4, address a5) {
     u16 v6, v7, v17, v21, v22, v39, v51, v64, v65, v70, v71, v72, v73, v82, v100, v117;
     u16 v127;
     u64 v8, v20, v31, v32, v35, v36, v44, v47, v48, v55, v58, v59, v61, v63, v75, v76;
@@ -13583,7 +14167,141 @@ L22:;
     return;
 }
 
-static void f57(address a0, address a1) {
+static u8 f60(address a0) {
+    u8 v1, v2, v3;
+    address v4;
+    u16 v5;
+    v2 = load8(a0);
+    v3 = v2 == 0u;
+    if (v3) { goto L1; }
+    else { v1 = 0u; goto L3; }
+L1:;
+    v4 = a0 + 2u * 1u;
+    v5 = load16(v4);
+    switch (v5) {
+    case 0u: goto L2;
+    case 2u: goto L2;
+    case 8192u: goto L2;
+    case 8193u: goto L2;
+    case 8194u: goto L2;
+    case 8195u: goto L2;
+    case 8196u: goto L2;
+    case 8197u: goto L2;
+    case 8198u: goto L2;
+    case 8199u: goto L2;
+    case 8200u: goto L2;
+    case 8201u: goto L2;
+    case 8202u: goto L2;
+    case 8203u: goto L2;
+    case 8204u: goto L2;
+    case 8205u: goto L2;
+    case 8206u: goto L2;
+    case 8208u: goto L2;
+    case 8209u: goto L2;
+    case 24576u: goto L2;
+    case 24577u: goto L2;
+    default: v1 = 1u; goto L3;
+    }
+L2:;
+    v1 = 0u; goto L3;
+L3:;
+    return v1;
+}
+
+static u8 f61(address a0, address a1) {
+    address v2, v5, v6, v7, v8, v10, v12, v17, v20, v22, v24, v30, v31, v33, v39, v41;
+    address v46, v48, v50, v52, v59, v60, v61, v62, v63, v64;
+    u64 v3, v9, v18, v21, v44, v45, v51, v53;
+    u8 v4, v11, v13, v19, v23, v25, v32, v34, v40, v42, v43, v47, v49, v66;
+    u16 v14, v15, v16, v26, v27, v28, v29, v35, v36, v37, v38, v54, v55, v56, v57, v58;
+    struct s2 v65;
+    u64 block0[2];
+    u64 block1[3];
+    v5 = ADDRESS(block0);
+    v6 = ADDRESS(block1);
+    v7 = load_address(a1);
+    v8 = v7 + 34u * 1u;
+    v9 = load64(v8);
+    v10 = v7 + 42u * 1u;
+    v11 = load8(v10);
+    v12 = v7 + 43u * 1u;
+    v13 = load8(v12);
+    v14 = (u16)v11;
+    v15 = (u16)((u32)v14 << (8u & 15u));
+    v16 = (u16)v13;
+    v17 = a0 + 440u * 1u;
+    v18 = load64(v17);
+    v19 = v9 == v18;
+    if (v19) { goto L1; }
+    else { v4 = 0u; goto L4; }
+L1:;
+    v20 = v7 + 20u * 1u;
+    v21 = load64(v20);
+    v22 = v7 + 28u * 1u;
+    v23 = load8(v22);
+    v24 = v7 + 29u * 1u;
+    v25 = load8(v24);
+    v26 = (u16)v23;
+    v27 = (u16)((u32)v26 << (8u & 15u));
+    v28 = (u16)v25;
+    v29 = (u16)((u32)v27 | (u32)v28);
+    store64(v5, v21);
+    v30 = v5 + 8u * 1u;
+    store16(v30, v29);
+    v31 = v7 + 30u * 1u;
+    v32 = load8(v31);
+    v33 = v7 + 31u * 1u;
+    v34 = load8(v33);
+    v35 = (u16)v32;
+    v36 = (u16)((u32)v35 << (8u & 15u));
+    v37 = (u16)v34;
+    v38 = (u16)((u32)v36 | (u32)v37);
+    v39 = a1 + 16u * 1u;
+    v40 = load8(v39);
+    v41 = a1 + 17u * 1u;
+    v42 = load8(v41);
+    v43 = v42 == 0u;
+    v44 = v43 ? 52u : 54u;
+    v45 = v43 ? 53u : 55u;
+    v46 = v7 + v44 * 1u;
+    v47 = load8(v46);
+    v48 = v7 + v45 * 1u;
+    v49 = load8(v48);
+    if (v43) { goto L2; }
+    else { v2 = ADDRESS(c112); v3 = 0u; goto L3; }
+L2:;
+    v50 = a1 + 8u * 1u;
+    v51 = load64(v50);
+    v52 = v7 + 54u * 1u;
+    v53 = (u64)((u64)v51 + (u64)UINT64_C(18446744073709551562));
+    v2 = v52; v3 = v53; goto L3;
+L3:;
+    v54 = (u16)((u32)v15 | (u32)v16);
+    v55 = (u16)v47;
+    v56 = (u16)((u32)v55 << (8u & 15u));
+    v57 = (u16)v49;
+    v58 = (u16)((u32)v56 | (u32)v57);
+    store8(v6, v40);
+    v59 = v6 + 1u * 1u;
+    store8(v59, 0u);
+    v60 = v6 + 2u * 1u;
+    store16(v60, v58);
+    v61 = v6 + 4u * 1u;
+    store16(v61, v54);
+    v62 = v6 + 6u * 1u;
+    store16(v62, 0u);
+    v63 = v6 + 8u * 1u;
+    store_address(v63, v2);
+    v64 = v6 + 16u * 1u;
+    store64(v64, v3);
+    v65 = f54(v17, v5, v38, v6);
+    v66 = v65.m0;
+    v4 = v66; goto L4;
+L4:;
+    return v4;
+}
+
+static void f62(address a0, address a1) {
     u64 v2, v3, v4, v9, v11, v12, v13, v14, v15, v16, v17, v19, v21, v23, v40, v41;
     u64 v42, v66, v78, v79, v80, v104, v130, v134, v144, v145, v146, v151;
     address v5, v8, v18, v22, v30, v31, v34, v38, v39, v45, v46, v48, v49, v51, v52, v54;
@@ -13621,7 +14339,7 @@ L3:;
     if (v20) { v3 = v17; goto L5; }
     else { goto L4; }
 L4:;
-    f58(a1, v17);
+    f63(a1, v17);
     v21 = load64(v18);
     v3 = v21; goto L5;
 L5:;
@@ -13822,7 +14540,7 @@ L17:;
     return;
 }
 
-static void f58(address a0, u64 a1) {
+static void f63(address a0, u64 a1) {
     u64 v2, v3, v5, v8, v9, v10, v13, v14, v19;
     address v4, v7, v12, v16, v17;
     u8 v6, v11, v15, v18, v20;
@@ -13846,16 +14564,16 @@ L2:;
 L3:;
     v12 = a0 + v2 * 1u;
     v13 = (u64)v12;
-    v14 = (u64)((u64)v13 - (u64)(ADDRESS(c139) + 8u * 1u));
+    v14 = (u64)((u64)v13 - (u64)(ADDRESS(c140) + 8u * 1u));
     v15 = v14 < v9;
     if (v15) { v3 = 0u; goto L5; }
     else { goto L4; }
 L4:;
-    memory_cpy(v12, (ADDRESS(c139) + 8u * 1u), v9);
+    memory_cpy(v12, (ADDRESS(c140) + 8u * 1u), v9);
     goto L6;
 L5:;
     v16 = v12 + v3 * 1u;
-    v17 = (ADDRESS(c139) + 8u * 1u) + v3 * 1u;
+    v17 = (ADDRESS(c140) + 8u * 1u) + v3 * 1u;
     v18 = load8(v17);
     store8(v16, v18);
     v19 = (u64)((u64)v3 + (u64)1u);
@@ -13869,7 +14587,7 @@ L7:;
     return;
 }
 
-static struct s2 f59(address a0, address a1) {
+static struct s2 f64(address a0, address a1) {
     address v2, v6, v7, v11, v13, v15, v16, v17, v26, v31, v32, v38, v40, v41, v42, v43;
     address v44, v46, v47, v48, v49, v53, v55;
     u64 v3, v8, v18, v23, v25, v27, v28, v29, v34, v36, v37, v45;
@@ -13978,7 +14696,7 @@ L11:;
     return v57;
 }
 
-static struct s2 f60(address a0, u8 a1, u16 a2, u8 a3, u16 a4, address a5, u64 a6) {
+static struct s2 f65(address a0, u8 a1, u16 a2, u8 a3, u16 a4, address a5, u64 a6) {
     u16 v7, v15, v17;
     u8 v8, v9, v12, v13, v16, v18, v19, v21, v22, v23, v24, v32, v33;
     address v10, v11, v14, v25, v26, v27, v28, v29, v30;
@@ -14066,7 +14784,7 @@ L9:;
     store_address(v29, a5);
     v30 = v10 + 16u * 1u;
     store64(v30, a6);
-    v31 = f59(a0, v10);
+    v31 = f64(a0, v10);
     v32 = v31.m0;
     v33 = v31.m1;
     v8 = v33; v9 = v32; goto L10;
@@ -14078,7 +14796,7 @@ L10:;
     return v35;
 }
 
-static void f61(address a0, address a1, address a2, u64 a3) {
+static void f66(address a0, address a1, address a2, u64 a3) {
     u64 v4, v5, v11, v25, v32, v43, v83, v84, v90, v91;
     u8 v6, v7, v8, v9, v10, v16, v17, v19, v20, v23, v36, v37, v60, v61, v63, v64;
     u8 v66, v67, v69, v70, v75, v76, v78, v79, v80, v87, v88, v95, v96, v101, v105, v106;
@@ -14163,7 +14881,7 @@ L2:;
     store_address(v58, v41);
     v59 = v12 + 48u * 1u;
     store64(v59, v43);
-    f57(v12, a2);
+    f62(v12, a2);
     v60 = load8(v18);
     v61 = (u8)((u32)v60 + (u32)255u);
     store8(v18, v61);
@@ -14291,7 +15009,7 @@ L17:;
     return;
 }
 
-static struct s2 f62(address a0, address a1, address a2) {
+static struct s2 f67(address a0, address a1, address a2) {
     u8 v3, v4, v5, v6, v7, v8, v10, v17, v20, v22, v23, v27, v35, v36, v39, v40;
     u8 v41, v43, v44, v48, v56, v57, v59, v60, v68, v69;
     struct s2 v9, v34, v37, v55, v58, v67, v70, v71;
@@ -14354,7 +15072,7 @@ L4:;
     store_address(v32, a2);
     v33 = v13 + 16u * 1u;
     store64(v33, 26u);
-    v34 = f59(a0, v13);
+    v34 = f64(a0, v13);
     v35 = v34.m0;
     v36 = v34.m1;
     v3 = v36; v4 = v35; goto L5;
@@ -14398,7 +15116,7 @@ L10:;
     store_address(v53, a2);
     v54 = v12 + 16u * 1u;
     store64(v54, 20u);
-    v55 = f59(a0, v12);
+    v55 = f64(a0, v12);
     v56 = v55.m0;
     v57 = v55.m1;
     v5 = v57; v6 = v56; goto L11;
@@ -14425,7 +15143,7 @@ L13:;
     store_address(v65, a2);
     v66 = v11 + 16u * 1u;
     store64(v66, 20u);
-    v67 = f59(a0, v11);
+    v67 = f64(a0, v11);
     v68 = v67.m0;
     v69 = v67.m1;
     v7 = v69; v8 = v68; goto L14;
@@ -14439,7 +15157,7 @@ L15:;
     return v71;
 }
 
-static void f63(address a0, address a1, address a2, u64 a3) {
+static void f68(address a0, address a1, address a2, u64 a3) {
     u8 v4, v12, v15, v16, v22, v24, v25, v26, v28, v29, v30, v32, v34, v35, v37, v39;
     u8 v46, v50, v54, v56, v63, v65, v66, v69, v70, v71, v74, v76, v78, v90, v92, v96;
     u8 v98, v103, v104, v105, v108, v110, v126, v130, v133, v134, v137, v138, v142, v147, v150, v152;
@@ -14689,7 +15407,7 @@ L23:;
 L24:;
     v134 = v22 == 4u;
     if (v134) { v9 = 0u; v10 = 0u; v11 = 0u; v12 = 1u; goto L31; }
-    else { v5 = v13; v6 = ADDRESS(c111); v7 = 0u; goto L29; }
+    else { v5 = v13; v6 = ADDRESS(c112); v7 = 0u; goto L29; }
 L25:;
     v135 = v18 + 54u * 1u;
     v136 = (u64)((u64)v20 + (u64)UINT64_C(18446744073709551562));
@@ -14786,7 +15504,7 @@ L34:;
     goto L18;
 }
 
-static void f64(address a0, address a1, address a2, u64 a3, u16 a4, u8 a5) {
+static void f69(address a0, address a1, address a2, u64 a3, u16 a4, u8 a5) {
     address v6, v7, v8, v9, v12, v13, v15, v17, v19, v21, v23, v24, v25, v26, v27, v28;
     address v29, v30, v35, v36, v37, v38, v40, v41, v42, v47, v49, v54, v55, v56, v57, v58;
     address v60, v61, v62, v63, v64, v65, v66, v68, v70, v72, v74, v76, v79, v81, v82, v83;
@@ -14837,7 +15555,7 @@ L1:;
     v29 = v7 + 25u * 1u;
     memory_set(v29, 0u, 71u);
     v30 = a1 + 48u * 1u;
-    v31 = f62(v7, v12, v30);
+    v31 = f67(v7, v12, v30);
     v32 = v31.m0;
     v33 = v31.m1;
     v34 = v32 == 0u;
@@ -14909,7 +15627,7 @@ L9:;
     store8(v65, 0u);
     v66 = a1 + 353u * 1u;
     store8(v66, 0u);
-    f61(v8, a1, a2, a3);
+    f66(v8, a1, a2, a3);
     v67 = load8(v8);
     v68 = v8 + 1u * 1u;
     v69 = load8(v68);
@@ -14951,7 +15669,7 @@ L9:;
     goto L2;
 }
 
-static u32 f65(address a0, u16 a1, address a2, u64 a3, address a4, u64 a5, address a6) {
+static u32 f70(address a0, u16 a1, address a2, u64 a3, address a4, u64 a5, address a6) {
     u16 v7, v33, v60, v61, v62, v63, v70, v71, v72, v84, v87, v88, v89, v95, v96, v97;
     u16 v98, v114, v115, v116, v117, v118, v139, v160, v161;
     u64 v8, v10, v25, v28, v32, v55, v65, v74, v80, v102, v103, v109, v111, v113, v132, v137;
@@ -15051,7 +15769,7 @@ L8:;
     if (v52) { goto L11; }
     else { goto L9; }
 L9:;
-    v53 = f69(v27, v16);
+    v53 = f74(v27, v16);
     if (v53) { goto L10; }
     else { goto L27; }
 L10:;
@@ -15082,7 +15800,7 @@ L11:;
     if (v75) { goto L29; }
     else { goto L12; }
 L12:;
-    v76 = f70(v27, v16);
+    v76 = f75(v27, v16);
     if (v76) { goto L13; }
     else { goto L30; }
 L13:;
@@ -15139,7 +15857,7 @@ L17:;
     v109 = load64(v108);
     v110 = v41 + 54u * 1u;
     v111 = (u64)((u64)v109 + (u64)UINT64_C(18446744073709551562));
-    v112 = v101 ? v110 : ADDRESS(c111);
+    v112 = v101 ? v110 : ADDRESS(c112);
     v113 = v101 ? v111 : 0u;
     v114 = (u16)((u32)v88 | (u32)v84);
     v115 = (u16)v105;
@@ -15159,7 +15877,7 @@ L17:;
     store_address(v123, v112);
     v124 = v15 + 16u * 1u;
     store64(v124, v113);
-    v125 = f51(v73, v14, v98, v15);
+    v125 = f54(v73, v14, v98, v15);
     v126 = v125.m0;
     switch (v126) {
     case 0u: goto L36;
@@ -15209,10 +15927,10 @@ L24:;
 L25:;
     return v11;
 L26:;
-    v145 = f66(a0, a1, a2, a3, a4, a5, a6);
+    v145 = f71(a0, a1, a2, a3, a4, a5, a6);
     v11 = v145; goto L25;
 L27:;
-    f80(v27, 1u, a1, a2, v40, v18);
+    f85(v27, 1u, a1, a2, v40, v18);
     v146 = load64(v37);
     store64(a6, v146);
     v12 = 1u; goto L39;
@@ -15224,23 +15942,23 @@ L28:;
     v150 = (u32)((u32)v149 + (u32)16u);
     v12 = v150; goto L39;
 L29:;
-    f80(v27, 2u, a1, a2, v40, v18);
+    f85(v27, 2u, a1, a2, v40, v18);
     v151 = load64(v37);
     store64(a6, v151);
     v12 = 2u; goto L39;
 L30:;
-    f80(v27, 3u, a1, a2, v40, v18);
+    f85(v27, 3u, a1, a2, v40, v18);
     v152 = load64(v37);
     store64(a6, v152);
     v12 = 3u; goto L39;
 L31:;
-    f80(v27, 4u, a1, a2, v40, v18);
+    f85(v27, 4u, a1, a2, v40, v18);
     v153 = load64(v37);
     store64(a6, v153);
     v12 = 4u; goto L39;
 L32:;
     v154 = v125.m1;
-    f71(v27, a1, v40, v154, v18);
+    f76(v27, a1, v40, v154, v18);
     v155 = load64(v37);
     store64(a6, v155);
     v12 = 5u; goto L39;
@@ -15264,22 +15982,22 @@ L33:;
     v167 = v9 + 1440u * 1u;
     v168 = load64(v167);
     v169 = v9 + 1448u * 1u;
-    f79(v166, v168, v169, v13, a1, v18);
+    f84(v166, v168, v169, v13, a1, v18);
     v170 = load64(v37);
     store64(a6, v170);
     v12 = 6u; goto L39;
 L34:;
-    f80(v27, 7u, a1, a2, v40, v18);
+    f85(v27, 7u, a1, a2, v40, v18);
     v171 = load64(v37);
     store64(a6, v171);
     v12 = 7u; goto L39;
 L35:;
-    f80(v27, 8u, a1, a2, v40, v18);
+    f85(v27, 8u, a1, a2, v40, v18);
     v172 = load64(v37);
     store64(a6, v172);
     v12 = 8u; goto L39;
 L36:;
-    f80(v27, 9u, a1, a2, v40, v18);
+    f85(v27, 9u, a1, a2, v40, v18);
     v173 = load64(v37);
     store64(a6, v173);
     v12 = 9u; goto L39;
@@ -15297,7 +16015,7 @@ L39:;
     v11 = v12; goto L25;
 }
 
-static u32 f66(address a0, u16 a1, address a2, u64 a3, address a4, u64 a5, address a6) {
+static u32 f71(address a0, u16 a1, address a2, u64 a3, address a4, u64 a5, address a6) {
     u32 v7, v19;
     address v8, v9, v13, v16, v17;
     u8 v10, v11, v12, v15;
@@ -15329,7 +16047,7 @@ L2:;
     memory_set(v17, 0u, 7u);
     v7 = 32u; goto L4;
 L3:;
-    v19 = f67(v16, a1, a2, a3, a4, a5, a6);
+    v19 = f72(v16, a1, a2, a3, a4, a5, a6);
     store64(v8, 4u);
     store_address(v13, v16);
     store_address(a0, v8);
@@ -15340,7 +16058,7 @@ L4:;
     return v7;
 }
 
-static u32 f67(address a0, u16 a1, address a2, u64 a3, address a4, u64 a5, address a6) {
+static u32 f72(address a0, u16 a1, address a2, u64 a3, address a4, u64 a5, address a6) {
     u32 v7, v33, v75, v76, v78;
     address v8, v9, v10, v14, v15, v19, v22, v24, v26, v29, v36, v37, v38, v40, v42, v44;
     address v50, v52, v58, v60, v62, v63, v64, v65, v66, v67, v68, v69, v70;
@@ -15376,7 +16094,7 @@ L3:;
     v7 = 33u; goto L23;
 L4:;
     v19 = load_address(a0);
-    f68(v8, v19, a1, a2, a3, a4, a5);
+    f73(v8, v19, a1, a2, a3, a4, a5);
     v20 = load8(v8);
     v21 = v20 == 0u;
     if (v21) { goto L5; }
@@ -15507,7 +16225,7 @@ L23:;
     return v7;
 }
 
-static void f68(address a0, address a1, u16 a2, address a3, u64 a4, address a5, u64 a6) {
+static void f73(address a0, address a1, u16 a2, address a3, u64 a4, address a5, u64 a6) {
     u16 v7, v28, v55, v56, v57, v58, v65, v66, v67, v79, v82, v83, v84, v90, v91, v92;
     u16 v93, v109, v110, v111, v112, v113, v137, v147, v148;
     u64 v8, v10, v18, v27, v50, v60, v69, v75, v97, v98, v104, v106, v108, v130, v135, v140;
@@ -15580,7 +16298,7 @@ L5:;
     if (v47) { goto L8; }
     else { goto L6; }
 L6:;
-    v48 = f69(a1, v22);
+    v48 = f74(a1, v22);
     if (v48) { goto L7; }
     else { v11 = 1u; goto L27; }
 L7:;
@@ -15611,7 +16329,7 @@ L8:;
     if (v70) { v11 = 2u; goto L27; }
     else { goto L9; }
 L9:;
-    v71 = f70(a1, v22);
+    v71 = f75(a1, v22);
     if (v71) { goto L10; }
     else { v11 = 3u; goto L27; }
 L10:;
@@ -15668,7 +16386,7 @@ L14:;
     v104 = load64(v103);
     v105 = v36 + 54u * 1u;
     v106 = (u64)((u64)v104 + (u64)UINT64_C(18446744073709551562));
-    v107 = v96 ? v105 : ADDRESS(c111);
+    v107 = v96 ? v105 : ADDRESS(c112);
     v108 = v96 ? v106 : 0u;
     v109 = (u16)((u32)v83 | (u32)v79);
     v110 = (u16)v100;
@@ -15688,7 +16406,7 @@ L14:;
     store_address(v118, v107);
     v119 = v21 + 16u * 1u;
     store64(v119, v108);
-    v120 = f51(v68, v20, v93, v21);
+    v120 = f54(v68, v20, v93, v21);
     v121 = v120.m0;
     switch (v121) {
     case 0u: v11 = 9u; goto L27;
@@ -15710,7 +16428,7 @@ L18:;
     v12 = v123; v13 = 0u; goto L28;
 L19:;
     v124 = v120.m1;
-    f71(a1, a2, v35, v124, v24);
+    f76(a1, a2, v35, v124, v24);
     v12 = 0u; v13 = 5u; goto L28;
 L20:;
     v125 = v36 + 44u * 1u;
@@ -15767,10 +16485,10 @@ L26:;
     v154 = v9 + 1440u * 1u;
     v155 = load64(v154);
     v156 = v9 + 1448u * 1u;
-    f79(v153, v155, v156, v19, a2, v24);
+    f84(v153, v155, v156, v19, a2, v24);
     v12 = 0u; v13 = 6u; goto L28;
 L27:;
-    f80(a1, v11, a2, a3, v35, v24);
+    f85(a1, v11, a2, a3, v35, v24);
     v12 = 0u; v13 = v11; goto L28;
 L28:;
     v157 = load64(v32);
@@ -15788,7 +16506,7 @@ L29:;
     return;
 }
 
-static u8 f69(address a0, address a1) {
+static u8 f74(address a0, address a1) {
     address v2, v6, v7, v8, v9, v11, v13, v18, v21, v23, v25, v34, v38, v41, v42, v44;
     address v50, v55, v57, v59, v61, v67, v68, v69, v70, v71, v72;
     u64 v3, v10, v19, v22, v35, v53, v54, v60, v62;
@@ -15884,7 +16602,7 @@ L7:;
     v57 = v8 + v54 * 1u;
     v58 = load8(v57);
     if (v52) { goto L8; }
-    else { v2 = ADDRESS(c111); v3 = 0u; goto L9; }
+    else { v2 = ADDRESS(c112); v3 = 0u; goto L9; }
 L8:;
     v59 = a1 + 8u * 1u;
     v60 = load64(v59);
@@ -15909,7 +16627,7 @@ L9:;
     store_address(v71, v2);
     v72 = v7 + 16u * 1u;
     store64(v72, v3);
-    v73 = f51(v18, v6, v49, v7);
+    v73 = f54(v18, v6, v49, v7);
     v74 = v73.m0;
     v75 = v74 == 2u;
     v4 = v75; goto L10;
@@ -15919,7 +16637,7 @@ L11:;
     return v5;
 }
 
-static u8 f70(address a0, address a1) {
+static u8 f75(address a0, address a1) {
     u8 v2, v7, v9, v16, v17, v18, v22;
     address v3, v4, v6, v8, v14, v19;
     u64 v5, v15, v20;
@@ -15960,7 +16678,7 @@ L4:;
     return v2;
 }
 
-static void f71(address a0, u16 a1, address a2, u8 a3, address a4) {
+static void f76(address a0, u16 a1, address a2, u8 a3, address a4) {
     address v5, v7, v11, v12, v13, v14, v15, v17, v19, v21, v27, v29, v35, v37, v39, v41;
     address v46, v48, v50, v52, v54, v56, v66, v67, v68, v69, v70, v71, v72, v73, v74, v75;
     address v76, v81, v82, v83, v84, v86, v88, v90, v91, v92, v100, v101, v107, v109, v111, v112;
@@ -16021,7 +16739,7 @@ static void f71(address a0, u16 a1, address a2, u8 a3, address a4) {
     v52 = v14 + 43u * 1u;
     v53 = load8(v52);
     if (v43) { goto L1; }
-    else { v5 = ADDRESS(c111); v6 = 0u; goto L2; }
+    else { v5 = ADDRESS(c112); v6 = 0u; goto L2; }
 L1:;
     v54 = a2 + 8u * 1u;
     v55 = load64(v54);
@@ -16106,7 +16824,7 @@ L2:;
     v108 = swap16(v65);
     v109 = v13 + 52u * 1u;
     store16(v109, v108);
-    f72(a0, v12, a3, v13);
+    f77(a0, v12, a3, v13);
     v110 = load8(v74);
     v111 = a0 + 448u * 1u;
     v112 = load_address(v111);
@@ -16226,10 +16944,10 @@ L17:;
     memory_move(v150, v158, 80u);
     goto L23;
 L18:;
-    f76(v150, v158, v157);
+    f81(v150, v158, v157);
     goto L23;
 L19:;
-    f77(v150, v158, v157);
+    f82(v150, v158, v157);
     goto L23;
 L20:;
     v167 = v127 + 2088u * 1u;
@@ -16242,13 +16960,13 @@ L21:;
     store64(v167, 0u);
     goto L22;
 L22:;
-    f78(a4, v149, v150);
+    f83(a4, v149, v150);
     goto L23;
 L23:;
     return;
 }
 
-static void f72(address a0, address a1, u8 a2, address a3) {
+static void f77(address a0, address a1, u8 a2, address a3) {
     address v4, v27, v28, v29, v30, v31, v33, v34, v35, v36, v37, v38, v39, v40, v50, v51;
     address v52, v78, v79, v80, v82, v83, v85, v86, v90, v92, v93, v96, v97, v98, v103, v104;
     address v106, v107, v108, v109, v112, v113, v114, v119, v120, v124, v126, v127, v130, v132, v133, v135;
@@ -16273,7 +16991,7 @@ static void f72(address a0, address a1, u8 a2, address a3) {
     v31 = a1 + 2u * 1u;
     v32 = load16(v31);
     switch (v32) {
-    case 0u: v4 = ADDRESS(c113); v5 = 19u; v6 = 0u; v7 = 2u; v8 = 0u; v9 = 1u; v10 = 0u; v11 = 7u; v12 = 0u; v13 = 0u; goto L21;
+    case 0u: v4 = ADDRESS(c114); v5 = 19u; v6 = 0u; v7 = 2u; v8 = 0u; v9 = 1u; v10 = 0u; v11 = 7u; v12 = 0u; v13 = 0u; goto L21;
     case 2u: goto L1;
     case 8192u: goto L2;
     case 8193u: goto L3;
@@ -16297,45 +17015,45 @@ static void f72(address a0, address a1, u8 a2, address a3) {
     default: goto L70;
     }
 L1:;
-    v4 = ADDRESS(c114); v5 = 16u; v6 = 0u; v7 = 1u; v8 = 1u; v9 = 0u; v10 = 1u; v11 = 3u; v12 = 1u; v13 = 0u; goto L21;
+    v4 = ADDRESS(c115); v5 = 16u; v6 = 0u; v7 = 1u; v8 = 1u; v9 = 0u; v10 = 1u; v11 = 3u; v12 = 1u; v13 = 0u; goto L21;
 L2:;
-    v4 = ADDRESS(c115); v5 = 16u; v6 = 0u; v7 = 1u; v8 = 1u; v9 = 0u; v10 = 1u; v11 = 1u; v12 = 2u; v13 = 0u; goto L21;
+    v4 = ADDRESS(c116); v5 = 16u; v6 = 0u; v7 = 1u; v8 = 1u; v9 = 0u; v10 = 1u; v11 = 1u; v12 = 2u; v13 = 0u; goto L21;
 L3:;
-    v4 = ADDRESS(c116); v5 = 16u; v6 = 0u; v7 = 1u; v8 = 1u; v9 = 0u; v10 = 1u; v11 = 1u; v12 = 3u; v13 = 0u; goto L21;
+    v4 = ADDRESS(c117); v5 = 16u; v6 = 0u; v7 = 1u; v8 = 1u; v9 = 0u; v10 = 1u; v11 = 1u; v12 = 3u; v13 = 0u; goto L21;
 L4:;
-    v4 = ADDRESS(c117); v5 = 15u; v6 = 0u; v7 = 1u; v8 = 1u; v9 = 0u; v10 = 1u; v11 = 1u; v12 = 4u; v13 = 0u; goto L21;
+    v4 = ADDRESS(c118); v5 = 15u; v6 = 0u; v7 = 1u; v8 = 1u; v9 = 0u; v10 = 1u; v11 = 1u; v12 = 4u; v13 = 0u; goto L21;
 L5:;
-    v4 = ADDRESS(c118); v5 = 24u; v6 = 0u; v7 = 1u; v8 = 1u; v9 = 0u; v10 = 1u; v11 = 1u; v12 = 5u; v13 = 0u; goto L21;
+    v4 = ADDRESS(c119); v5 = 24u; v6 = 0u; v7 = 1u; v8 = 1u; v9 = 0u; v10 = 1u; v11 = 1u; v12 = 5u; v13 = 0u; goto L21;
 L6:;
-    v4 = ADDRESS(c119); v5 = 13u; v6 = 4u; v7 = 2u; v8 = 0u; v9 = 1u; v10 = 1u; v11 = 1u; v12 = 6u; v13 = 0u; goto L21;
+    v4 = ADDRESS(c120); v5 = 13u; v6 = 4u; v7 = 2u; v8 = 0u; v9 = 1u; v10 = 1u; v11 = 1u; v12 = 6u; v13 = 0u; goto L21;
 L7:;
-    v4 = ADDRESS(c120); v5 = 9u; v6 = 0u; v7 = 1u; v8 = 1u; v9 = 0u; v10 = 1u; v11 = 3u; v12 = 7u; v13 = 0u; goto L21;
+    v4 = ADDRESS(c121); v5 = 9u; v6 = 0u; v7 = 1u; v8 = 1u; v9 = 0u; v10 = 1u; v11 = 3u; v12 = 7u; v13 = 0u; goto L21;
 L8:;
-    v4 = ADDRESS(c121); v5 = 9u; v6 = 0u; v7 = 1u; v8 = 1u; v9 = 0u; v10 = 1u; v11 = 3u; v12 = 8u; v13 = 0u; goto L21;
+    v4 = ADDRESS(c122); v5 = 9u; v6 = 0u; v7 = 1u; v8 = 1u; v9 = 0u; v10 = 1u; v11 = 3u; v12 = 8u; v13 = 0u; goto L21;
 L9:;
-    v4 = ADDRESS(c122); v5 = 6u; v6 = 0u; v7 = 1u; v8 = 1u; v9 = 0u; v10 = 1u; v11 = 3u; v12 = 9u; v13 = 0u; goto L21;
+    v4 = ADDRESS(c123); v5 = 6u; v6 = 0u; v7 = 1u; v8 = 1u; v9 = 0u; v10 = 1u; v11 = 3u; v12 = 9u; v13 = 0u; goto L21;
 L10:;
-    v4 = ADDRESS(c123); v5 = 10u; v6 = 0u; v7 = 1u; v8 = 1u; v9 = 0u; v10 = 1u; v11 = 1u; v12 = 10u; v13 = 0u; goto L21;
+    v4 = ADDRESS(c124); v5 = 10u; v6 = 0u; v7 = 1u; v8 = 1u; v9 = 0u; v10 = 1u; v11 = 1u; v12 = 10u; v13 = 0u; goto L21;
 L11:;
-    v4 = ADDRESS(c129); v5 = 21u; v6 = 4u; v7 = 2u; v8 = 0u; v9 = 1u; v10 = 1u; v11 = 3u; v12 = 11u; v13 = 0u; goto L21;
+    v4 = ADDRESS(c130); v5 = 21u; v6 = 4u; v7 = 2u; v8 = 0u; v9 = 1u; v10 = 1u; v11 = 3u; v12 = 11u; v13 = 0u; goto L21;
 L12:;
-    v4 = ADDRESS(c131); v5 = 24u; v6 = 4u; v7 = 2u; v8 = 0u; v9 = 1u; v10 = 1u; v11 = 3u; v12 = 11u; v13 = 1u; goto L21;
+    v4 = ADDRESS(c132); v5 = 24u; v6 = 4u; v7 = 2u; v8 = 0u; v9 = 1u; v10 = 1u; v11 = 3u; v12 = 11u; v13 = 1u; goto L21;
 L13:;
-    v4 = ADDRESS(c133); v5 = 17u; v6 = 4u; v7 = 2u; v8 = 0u; v9 = 1u; v10 = 1u; v11 = 3u; v12 = 11u; v13 = 2u; goto L21;
+    v4 = ADDRESS(c134); v5 = 17u; v6 = 4u; v7 = 2u; v8 = 0u; v9 = 1u; v10 = 1u; v11 = 3u; v12 = 11u; v13 = 2u; goto L21;
 L14:;
-    v4 = ADDRESS(c124); v5 = 14u; v6 = 4u; v7 = 2u; v8 = 0u; v9 = 1u; v10 = 1u; v11 = 1u; v12 = 12u; v13 = 0u; goto L21;
+    v4 = ADDRESS(c125); v5 = 14u; v6 = 4u; v7 = 2u; v8 = 0u; v9 = 1u; v10 = 1u; v11 = 1u; v12 = 12u; v13 = 0u; goto L21;
 L15:;
-    v4 = ADDRESS(c125); v5 = 11u; v6 = 4u; v7 = 2u; v8 = 0u; v9 = 1u; v10 = 0u; v11 = 4u; v12 = 13u; v13 = 0u; goto L21;
+    v4 = ADDRESS(c126); v5 = 11u; v6 = 4u; v7 = 2u; v8 = 0u; v9 = 1u; v10 = 0u; v11 = 4u; v12 = 13u; v13 = 0u; goto L21;
 L16:;
-    v4 = ADDRESS(c126); v5 = 12u; v6 = 4u; v7 = 2u; v8 = 0u; v9 = 1u; v10 = 0u; v11 = 4u; v12 = 14u; v13 = 0u; goto L21;
+    v4 = ADDRESS(c127); v5 = 12u; v6 = 4u; v7 = 2u; v8 = 0u; v9 = 1u; v10 = 0u; v11 = 4u; v12 = 14u; v13 = 0u; goto L21;
 L17:;
-    v4 = ADDRESS(c127); v5 = 14u; v6 = 0u; v7 = 1u; v8 = 1u; v9 = 0u; v10 = 1u; v11 = 3u; v12 = 15u; v13 = 0u; goto L21;
+    v4 = ADDRESS(c128); v5 = 14u; v6 = 0u; v7 = 1u; v8 = 1u; v9 = 0u; v10 = 1u; v11 = 3u; v12 = 15u; v13 = 0u; goto L21;
 L18:;
-    v4 = ADDRESS(c128); v5 = 14u; v6 = 0u; v7 = 1u; v8 = 1u; v9 = 0u; v10 = 1u; v11 = 3u; v12 = 16u; v13 = 0u; goto L21;
+    v4 = ADDRESS(c129); v5 = 14u; v6 = 0u; v7 = 1u; v8 = 1u; v9 = 0u; v10 = 1u; v11 = 3u; v12 = 16u; v13 = 0u; goto L21;
 L19:;
-    v4 = ADDRESS(c135); v5 = 15u; v6 = 4u; v7 = 2u; v8 = 0u; v9 = 1u; v10 = 1u; v11 = 3u; v12 = 11u; v13 = 3u; goto L21;
+    v4 = ADDRESS(c136); v5 = 15u; v6 = 4u; v7 = 2u; v8 = 0u; v9 = 1u; v10 = 1u; v11 = 3u; v12 = 11u; v13 = 3u; goto L21;
 L20:;
-    v4 = ADDRESS(c137); v5 = 27u; v6 = 4u; v7 = 2u; v8 = 0u; v9 = 1u; v10 = 1u; v11 = 3u; v12 = 11u; v13 = 4u; goto L21;
+    v4 = ADDRESS(c138); v5 = 27u; v6 = 4u; v7 = 2u; v8 = 0u; v9 = 1u; v10 = 1u; v11 = 3u; v12 = 11u; v13 = 4u; goto L21;
 L21:;
     memory_set(v28, 0u, 6u);
     memory_cpy(v30, v28, 6u);
@@ -16517,7 +17235,7 @@ L48:;
     store8(v79, v17);
     v80 = v27 + 3u * 1u;
     store8(v80, v18);
-    v81 = f53(v27, v51, v53);
+    v81 = f56(v27, v51, v53);
     if (v81) { goto L51; }
     else { v19 = 3u; goto L49; }
 L49:;
@@ -16526,7 +17244,7 @@ L49:;
 L50:;
     goto L51;
 L51:;
-    f54(a0, v12, v13, a1);
+    f57(a0, v12, v13, a1);
     if (v8) { goto L53; }
     else { v25 = 0u; v26 = 0u; goto L68; }
 L52:;
@@ -16550,7 +17268,7 @@ L52:;
     v97 = v96 + 2u * 1u;
     store16(v97, 60u);
     v98 = v96 + 4u * 1u;
-    f73(a3, v84, v89, v91, v98);
+    f78(a3, v84, v89, v91, v98);
     v99 = load64(v93);
     v100 = (u64)((u64)v99 + (u64)1u);
     store64(v93, v100);
@@ -16687,10 +17405,10 @@ L66:;
     store64(v138, v160);
     goto L69;
 L67:;
-    f74(a0, v12, a3);
+    f79(a0, v12, a3);
     goto L69;
 L68:;
-    f75(a0, v29, a1, v26, v25, a3);
+    f80(a0, v29, a1, v26, v25, a3);
     goto L69;
 L69:;
     return;
@@ -16712,14 +17430,14 @@ L70:;
     v173 = v172 + 2u * 1u;
     store16(v173, 60u);
     v174 = v172 + 4u * 1u;
-    f73(a3, v163, 2u, v167, v174);
+    f78(a3, v163, 2u, v167, v174);
     v175 = load64(v169);
     v176 = (u64)((u64)v175 + (u64)1u);
     store64(v169, v176);
     goto L69;
 }
 
-static void f73(address a0, u16 a1, u16 a2, u16 a3, address a4) {
+static void f78(address a0, u16 a1, u16 a2, u16 a3, address a4) {
     u64 v5, v7, v8, v9, v14, v16, v17;
     address v6, v11, v12, v19, v20, v21, v23, v25, v26, v28;
     u8 v10, v13, v15, v18;
@@ -16745,7 +17463,7 @@ L2:;
     else { v5 = v14; goto L2; }
 L3:;
     v16 = (u64)v6;
-    v17 = (u64)((u64)v16 - (u64)ADDRESS(c140));
+    v17 = (u64)((u64)v16 - (u64)ADDRESS(c141));
     v18 = v17 < 12u;
     if (v18) { goto L4; }
     else { goto L5; }
@@ -16757,7 +17475,7 @@ L4:;
     store32(v20, 0u);
     goto L6;
 L5:;
-    memory_cpy(v6, ADDRESS(c140), 12u);
+    memory_cpy(v6, ADDRESS(c141), 12u);
     goto L6;
 L6:;
     v21 = a4 + 50u * 1u;
@@ -16776,7 +17494,7 @@ L6:;
     return;
 }
 
-static void f74(address a0, u8 a1, address a2) {
+static void f79(address a0, u8 a1, address a2) {
     u64 v3, v4, v5, v6, v11, v19, v20, v27, v28, v29, v34, v36, v37, v38, v43, v52;
     u64 v53, v55, v63, v64, v71, v72, v73, v78, v80, v81, v82, v87, v96, v97;
     address v7, v9, v10, v12, v13, v15, v16, v17, v18, v21, v24, v25, v26, v31, v32, v40;
@@ -16942,7 +17660,7 @@ L15:;
     return;
 }
 
-static void f75(address a0, address a1, address a2, u8 a3, u8 a4, address a5) {
+static void f80(address a0, address a1, address a2, u8 a3, u8 a4, address a5) {
     u16 v6, v7, v17, v21, v22, v40, v42, v43, v51, v56, v74, v75, v88, v89, v94, v95;
     u16 v96, v97, v102, v126, v127, v132, v150, v151, v166, v184, v186, v187, v192, v210, v211;
     u64 v8, v9, v10, v11, v13, v14, v20, v31, v34, v35, v36, v46, v47, v52, v53, v60;
@@ -16989,7 +17707,7 @@ L3:;
     v34 = (u64)v7;
     v35 = (u64)v22;
     v36 = (u64)a4;
-    v37 = ADDRESS(c242) + v36 * 2u;
+    v37 = ADDRESS(c320) + v36 * 2u;
     v8 = v34; goto L4;
 L4:;
     v38 = load8(v24);
@@ -17012,7 +17730,7 @@ L5:;
     store16(v49, 60u);
     v50 = v48 + 4u * 1u;
     v51 = (u16)(v8);
-    f73(a5, v51, v42, v43, v50);
+    f78(a5, v51, v42, v43, v50);
     v52 = load64(v45);
     v53 = (u64)((u64)v52 + (u64)1u);
     store64(v45, v53);
@@ -17336,7 +18054,7 @@ L37:;
     return;
 }
 
-static void f76(address a0, address a1, u64 a2) {
+static void f81(address a0, address a1, u64 a2) {
     u64 v3, v4, v5, v6, v11;
     u8 v7, v10, v12;
     address v8, v9;
@@ -17362,7 +18080,7 @@ L3:;
     return;
 }
 
-static void f77(address a0, address a1, u64 a2) {
+static void f82(address a0, address a1, u64 a2) {
     u64 v3, v4, v5, v7, v10, v12, v14, v15, v16, v21, v24, v25, v28, v29, v30, v35;
     u64 v37;
     address v6, v9, v11, v18, v19, v27, v32, v33;
@@ -17441,7 +18159,7 @@ L12:;
     return;
 }
 
-static void f78(address a0, address a1, address a2) {
+static void f83(address a0, address a1, address a2) {
     u64 v3, v4, v5, v6, v7, v8, v10, v15, v19, v22, v24, v25, v26, v29, v30, v31;
     u64 v36, v38, v41, v42, v43, v48, v50, v53, v54, v55, v60, v62, v65, v66, v67, v72;
     u64 v74, v75;
@@ -17593,7 +18311,7 @@ L21:;
     return;
 }
 
-static void f79(address a0, u64 a1, address a2, address a3, u16 a4, address a5) {
+static void f84(address a0, u64 a1, address a2, address a3, u16 a4, address a5) {
     u64 v6, v8, v15, v17, v19, v22, v40, v41;
     address v7, v9, v11, v12, v13, v14, v16, v20, v21, v23, v25, v26, v28, v34, v36, v38;
     address v39;
@@ -17639,7 +18357,7 @@ L5:;
     memory_move(v26, v7, 80u);
     goto L7;
 L6:;
-    f76(v26, v7, v19);
+    f81(v26, v7, v19);
     goto L7;
 L7:;
     v27 = load8(a3);
@@ -17675,7 +18393,7 @@ L10:;
     return;
 }
 
-static void f80(address a0, u8 a1, u16 a2, address a3, address a4, address a5) {
+static void f85(address a0, u8 a1, u16 a2, address a3, address a4, address a5) {
     address v6, v8, v9, v10, v12, v13, v18, v22, v24, v27, v30, v36, v40, v42, v45, v47;
     address v50, v53, v55, v57, v59, v61, v63, v73, v74, v75, v76, v77, v78, v79, v81, v83;
     address v85, v91, v93, v99, v101, v103, v104, v105, v110, v111, v112, v114, v116, v118, v119, v120;
@@ -17758,7 +18476,7 @@ L6:;
 L7:;
     UNREACHABLE;
 L8:;
-    f81(a0, a2, a3, a5);
+    f86(a0, a2, a3, a5);
     goto L9;
 L9:;
     v44 = a1 == 9u;
@@ -17782,7 +18500,7 @@ L10:;
     v59 = v50 + 43u * 1u;
     v60 = load8(v59);
     if (v49) { goto L11; }
-    else { v6 = ADDRESS(c111); v7 = 0u; goto L12; }
+    else { v6 = ADDRESS(c112); v7 = 0u; goto L12; }
 L11:;
     v61 = a4 + 8u * 1u;
     v62 = load64(v61);
@@ -17880,13 +18598,13 @@ L12:;
     v129 = swap16(v72);
     v130 = v9 + 52u * 1u;
     store16(v130, v129);
-    f82(a0, v8, v9);
+    f87(a0, v8, v9);
     goto L13;
 L13:;
     return;
 }
 
-static void f81(address a0, u16 a1, address a2, address a3) {
+static void f86(address a0, u16 a1, address a2, address a3) {
     u64 v4, v5, v7, v15, v16, v17, v19, v20, v22, v26, v27, v35, v39, v40, v45, v50;
     u64 v51, v52;
     address v6, v11, v12, v13, v14, v23, v25, v28, v37, v38, v42, v43, v47;
@@ -17988,7 +18706,7 @@ L11:;
     return;
 }
 
-static void f82(address a0, address a1, address a2) {
+static void f87(address a0, address a1, address a2) {
     address v3, v15, v16, v17, v20, v22, v23, v24, v25, v26, v27, v28, v29, v30, v31, v33;
     address v34, v36, v38, v39, v42, v43, v44, v49, v50, v52, v53, v54, v56, v57, v60, v61;
     address v62, v65, v67, v68, v70, v71, v72, v73, v76, v77, v78, v79, v84, v85, v90, v92;
@@ -18008,7 +18726,7 @@ static void f82(address a0, address a1, address a2) {
     v20 = a1 + 2u * 1u;
     v21 = load16(v20);
     switch (v21) {
-    case 0u: v3 = ADDRESS(c113); v4 = 19u; v5 = 0u; v6 = 1u; v7 = 7u; v8 = 0u; v9 = 0u; goto L21;
+    case 0u: v3 = ADDRESS(c114); v4 = 19u; v5 = 0u; v6 = 1u; v7 = 7u; v8 = 0u; v9 = 0u; goto L21;
     case 2u: goto L1;
     case 8192u: goto L2;
     case 8193u: goto L3;
@@ -18032,45 +18750,45 @@ static void f82(address a0, address a1, address a2) {
     default: goto L22;
     }
 L1:;
-    v3 = ADDRESS(c114); v4 = 16u; v5 = 1u; v6 = 0u; v7 = 3u; v8 = 1u; v9 = 0u; goto L21;
+    v3 = ADDRESS(c115); v4 = 16u; v5 = 1u; v6 = 0u; v7 = 3u; v8 = 1u; v9 = 0u; goto L21;
 L2:;
-    v3 = ADDRESS(c115); v4 = 16u; v5 = 1u; v6 = 0u; v7 = 1u; v8 = 2u; v9 = 0u; goto L21;
+    v3 = ADDRESS(c116); v4 = 16u; v5 = 1u; v6 = 0u; v7 = 1u; v8 = 2u; v9 = 0u; goto L21;
 L3:;
-    v3 = ADDRESS(c116); v4 = 16u; v5 = 1u; v6 = 0u; v7 = 1u; v8 = 3u; v9 = 0u; goto L21;
+    v3 = ADDRESS(c117); v4 = 16u; v5 = 1u; v6 = 0u; v7 = 1u; v8 = 3u; v9 = 0u; goto L21;
 L4:;
-    v3 = ADDRESS(c117); v4 = 15u; v5 = 1u; v6 = 0u; v7 = 1u; v8 = 4u; v9 = 0u; goto L21;
+    v3 = ADDRESS(c118); v4 = 15u; v5 = 1u; v6 = 0u; v7 = 1u; v8 = 4u; v9 = 0u; goto L21;
 L5:;
-    v3 = ADDRESS(c118); v4 = 24u; v5 = 1u; v6 = 0u; v7 = 1u; v8 = 5u; v9 = 0u; goto L21;
+    v3 = ADDRESS(c119); v4 = 24u; v5 = 1u; v6 = 0u; v7 = 1u; v8 = 5u; v9 = 0u; goto L21;
 L6:;
-    v3 = ADDRESS(c119); v4 = 13u; v5 = 0u; v6 = 1u; v7 = 1u; v8 = 6u; v9 = 0u; goto L21;
+    v3 = ADDRESS(c120); v4 = 13u; v5 = 0u; v6 = 1u; v7 = 1u; v8 = 6u; v9 = 0u; goto L21;
 L7:;
-    v3 = ADDRESS(c120); v4 = 9u; v5 = 1u; v6 = 0u; v7 = 3u; v8 = 7u; v9 = 0u; goto L21;
+    v3 = ADDRESS(c121); v4 = 9u; v5 = 1u; v6 = 0u; v7 = 3u; v8 = 7u; v9 = 0u; goto L21;
 L8:;
-    v3 = ADDRESS(c121); v4 = 9u; v5 = 1u; v6 = 0u; v7 = 3u; v8 = 8u; v9 = 0u; goto L21;
+    v3 = ADDRESS(c122); v4 = 9u; v5 = 1u; v6 = 0u; v7 = 3u; v8 = 8u; v9 = 0u; goto L21;
 L9:;
-    v3 = ADDRESS(c122); v4 = 6u; v5 = 1u; v6 = 0u; v7 = 3u; v8 = 9u; v9 = 0u; goto L21;
+    v3 = ADDRESS(c123); v4 = 6u; v5 = 1u; v6 = 0u; v7 = 3u; v8 = 9u; v9 = 0u; goto L21;
 L10:;
-    v3 = ADDRESS(c123); v4 = 10u; v5 = 1u; v6 = 0u; v7 = 1u; v8 = 10u; v9 = 0u; goto L21;
+    v3 = ADDRESS(c124); v4 = 10u; v5 = 1u; v6 = 0u; v7 = 1u; v8 = 10u; v9 = 0u; goto L21;
 L11:;
-    v3 = ADDRESS(c129); v4 = 21u; v5 = 0u; v6 = 1u; v7 = 3u; v8 = 11u; v9 = 0u; goto L21;
+    v3 = ADDRESS(c130); v4 = 21u; v5 = 0u; v6 = 1u; v7 = 3u; v8 = 11u; v9 = 0u; goto L21;
 L12:;
-    v3 = ADDRESS(c131); v4 = 24u; v5 = 0u; v6 = 1u; v7 = 3u; v8 = 11u; v9 = 1u; goto L21;
+    v3 = ADDRESS(c132); v4 = 24u; v5 = 0u; v6 = 1u; v7 = 3u; v8 = 11u; v9 = 1u; goto L21;
 L13:;
-    v3 = ADDRESS(c133); v4 = 17u; v5 = 0u; v6 = 1u; v7 = 3u; v8 = 11u; v9 = 2u; goto L21;
+    v3 = ADDRESS(c134); v4 = 17u; v5 = 0u; v6 = 1u; v7 = 3u; v8 = 11u; v9 = 2u; goto L21;
 L14:;
-    v3 = ADDRESS(c124); v4 = 14u; v5 = 0u; v6 = 1u; v7 = 1u; v8 = 12u; v9 = 0u; goto L21;
+    v3 = ADDRESS(c125); v4 = 14u; v5 = 0u; v6 = 1u; v7 = 1u; v8 = 12u; v9 = 0u; goto L21;
 L15:;
-    v3 = ADDRESS(c125); v4 = 11u; v5 = 0u; v6 = 1u; v7 = 4u; v8 = 13u; v9 = 0u; goto L21;
+    v3 = ADDRESS(c126); v4 = 11u; v5 = 0u; v6 = 1u; v7 = 4u; v8 = 13u; v9 = 0u; goto L21;
 L16:;
-    v3 = ADDRESS(c126); v4 = 12u; v5 = 0u; v6 = 1u; v7 = 4u; v8 = 14u; v9 = 0u; goto L21;
+    v3 = ADDRESS(c127); v4 = 12u; v5 = 0u; v6 = 1u; v7 = 4u; v8 = 14u; v9 = 0u; goto L21;
 L17:;
-    v3 = ADDRESS(c127); v4 = 14u; v5 = 1u; v6 = 0u; v7 = 3u; v8 = 15u; v9 = 0u; goto L21;
+    v3 = ADDRESS(c128); v4 = 14u; v5 = 1u; v6 = 0u; v7 = 3u; v8 = 15u; v9 = 0u; goto L21;
 L18:;
-    v3 = ADDRESS(c128); v4 = 14u; v5 = 1u; v6 = 0u; v7 = 3u; v8 = 16u; v9 = 0u; goto L21;
+    v3 = ADDRESS(c129); v4 = 14u; v5 = 1u; v6 = 0u; v7 = 3u; v8 = 16u; v9 = 0u; goto L21;
 L19:;
-    v3 = ADDRESS(c135); v4 = 15u; v5 = 0u; v6 = 1u; v7 = 3u; v8 = 11u; v9 = 3u; goto L21;
+    v3 = ADDRESS(c136); v4 = 15u; v5 = 0u; v6 = 1u; v7 = 3u; v8 = 11u; v9 = 3u; goto L21;
 L20:;
-    v3 = ADDRESS(c137); v4 = 27u; v5 = 0u; v6 = 1u; v7 = 3u; v8 = 11u; v9 = 4u; goto L21;
+    v3 = ADDRESS(c138); v4 = 27u; v5 = 0u; v6 = 1u; v7 = 3u; v8 = 11u; v9 = 4u; goto L21;
 L21:;
     memory_set(v15, 0u, 6u);
     memory_cpy(v17, v15, 6u);
@@ -18112,7 +18830,7 @@ L22:;
     v43 = v42 + 2u * 1u;
     store16(v43, 60u);
     v44 = v42 + 4u * 1u;
-    f73(a2, v32, v35, v37, v44);
+    f78(a2, v32, v35, v37, v44);
     v45 = load64(v39);
     v46 = (u64)((u64)v45 + (u64)1u);
     store64(v39, v46);
@@ -18151,7 +18869,7 @@ L28:;
     v61 = v60 + 2u * 1u;
     store16(v61, 60u);
     v62 = v60 + 4u * 1u;
-    f73(a2, v51, 6u, v55, v62);
+    f78(a2, v51, 6u, v55, v62);
     v63 = load64(v57);
     v64 = (u64)((u64)v63 + (u64)1u);
     store64(v57, v64);
@@ -18239,14 +18957,14 @@ L38:;
     store64(v73, v95);
     goto L23;
 L39:;
-    f74(a0, v8, a2);
+    f79(a0, v8, a2);
     goto L23;
 L40:;
-    f75(a0, v16, a1, v14, v13, a2);
+    f80(a0, v16, a1, v14, v13, a2);
     goto L23;
 }
 
-static u32 f83(address a0, u16 a1, address a2, u64 a3, address a4, u64 a5, address a6, address a7) {
+static u32 f88(address a0, u16 a1, address a2, u64 a3, address a4, u64 a5, address a6, address a7) {
     u64 v8, v21, v24, v32;
     u32 v9, v10, v27, v30;
     address v11, v12, v13, v14, v15, v16, v20, v23, v25, v26, v29, v31, v33;
@@ -18291,14 +19009,14 @@ L3:;
     v26 = load_address(v23);
     f31(v13, v26);
     memory_cpy(v12, v13, 440u);
-    v27 = f67(v23, a1, a2, a3, a4, a5, a6);
+    v27 = f72(v23, a1, a2, a3, a4, a5, a6);
     memory_set(v11, 0u, 12u);
     v28 = v27 == 5u;
     if (v28) { goto L4; }
     else { v8 = 0u; v9 = 0u; goto L5; }
 L4:;
     v29 = load_address(v23);
-    f84(v11, v29, v12);
+    f89(v11, v29, v12);
     v30 = load32(v11);
     v31 = v11 + 4u * 1u;
     v32 = load64(v31);
@@ -18317,7 +19035,7 @@ L6:;
     return v10;
 }
 
-static void f84(address a0, address a1, address a2) {
+static void f89(address a0, address a1, address a2) {
     u64 v3, v5, v7, v8, v12, v13, v15, v16, v18, v19, v20, v22, v23, v24, v25, v27;
     u64 v28, v29, v30, v31, v33, v34, v35, v36, v37, v38, v40, v41, v42, v43, v44, v45;
     u64 v46, v48, v49, v50, v51, v52, v53, v54, v55, v56, v57, v58, v59, v60, v61, v62;
@@ -19316,7 +20034,7 @@ L48:;
     return;
 }
 
-static u32 f85(address a0, address a1, address a2, u64 a3, address a4) {
+static u32 f90(address a0, address a1, address a2, u64 a3, address a4) {
     u32 v5, v8, v70, v71;
     u8 v6, v7, v12, v13, v14, v17, v22, v24, v26, v28, v30, v32, v34, v36, v38, v40;
     u8 v42, v44, v47, v48, v49, v50, v51, v52, v53, v54, v55, v56, v57, v58, v59, v60;
@@ -19355,7 +20073,7 @@ L2:;
 L3:;
     memory_set(v9, 0u, 24u);
     v21 = load_address(v18);
-    f86(v9, v21, a1, a2, a3);
+    f91(v9, v21, a1, a2, a3);
     v22 = load8(v9);
     v23 = v9 + 1u * 1u;
     v24 = load8(v23);
@@ -19565,7 +20283,7 @@ L52:;
     v5 = v8; goto L4;
 }
 
-static void f86(address a0, address a1, address a2, address a3, u64 a4) {
+static void f91(address a0, address a1, address a2, address a3, u64 a4) {
     u64 v5, v6, v7, v9, v18, v21, v24, v26, v42, v43, v51, v65, v67, v68, v69, v74;
     u64 v75, v95, v99, v129, v133, v146, v147, v149, v150, v281, v283, v284, v286, v288, v295, v311;
     u64 v321, v323, v327, v347, v352, v361, v366, v367, v368, v369, v370, v371, v372, v373, v374, v375;
@@ -20018,7 +20736,7 @@ L20:;
     else { goto L21; }
 L21:;
     v325 = a1 + 192u * 1u;
-    f87(v33, v40, a1, v325);
+    f92(v33, v40, a1, v325);
     v326 = v33 + 20u * 1u;
     v327 = load64(v326);
     v328 = v33 + 34u * 1u;
@@ -20085,7 +20803,7 @@ L30:;
     if (v362) { goto L31; }
     else { v24 = v361; goto L28; }
 L31:;
-    f87(v34, v40, a1, v325);
+    f92(v34, v40, a1, v325);
     memory_cpy(v325, v34, 36u);
     v363 = v160 ? v80 : v285;
     v364 = v157 ? v84 : v287;
@@ -20207,7 +20925,7 @@ L37:;
     goto L1;
 }
 
-static void f87(address a0, address a1, address a2, address a3) {
+static void f92(address a0, address a1, address a2, address a3) {
     u64 v4, v6, v7, v8, v18, v20, v24, v26, v28, v30, v49, v50, v51, v52, v53, v54;
     u64 v55, v56, v57, v58, v59, v60, v64, v66, v67, v69, v71, v90, v91, v92, v93, v94;
     u64 v95, v96, v97, v98, v99, v100, v101, v103, v107, v109;
@@ -20375,7 +21093,7 @@ L6:;
     return;
 }
 
-static void f88(address a0, address a1, u8 a2) {
+static void f93(address a0, address a1, u8 a2) {
     address v3, v4, v5, v6, v10, v12, v13, v14, v15, v16, v17, v18, v19, v20, v21, v22;
     address v23, v24, v25, v26, v27, v28, v29, v30, v31, v32;
     u8 v7, v8, v9;
@@ -20434,7 +21152,7 @@ static void f88(address a0, address a1, u8 a2) {
     v31 = v3 + 1137u * 1u;
     memory_set(v31, 0u, 159u);
     store8(v6, a2);
-    f89(a0, v5, v3);
+    f94(a0, v5, v3);
     memory_cpy(v4, v3, 1296u);
     v32 = a1 + 10u * 1u;
     v33 = load16(v32);
@@ -20442,7 +21160,7 @@ static void f88(address a0, address a1, u8 a2) {
     return;
 }
 
-static void f89(address a0, address a1, address a2) {
+static void f94(address a0, address a1, address a2) {
     address v3, v10, v11, v12, v15, v17, v18, v19, v20, v21, v22, v23, v24, v28, v30, v31;
     address v34, v35, v36, v37, v39, v41, v42, v45, v46, v47, v48, v50, v52, v53, v56, v57;
     address v58, v59;
@@ -20460,7 +21178,7 @@ static void f89(address a0, address a1, address a2) {
     v15 = a1 + 2u * 1u;
     v16 = load16(v15);
     switch (v16) {
-    case 0u: v3 = ADDRESS(c113); v4 = 19u; v5 = 0u; v6 = 1u; v7 = 7u; v8 = 0u; v9 = 0u; goto L21;
+    case 0u: v3 = ADDRESS(c114); v4 = 19u; v5 = 0u; v6 = 1u; v7 = 7u; v8 = 0u; v9 = 0u; goto L21;
     case 2u: goto L1;
     case 8192u: goto L2;
     case 8193u: goto L3;
@@ -20484,45 +21202,45 @@ static void f89(address a0, address a1, address a2) {
     default: goto L22;
     }
 L1:;
-    v3 = ADDRESS(c114); v4 = 16u; v5 = 1u; v6 = 0u; v7 = 3u; v8 = 1u; v9 = 0u; goto L21;
+    v3 = ADDRESS(c115); v4 = 16u; v5 = 1u; v6 = 0u; v7 = 3u; v8 = 1u; v9 = 0u; goto L21;
 L2:;
-    v3 = ADDRESS(c115); v4 = 16u; v5 = 1u; v6 = 0u; v7 = 1u; v8 = 2u; v9 = 0u; goto L21;
+    v3 = ADDRESS(c116); v4 = 16u; v5 = 1u; v6 = 0u; v7 = 1u; v8 = 2u; v9 = 0u; goto L21;
 L3:;
-    v3 = ADDRESS(c116); v4 = 16u; v5 = 1u; v6 = 0u; v7 = 1u; v8 = 3u; v9 = 0u; goto L21;
+    v3 = ADDRESS(c117); v4 = 16u; v5 = 1u; v6 = 0u; v7 = 1u; v8 = 3u; v9 = 0u; goto L21;
 L4:;
-    v3 = ADDRESS(c117); v4 = 15u; v5 = 1u; v6 = 0u; v7 = 1u; v8 = 4u; v9 = 0u; goto L21;
+    v3 = ADDRESS(c118); v4 = 15u; v5 = 1u; v6 = 0u; v7 = 1u; v8 = 4u; v9 = 0u; goto L21;
 L5:;
-    v3 = ADDRESS(c118); v4 = 24u; v5 = 1u; v6 = 0u; v7 = 1u; v8 = 5u; v9 = 0u; goto L21;
+    v3 = ADDRESS(c119); v4 = 24u; v5 = 1u; v6 = 0u; v7 = 1u; v8 = 5u; v9 = 0u; goto L21;
 L6:;
-    v3 = ADDRESS(c119); v4 = 13u; v5 = 0u; v6 = 1u; v7 = 1u; v8 = 6u; v9 = 0u; goto L21;
+    v3 = ADDRESS(c120); v4 = 13u; v5 = 0u; v6 = 1u; v7 = 1u; v8 = 6u; v9 = 0u; goto L21;
 L7:;
-    v3 = ADDRESS(c120); v4 = 9u; v5 = 1u; v6 = 0u; v7 = 3u; v8 = 7u; v9 = 0u; goto L21;
+    v3 = ADDRESS(c121); v4 = 9u; v5 = 1u; v6 = 0u; v7 = 3u; v8 = 7u; v9 = 0u; goto L21;
 L8:;
-    v3 = ADDRESS(c121); v4 = 9u; v5 = 1u; v6 = 0u; v7 = 3u; v8 = 8u; v9 = 0u; goto L21;
+    v3 = ADDRESS(c122); v4 = 9u; v5 = 1u; v6 = 0u; v7 = 3u; v8 = 8u; v9 = 0u; goto L21;
 L9:;
-    v3 = ADDRESS(c122); v4 = 6u; v5 = 1u; v6 = 0u; v7 = 3u; v8 = 9u; v9 = 0u; goto L21;
+    v3 = ADDRESS(c123); v4 = 6u; v5 = 1u; v6 = 0u; v7 = 3u; v8 = 9u; v9 = 0u; goto L21;
 L10:;
-    v3 = ADDRESS(c123); v4 = 10u; v5 = 1u; v6 = 0u; v7 = 1u; v8 = 10u; v9 = 0u; goto L21;
+    v3 = ADDRESS(c124); v4 = 10u; v5 = 1u; v6 = 0u; v7 = 1u; v8 = 10u; v9 = 0u; goto L21;
 L11:;
-    v3 = ADDRESS(c129); v4 = 21u; v5 = 0u; v6 = 1u; v7 = 3u; v8 = 11u; v9 = 0u; goto L21;
+    v3 = ADDRESS(c130); v4 = 21u; v5 = 0u; v6 = 1u; v7 = 3u; v8 = 11u; v9 = 0u; goto L21;
 L12:;
-    v3 = ADDRESS(c131); v4 = 24u; v5 = 0u; v6 = 1u; v7 = 3u; v8 = 11u; v9 = 1u; goto L21;
+    v3 = ADDRESS(c132); v4 = 24u; v5 = 0u; v6 = 1u; v7 = 3u; v8 = 11u; v9 = 1u; goto L21;
 L13:;
-    v3 = ADDRESS(c133); v4 = 17u; v5 = 0u; v6 = 1u; v7 = 3u; v8 = 11u; v9 = 2u; goto L21;
+    v3 = ADDRESS(c134); v4 = 17u; v5 = 0u; v6 = 1u; v7 = 3u; v8 = 11u; v9 = 2u; goto L21;
 L14:;
-    v3 = ADDRESS(c124); v4 = 14u; v5 = 0u; v6 = 1u; v7 = 1u; v8 = 12u; v9 = 0u; goto L21;
+    v3 = ADDRESS(c125); v4 = 14u; v5 = 0u; v6 = 1u; v7 = 1u; v8 = 12u; v9 = 0u; goto L21;
 L15:;
-    v3 = ADDRESS(c125); v4 = 11u; v5 = 0u; v6 = 1u; v7 = 4u; v8 = 13u; v9 = 0u; goto L21;
+    v3 = ADDRESS(c126); v4 = 11u; v5 = 0u; v6 = 1u; v7 = 4u; v8 = 13u; v9 = 0u; goto L21;
 L16:;
-    v3 = ADDRESS(c126); v4 = 12u; v5 = 0u; v6 = 1u; v7 = 4u; v8 = 14u; v9 = 0u; goto L21;
+    v3 = ADDRESS(c127); v4 = 12u; v5 = 0u; v6 = 1u; v7 = 4u; v8 = 14u; v9 = 0u; goto L21;
 L17:;
-    v3 = ADDRESS(c127); v4 = 14u; v5 = 1u; v6 = 0u; v7 = 3u; v8 = 15u; v9 = 0u; goto L21;
+    v3 = ADDRESS(c128); v4 = 14u; v5 = 1u; v6 = 0u; v7 = 3u; v8 = 15u; v9 = 0u; goto L21;
 L18:;
-    v3 = ADDRESS(c128); v4 = 14u; v5 = 1u; v6 = 0u; v7 = 3u; v8 = 16u; v9 = 0u; goto L21;
+    v3 = ADDRESS(c129); v4 = 14u; v5 = 1u; v6 = 0u; v7 = 3u; v8 = 16u; v9 = 0u; goto L21;
 L19:;
-    v3 = ADDRESS(c135); v4 = 15u; v5 = 0u; v6 = 1u; v7 = 3u; v8 = 11u; v9 = 3u; goto L21;
+    v3 = ADDRESS(c136); v4 = 15u; v5 = 0u; v6 = 1u; v7 = 3u; v8 = 11u; v9 = 3u; goto L21;
 L20:;
-    v3 = ADDRESS(c137); v4 = 27u; v5 = 0u; v6 = 1u; v7 = 3u; v8 = 11u; v9 = 4u; goto L21;
+    v3 = ADDRESS(c138); v4 = 27u; v5 = 0u; v6 = 1u; v7 = 3u; v8 = 11u; v9 = 4u; goto L21;
 L21:;
     memory_set(v10, 0u, 6u);
     memory_cpy(v12, v10, 6u);
@@ -20631,15 +21349,15 @@ L28:;
     store64(v53, v60);
     goto L23;
 L29:;
-    f90(a0, v8, a2);
+    f95(a0, v8, a2);
     goto L23;
 L30:;
     v61 = (u8)v27;
-    f91(a0, v11, a1, v61, a2);
+    f96(a0, v11, a1, v61, a2);
     goto L23;
 }
 
-static void f90(address a0, u8 a1, address a2) {
+static void f95(address a0, u8 a1, address a2) {
     address v3, v5, v7, v8, v11, v12, v13, v14, v16, v18, v19, v22, v23, v24, v25;
     u8 v4, v6, v17;
     u64 v9, v10, v15, v20, v21, v26;
@@ -20690,7 +21408,7 @@ L3:;
     return;
 }
 
-static void f91(address a0, address a1, address a2, u8 a3, address a4) {
+static void f96(address a0, address a1, address a2, u8 a3, address a4) {
     u16 v5, v6, v9, v13, v14, v26;
     u64 v7, v12, v19, v20, v22, v23, v31, v32;
     address v8, v11, v16, v17, v18, v24, v25, v27, v28, v29, v30;
@@ -20744,7 +21462,150 @@ L5:;
     return;
 }
 
-static void f92(address a0, address a1, u8 a2, u16 a3, u16 a4, address a5, u64 a6) {
+static void f97(address a0, address a1, address a2, u64 a3) {
+    u8 v4, v25, v28, v32, v33;
+    address v5, v6, v7, v8, v9, v10, v11, v12, v13, v14, v15, v16, v17, v18, v19, v20;
+    address v21, v22, v23, v24, v26, v29, v30, v31, v34, v35, v36, v37, v38, v39, v40, v41;
+    address v42, v43, v44, v45, v46, v47, v48, v49, v50, v51, v52, v53, v54, v55;
+    u16 v27, v56;
+    u64 block0[19];
+    u64 block1[18];
+    u64 block2[20];
+    u64 block3[20];
+    u64 block4[20];
+    u64 block5[20];
+    u64 block6[20];
+    u64 block7[20];
+    u64 block8[20];
+    u64 block9[19];
+    u64 block10[162];
+    u64 block11[20];
+    u64 block12[20];
+    u64 block13[20];
+    u64 block14[20];
+    u64 block15[20];
+    u64 block16[20];
+    u64 block17[20];
+    u64 block18[19];
+    v5 = ADDRESS(block0);
+    v6 = ADDRESS(block1);
+    v7 = ADDRESS(block2);
+    v8 = ADDRESS(block3);
+    v9 = ADDRESS(block4);
+    v10 = ADDRESS(block5);
+    v11 = ADDRESS(block6);
+    v12 = ADDRESS(block7);
+    v13 = ADDRESS(block8);
+    v14 = ADDRESS(block9);
+    v15 = ADDRESS(block10);
+    v16 = ADDRESS(block11);
+    v17 = ADDRESS(block12);
+    v18 = ADDRESS(block13);
+    v19 = ADDRESS(block14);
+    v20 = ADDRESS(block15);
+    v21 = ADDRESS(block16);
+    v22 = ADDRESS(block17);
+    v23 = ADDRESS(block18);
+    memory_set(v15, 0u, 1296u);
+    memory_set(v16, 0u, 159u);
+    memory_set(v17, 0u, 159u);
+    memory_set(v18, 0u, 159u);
+    memory_set(v19, 0u, 159u);
+    memory_set(v20, 0u, 159u);
+    memory_set(v21, 0u, 159u);
+    memory_set(v22, 0u, 159u);
+    memory_set(v23, 0u, 151u);
+    v24 = a1 + 16u * 1u;
+    v25 = load8(v24);
+    v26 = a1 + 18u * 1u;
+    v27 = load16(v26);
+    memory_set(v7, 0u, 159u);
+    memory_set(v8, 0u, 159u);
+    memory_set(v9, 0u, 159u);
+    memory_set(v10, 0u, 159u);
+    memory_set(v11, 0u, 159u);
+    memory_set(v12, 0u, 159u);
+    memory_set(v13, 0u, 159u);
+    memory_set(v14, 0u, 151u);
+    v28 = a3 < 131u;
+    if (v28) { goto L1; }
+    else { goto L2; }
+L1:;
+    memory_set(v6, 0u, 136u);
+    memory_cpy(v6, a2, a3);
+    v29 = v6 + 136u * 1u;
+    store64(v29, a3);
+    memory_set(v5, 0u, 6u);
+    v30 = v5 + 6u * 1u;
+    memory_cpy(v30, v6, 144u);
+    store8(v7, 0u);
+    v31 = v7 + 1u * 1u;
+    memory_cpy(v31, v5, 150u);
+    v4 = 0u; goto L3;
+L2:;
+    memory_set(v7, 0u, 151u);
+    v4 = 2u; goto L3;
+L3:;
+    v32 = v25 > 2u;
+    v33 = v32 ? 4u : 2u;
+    memory_cpy(v16, v7, 159u);
+    memory_cpy(v17, v8, 159u);
+    memory_cpy(v18, v9, 159u);
+    memory_cpy(v19, v10, 159u);
+    memory_cpy(v20, v11, 159u);
+    memory_cpy(v21, v12, 159u);
+    memory_cpy(v22, v13, 159u);
+    memory_cpy(v23, v14, 151u);
+    store8(v15, v33);
+    v34 = v15 + 1u * 1u;
+    store8(v34, 0u);
+    v35 = v15 + 2u * 1u;
+    store16(v35, v27);
+    v36 = v15 + 4u * 1u;
+    store32(v36, 0u);
+    v37 = v15 + 8u * 1u;
+    store64(v37, 0u);
+    v38 = v15 + 16u * 1u;
+    store8(v38, v4);
+    v39 = v15 + 17u * 1u;
+    memory_cpy(v39, v16, 159u);
+    v40 = v15 + 176u * 1u;
+    store8(v40, 1u);
+    v41 = v15 + 177u * 1u;
+    memory_cpy(v41, v17, 159u);
+    v42 = v15 + 336u * 1u;
+    store8(v42, 1u);
+    v43 = v15 + 337u * 1u;
+    memory_cpy(v43, v18, 159u);
+    v44 = v15 + 496u * 1u;
+    store8(v44, 1u);
+    v45 = v15 + 497u * 1u;
+    memory_cpy(v45, v19, 159u);
+    v46 = v15 + 656u * 1u;
+    store8(v46, 1u);
+    v47 = v15 + 657u * 1u;
+    memory_cpy(v47, v20, 159u);
+    v48 = v15 + 816u * 1u;
+    store8(v48, 1u);
+    v49 = v15 + 817u * 1u;
+    memory_cpy(v49, v21, 159u);
+    v50 = v15 + 976u * 1u;
+    store8(v50, 1u);
+    v51 = v15 + 977u * 1u;
+    memory_cpy(v51, v22, 159u);
+    v52 = v15 + 1136u * 1u;
+    store8(v52, 1u);
+    v53 = v15 + 1137u * 1u;
+    memory_cpy(v53, v23, 151u);
+    v54 = v15 + 1288u * 1u;
+    store64(v54, 1u);
+    v55 = a1 + 10u * 1u;
+    v56 = load16(v55);
+    f34(a0, a1, v56, v24, v15);
+    return;
+}
+
+static void f98(address a0, address a1, u8 a2, u16 a3, u16 a4, address a5, u64 a6) {
     u8 v7, v8, v15, v16, v20, v24, v25, v30, v31, v32, v40, v41, v62, v63, v66, v67;
     u8 v68, v69;
     address v9, v10, v11, v12, v13, v14, v17, v21, v22, v23, v26, v27, v28, v33, v34, v35;
@@ -20878,7 +21739,7 @@ L8:;
     store8(v60, 1u);
     v61 = v9 + 1137u * 1u;
     memory_set(v61, 0u, 159u);
-    f52(a1, v10, 7u, v9);
+    f55(a1, v10, 7u, v9);
     v62 = load8(v46);
     v63 = load8(v47);
     v64 = v9 + 1288u * 1u;
@@ -20890,7 +21751,7 @@ L8:;
     if (v68) { v7 = 3u; v8 = v63; goto L10; }
     else { goto L9; }
 L9:;
-    f84(v14, a1, v11);
+    f89(v14, a1, v11);
     v70 = v13 + 1u * 1u;
     memory_cpy(v70, v14, 12u);
     v7 = 0u; v8 = 0u; goto L10;
@@ -20906,7 +21767,7 @@ L10:;
     goto L2;
 }
 
-static u8 f93(address a0) {
+static u8 f99(address a0) {
     u64 v1, v6, v11, v13, v15, v16, v18, v20, v24, v25, v27, v29, v32, v34, v38, v40;
     u64 v41, v43, v45, v49, v50, v52, v54, v57, v59;
     struct pair v2, v3, v26, v30, v31, v51, v55, v56;
@@ -20919,7 +21780,7 @@ static u8 f93(address a0) {
     else { v1 = v6; goto L3; }
 L1:;
     v8 = a0 + 48u * 1u;
-    v9 = f94(v8);
+    v9 = f100(v8);
     v10 = (u8)((v9) & UINT64_C(1));
     if (v10) { v4 = 1u; goto L17; }
     else { goto L2; }
@@ -21023,7 +21884,7 @@ L17:;
     return v4;
 }
 
-static u8 f94(address a0) {
+static u8 f100(address a0) {
     u64 v1, v2, v3, v5, v7, v8, v9, v10, v12, v13, v14, v15, v19, v22, v23, v24;
     u64 v25, v32, v34, v35, v36, v39, v40, v47, v118, v119, v121, v124, v127, v128, v131, v133;
     u64 v134, v135, v136, v138, v139, v141, v142, v144, v150, v151, v153, v155, v158, v160, v162, v163;
@@ -21348,7 +22209,7 @@ L30:;
     if (v190) { goto L31; }
     else { v9 = v7; v10 = 0u; goto L33; }
 L31:;
-    v191 = f95(a0, v3);
+    v191 = f101(a0, v3);
     if (v191) { goto L32; }
     else { goto L36; }
 L32:;
@@ -21539,7 +22400,7 @@ L44:;
     return v16;
 }
 
-static u8 f95(address a0, u64 a1) {
+static u8 f101(address a0, u64 a1) {
     u8 v2, v7, v12, v16, v17, v23, v28;
     struct pair v3, v21, v25, v26;
     address v4, v8, v18, v30;
@@ -21601,7 +22462,7 @@ u64 portable_ptpm_answer_name(u32 a0, address a1, u64 a2) {
     v8 = v7 ? 4096u : 0u;
     v9 = a1 + v8 * 1u;
     switch (a0) {
-    case 1u: v3 = 12u; v4 = ADDRESS(c0); goto L110;
+    case 1u: v3 = 12u; v4 = ADDRESS(c0); goto L111;
     case 2u: goto L1;
     case 3u: goto L2;
     case 4u: goto L3;
@@ -21629,332 +22490,335 @@ u64 portable_ptpm_answer_name(u32 a0, address a1, u64 a2) {
     case 27u: goto L25;
     case 28u: goto L26;
     case 29u: goto L27;
-    case 32u: goto L108;
-    case 33u: goto L28;
-    case 34u: goto L29;
-    case 35u: goto L30;
-    case 36u: goto L31;
-    case 37u: goto L32;
-    case 38u: goto L33;
-    case 39u: goto L34;
-    case 40u: goto L35;
-    case 41u: goto L36;
-    case 42u: goto L37;
-    case 43u: goto L38;
-    case 44u: goto L39;
-    case 45u: goto L40;
-    case 46u: goto L41;
-    case 47u: goto L42;
-    case 48u: goto L43;
-    case 49u: goto L44;
-    case 50u: goto L45;
-    case 51u: goto L46;
-    case 52u: goto L47;
-    case 53u: goto L48;
-    case 54u: goto L49;
-    case 55u: goto L50;
-    case 56u: goto L51;
-    case 57u: goto L52;
-    case 104u: goto L53;
-    case 105u: goto L54;
-    case 106u: goto L55;
-    case 107u: goto L56;
-    case 108u: goto L57;
-    case 109u: goto L58;
-    case 110u: goto L59;
-    case 112u: goto L60;
-    case 113u: goto L61;
-    case 114u: goto L62;
-    case 115u: goto L63;
-    case 116u: goto L64;
-    case 117u: goto L65;
-    case 118u: goto L66;
-    case 119u: goto L67;
-    case 120u: goto L68;
-    case 121u: goto L69;
-    case 122u: goto L70;
-    case 64u: goto L100;
-    case 65u: goto L71;
-    case 66u: goto L72;
-    case 67u: goto L73;
-    case 68u: goto L74;
-    case 69u: goto L75;
-    case 70u: goto L76;
-    case 71u: goto L77;
-    case 72u: goto L78;
-    case 73u: goto L79;
-    case 74u: goto L80;
-    case 75u: goto L81;
-    case 76u: goto L82;
-    case 77u: goto L83;
-    case 78u: goto L84;
-    case 79u: goto L85;
-    case 80u: goto L86;
-    case 81u: goto L87;
-    case 82u: goto L88;
-    case 83u: goto L89;
-    case 84u: goto L90;
-    case 85u: goto L91;
-    case 86u: goto L92;
-    case 87u: goto L93;
-    case 88u: goto L94;
-    case 89u: goto L95;
-    case 90u: goto L96;
-    case 91u: goto L97;
-    case 92u: goto L98;
-    case 93u: goto L99;
-    case 94u: goto L109;
-    case 95u: goto L101;
-    case 96u: goto L102;
-    case 97u: goto L103;
-    case 98u: goto L104;
-    case 99u: goto L105;
-    case 100u: goto L106;
-    case 101u: goto L107;
-    default: v6 = 0u; goto L114;
+    case 30u: goto L28;
+    case 32u: goto L109;
+    case 33u: goto L29;
+    case 34u: goto L30;
+    case 35u: goto L31;
+    case 36u: goto L32;
+    case 37u: goto L33;
+    case 38u: goto L34;
+    case 39u: goto L35;
+    case 40u: goto L36;
+    case 41u: goto L37;
+    case 42u: goto L38;
+    case 43u: goto L39;
+    case 44u: goto L40;
+    case 45u: goto L41;
+    case 46u: goto L42;
+    case 47u: goto L43;
+    case 48u: goto L44;
+    case 49u: goto L45;
+    case 50u: goto L46;
+    case 51u: goto L47;
+    case 52u: goto L48;
+    case 53u: goto L49;
+    case 54u: goto L50;
+    case 55u: goto L51;
+    case 56u: goto L52;
+    case 57u: goto L53;
+    case 104u: goto L54;
+    case 105u: goto L55;
+    case 106u: goto L56;
+    case 107u: goto L57;
+    case 108u: goto L58;
+    case 109u: goto L59;
+    case 110u: goto L60;
+    case 112u: goto L61;
+    case 113u: goto L62;
+    case 114u: goto L63;
+    case 115u: goto L64;
+    case 116u: goto L65;
+    case 117u: goto L66;
+    case 118u: goto L67;
+    case 119u: goto L68;
+    case 120u: goto L69;
+    case 121u: goto L70;
+    case 122u: goto L71;
+    case 64u: goto L101;
+    case 65u: goto L72;
+    case 66u: goto L73;
+    case 67u: goto L74;
+    case 68u: goto L75;
+    case 69u: goto L76;
+    case 70u: goto L77;
+    case 71u: goto L78;
+    case 72u: goto L79;
+    case 73u: goto L80;
+    case 74u: goto L81;
+    case 75u: goto L82;
+    case 76u: goto L83;
+    case 77u: goto L84;
+    case 78u: goto L85;
+    case 79u: goto L86;
+    case 80u: goto L87;
+    case 81u: goto L88;
+    case 82u: goto L89;
+    case 83u: goto L90;
+    case 84u: goto L91;
+    case 85u: goto L92;
+    case 86u: goto L93;
+    case 87u: goto L94;
+    case 88u: goto L95;
+    case 89u: goto L96;
+    case 90u: goto L97;
+    case 91u: goto L98;
+    case 92u: goto L99;
+    case 93u: goto L100;
+    case 94u: goto L110;
+    case 95u: goto L102;
+    case 96u: goto L103;
+    case 97u: goto L104;
+    case 98u: goto L105;
+    case 99u: goto L106;
+    case 100u: goto L107;
+    case 101u: goto L108;
+    default: v6 = 0u; goto L115;
     }
 L1:;
-    v3 = 11u; v4 = ADDRESS(c1); goto L110;
+    v3 = 11u; v4 = ADDRESS(c1); goto L111;
 L2:;
-    v3 = 13u; v4 = ADDRESS(c2); goto L110;
+    v3 = 13u; v4 = ADDRESS(c2); goto L111;
 L3:;
-    v3 = 13u; v4 = ADDRESS(c3); goto L110;
+    v3 = 13u; v4 = ADDRESS(c3); goto L111;
 L4:;
-    v3 = 12u; v4 = ADDRESS(c4); goto L110;
+    v3 = 12u; v4 = ADDRESS(c4); goto L111;
 L5:;
-    v3 = 15u; v4 = ADDRESS(c5); goto L110;
+    v3 = 15u; v4 = ADDRESS(c5); goto L111;
 L6:;
-    v3 = 11u; v4 = ADDRESS(c6); goto L110;
+    v3 = 11u; v4 = ADDRESS(c6); goto L111;
 L7:;
-    v3 = 16u; v4 = ADDRESS(c7); goto L110;
+    v3 = 16u; v4 = ADDRESS(c7); goto L111;
 L8:;
-    v3 = 19u; v4 = ADDRESS(c8); goto L110;
+    v3 = 19u; v4 = ADDRESS(c8); goto L111;
 L9:;
-    v3 = 11u; v4 = ADDRESS(c9); goto L110;
+    v3 = 11u; v4 = ADDRESS(c9); goto L111;
 L10:;
-    v3 = 12u; v4 = ADDRESS(c10); goto L110;
+    v3 = 12u; v4 = ADDRESS(c10); goto L111;
 L11:;
-    v3 = 12u; v4 = ADDRESS(c11); goto L110;
+    v3 = 12u; v4 = ADDRESS(c11); goto L111;
 L12:;
-    v3 = 13u; v4 = ADDRESS(c12); goto L110;
+    v3 = 13u; v4 = ADDRESS(c12); goto L111;
 L13:;
-    v3 = 12u; v4 = ADDRESS(c13); goto L110;
+    v3 = 12u; v4 = ADDRESS(c13); goto L111;
 L14:;
-    v3 = 13u; v4 = ADDRESS(c14); goto L110;
+    v3 = 13u; v4 = ADDRESS(c14); goto L111;
 L15:;
-    v3 = 9u; v4 = ADDRESS(c15); goto L110;
+    v3 = 9u; v4 = ADDRESS(c15); goto L111;
 L16:;
-    v3 = 14u; v4 = ADDRESS(c16); goto L110;
+    v3 = 14u; v4 = ADDRESS(c16); goto L111;
 L17:;
-    v3 = 11u; v4 = ADDRESS(c17); goto L110;
+    v3 = 11u; v4 = ADDRESS(c17); goto L111;
 L18:;
-    v3 = 10u; v4 = ADDRESS(c18); goto L110;
+    v3 = 10u; v4 = ADDRESS(c18); goto L111;
 L19:;
-    v3 = 10u; v4 = ADDRESS(c19); goto L110;
+    v3 = 10u; v4 = ADDRESS(c19); goto L111;
 L20:;
-    v3 = 12u; v4 = ADDRESS(c20); goto L110;
+    v3 = 12u; v4 = ADDRESS(c20); goto L111;
 L21:;
-    v3 = 14u; v4 = ADDRESS(c21); goto L110;
+    v3 = 14u; v4 = ADDRESS(c21); goto L111;
 L22:;
-    v3 = 8u; v4 = ADDRESS(c22); goto L110;
+    v3 = 8u; v4 = ADDRESS(c22); goto L111;
 L23:;
-    v3 = 4u; v4 = ADDRESS(c23); goto L110;
+    v3 = 4u; v4 = ADDRESS(c23); goto L111;
 L24:;
-    v3 = 7u; v4 = ADDRESS(c24); goto L110;
+    v3 = 7u; v4 = ADDRESS(c24); goto L111;
 L25:;
-    v3 = 5u; v4 = ADDRESS(c25); goto L110;
+    v3 = 5u; v4 = ADDRESS(c25); goto L111;
 L26:;
-    v3 = 4u; v4 = ADDRESS(c26); goto L110;
+    v3 = 4u; v4 = ADDRESS(c26); goto L111;
 L27:;
-    v3 = 12u; v4 = ADDRESS(c27); goto L110;
+    v3 = 12u; v4 = ADDRESS(c27); goto L111;
 L28:;
-    v3 = 7u; v4 = ADDRESS(c29); goto L110;
+    v3 = 11u; v4 = ADDRESS(c28); goto L111;
 L29:;
-    v3 = 7u; v4 = ADDRESS(c30); goto L110;
+    v3 = 7u; v4 = ADDRESS(c30); goto L111;
 L30:;
-    v3 = 9u; v4 = ADDRESS(c31); goto L110;
+    v3 = 7u; v4 = ADDRESS(c31); goto L111;
 L31:;
-    v3 = 12u; v4 = ADDRESS(c32); goto L110;
+    v3 = 9u; v4 = ADDRESS(c32); goto L111;
 L32:;
-    v3 = 10u; v4 = ADDRESS(c33); goto L110;
+    v3 = 12u; v4 = ADDRESS(c33); goto L111;
 L33:;
-    v3 = 4u; v4 = ADDRESS(c34); goto L110;
+    v3 = 10u; v4 = ADDRESS(c34); goto L111;
 L34:;
-    v3 = 10u; v4 = ADDRESS(c35); goto L110;
+    v3 = 4u; v4 = ADDRESS(c35); goto L111;
 L35:;
-    v3 = 13u; v4 = ADDRESS(c36); goto L110;
+    v3 = 10u; v4 = ADDRESS(c36); goto L111;
 L36:;
-    v3 = 9u; v4 = ADDRESS(c37); goto L110;
+    v3 = 13u; v4 = ADDRESS(c37); goto L111;
 L37:;
-    v3 = 16u; v4 = ADDRESS(c38); goto L110;
+    v3 = 9u; v4 = ADDRESS(c38); goto L111;
 L38:;
-    v3 = 4u; v4 = ADDRESS(c39); goto L110;
+    v3 = 16u; v4 = ADDRESS(c39); goto L111;
 L39:;
-    v3 = 7u; v4 = ADDRESS(c40); goto L110;
+    v3 = 4u; v4 = ADDRESS(c40); goto L111;
 L40:;
-    v3 = 9u; v4 = ADDRESS(c41); goto L110;
+    v3 = 7u; v4 = ADDRESS(c41); goto L111;
 L41:;
-    v3 = 9u; v4 = ADDRESS(c42); goto L110;
+    v3 = 9u; v4 = ADDRESS(c42); goto L111;
 L42:;
-    v3 = 11u; v4 = ADDRESS(c43); goto L110;
+    v3 = 9u; v4 = ADDRESS(c43); goto L111;
 L43:;
-    v3 = 8u; v4 = ADDRESS(c44); goto L110;
+    v3 = 11u; v4 = ADDRESS(c44); goto L111;
 L44:;
-    v3 = 14u; v4 = ADDRESS(c45); goto L110;
+    v3 = 8u; v4 = ADDRESS(c45); goto L111;
 L45:;
-    v3 = 19u; v4 = ADDRESS(c46); goto L110;
+    v3 = 14u; v4 = ADDRESS(c46); goto L111;
 L46:;
-    v3 = 17u; v4 = ADDRESS(c47); goto L110;
+    v3 = 19u; v4 = ADDRESS(c47); goto L111;
 L47:;
-    v3 = 13u; v4 = ADDRESS(c48); goto L110;
+    v3 = 17u; v4 = ADDRESS(c48); goto L111;
 L48:;
-    v3 = 16u; v4 = ADDRESS(c49); goto L110;
+    v3 = 13u; v4 = ADDRESS(c49); goto L111;
 L49:;
-    v3 = 15u; v4 = ADDRESS(c50); goto L110;
+    v3 = 16u; v4 = ADDRESS(c50); goto L111;
 L50:;
-    v3 = 10u; v4 = ADDRESS(c51); goto L110;
+    v3 = 15u; v4 = ADDRESS(c51); goto L111;
 L51:;
-    v3 = 16u; v4 = ADDRESS(c52); goto L110;
+    v3 = 10u; v4 = ADDRESS(c52); goto L111;
 L52:;
-    v3 = 14u; v4 = ADDRESS(c53); goto L110;
+    v3 = 16u; v4 = ADDRESS(c53); goto L111;
 L53:;
-    v3 = 12u; v4 = ADDRESS(c54); goto L110;
+    v3 = 14u; v4 = ADDRESS(c54); goto L111;
 L54:;
-    v3 = 13u; v4 = ADDRESS(c55); goto L110;
+    v3 = 12u; v4 = ADDRESS(c55); goto L111;
 L55:;
-    v3 = 10u; v4 = ADDRESS(c56); goto L110;
+    v3 = 13u; v4 = ADDRESS(c56); goto L111;
 L56:;
-    v3 = 7u; v4 = ADDRESS(c57); goto L110;
+    v3 = 10u; v4 = ADDRESS(c57); goto L111;
 L57:;
-    v3 = 11u; v4 = ADDRESS(c58); goto L110;
+    v3 = 7u; v4 = ADDRESS(c58); goto L111;
 L58:;
-    v3 = 11u; v4 = ADDRESS(c59); goto L110;
+    v3 = 11u; v4 = ADDRESS(c59); goto L111;
 L59:;
-    v3 = 13u; v4 = ADDRESS(c60); goto L110;
+    v3 = 11u; v4 = ADDRESS(c60); goto L111;
 L60:;
-    v3 = 12u; v4 = ADDRESS(c61); goto L110;
+    v3 = 13u; v4 = ADDRESS(c61); goto L111;
 L61:;
-    v3 = 9u; v4 = ADDRESS(c62); goto L110;
+    v3 = 12u; v4 = ADDRESS(c62); goto L111;
 L62:;
-    v3 = 10u; v4 = ADDRESS(c63); goto L110;
+    v3 = 9u; v4 = ADDRESS(c63); goto L111;
 L63:;
-    v3 = 10u; v4 = ADDRESS(c64); goto L110;
+    v3 = 10u; v4 = ADDRESS(c64); goto L111;
 L64:;
-    v3 = 10u; v4 = ADDRESS(c65); goto L110;
+    v3 = 10u; v4 = ADDRESS(c65); goto L111;
 L65:;
-    v3 = 8u; v4 = ADDRESS(c66); goto L110;
+    v3 = 10u; v4 = ADDRESS(c66); goto L111;
 L66:;
-    v3 = 7u; v4 = ADDRESS(c67); goto L110;
+    v3 = 8u; v4 = ADDRESS(c67); goto L111;
 L67:;
-    v3 = 11u; v4 = ADDRESS(c68); goto L110;
+    v3 = 7u; v4 = ADDRESS(c68); goto L111;
 L68:;
-    v3 = 8u; v4 = ADDRESS(c69); goto L110;
+    v3 = 11u; v4 = ADDRESS(c69); goto L111;
 L69:;
-    v3 = 7u; v4 = ADDRESS(c70); goto L110;
+    v3 = 8u; v4 = ADDRESS(c70); goto L111;
 L70:;
-    v3 = 11u; v4 = ADDRESS(c71); goto L110;
+    v3 = 7u; v4 = ADDRESS(c71); goto L111;
 L71:;
-    v3 = 10u; v4 = ADDRESS(c73); goto L110;
+    v3 = 11u; v4 = ADDRESS(c72); goto L111;
 L72:;
-    v3 = 20u; v4 = ADDRESS(c74); goto L110;
+    v3 = 10u; v4 = ADDRESS(c74); goto L111;
 L73:;
-    v3 = 12u; v4 = ADDRESS(c75); goto L110;
+    v3 = 20u; v4 = ADDRESS(c75); goto L111;
 L74:;
-    v3 = 13u; v4 = ADDRESS(c76); goto L110;
+    v3 = 12u; v4 = ADDRESS(c76); goto L111;
 L75:;
-    v3 = 15u; v4 = ADDRESS(c77); goto L110;
+    v3 = 13u; v4 = ADDRESS(c77); goto L111;
 L76:;
-    v3 = 18u; v4 = ADDRESS(c78); goto L110;
+    v3 = 15u; v4 = ADDRESS(c78); goto L111;
 L77:;
-    v3 = 12u; v4 = ADDRESS(c79); goto L110;
+    v3 = 18u; v4 = ADDRESS(c79); goto L111;
 L78:;
-    v3 = 13u; v4 = ADDRESS(c80); goto L110;
+    v3 = 12u; v4 = ADDRESS(c80); goto L111;
 L79:;
-    v3 = 17u; v4 = ADDRESS(c81); goto L110;
+    v3 = 13u; v4 = ADDRESS(c81); goto L111;
 L80:;
-    v3 = 22u; v4 = ADDRESS(c82); goto L110;
+    v3 = 17u; v4 = ADDRESS(c82); goto L111;
 L81:;
-    v3 = 19u; v4 = ADDRESS(c83); goto L110;
+    v3 = 22u; v4 = ADDRESS(c83); goto L111;
 L82:;
-    v3 = 15u; v4 = ADDRESS(c84); goto L110;
+    v3 = 19u; v4 = ADDRESS(c84); goto L111;
 L83:;
-    v3 = 16u; v4 = ADDRESS(c85); goto L110;
+    v3 = 15u; v4 = ADDRESS(c85); goto L111;
 L84:;
-    v3 = 21u; v4 = ADDRESS(c86); goto L110;
+    v3 = 16u; v4 = ADDRESS(c86); goto L111;
 L85:;
-    v3 = 17u; v4 = ADDRESS(c87); goto L110;
+    v3 = 21u; v4 = ADDRESS(c87); goto L111;
 L86:;
-    v3 = 25u; v4 = ADDRESS(c88); goto L110;
+    v3 = 17u; v4 = ADDRESS(c88); goto L111;
 L87:;
-    v3 = 21u; v4 = ADDRESS(c89); goto L110;
+    v3 = 25u; v4 = ADDRESS(c89); goto L111;
 L88:;
-    v3 = 24u; v4 = ADDRESS(c90); goto L110;
+    v3 = 21u; v4 = ADDRESS(c90); goto L111;
 L89:;
-    v3 = 24u; v4 = ADDRESS(c91); goto L110;
+    v3 = 24u; v4 = ADDRESS(c91); goto L111;
 L90:;
-    v3 = 25u; v4 = ADDRESS(c92); goto L110;
+    v3 = 24u; v4 = ADDRESS(c92); goto L111;
 L91:;
-    v3 = 15u; v4 = ADDRESS(c93); goto L110;
+    v3 = 25u; v4 = ADDRESS(c93); goto L111;
 L92:;
-    v3 = 14u; v4 = ADDRESS(c94); goto L110;
+    v3 = 15u; v4 = ADDRESS(c94); goto L111;
 L93:;
-    v3 = 10u; v4 = ADDRESS(c95); goto L110;
+    v3 = 14u; v4 = ADDRESS(c95); goto L111;
 L94:;
-    v3 = 10u; v4 = ADDRESS(c96); goto L110;
+    v3 = 10u; v4 = ADDRESS(c96); goto L111;
 L95:;
-    v3 = 13u; v4 = ADDRESS(c97); goto L110;
+    v3 = 10u; v4 = ADDRESS(c97); goto L111;
 L96:;
-    v3 = 17u; v4 = ADDRESS(c98); goto L110;
+    v3 = 13u; v4 = ADDRESS(c98); goto L111;
 L97:;
-    v3 = 18u; v4 = ADDRESS(c99); goto L110;
+    v3 = 17u; v4 = ADDRESS(c99); goto L111;
 L98:;
-    v3 = 23u; v4 = ADDRESS(c100); goto L110;
+    v3 = 18u; v4 = ADDRESS(c100); goto L111;
 L99:;
-    v3 = 15u; v4 = ADDRESS(c101); goto L110;
+    v3 = 23u; v4 = ADDRESS(c101); goto L111;
 L100:;
-    v3 = 12u; v4 = ADDRESS(c72); goto L110;
+    v3 = 15u; v4 = ADDRESS(c102); goto L111;
 L101:;
-    v3 = 21u; v4 = ADDRESS(c103); goto L110;
+    v3 = 12u; v4 = ADDRESS(c73); goto L111;
 L102:;
-    v3 = 14u; v4 = ADDRESS(c104); goto L110;
+    v3 = 21u; v4 = ADDRESS(c104); goto L111;
 L103:;
-    v3 = 16u; v4 = ADDRESS(c105); goto L110;
+    v3 = 14u; v4 = ADDRESS(c105); goto L111;
 L104:;
-    v3 = 19u; v4 = ADDRESS(c106); goto L110;
+    v3 = 16u; v4 = ADDRESS(c106); goto L111;
 L105:;
-    v3 = 12u; v4 = ADDRESS(c107); goto L110;
+    v3 = 19u; v4 = ADDRESS(c107); goto L111;
 L106:;
-    v3 = 19u; v4 = ADDRESS(c108); goto L110;
+    v3 = 12u; v4 = ADDRESS(c108); goto L111;
 L107:;
-    v3 = 18u; v4 = ADDRESS(c109); goto L110;
+    v3 = 19u; v4 = ADDRESS(c109); goto L111;
 L108:;
-    v3 = 8u; v4 = ADDRESS(c28); goto L110;
+    v3 = 18u; v4 = ADDRESS(c110); goto L111;
 L109:;
-    v3 = 9u; v4 = ADDRESS(c102); goto L110;
+    v3 = 8u; v4 = ADDRESS(c29); goto L111;
 L110:;
-    v10 = a2 < v3;
-    if (v10) { v6 = 0u; goto L114; }
-    else { goto L111; }
+    v3 = 9u; v4 = ADDRESS(c103); goto L111;
 L111:;
+    v10 = a2 < v3;
+    if (v10) { v6 = 0u; goto L115; }
+    else { goto L112; }
+L112:;
     v11 = (u64)v9;
     v12 = (u64)v4;
     v13 = (u64)((u64)v11 - (u64)v12);
     v14 = v13 < v3;
-    if (v14) { v5 = 0u; goto L113; }
-    else { goto L112; }
-L112:;
-    memory_move(v9, v4, v3);
-    v6 = v3; goto L114;
+    if (v14) { v5 = 0u; goto L114; }
+    else { goto L113; }
 L113:;
+    memory_move(v9, v4, v3);
+    v6 = v3; goto L115;
+L114:;
     v15 = v9 + v5 * 1u;
     v16 = v4 + v5 * 1u;
     v17 = load8(v16);
     store8(v15, v17);
     v18 = (u64)((u64)v5 + (u64)1u);
     v19 = v18 == v3;
-    if (v19) { v6 = v3; goto L114; }
-    else { v5 = v18; goto L113; }
-L114:;
+    if (v19) { v6 = v3; goto L115; }
+    else { v5 = v18; goto L114; }
+L115:;
     return v6;
 }
 
@@ -22004,7 +22868,7 @@ L6:;
     store8(a2, v3);
     v20 = load8(v13);
     v21 = (u64)v20;
-    v22 = ADDRESS(c230) + v21 * 4u;
+    v22 = ADDRESS(c301) + v21 * 4u;
     v23 = load32(v22);
     v4 = v23; goto L7;
 L7:;
@@ -22602,7 +23466,7 @@ L34:;
     portable_rattle_dealloc(v156);
     v32 = 35u; goto L36;
 L35:;
-    v215 = ADDRESS(c240) + v31 * 4u;
+    v215 = ADDRESS(c318) + v31 * 4u;
     v216 = load32(v215);
     v32 = v216; goto L36;
 L36:;
@@ -23251,7 +24115,7 @@ L8:;
     v8 = 35u; goto L10;
 L9:;
     v43 = (u64)v26;
-    v44 = ADDRESS(c231) + v43 * 4u;
+    v44 = ADDRESS(c302) + v43 * 4u;
     v45 = load32(v44);
     v8 = v45; goto L10;
 L10:;
@@ -23865,7 +24729,7 @@ L68:;
     UNREACHABLE;
 L69:;
     v297 = (u64)v254;
-    v298 = ADDRESS(c231) + v297 * 4u;
+    v298 = ADDRESS(c302) + v297 * 4u;
     v299 = load32(v298);
     v16 = v299; goto L73;
 L70:;
@@ -23918,10 +24782,10 @@ u64 portable_ptpm_error_name(u16 a0, address a1, u64 a2) {
     else { v4 = 0u; goto L5; }
 L1:;
     v13 = (u64)v8;
-    v14 = ADDRESS(c232) + v13 * 8u;
+    v14 = ADDRESS(c303) + v13 * 8u;
     v15 = load64(v14);
     v16 = (u64)v8;
-    v17 = ADDRESS(c233) + v16 * 8u;
+    v17 = ADDRESS(c304) + v16 * 8u;
     v18 = load_address(v17);
     v19 = a2 < v15;
     if (v19) { v4 = 0u; goto L5; }
@@ -23951,28 +24815,27 @@ L5:;
 
 u32 portable_ptpm_field_parse(u16 a0, address a1, u64 a2, address a3, u64 a4, address a5, address a6) {
     u64 v7, v8, v11, v12, v14, v16, v18, v20, v22, v24, v26, v28, v30, v32, v34, v36;
-    u64 v38, v40, v42, v44, v46, v48, v50, v53, v55, v57, v58, v60, v62, v65, v66, v67;
-    u64 v76, v77, v94, v137, v144, v146, v151, v153, v154, v156, v159, v162, v164, v166, v168, v170;
-    u64 v172, v174, v176, v178, v180, v182, v184, v186, v188, v190, v192, v194, v196, v198, v240, v244;
-    u64 v249, v250, v251, v252, v257, v268, v270, v272, v276, v280, v286, v289, v322, v326, v329;
+    u64 v38, v40, v42, v44, v46, v48, v50, v55, v58, v59, v60, v69, v70, v85, v128, v135;
+    u64 v137, v142, v144, v145, v147, v150, v153, v155, v157, v159, v161, v163, v165, v167, v169, v171;
+    u64 v173, v175, v177, v179, v181, v183, v185, v187, v189, v231, v232, v235, v238, v249, v251, v253;
+    u64 v257, v261, v267, v270, v302, v306, v309;
     address v9, v10, v13, v15, v17, v19, v21, v23, v25, v27, v29, v31, v33, v35, v37, v39;
-    address v41, v43, v45, v47, v49, v51, v56, v61, v63, v64, v79, v80, v81, v82, v83, v84;
-    address v85, v86, v87, v88, v89, v90, v91, v92, v95, v96, v97, v98, v99, v100, v101, v102;
-    address v103, v104, v105, v106, v107, v108, v109, v110, v111, v112, v113, v114, v115, v116, v117, v118;
-    address v119, v120, v121, v122, v123, v124, v125, v126, v127, v128, v129, v130, v131, v132, v133, v134;
-    address v138, v139, v140, v141, v145, v150, v155, v157, v158, v161, v163, v165, v167, v169, v171, v173;
-    address v175, v177, v179, v181, v183, v185, v187, v189, v191, v193, v195, v197, v199, v200, v201, v202;
-    address v203, v204, v205, v206, v207, v208, v209, v210, v211, v212, v213, v214, v215, v216, v217, v218;
-    address v219, v220, v221, v222, v223, v224, v225, v226, v227, v228, v229, v230, v231, v232, v233, v234;
-    address v235, v236, v237, v238, v239, v241, v242, v245, v247, v254, v255, v256, v260, v261, v262, v263;
-    address v264, v265, v266, v267, v271, v273, v274, v275, v277, v278, v279, v285, v291, v293, v311, v313;
-    address v315, v317, v320, v321, v324, v325, v327, v328;
-    u8 v52, v54, v59, v68, v69, v70, v71, v72, v73, v74, v75, v93, v135, v136, v142, v143;
-    u8 v147, v148, v149, v152, v160, v243, v246, v248, v253, v258, v259, v269, v281, v282, v283, v287;
-    u8 v288, v290, v292, v294, v295, v296, v297, v298, v299, v300, v301, v302, v303, v304, v305, v306;
-    u8 v307, v308, v309, v310, v312, v314, v316, v318, v319, v323;
-    u32 v78;
-    struct s5 v284;
+    address v41, v43, v45, v47, v49, v51, v54, v56, v57, v72, v73, v74, v75, v76, v77, v78;
+    address v79, v80, v81, v82, v83, v86, v87, v88, v89, v90, v91, v92, v93, v94, v95, v96;
+    address v97, v98, v99, v100, v101, v102, v103, v104, v105, v106, v107, v108, v109, v110, v111, v112;
+    address v113, v114, v115, v116, v117, v118, v119, v120, v121, v122, v123, v124, v125, v129, v130, v131;
+    address v132, v136, v141, v146, v148, v149, v152, v154, v156, v158, v160, v162, v164, v166, v168, v170;
+    address v172, v174, v176, v178, v180, v182, v184, v186, v188, v190, v191, v192, v193, v194, v195, v196;
+    address v197, v198, v199, v200, v201, v202, v203, v204, v205, v206, v207, v208, v209, v210, v211, v212;
+    address v213, v214, v215, v216, v217, v218, v219, v220, v221, v222, v223, v224, v225, v226, v227, v228;
+    address v229, v230, v234, v236, v237, v241, v242, v243, v244, v245, v246, v247, v248, v252, v254, v255;
+    address v256, v258, v259, v260, v266, v272, v274, v292, v294, v296, v298, v301, v304, v305, v307, v308;
+    u8 v52, v53, v61, v62, v63, v64, v65, v66, v67, v68, v84, v126, v127, v133, v134, v138;
+    u8 v139, v140, v143, v151, v233, v239, v240, v250, v262, v263, v264, v268, v269, v271, v273, v275;
+    u8 v276, v277, v278, v279, v280, v281, v282, v283, v284, v285, v286, v287, v288, v289, v290, v291;
+    u8 v293, v295, v297, v299, v300, v303;
+    u32 v71;
+    struct s5 v265;
     u64 block0[1];
     u64 block1[1];
     u64 block2[1];
@@ -23980,1863 +24843,2489 @@ u32 portable_ptpm_field_parse(u16 a0, address a1, u64 a2, address a3, u64 a4, ad
     u64 block4[1];
     u64 block5[1];
     u64 block6[18];
-    u64 block7[18];
-    u64 block8[3];
+    u64 block7[3];
+    u64 block8[41];
     u64 block9[41];
-    u64 block10[41];
-    u64 block11[18];
-    u64 block12[2];
-    u64 block13[19];
-    v79 = ADDRESS(block0);
-    v80 = ADDRESS(block1);
-    v81 = ADDRESS(block2);
-    v82 = ADDRESS(block3);
-    v83 = ADDRESS(block4);
-    v84 = ADDRESS(block5);
-    v85 = ADDRESS(block6);
-    v86 = ADDRESS(block7);
-    v87 = ADDRESS(block8);
-    v88 = ADDRESS(block9);
-    v89 = ADDRESS(block10);
-    v90 = ADDRESS(block11);
-    v91 = ADDRESS(block12);
-    v92 = ADDRESS(block13);
-    v93 = a3 == 0u;
-    v94 = v93 ? 4096u : 0u;
-    v95 = a3 + v94 * 1u;
-    memory_set(v89, 0u, 328u);
-    memory_set(v90, 0u, 144u);
-    memory_set(v91, 0u, 16u);
-    memory_set(v92, 0u, 147u);
-    store_address(v88, ADDRESS(c111));
-    v96 = v88 + 8u * 1u;
-    store64(v96, 0u);
-    v97 = v88 + 16u * 1u;
-    store_address(v97, ADDRESS(c111));
-    v98 = v88 + 24u * 1u;
-    store64(v98, 0u);
-    v99 = v88 + 32u * 1u;
-    store_address(v99, ADDRESS(c111));
-    v100 = v88 + 40u * 1u;
-    store64(v100, 0u);
-    v101 = v88 + 48u * 1u;
-    store_address(v101, ADDRESS(c111));
-    v102 = v88 + 56u * 1u;
-    store64(v102, 0u);
-    v103 = v88 + 64u * 1u;
-    store_address(v103, ADDRESS(c111));
-    v104 = v88 + 72u * 1u;
-    store64(v104, 0u);
-    v105 = v88 + 80u * 1u;
-    store_address(v105, ADDRESS(c111));
-    v106 = v88 + 88u * 1u;
-    store64(v106, 0u);
-    v107 = v88 + 96u * 1u;
-    store_address(v107, ADDRESS(c111));
-    v108 = v88 + 104u * 1u;
-    store64(v108, 0u);
-    v109 = v88 + 112u * 1u;
-    store_address(v109, ADDRESS(c111));
-    v110 = v88 + 120u * 1u;
-    store64(v110, 0u);
-    v111 = v88 + 128u * 1u;
-    store_address(v111, ADDRESS(c111));
-    v112 = v88 + 136u * 1u;
-    store64(v112, 0u);
-    v113 = v88 + 144u * 1u;
-    store_address(v113, ADDRESS(c111));
-    v114 = v88 + 152u * 1u;
-    store64(v114, 0u);
-    v115 = v88 + 160u * 1u;
-    store_address(v115, ADDRESS(c111));
-    v116 = v88 + 168u * 1u;
-    store64(v116, 0u);
-    v117 = v88 + 176u * 1u;
-    store_address(v117, ADDRESS(c111));
-    v118 = v88 + 184u * 1u;
-    store64(v118, 0u);
-    v119 = v88 + 192u * 1u;
-    store_address(v119, ADDRESS(c111));
-    v120 = v88 + 200u * 1u;
-    store64(v120, 0u);
-    v121 = v88 + 208u * 1u;
-    store_address(v121, ADDRESS(c111));
-    v122 = v88 + 216u * 1u;
-    store64(v122, 0u);
-    v123 = v88 + 224u * 1u;
-    store_address(v123, ADDRESS(c111));
-    v124 = v88 + 232u * 1u;
-    store64(v124, 0u);
-    v125 = v88 + 240u * 1u;
-    store_address(v125, ADDRESS(c111));
-    v126 = v88 + 248u * 1u;
-    store64(v126, 0u);
-    v127 = v88 + 256u * 1u;
-    store_address(v127, ADDRESS(c111));
-    v128 = v88 + 264u * 1u;
-    store64(v128, 0u);
-    v129 = v88 + 272u * 1u;
-    store_address(v129, ADDRESS(c111));
-    v130 = v88 + 280u * 1u;
-    store64(v130, 0u);
-    v131 = v88 + 288u * 1u;
-    store_address(v131, ADDRESS(c111));
-    v132 = v88 + 296u * 1u;
-    store64(v132, 0u);
-    v133 = v88 + 304u * 1u;
-    store_address(v133, ADDRESS(c111));
-    v134 = v88 + 312u * 1u;
-    memory_set(v134, 0u, 16u);
-    v135 = a2 == 0u;
-    if (v135) { v13 = ADDRESS(c111); v14 = 0u; v15 = ADDRESS(c111); v16 = 0u; v17 = ADDRESS(c111); v18 = 0u; v19 = ADDRESS(c111); v20 = 0u; v21 = ADDRESS(c111); v22 = 0u; v23 = ADDRESS(c111); v24 = 0u; v25 = ADDRESS(c111); v26 = 0u; v27 = ADDRESS(c111); v28 = 0u; v29 = ADDRESS(c111); v30 = 0u; v31 = ADDRESS(c111); v32 = 0u; v33 = ADDRESS(c111); v34 = 0u; v35 = ADDRESS(c111); v36 = 0u; v37 = ADDRESS(c111); v38 = 0u; v39 = ADDRESS(c111); v40 = 0u; v41 = ADDRESS(c111); v42 = 0u; v43 = ADDRESS(c111); v44 = 0u; v45 = ADDRESS(c111); v46 = 0u; v47 = ADDRESS(c111); v48 = 0u; v49 = ADDRESS(c111); v50 = 0u; v51 = ADDRESS(c111); goto L10; }
+    u64 block10[18];
+    u64 block11[2];
+    v72 = ADDRESS(block0);
+    v73 = ADDRESS(block1);
+    v74 = ADDRESS(block2);
+    v75 = ADDRESS(block3);
+    v76 = ADDRESS(block4);
+    v77 = ADDRESS(block5);
+    v78 = ADDRESS(block6);
+    v79 = ADDRESS(block7);
+    v80 = ADDRESS(block8);
+    v81 = ADDRESS(block9);
+    v82 = ADDRESS(block10);
+    v83 = ADDRESS(block11);
+    v84 = a3 == 0u;
+    v85 = v84 ? 4096u : 0u;
+    v86 = a3 + v85 * 1u;
+    memory_set(v81, 0u, 328u);
+    memory_set(v82, 0u, 144u);
+    memory_set(v83, 0u, 16u);
+    store_address(v80, ADDRESS(c112));
+    v87 = v80 + 8u * 1u;
+    store64(v87, 0u);
+    v88 = v80 + 16u * 1u;
+    store_address(v88, ADDRESS(c112));
+    v89 = v80 + 24u * 1u;
+    store64(v89, 0u);
+    v90 = v80 + 32u * 1u;
+    store_address(v90, ADDRESS(c112));
+    v91 = v80 + 40u * 1u;
+    store64(v91, 0u);
+    v92 = v80 + 48u * 1u;
+    store_address(v92, ADDRESS(c112));
+    v93 = v80 + 56u * 1u;
+    store64(v93, 0u);
+    v94 = v80 + 64u * 1u;
+    store_address(v94, ADDRESS(c112));
+    v95 = v80 + 72u * 1u;
+    store64(v95, 0u);
+    v96 = v80 + 80u * 1u;
+    store_address(v96, ADDRESS(c112));
+    v97 = v80 + 88u * 1u;
+    store64(v97, 0u);
+    v98 = v80 + 96u * 1u;
+    store_address(v98, ADDRESS(c112));
+    v99 = v80 + 104u * 1u;
+    store64(v99, 0u);
+    v100 = v80 + 112u * 1u;
+    store_address(v100, ADDRESS(c112));
+    v101 = v80 + 120u * 1u;
+    store64(v101, 0u);
+    v102 = v80 + 128u * 1u;
+    store_address(v102, ADDRESS(c112));
+    v103 = v80 + 136u * 1u;
+    store64(v103, 0u);
+    v104 = v80 + 144u * 1u;
+    store_address(v104, ADDRESS(c112));
+    v105 = v80 + 152u * 1u;
+    store64(v105, 0u);
+    v106 = v80 + 160u * 1u;
+    store_address(v106, ADDRESS(c112));
+    v107 = v80 + 168u * 1u;
+    store64(v107, 0u);
+    v108 = v80 + 176u * 1u;
+    store_address(v108, ADDRESS(c112));
+    v109 = v80 + 184u * 1u;
+    store64(v109, 0u);
+    v110 = v80 + 192u * 1u;
+    store_address(v110, ADDRESS(c112));
+    v111 = v80 + 200u * 1u;
+    store64(v111, 0u);
+    v112 = v80 + 208u * 1u;
+    store_address(v112, ADDRESS(c112));
+    v113 = v80 + 216u * 1u;
+    store64(v113, 0u);
+    v114 = v80 + 224u * 1u;
+    store_address(v114, ADDRESS(c112));
+    v115 = v80 + 232u * 1u;
+    store64(v115, 0u);
+    v116 = v80 + 240u * 1u;
+    store_address(v116, ADDRESS(c112));
+    v117 = v80 + 248u * 1u;
+    store64(v117, 0u);
+    v118 = v80 + 256u * 1u;
+    store_address(v118, ADDRESS(c112));
+    v119 = v80 + 264u * 1u;
+    store64(v119, 0u);
+    v120 = v80 + 272u * 1u;
+    store_address(v120, ADDRESS(c112));
+    v121 = v80 + 280u * 1u;
+    store64(v121, 0u);
+    v122 = v80 + 288u * 1u;
+    store_address(v122, ADDRESS(c112));
+    v123 = v80 + 296u * 1u;
+    store64(v123, 0u);
+    v124 = v80 + 304u * 1u;
+    store_address(v124, ADDRESS(c112));
+    v125 = v80 + 312u * 1u;
+    memory_set(v125, 0u, 16u);
+    v126 = a2 == 0u;
+    if (v126) { v13 = ADDRESS(c112); v14 = 0u; v15 = ADDRESS(c112); v16 = 0u; v17 = ADDRESS(c112); v18 = 0u; v19 = ADDRESS(c112); v20 = 0u; v21 = ADDRESS(c112); v22 = 0u; v23 = ADDRESS(c112); v24 = 0u; v25 = ADDRESS(c112); v26 = 0u; v27 = ADDRESS(c112); v28 = 0u; v29 = ADDRESS(c112); v30 = 0u; v31 = ADDRESS(c112); v32 = 0u; v33 = ADDRESS(c112); v34 = 0u; v35 = ADDRESS(c112); v36 = 0u; v37 = ADDRESS(c112); v38 = 0u; v39 = ADDRESS(c112); v40 = 0u; v41 = ADDRESS(c112); v42 = 0u; v43 = ADDRESS(c112); v44 = 0u; v45 = ADDRESS(c112); v46 = 0u; v47 = ADDRESS(c112); v48 = 0u; v49 = ADDRESS(c112); v50 = 0u; v51 = ADDRESS(c112); goto L10; }
     else { goto L1; }
 L1:;
-    v136 = a1 == 0u;
-    v137 = v136 ? 4096u : 0u;
-    v138 = a1 + v137 * 1u;
-    v139 = v87 + 8u * 1u;
-    v140 = v87 + 16u * 1u;
-    v141 = v88 + 320u * 1u;
-    v7 = 0u; v8 = a2; v9 = v138; goto L2;
+    v127 = a1 == 0u;
+    v128 = v127 ? 4096u : 0u;
+    v129 = a1 + v128 * 1u;
+    v130 = v79 + 8u * 1u;
+    v131 = v79 + 16u * 1u;
+    v132 = v80 + 320u * 1u;
+    v7 = 0u; v8 = a2; v9 = v129; goto L2;
 L2:;
-    memory_set(v87, 0u, 24u);
+    memory_set(v79, 0u, 24u);
     v10 = v9; v11 = 0u; v12 = v8; goto L3;
 L3:;
-    v142 = load8(v10);
-    v143 = v142 == 0u;
-    if (v143) { goto L5; }
+    v133 = load8(v10);
+    v134 = v133 == 0u;
+    if (v134) { goto L5; }
     else { goto L4; }
 L4:;
-    v144 = (u64)((u64)v12 + (u64)UINT64_C(18446744073709551615));
-    v145 = v10 + 1u * 1u;
-    v146 = (u64)((u64)v11 + (u64)1u);
-    v147 = v144 == 0u;
-    if (v147) { goto L7; }
-    else { v10 = v145; v11 = v146; v12 = v144; goto L3; }
+    v135 = (u64)((u64)v12 + (u64)UINT64_C(18446744073709551615));
+    v136 = v10 + 1u * 1u;
+    v137 = (u64)((u64)v11 + (u64)1u);
+    v138 = v135 == 0u;
+    if (v138) { goto L7; }
+    else { v10 = v136; v11 = v137; v12 = v135; goto L3; }
 L5:;
-    f16(v87, v9, v11);
-    v148 = load8(v87);
-    v149 = v148 == 0u;
-    if (v149) { goto L6; }
+    f16(v79, v9, v11);
+    v139 = load8(v79);
+    v140 = v139 == 0u;
+    if (v140) { goto L6; }
     else { goto L7; }
 L6:;
-    v150 = load_address(v139);
-    v151 = load64(v140);
-    v152 = v7 == 20u;
-    if (v152) { goto L73; }
+    v141 = load_address(v130);
+    v142 = load64(v131);
+    v143 = v7 == 20u;
+    if (v143) { goto L66; }
     else { goto L8; }
 L7:;
-    goto L73;
+    goto L66;
 L8:;
-    v153 = (u64)((u64)v11 + (u64)1u);
-    v154 = (u64)((u64)v8 - (u64)v153);
-    v155 = v9 + v153 * 1u;
-    v156 = (u64)((u64)v7 << (4u & 63u));
-    v157 = v88 + v156 * 1u;
-    v158 = v157 + 8u * 1u;
-    store_address(v157, v150);
-    store64(v158, v151);
-    v159 = (u64)((u64)v7 + (u64)1u);
-    store64(v141, v159);
-    v160 = v154 == 0u;
-    if (v160) { goto L9; }
-    else { v7 = v159; v8 = v154; v9 = v155; goto L2; }
+    v144 = (u64)((u64)v11 + (u64)1u);
+    v145 = (u64)((u64)v8 - (u64)v144);
+    v146 = v9 + v144 * 1u;
+    v147 = (u64)((u64)v7 << (4u & 63u));
+    v148 = v80 + v147 * 1u;
+    v149 = v148 + 8u * 1u;
+    store_address(v148, v141);
+    store64(v149, v142);
+    v150 = (u64)((u64)v7 + (u64)1u);
+    store64(v132, v150);
+    v151 = v145 == 0u;
+    if (v151) { goto L9; }
+    else { v7 = v150; v8 = v145; v9 = v146; goto L2; }
 L9:;
-    v161 = load_address(v88);
-    v162 = load64(v96);
-    v163 = load_address(v97);
-    v164 = load64(v98);
-    v165 = load_address(v99);
-    v166 = load64(v100);
-    v167 = load_address(v101);
-    v168 = load64(v102);
-    v169 = load_address(v103);
-    v170 = load64(v104);
-    v171 = load_address(v105);
-    v172 = load64(v106);
-    v173 = load_address(v107);
-    v174 = load64(v108);
-    v175 = load_address(v109);
-    v176 = load64(v110);
-    v177 = load_address(v111);
-    v178 = load64(v112);
-    v179 = load_address(v113);
-    v180 = load64(v114);
-    v181 = load_address(v115);
-    v182 = load64(v116);
-    v183 = load_address(v117);
-    v184 = load64(v118);
-    v185 = load_address(v119);
-    v186 = load64(v120);
-    v187 = load_address(v121);
-    v188 = load64(v122);
-    v189 = load_address(v123);
-    v190 = load64(v124);
-    v191 = load_address(v125);
-    v192 = load64(v126);
-    v193 = load_address(v127);
-    v194 = load64(v128);
-    v195 = load_address(v129);
-    v196 = load64(v130);
-    v197 = load_address(v131);
-    v198 = load64(v132);
-    v199 = load_address(v133);
-    v13 = v199; v14 = v198; v15 = v197; v16 = v196; v17 = v195; v18 = v194; v19 = v193; v20 = v192; v21 = v191; v22 = v190; v23 = v189; v24 = v188; v25 = v187; v26 = v186; v27 = v185; v28 = v184; v29 = v183; v30 = v182; v31 = v181; v32 = v180; v33 = v179; v34 = v178; v35 = v177; v36 = v176; v37 = v175; v38 = v174; v39 = v173; v40 = v172; v41 = v171; v42 = v170; v43 = v169; v44 = v168; v45 = v167; v46 = v166; v47 = v165; v48 = v164; v49 = v163; v50 = v162; v51 = v161; goto L10;
+    v152 = load_address(v80);
+    v153 = load64(v87);
+    v154 = load_address(v88);
+    v155 = load64(v89);
+    v156 = load_address(v90);
+    v157 = load64(v91);
+    v158 = load_address(v92);
+    v159 = load64(v93);
+    v160 = load_address(v94);
+    v161 = load64(v95);
+    v162 = load_address(v96);
+    v163 = load64(v97);
+    v164 = load_address(v98);
+    v165 = load64(v99);
+    v166 = load_address(v100);
+    v167 = load64(v101);
+    v168 = load_address(v102);
+    v169 = load64(v103);
+    v170 = load_address(v104);
+    v171 = load64(v105);
+    v172 = load_address(v106);
+    v173 = load64(v107);
+    v174 = load_address(v108);
+    v175 = load64(v109);
+    v176 = load_address(v110);
+    v177 = load64(v111);
+    v178 = load_address(v112);
+    v179 = load64(v113);
+    v180 = load_address(v114);
+    v181 = load64(v115);
+    v182 = load_address(v116);
+    v183 = load64(v117);
+    v184 = load_address(v118);
+    v185 = load64(v119);
+    v186 = load_address(v120);
+    v187 = load64(v121);
+    v188 = load_address(v122);
+    v189 = load64(v123);
+    v190 = load_address(v124);
+    v13 = v190; v14 = v189; v15 = v188; v16 = v187; v17 = v186; v18 = v185; v19 = v184; v20 = v183; v21 = v182; v22 = v181; v23 = v180; v24 = v179; v25 = v178; v26 = v177; v27 = v176; v28 = v175; v29 = v174; v30 = v173; v31 = v172; v32 = v171; v33 = v170; v34 = v169; v35 = v168; v36 = v167; v37 = v166; v38 = v165; v39 = v164; v40 = v163; v41 = v162; v42 = v161; v43 = v160; v44 = v159; v45 = v158; v46 = v157; v47 = v156; v48 = v155; v49 = v154; v50 = v153; v51 = v152; goto L10;
 L10:;
-    memory_cpy(v91, v134, 16u);
-    store_address(v89, v51);
-    v200 = v89 + 8u * 1u;
-    store64(v200, v50);
-    v201 = v89 + 16u * 1u;
-    store_address(v201, v49);
-    v202 = v89 + 24u * 1u;
-    store64(v202, v48);
-    v203 = v89 + 32u * 1u;
-    store_address(v203, v47);
-    v204 = v89 + 40u * 1u;
-    store64(v204, v46);
-    v205 = v89 + 48u * 1u;
-    store_address(v205, v45);
-    v206 = v89 + 56u * 1u;
-    store64(v206, v44);
-    v207 = v89 + 64u * 1u;
-    store_address(v207, v43);
-    v208 = v89 + 72u * 1u;
-    store64(v208, v42);
-    v209 = v89 + 80u * 1u;
-    store_address(v209, v41);
-    v210 = v89 + 88u * 1u;
-    store64(v210, v40);
-    v211 = v89 + 96u * 1u;
-    store_address(v211, v39);
-    v212 = v89 + 104u * 1u;
-    store64(v212, v38);
-    v213 = v89 + 112u * 1u;
-    store_address(v213, v37);
-    v214 = v89 + 120u * 1u;
-    store64(v214, v36);
-    v215 = v89 + 128u * 1u;
-    store_address(v215, v35);
-    v216 = v89 + 136u * 1u;
-    store64(v216, v34);
-    v217 = v89 + 144u * 1u;
-    store_address(v217, v33);
-    v218 = v89 + 152u * 1u;
-    store64(v218, v32);
-    v219 = v89 + 160u * 1u;
-    store_address(v219, v31);
-    v220 = v89 + 168u * 1u;
-    store64(v220, v30);
-    v221 = v89 + 176u * 1u;
-    store_address(v221, v29);
-    v222 = v89 + 184u * 1u;
-    store64(v222, v28);
-    v223 = v89 + 192u * 1u;
-    store_address(v223, v27);
-    v224 = v89 + 200u * 1u;
-    store64(v224, v26);
-    v225 = v89 + 208u * 1u;
-    store_address(v225, v25);
-    v226 = v89 + 216u * 1u;
-    store64(v226, v24);
-    v227 = v89 + 224u * 1u;
-    store_address(v227, v23);
-    v228 = v89 + 232u * 1u;
-    store64(v228, v22);
-    v229 = v89 + 240u * 1u;
-    store_address(v229, v21);
-    v230 = v89 + 248u * 1u;
-    store64(v230, v20);
-    v231 = v89 + 256u * 1u;
-    store_address(v231, v19);
-    v232 = v89 + 264u * 1u;
-    store64(v232, v18);
-    v233 = v89 + 272u * 1u;
-    store_address(v233, v17);
-    v234 = v89 + 280u * 1u;
-    store64(v234, v16);
-    v235 = v89 + 288u * 1u;
-    store_address(v235, v15);
-    v236 = v89 + 296u * 1u;
-    store64(v236, v14);
-    v237 = v89 + 304u * 1u;
-    store_address(v237, v13);
-    v238 = v89 + 312u * 1u;
-    memory_cpy(v238, v91, 16u);
-    v239 = v89 + 320u * 1u;
-    v240 = load64(v239);
+    memory_cpy(v83, v125, 16u);
+    store_address(v81, v51);
+    v191 = v81 + 8u * 1u;
+    store64(v191, v50);
+    v192 = v81 + 16u * 1u;
+    store_address(v192, v49);
+    v193 = v81 + 24u * 1u;
+    store64(v193, v48);
+    v194 = v81 + 32u * 1u;
+    store_address(v194, v47);
+    v195 = v81 + 40u * 1u;
+    store64(v195, v46);
+    v196 = v81 + 48u * 1u;
+    store_address(v196, v45);
+    v197 = v81 + 56u * 1u;
+    store64(v197, v44);
+    v198 = v81 + 64u * 1u;
+    store_address(v198, v43);
+    v199 = v81 + 72u * 1u;
+    store64(v199, v42);
+    v200 = v81 + 80u * 1u;
+    store_address(v200, v41);
+    v201 = v81 + 88u * 1u;
+    store64(v201, v40);
+    v202 = v81 + 96u * 1u;
+    store_address(v202, v39);
+    v203 = v81 + 104u * 1u;
+    store64(v203, v38);
+    v204 = v81 + 112u * 1u;
+    store_address(v204, v37);
+    v205 = v81 + 120u * 1u;
+    store64(v205, v36);
+    v206 = v81 + 128u * 1u;
+    store_address(v206, v35);
+    v207 = v81 + 136u * 1u;
+    store64(v207, v34);
+    v208 = v81 + 144u * 1u;
+    store_address(v208, v33);
+    v209 = v81 + 152u * 1u;
+    store64(v209, v32);
+    v210 = v81 + 160u * 1u;
+    store_address(v210, v31);
+    v211 = v81 + 168u * 1u;
+    store64(v211, v30);
+    v212 = v81 + 176u * 1u;
+    store_address(v212, v29);
+    v213 = v81 + 184u * 1u;
+    store64(v213, v28);
+    v214 = v81 + 192u * 1u;
+    store_address(v214, v27);
+    v215 = v81 + 200u * 1u;
+    store64(v215, v26);
+    v216 = v81 + 208u * 1u;
+    store_address(v216, v25);
+    v217 = v81 + 216u * 1u;
+    store64(v217, v24);
+    v218 = v81 + 224u * 1u;
+    store_address(v218, v23);
+    v219 = v81 + 232u * 1u;
+    store64(v219, v22);
+    v220 = v81 + 240u * 1u;
+    store_address(v220, v21);
+    v221 = v81 + 248u * 1u;
+    store64(v221, v20);
+    v222 = v81 + 256u * 1u;
+    store_address(v222, v19);
+    v223 = v81 + 264u * 1u;
+    store64(v223, v18);
+    v224 = v81 + 272u * 1u;
+    store_address(v224, v17);
+    v225 = v81 + 280u * 1u;
+    store64(v225, v16);
+    v226 = v81 + 288u * 1u;
+    store_address(v226, v15);
+    v227 = v81 + 296u * 1u;
+    store64(v227, v14);
+    v228 = v81 + 304u * 1u;
+    store_address(v228, v13);
+    v229 = v81 + 312u * 1u;
+    memory_cpy(v229, v83, 16u);
+    v230 = v81 + 320u * 1u;
+    v231 = load64(v230);
     switch (a0) {
-    case 0u: v52 = 0u; goto L14;
-    case 2u: v53 = 0u; v54 = 1u; v55 = 6u; v56 = ADDRESS(c148); goto L32;
-    case 8192u: goto L15;
-    case 8193u: goto L16;
-    case 8194u: goto L17;
-    case 8195u: goto L18;
-    case 8196u: goto L19;
-    case 8197u: goto L20;
-    case 8198u: goto L21;
-    case 8199u: goto L22;
-    case 8200u: goto L23;
-    case 8201u: goto L11;
-    case 8202u: goto L24;
-    case 8203u: goto L25;
-    case 8204u: goto L28;
-    case 8205u: goto L12;
-    case 8206u: goto L13;
-    case 8208u: goto L29;
-    case 8209u: goto L30;
-    case 24576u: goto L26;
-    case 24577u: goto L27;
-    default: goto L68;
+    case 0u: v52 = 0u; v53 = 0u; goto L31;
+    case 2u: goto L11;
+    case 8192u: goto L12;
+    case 8193u: goto L13;
+    case 8194u: goto L14;
+    case 8195u: goto L15;
+    case 8196u: goto L16;
+    case 8197u: goto L17;
+    case 8198u: goto L18;
+    case 8199u: goto L19;
+    case 8200u: goto L20;
+    case 8201u: goto L21;
+    case 8202u: goto L22;
+    case 8203u: goto L23;
+    case 8204u: goto L24;
+    case 8205u: goto L25;
+    case 8206u: goto L26;
+    case 8208u: goto L27;
+    case 8209u: goto L28;
+    case 24576u: goto L29;
+    case 24577u: goto L30;
+    default: goto L61;
     }
 L11:;
-    v53 = 0u; v54 = 11u; v55 = 6u; v56 = ADDRESS(c158); goto L32;
+    v52 = 1u; v53 = 0u; goto L31;
 L12:;
-    v52 = 13u; goto L14;
+    v52 = 2u; v53 = 0u; goto L31;
 L13:;
-    v52 = 14u; goto L14;
+    v52 = 3u; v53 = 0u; goto L31;
 L14:;
-    memory_set(v85, 0u, 144u);
-    v58 = 0u; v59 = v52; v60 = 0u; goto L39;
+    v52 = 4u; v53 = 0u; goto L31;
 L15:;
-    v53 = 0u; v54 = 2u; v55 = 60u; v56 = ADDRESS(c149); goto L32;
+    v52 = 5u; v53 = 0u; goto L31;
 L16:;
-    v53 = 0u; v54 = 3u; v55 = 18u; v56 = ADDRESS(c150); goto L32;
+    v52 = 6u; v53 = 0u; goto L31;
 L17:;
-    v53 = 0u; v54 = 4u; v55 = 60u; v56 = ADDRESS(c151); goto L32;
+    v52 = 7u; v53 = 0u; goto L31;
 L18:;
-    v53 = 0u; v54 = 5u; v55 = 48u; v56 = ADDRESS(c152); goto L32;
+    v52 = 8u; v53 = 0u; goto L31;
 L19:;
-    v53 = 0u; v54 = 6u; v55 = 60u; v56 = ADDRESS(c153); goto L32;
+    v52 = 9u; v53 = 0u; goto L31;
 L20:;
-    v53 = 0u; v54 = 7u; v55 = 6u; v56 = ADDRESS(c154); goto L32;
+    v52 = 10u; v53 = 0u; goto L31;
 L21:;
-    v53 = 0u; v54 = 8u; v55 = 6u; v56 = ADDRESS(c155); goto L32;
+    v52 = 11u; v53 = 0u; goto L31;
 L22:;
-    v53 = 0u; v54 = 9u; v55 = 6u; v56 = ADDRESS(c156); goto L32;
+    v52 = 11u; v53 = 1u; goto L31;
 L23:;
-    v53 = 0u; v54 = 10u; v55 = 6u; v56 = ADDRESS(c157); goto L32;
+    v52 = 11u; v53 = 2u; goto L31;
 L24:;
-    v53 = 1u; v54 = 11u; v55 = 6u; v56 = ADDRESS(c159); goto L32;
+    v52 = 12u; v53 = 0u; goto L31;
 L25:;
-    v53 = 2u; v54 = 11u; v55 = 6u; v56 = ADDRESS(c160); goto L32;
+    v52 = 13u; v53 = 0u; goto L31;
 L26:;
-    v53 = 3u; v54 = 11u; v55 = 6u; v56 = ADDRESS(c161); goto L32;
+    v52 = 14u; v53 = 0u; goto L31;
 L27:;
-    v53 = 4u; v54 = 11u; v55 = 6u; v56 = ADDRESS(c162); goto L32;
+    v52 = 15u; v53 = 0u; goto L31;
 L28:;
-    v53 = 0u; v54 = 12u; v55 = 6u; v56 = ADDRESS(c163); goto L32;
+    v52 = 16u; v53 = 0u; goto L31;
 L29:;
-    v53 = 0u; v54 = 15u; v55 = 6u; v56 = ADDRESS(c164); goto L32;
+    v52 = 11u; v53 = 3u; goto L31;
 L30:;
-    v53 = 0u; v54 = 16u; v55 = 24u; v56 = ADDRESS(c165); goto L32;
+    v52 = 11u; v53 = 4u; goto L31;
 L31:;
-    UNREACHABLE;
+    memory_set(v78, 0u, 144u);
+    v232 = f38(v52, v53);
+    v233 = v232 > 130u;
+    if (v233) { goto L33; }
+    else { goto L32; }
 L32:;
-    memory_set(v85, 0u, 144u);
-    v241 = v56 + v55 * 1u;
-    v242 = v241 + UINT64_C(18446744073709551613) * 1u;
-    v243 = load8(v242);
-    v244 = (u64)v243;
-    v245 = v241 + UINT64_C(18446744073709551614) * 1u;
-    v246 = load8(v245);
-    switch (v246) {
-    case 0u: goto L36;
-    case 1u: goto L36;
-    case 2u: goto L36;
-    case 3u: v57 = 1u; goto L38;
-    case 4u: v57 = 1u; goto L38;
-    case 5u: v57 = 1u; goto L38;
-    case 9u: v57 = 1u; goto L38;
-    case 10u: v57 = 1u; goto L38;
-    case 6u: goto L33;
-    case 7u: goto L33;
-    case 8u: goto L34;
-    case 11u: goto L35;
-    default: goto L37;
-    }
+    memory_set(v78, 0u, v232);
+    v234 = v78 + 136u * 1u;
+    store64(v234, v232);
+    goto L33;
 L33:;
-    v57 = 8u; goto L38;
+    switch (v52) {
+    case 1u: v54 = ADDRESS(c149); goto L47;
+    case 2u: v55 = 10u; v56 = ADDRESS(c150); goto L48;
+    case 3u: goto L34;
+    case 4u: goto L35;
+    case 5u: goto L36;
+    case 6u: goto L37;
+    case 7u: goto L38;
+    case 8u: goto L39;
+    case 9u: goto L40;
+    case 10u: goto L41;
+    case 11u: goto L46;
+    case 12u: goto L42;
+    case 15u: goto L43;
+    case 16u: goto L44;
+    case 0u: goto L49;
+    case 13u: goto L49;
+    case 14u: goto L49;
+    default: goto L45;
+    }
 L34:;
-    v57 = 10u; goto L38;
+    v55 = 3u; v56 = ADDRESS(c151); goto L48;
 L35:;
-    v57 = 0u; goto L38;
+    v55 = 10u; v56 = ADDRESS(c152); goto L48;
 L36:;
-    v247 = v241 + UINT64_C(18446744073709551615) * 1u;
-    v248 = load8(v247);
-    v249 = (u64)v248;
-    v57 = v249; goto L38;
+    v55 = 8u; v56 = ADDRESS(c153); goto L48;
 L37:;
-    UNREACHABLE;
+    v55 = 10u; v56 = ADDRESS(c154); goto L48;
 L38:;
-    v250 = (u64)((u64)v57 + (u64)v244);
-    v58 = v53; v59 = v54; v60 = v250; goto L39;
+    v54 = ADDRESS(c155); goto L47;
 L39:;
-    v251 = (u64)((u64)v60 & (u64)1u);
-    v252 = (u64)((u64)v251 + (u64)v60);
-    v253 = v252 > 130u;
-    if (v253) { goto L41; }
-    else { goto L40; }
+    v54 = ADDRESS(c156); goto L47;
 L40:;
-    memory_set(v85, 0u, v252);
-    v254 = v85 + 136u * 1u;
-    store64(v254, v252);
-    goto L41;
+    v54 = ADDRESS(c157); goto L47;
 L41:;
-    memory_cpy(v86, v85, 144u);
-    switch (v59) {
-    case 1u: v61 = ADDRESS(c148); goto L54;
-    case 2u: v62 = 10u; v63 = ADDRESS(c149); goto L55;
-    case 3u: goto L42;
-    case 4u: goto L43;
-    case 5u: goto L44;
-    case 6u: goto L45;
-    case 7u: goto L46;
-    case 8u: goto L47;
-    case 9u: goto L48;
-    case 10u: goto L49;
-    case 11u: goto L53;
-    case 12u: goto L50;
-    case 15u: goto L51;
-    case 16u: goto L52;
-    case 0u: goto L56;
-    case 13u: goto L56;
-    case 14u: goto L56;
-    default: goto L31;
-    }
+    v54 = ADDRESS(c158); goto L47;
 L42:;
-    v62 = 3u; v63 = ADDRESS(c150); goto L55;
+    v54 = ADDRESS(c164); goto L47;
 L43:;
-    v62 = 10u; v63 = ADDRESS(c151); goto L55;
+    v54 = ADDRESS(c165); goto L47;
 L44:;
-    v62 = 8u; v63 = ADDRESS(c152); goto L55;
+    v55 = 4u; v56 = ADDRESS(c166); goto L48;
 L45:;
-    v62 = 10u; v63 = ADDRESS(c153); goto L55;
-L46:;
-    v61 = ADDRESS(c154); goto L54;
-L47:;
-    v61 = ADDRESS(c155); goto L54;
-L48:;
-    v61 = ADDRESS(c156); goto L54;
-L49:;
-    v61 = ADDRESS(c157); goto L54;
-L50:;
-    v61 = ADDRESS(c163); goto L54;
-L51:;
-    v61 = ADDRESS(c164); goto L54;
-L52:;
-    v62 = 4u; v63 = ADDRESS(c165); goto L55;
-L53:;
-    v255 = ADDRESS(c234) + v58 * 8u;
-    v256 = load_address(v255);
-    v61 = v256; goto L54;
-L54:;
-    memory_set(v84, 0u, 5u);
-    switch (v240) {
-    case 1u: goto L67;
-    case 2u: v64 = v61; v65 = 1u; goto L57;
-    default: v68 = 0u; v69 = 0u; v70 = 0u; v71 = 1u; goto L65;
-    }
-L55:;
-    v257 = (u64)((u64)v62 << (1u & 63u));
-    v258 = v240 == v257;
-    if (v258) { v64 = v63; v65 = v62; goto L57; }
-    else { v68 = 0u; v69 = 0u; v70 = 0u; v71 = 1u; goto L65; }
-L56:;
-    v259 = v240 == 0u;
-    if (v259) { goto L66; }
-    else { v68 = 0u; v69 = 0u; v70 = 0u; v71 = 1u; goto L65; }
-L57:;
-    v260 = v82 + 1u * 1u;
-    v261 = v81 + 1u * 1u;
-    v262 = v82 + 2u * 1u;
-    v263 = v81 + 2u * 1u;
-    v264 = v83 + 1u * 1u;
-    v265 = v83 + 2u * 1u;
-    v266 = v83 + 3u * 1u;
-    v267 = v83 + 4u * 1u;
-    v66 = 0u; goto L59;
-L58:;
-    v268 = (u64)((u64)v66 + (u64)1u);
-    v269 = v268 == v65;
-    if (v269) { goto L66; }
-    else { v66 = v268; goto L59; }
-L59:;
-    v270 = (u64)((u64)v66 * (u64)6u);
-    v271 = v64 + v270 * 1u;
-    v272 = (u64)((u64)v66 << (5u & 63u));
-    v273 = v89 + v272 * 1u;
-    v274 = load_address(v273);
-    v275 = v273 + 8u * 1u;
-    v276 = load64(v275);
-    v277 = v273 + 16u * 1u;
-    v278 = load_address(v277);
-    v279 = v273 + 24u * 1u;
-    v280 = load64(v279);
-    memory_cpy(v81, v271, 6u);
-    memory_set(v83, 0u, 5u);
-    v281 = load8(v81);
-    store8(v82, v281);
-    v282 = load8(v261);
-    store8(v260, v282);
-    v283 = load8(v263);
-    store8(v262, v283);
-    v284 = f42(v82);
-    v285 = v284.m0;
-    v286 = v284.m1;
-    v287 = v276 == v286;
-    if (v287) { goto L60; }
-    else { goto L63; }
-L60:;
-    v288 = v276 == 0u;
-    if (v288) { goto L64; }
-    else { v67 = 0u; goto L62; }
-L61:;
-    v289 = (u64)((u64)v67 + (u64)1u);
-    v290 = v289 == v276;
-    if (v290) { goto L64; }
-    else { v67 = v289; goto L62; }
-L62:;
-    v291 = v274 + v67 * 1u;
-    v292 = load8(v291);
-    v293 = v285 + v67 * 1u;
-    v294 = load8(v293);
-    v295 = (u8)((u32)v292 + (u32)191u);
-    v296 = v295 < 26u;
-    v297 = (u8)((u32)v292 + (u32)32u);
-    v298 = v296 ? v297 : v292;
-    v299 = (u8)((u32)v294 + (u32)191u);
-    v300 = v299 < 26u;
-    v301 = (u8)((u32)v294 + (u32)32u);
-    v302 = v300 ? v301 : v294;
-    v303 = v298 == v302;
-    if (v303) { goto L61; }
-    else { goto L63; }
-L63:;
-    v68 = v283; v69 = v282; v70 = v281; v71 = 2u; goto L65;
-L64:;
-    f38(v83, v81, v278, v280, v86);
-    v304 = load8(v83);
-    v305 = load8(v264);
-    v306 = load8(v265);
-    v307 = load8(v266);
-    v308 = load8(v267);
-    v309 = v304 == 0u;
-    if (v309) { goto L58; }
-    else { v68 = v308; v69 = v307; v70 = v306; v71 = v305; goto L65; }
-L65:;
-    v72 = v71; v73 = v70; v74 = v69; v75 = v68; goto L70;
-L66:;
-    goto L69;
-L67:;
-    f38(v84, v61, v51, v50, v86);
-    v310 = load8(v84);
-    v311 = v84 + 1u * 1u;
-    v312 = load8(v311);
-    v313 = v84 + 2u * 1u;
-    v314 = load8(v313);
-    v315 = v84 + 3u * 1u;
-    v316 = load8(v315);
-    v317 = v84 + 4u * 1u;
-    v318 = load8(v317);
-    v319 = v310 == 0u;
-    if (v319) { goto L69; }
-    else { v72 = v312; v73 = v314; v74 = v316; v75 = v318; goto L70; }
-L68:;
-    goto L74;
-L69:;
-    v320 = v92 + 3u * 1u;
-    memory_cpy(v320, v86, 144u);
-    memory_cpy(v90, v320, 144u);
-    v321 = v90 + 136u * 1u;
-    v322 = load64(v321);
-    v323 = a4 < v322;
-    if (v323) { v76 = 0u; v77 = 0u; v78 = 34u; goto L78; }
-    else { goto L72; }
-L70:;
-    switch (v72) {
-    case 0u: goto L74;
-    case 1u: goto L75;
-    case 2u: goto L76;
-    case 3u: goto L77;
-    default: goto L71;
-    }
-L71:;
     UNREACHABLE;
-L72:;
-    memory_cpy(v95, v90, v322);
-    v76 = v322; v77 = 0u; v78 = 0u; goto L78;
-L73:;
-    v76 = 0u; v77 = 0u; v78 = 113u; goto L78;
-L74:;
-    v76 = 0u; v77 = 0u; v78 = 114u; goto L78;
-L75:;
-    v76 = 0u; v77 = 0u; v78 = 115u; goto L78;
-L76:;
-    store8(v79, v73);
-    v324 = v79 + 1u * 1u;
-    store8(v324, v74);
-    v325 = v79 + 2u * 1u;
-    store8(v325, v75);
-    v326 = f43(a0, v79);
-    v76 = 0u; v77 = v326; v78 = 116u; goto L78;
-L77:;
-    store8(v80, v73);
-    v327 = v80 + 1u * 1u;
-    store8(v327, v74);
-    v328 = v80 + 2u * 1u;
-    store8(v328, v75);
-    v329 = f43(a0, v80);
-    v76 = 0u; v77 = v329; v78 = 117u; goto L78;
-L78:;
-    store64(a5, v76);
-    store64(a6, v77);
-    return v78;
+L46:;
+    v235 = (u64)v53;
+    v236 = ADDRESS(c305) + v235 * 8u;
+    v237 = load_address(v236);
+    v54 = v237; goto L47;
+L47:;
+    memory_set(v77, 0u, 5u);
+    switch (v231) {
+    case 1u: goto L60;
+    case 2u: v57 = v54; v58 = 1u; goto L50;
+    default: v61 = 0u; v62 = 0u; v63 = 0u; v64 = 1u; goto L58;
+    }
+L48:;
+    v238 = (u64)((u64)v55 << (1u & 63u));
+    v239 = v231 == v238;
+    if (v239) { v57 = v56; v58 = v55; goto L50; }
+    else { v61 = 0u; v62 = 0u; v63 = 0u; v64 = 1u; goto L58; }
+L49:;
+    v240 = v231 == 0u;
+    if (v240) { goto L59; }
+    else { v61 = 0u; v62 = 0u; v63 = 0u; v64 = 1u; goto L58; }
+L50:;
+    v241 = v75 + 1u * 1u;
+    v242 = v74 + 1u * 1u;
+    v243 = v75 + 2u * 1u;
+    v244 = v74 + 2u * 1u;
+    v245 = v76 + 1u * 1u;
+    v246 = v76 + 2u * 1u;
+    v247 = v76 + 3u * 1u;
+    v248 = v76 + 4u * 1u;
+    v59 = 0u; goto L52;
+L51:;
+    v249 = (u64)((u64)v59 + (u64)1u);
+    v250 = v249 == v58;
+    if (v250) { goto L59; }
+    else { v59 = v249; goto L52; }
+L52:;
+    v251 = (u64)((u64)v59 * (u64)6u);
+    v252 = v57 + v251 * 1u;
+    v253 = (u64)((u64)v59 << (5u & 63u));
+    v254 = v81 + v253 * 1u;
+    v255 = load_address(v254);
+    v256 = v254 + 8u * 1u;
+    v257 = load64(v256);
+    v258 = v254 + 16u * 1u;
+    v259 = load_address(v258);
+    v260 = v254 + 24u * 1u;
+    v261 = load64(v260);
+    memory_cpy(v74, v252, 6u);
+    memory_set(v76, 0u, 5u);
+    v262 = load8(v74);
+    store8(v75, v262);
+    v263 = load8(v242);
+    store8(v241, v263);
+    v264 = load8(v244);
+    store8(v243, v264);
+    v265 = f43(v75);
+    v266 = v265.m0;
+    v267 = v265.m1;
+    v268 = v257 == v267;
+    if (v268) { goto L53; }
+    else { goto L56; }
+L53:;
+    v269 = v257 == 0u;
+    if (v269) { goto L57; }
+    else { v60 = 0u; goto L55; }
+L54:;
+    v270 = (u64)((u64)v60 + (u64)1u);
+    v271 = v270 == v257;
+    if (v271) { goto L57; }
+    else { v60 = v270; goto L55; }
+L55:;
+    v272 = v255 + v60 * 1u;
+    v273 = load8(v272);
+    v274 = v266 + v60 * 1u;
+    v275 = load8(v274);
+    v276 = (u8)((u32)v273 + (u32)191u);
+    v277 = v276 < 26u;
+    v278 = (u8)((u32)v273 + (u32)32u);
+    v279 = v277 ? v278 : v273;
+    v280 = (u8)((u32)v275 + (u32)191u);
+    v281 = v280 < 26u;
+    v282 = (u8)((u32)v275 + (u32)32u);
+    v283 = v281 ? v282 : v275;
+    v284 = v279 == v283;
+    if (v284) { goto L54; }
+    else { goto L56; }
+L56:;
+    v61 = v264; v62 = v263; v63 = v262; v64 = 2u; goto L58;
+L57:;
+    f39(v76, v74, v259, v261, v78);
+    v285 = load8(v76);
+    v286 = load8(v245);
+    v287 = load8(v246);
+    v288 = load8(v247);
+    v289 = load8(v248);
+    v290 = v285 == 0u;
+    if (v290) { goto L51; }
+    else { v61 = v289; v62 = v288; v63 = v287; v64 = v286; goto L58; }
+L58:;
+    v65 = v64; v66 = v63; v67 = v62; v68 = v61; goto L63;
+L59:;
+    goto L62;
+L60:;
+    f39(v77, v54, v51, v50, v78);
+    v291 = load8(v77);
+    v292 = v77 + 1u * 1u;
+    v293 = load8(v292);
+    v294 = v77 + 2u * 1u;
+    v295 = load8(v294);
+    v296 = v77 + 3u * 1u;
+    v297 = load8(v296);
+    v298 = v77 + 4u * 1u;
+    v299 = load8(v298);
+    v300 = v291 == 0u;
+    if (v300) { goto L62; }
+    else { v65 = v293; v66 = v295; v67 = v297; v68 = v299; goto L63; }
+L61:;
+    goto L67;
+L62:;
+    memory_cpy(v82, v78, 144u);
+    v301 = v82 + 136u * 1u;
+    v302 = load64(v301);
+    v303 = a4 < v302;
+    if (v303) { v69 = 0u; v70 = 0u; v71 = 34u; goto L71; }
+    else { goto L65; }
+L63:;
+    switch (v65) {
+    case 0u: goto L67;
+    case 1u: goto L68;
+    case 2u: goto L69;
+    case 3u: goto L70;
+    default: goto L64;
+    }
+L64:;
+    UNREACHABLE;
+L65:;
+    memory_cpy(v86, v82, v302);
+    v69 = v302; v70 = 0u; v71 = 0u; goto L71;
+L66:;
+    v69 = 0u; v70 = 0u; v71 = 113u; goto L71;
+L67:;
+    v69 = 0u; v70 = 0u; v71 = 114u; goto L71;
+L68:;
+    v69 = 0u; v70 = 0u; v71 = 115u; goto L71;
+L69:;
+    store8(v72, v66);
+    v304 = v72 + 1u * 1u;
+    store8(v304, v67);
+    v305 = v72 + 2u * 1u;
+    store8(v305, v68);
+    v306 = f45(a0, v72);
+    v69 = 0u; v70 = v306; v71 = 116u; goto L71;
+L70:;
+    store8(v73, v66);
+    v307 = v73 + 1u * 1u;
+    store8(v307, v67);
+    v308 = v73 + 2u * 1u;
+    store8(v308, v68);
+    v309 = f45(a0, v73);
+    v69 = 0u; v70 = v309; v71 = 117u; goto L71;
+L71:;
+    store64(a5, v69);
+    store64(a6, v70);
+    return v71;
 }
 
 u64 portable_ptpm_field_text(u16 a0, address a1, u64 a2, address a3, u64 a4) {
-    u64 v5, v7, v9, v10, v12, v13, v15, v18, v19, v22, v23, v26, v27, v28, v29, v32;
-    u64 v35, v36, v37, v38, v41, v42, v49, v50, v51, v57, v58, v59, v60, v61, v62, v63;
-    u64 v64, v65, v67, v68, v69, v70, v71, v72, v73, v77, v78, v79, v84, v85, v86, v91;
-    u64 v92, v93, v95, v96, v98, v100, v101, v102, v103, v104, v109, v110, v113, v115, v127, v130;
-    u64 v139, v144, v145, v146, v147, v150, v151, v152, v153, v170, v171, v182, v184, v187, v190, v199;
-    u64 v201, v203, v210, v212, v215, v218, v220, v233, v236, v237, v239, v240, v244, v246, v247, v249;
-    u64 v253, v255, v256, v257, v262, v264, v267, v273, v274, v276, v280, v282, v283, v287, v297, v298;
-    u64 v301, v303, v311, v314, v318, v320, v321, v323, v324, v325, v326, v328, v329, v330, v331, v332;
-    u64 v334, v335, v336, v337, v339, v340, v341, v342, v348, v356, v358, v370, v372, v373, v385, v396;
-    u64 v398, v400, v408, v411, v413, v414, v416, v420, v425, v428, v429, v431, v435, v437, v438, v439;
-    u64 v444, v446, v447, v448, v452, v453, v456, v458, v461, v462, v465, v471, v477, v479, v480, v481;
-    u64 v491, v492, v495, v497, v505, v508, v510, v519, v522, v530, v531, v534, v536, v544, v547, v551;
-    u64 v554, v555, v558, v564, v567, v569, v570, v574, v576, v577, v580, v582, v585, v594, v595, v598;
-    u64 v601, v602, v604, v608, v610, v611, v614, v622, v624, v632, v635, v639, v640, v643, v647, v649;
-    u64 v651;
-    u8 v6, v11, v16, v17, v20, v21, v24, v25, v30, v31, v33, v34, v39, v40, v43, v44;
-    u8 v45, v46, v47, v48, v52, v53, v54, v55, v56, v66, v75, v76, v80, v81, v82, v83;
-    u8 v87, v88, v89, v90, v99, v105, v106, v107, v108, v111, v112, v114, v126, v129, v135, v138;
-    u8 v141, v143, v148, v149, v154, v168, v169, v172, v178, v179, v180, v183, v185, v191, v193, v194;
-    u8 v195, v196, v197, v202, v204, v192, v206, v207, v208, v209, v189, v211, v213, v214, v216, v222;
-    u8 v224, v226, v228, v230, v232, v235, v238, v241, v245, v248, v250, v251, v258, v261, v263, v265;
-    u8 v269, v270, v271, v272, v275, v277, v278, v284, v286, v288, v290, v291, v292, v293, v294, v295;
-    u8 v296, v299, v304, v305, v306, v307, v308, v309, v313, v315, v316, v317, v319, v333, v338, v350;
-    u8 v352, v360, v362, v365, v366, v367, v368, v369, v375, v377, v387, v389, v393, v394, v395, v402;
-    u8 v404, v407, v412, v415, v417, v418, v422, v423, v424, v427, v430, v432, v433, v440, v443, v445;
-    u8 v449, v450, v451, v454, v459, v460, v463, v473, v474, v475, v476, v478, v482, v484, v485, v486;
-    u8 v487, v488, v489, v490, v493, v498, v499, v500, v501, v502, v503, v507, v509, v512, v514, v523;
-    u8 v524, v525, v526, v527, v528, v529, v532, v537, v538, v539, v540, v541, v542, v546, v548, v550;
-    u8 v552, v553, v556, v560, v561, v562, v563, v571, v572, v573, v584, v586, v588, v589, v590, v591;
-    u8 v592, v593, v596, v600, v603, v605, v606, v612, v615, v616, v617, v618, v619, v620, v625, v626;
-    u8 v627, v628, v629, v630, v634, v636, v637, v638, v641, v645, v646, v648, v650;
-    address v8, v14, v94, v97, v116, v117, v118, v119, v120, v121, v122, v123, v124, v125, v128, v131;
-    address v132, v133, v134, v136, v137, v140, v142, v155, v156, v157, v158, v159, v160, v161, v162, v163;
-    address v164, v165, v166, v167, v173, v174, v175, v176, v177, v181, v186, v188, v198, v200, v205, v217;
-    address v219, v221, v223, v225, v227, v229, v231, v234, v243, v252, v254, v259, v260, v266, v268, v279;
-    address v281, v285, v289, v300, v302, v310, v312, v322, v327, v349, v351, v353, v354, v355, v359, v361;
-    address v363, v364, v371, v374, v376, v378, v379, v386, v388, v390, v391, v392, v397, v401, v403, v405;
-    address v406, v409, v410, v419, v421, v426, v434, v436, v441, v442, v455, v457, v464, v466, v483, v494;
-    address v496, v504, v506, v511, v513, v533, v535, v543, v545, v549, v557, v559, v565, v566, v568, v575;
-    address v578, v579, v581, v583, v587, v597, v599, v607, v609, v613, v621, v623, v631, v633, v642, v644;
-    u32 v74, v467, v468, v469, v470, v472, v520, v521;
-    struct s5 v242;
-    u16 v343, v344, v345, v346, v347, v357, v380, v381, v382, v383, v384, v399, v515, v516, v517, v518;
+    u8 v5, v6, v12, v13, v16, v17, v20, v21, v26, v27, v29, v30, v35, v36, v39, v40;
+    u8 v41, v42, v43, v44, v48, v49, v50, v51, v75, v78, v96, v97, v101, v102, v103, v104;
+    u8 v108, v109, v110, v111, v122, v128, v133, v137, v141, v144, v145, v149, v150, v153, v154, v155;
+    u8 v156, v159, v160, v162, v175, v178, v184, v186, v189, v192, v194, v197, v198, v199, v200, v201;
+    u8 v203, v205, v210, v211, v212, v214, v215, v220, v225, v240, v241, v242, v245, v251, v252, v253;
+    u8 v256, v258, v264, v266, v267, v268, v269, v270, v275, v277, v265, v279, v280, v281, v282, v262;
+    u8 v284, v286, v287, v289, v295, v297, v299, v301, v303, v305, v309, v312, v315, v319, v322, v324;
+    u8 v325, v332, v335, v337, v339, v343, v345, v348, v350, v351, v357, v359, v360, v362, v363, v364;
+    u8 v365, v366, v367, v368, v371, v376, v377, v378, v379, v380, v381, v385, v387, v396, v401, v402;
+    u8 v403, v407, v408, v409, v412, v413, v418, v420, v428, v429, v430, v434, v437, v438, v444, v448;
+    u8 v450, v453, v457, v459, v462, v464, v467, v471, v475, v477, v480, v482, v485, v490, v495, v498;
+    u8 v502, v504, v507, v509, v512, v517, v522, v527, v529, v532, v535, v539, v541, v544, v546, v549;
+    u8 v554, v559, v564, v566, v569, v575, v580, v587, v591, v593, v596, v598, v601, v606, v611, v616;
+    u8 v618, v621, v627, v632, v635, v638, v640, v650, v654, v656, v660, v662, v665, v672, v674, v675;
+    u8 v678, v681, v687, v695, v698, v706, v712, v713, v714, v717, v729, v731, v739, v741, v744, v745;
+    u8 v746, v747, v748, v754, v756, v766, v768, v772, v773, v774, v781, v783, v786, v791, v794, v796;
+    u8 v797, v803, v805, v806, v813, v816, v818, v821, v826, v827, v830, v840, v841, v842, v843, v845;
+    u8 v846, v847, v848, v849, v850, v851, v854, v859, v860, v861, v862, v863, v864, v868, v870, v871;
+    u8 v872, v873, v874, v875, v876, v879, v884, v885, v886, v887, v888, v889, v893, v895, v897, v899;
+    u8 v900, v903, v907, v908, v909, v910, v918, v919, v920, v931, v933, v934, v935, v936, v937, v938;
+    u8 v941, v945, v948, v950, v951, v957, v960, v961, v962, v963, v964, v965, v970, v971, v972, v973;
+    u8 v974, v975, v979, v981, v982, v983, v986, v991, v992, v993, v994, v995, v996, v997, v1000, v1005;
+    u8 v1006, v1007, v1008, v1009, v1010, v1014, v1016, v1017, v1018, v1026, v1027, v1028, v1029, v1030, v1031, v1032;
+    u8 v1035, v1040, v1041, v1042, v1043, v1044, v1045, v1049, v1051, v1054, v1055, v1058, v1062, v1063, v1064, v1067;
+    u8 v1071, v1072, v1074, v1076;
+    u64 v7, v8, v9, v11, v14, v15, v18, v19, v22, v23, v24, v25, v28, v31, v32, v33;
+    u64 v34, v37, v38, v45, v46, v47, v52, v53, v55, v56, v58, v59, v61, v62, v63, v65;
+    u64 v67, v69, v70, v71, v73, v76, v77, v79, v80, v81, v82, v83, v84, v85, v86, v87;
+    u64 v88, v89, v90, v91, v92, v93, v94, v98, v99, v100, v105, v106, v107, v112, v113, v114;
+    u64 v116, v117, v119, v121, v123, v124, v125, v126, v127, v130, v131, v132, v134, v135, v136, v138;
+    u64 v140, v142, v146, v147, v148, v151, v152, v157, v158, v161, v163, v176, v179, v185, v188, v191;
+    u64 v193, v195, v196, v202, v206, v207, v208, v209, v213, v217, v221, v222, v223, v224, v226, v243;
+    u64 v244, v255, v257, v260, v263, v272, v274, v276, v283, v285, v288, v291, v293, v306, v308, v310;
+    u64 v311, v313, v314, v318, v320, v321, v323, v327, v329, v330, v331, v336, v338, v341, v344, v346;
+    u64 v347, v349, v353, v355, v356, v369, v370, v373, v375, v383, v386, v388, v389, v391, v392, v393;
+    u64 v394, v395, v397, v398, v399, v400, v404, v405, v406, v410, v411, v414, v415, v416, v421, v422;
+    u64 v423, v424, v425, v426, v431, v432, v433, v435, v436, v441, v447, v449, v452, v456, v458, v461;
+    u64 v465, v466, v468, v469, v474, v476, v479, v483, v484, v486, v487, v489, v492, v494, v497, v501;
+    u64 v503, v506, v510, v511, v513, v514, v516, v519, v521, v524, v526, v530, v531, v533, v534, v538;
+    u64 v540, v543, v547, v548, v550, v551, v553, v556, v558, v561, v563, v567, v568, v570, v571, v574;
+    u64 v577, v579, v582, v584, v590, v592, v595, v599, v600, v602, v603, v605, v608, v610, v613, v615;
+    u64 v619, v620, v622, v623, v626, v629, v631, v637, v639, v642, v644, v649, v653, v655, v658, v659;
+    u64 v663, v664, v666, v667, v669, v670, v671, v673, v679, v680, v682, v683, v686, v689, v690, v691;
+    u64 v692, v694, v697, v699, v700, v701, v702, v704, v705, v707, v708, v709, v710, v711, v715, v718;
+    u64 v719, v720, v721, v727, v735, v737, v749, v751, v752, v764, v775, v777, v779, v787, v790, v792;
+    u64 v793, v795, v799, v801, v802, v804, v808, v810, v811, v812, v817, v819, v820, v823, v825, v828;
+    u64 v829, v832, v838, v852, v853, v856, v858, v866, v869, v877, v878, v881, v883, v891, v894, v898;
+    u64 v901, v902, v905, v911, v914, v916, v917, v921, v923, v924, v927, v929, v939, v940, v943, v946;
+    u64 v947, v949, v953, v955, v956, v959, v967, v969, v977, v980, v984, v985, v988, v998, v999, v1002;
+    u64 v1004, v1012, v1015, v1019, v1021, v1022, v1033, v1034, v1037, v1039, v1047, v1050, v1053, v1056, v1057, v1060;
+    u64 v1065, v1066, v1069, v1073, v1075, v1077;
+    address v10, v54, v57, v60, v64, v66, v68, v72, v115, v118, v120, v129, v139, v143, v164, v165;
+    address v166, v167, v168, v169, v170, v171, v172, v173, v174, v177, v180, v181, v182, v183, v190, v204;
+    address v216, v218, v219, v227, v228, v229, v230, v231, v232, v233, v234, v235, v236, v237, v238, v239;
+    address v246, v247, v248, v249, v250, v254, v259, v261, v271, v273, v278, v290, v292, v294, v296, v298;
+    address v300, v302, v304, v307, v317, v326, v328, v333, v334, v340, v342, v352, v354, v358, v361, v372;
+    address v374, v382, v384, v390, v417, v419, v439, v440, v445, v446, v451, v454, v455, v460, v463, v470;
+    address v472, v473, v478, v481, v488, v491, v493, v496, v499, v500, v505, v508, v515, v518, v520, v523;
+    address v525, v528, v536, v537, v542, v545, v552, v555, v557, v560, v562, v565, v572, v573, v576, v578;
+    address v581, v583, v588, v589, v594, v597, v604, v607, v609, v612, v614, v617, v624, v625, v628, v630;
+    address v633, v634, v636, v641, v643, v651, v652, v657, v661, v668, v676, v677, v684, v685, v688, v693;
+    address v696, v703, v716, v728, v730, v732, v733, v734, v738, v740, v742, v743, v750, v753, v755, v757;
+    address v758, v765, v767, v769, v770, v771, v776, v780, v782, v784, v785, v788, v789, v798, v800, v807;
+    address v809, v814, v815, v822, v824, v831, v833, v844, v855, v857, v865, v867, v880, v882, v890, v892;
+    address v896, v904, v906, v912, v913, v915, v922, v925, v926, v928, v930, v932, v942, v944, v952, v954;
+    address v958, v966, v968, v976, v978, v987, v989, v990, v1001, v1003, v1011, v1013, v1020, v1023, v1024, v1025;
+    address v1036, v1038, v1046, v1048, v1052, v1059, v1061, v1068, v1070;
+    struct s5 v74, v187, v316, v442, v443, v585, v586, v645, v646, v647, v648;
+    u32 v95, v427, v834, v835, v836, v837, v839;
+    u16 v722, v723, v724, v725, v726, v736, v759, v760, v761, v762, v763, v778;
     u64 block0[3];
     u64 block1[3];
-    u64 block2[5];
-    u64 block3[1];
-    u64 block4[2];
-    u64 block5[1];
+    u64 block2[3];
+    u64 block3[5];
+    u64 block4[1];
+    u64 block5[2];
     u64 block6[1];
-    u64 block7[2];
+    u64 block7[1];
     u64 block8[1];
-    u64 block9[4];
-    v116 = ADDRESS(block0);
-    v117 = ADDRESS(block1);
-    v118 = ADDRESS(block2);
-    v119 = ADDRESS(block3);
-    v120 = ADDRESS(block4);
-    v121 = ADDRESS(block5);
-    v122 = ADDRESS(block6);
-    v123 = ADDRESS(block7);
-    v124 = ADDRESS(block8);
-    v125 = ADDRESS(block9);
-    v126 = a1 == 0u;
-    v127 = v126 ? 4096u : 0u;
-    v128 = a1 + v127 * 1u;
-    v129 = a3 == 0u;
-    v130 = v129 ? 4096u : 0u;
-    v131 = a3 + v130 * 1u;
-    store_address(v125, v131);
-    v132 = v125 + 8u * 1u;
-    store64(v132, a4);
-    v133 = v125 + 16u * 1u;
-    store64(v133, 1u);
-    v134 = v125 + 24u * 1u;
-    store64(v134, 0u);
+    u64 block9[1];
+    u64 block10[4];
+    v164 = ADDRESS(block0);
+    v165 = ADDRESS(block1);
+    v166 = ADDRESS(block2);
+    v167 = ADDRESS(block3);
+    v168 = ADDRESS(block4);
+    v169 = ADDRESS(block5);
+    v170 = ADDRESS(block6);
+    v171 = ADDRESS(block7);
+    v172 = ADDRESS(block8);
+    v173 = ADDRESS(block9);
+    v174 = ADDRESS(block10);
+    v175 = a1 == 0u;
+    v176 = v175 ? 4096u : 0u;
+    v177 = a1 + v176 * 1u;
+    v178 = a3 == 0u;
+    v179 = v178 ? 4096u : 0u;
+    v180 = a3 + v179 * 1u;
+    store_address(v174, v180);
+    v181 = v174 + 8u * 1u;
+    store64(v181, a4);
+    v182 = v174 + 16u * 1u;
+    store64(v182, 1u);
+    v183 = v174 + 24u * 1u;
+    store64(v183, 0u);
     switch (a0) {
-    case 0u: v10 = 0u; v11 = 0u; v12 = 0u; goto L28;
-    case 2u: goto L5;
-    case 8192u: goto L1;
-    case 8193u: v5 = 0u; v6 = 3u; v7 = 18u; v8 = ADDRESS(c150); goto L21;
-    case 8194u: goto L6;
-    case 8195u: goto L7;
-    case 8196u: goto L8;
-    case 8197u: goto L9;
-    case 8198u: goto L10;
-    case 8199u: goto L11;
-    case 8200u: goto L12;
-    case 8201u: goto L2;
-    case 8202u: goto L13;
-    case 8203u: goto L14;
-    case 8204u: goto L17;
-    case 8205u: goto L3;
-    case 8206u: goto L4;
-    case 8208u: goto L18;
-    case 8209u: goto L19;
-    case 24576u: goto L15;
-    case 24577u: goto L16;
-    default: goto L45;
+    case 0u: v5 = 0u; v6 = 0u; goto L21;
+    case 2u: goto L1;
+    case 8192u: goto L2;
+    case 8193u: goto L3;
+    case 8194u: goto L4;
+    case 8195u: goto L5;
+    case 8196u: goto L6;
+    case 8197u: goto L7;
+    case 8198u: goto L8;
+    case 8199u: goto L9;
+    case 8200u: goto L10;
+    case 8201u: goto L11;
+    case 8202u: goto L12;
+    case 8203u: goto L13;
+    case 8204u: goto L14;
+    case 8205u: goto L15;
+    case 8206u: goto L16;
+    case 8208u: goto L17;
+    case 8209u: goto L18;
+    case 24576u: goto L19;
+    case 24577u: goto L20;
+    case 1u: goto L41;
+    case 8207u: goto L36;
+    case 8210u: goto L37;
+    case 8211u: goto L38;
+    case 8213u: goto L48;
+    case 49152u: v7 = 4u; v8 = 50u; goto L47;
+    case 49153u: goto L39;
+    case 49154u: goto L40;
+    case 49156u: goto L43;
+    case 49157u: goto L46;
+    default: goto L53;
     }
 L1:;
-    v5 = 0u; v6 = 2u; v7 = 60u; v8 = ADDRESS(c149); goto L21;
+    v184 = a2 == 0u;
+    if (v184) { goto L54; }
+    else { goto L50; }
 L2:;
-    v5 = 0u; v6 = 11u; v7 = 6u; v8 = ADDRESS(c158); goto L21;
+    v5 = 2u; v6 = 0u; goto L21;
 L3:;
-    v10 = 0u; v11 = 13u; v12 = 0u; goto L28;
+    v5 = 3u; v6 = 0u; goto L21;
 L4:;
-    v10 = 0u; v11 = 14u; v12 = 0u; goto L28;
+    v5 = 4u; v6 = 0u; goto L21;
 L5:;
-    v135 = a2 == 0u;
-    if (v135) { goto L46; }
-    else { goto L42; }
+    v5 = 5u; v6 = 0u; goto L21;
 L6:;
-    v5 = 0u; v6 = 4u; v7 = 60u; v8 = ADDRESS(c151); goto L21;
+    v5 = 6u; v6 = 0u; goto L21;
 L7:;
-    v5 = 0u; v6 = 5u; v7 = 48u; v8 = ADDRESS(c152); goto L21;
+    v5 = 7u; v6 = 0u; goto L21;
 L8:;
-    v5 = 0u; v6 = 6u; v7 = 60u; v8 = ADDRESS(c153); goto L21;
+    v5 = 8u; v6 = 0u; goto L21;
 L9:;
-    v5 = 0u; v6 = 7u; v7 = 6u; v8 = ADDRESS(c154); goto L21;
+    v5 = 9u; v6 = 0u; goto L21;
 L10:;
-    v5 = 0u; v6 = 8u; v7 = 6u; v8 = ADDRESS(c155); goto L21;
+    v5 = 10u; v6 = 0u; goto L21;
 L11:;
-    v5 = 0u; v6 = 9u; v7 = 6u; v8 = ADDRESS(c156); goto L21;
+    v5 = 11u; v6 = 0u; goto L21;
 L12:;
-    v5 = 0u; v6 = 10u; v7 = 6u; v8 = ADDRESS(c157); goto L21;
+    v5 = 11u; v6 = 1u; goto L21;
 L13:;
-    v5 = 1u; v6 = 11u; v7 = 6u; v8 = ADDRESS(c159); goto L21;
+    v5 = 11u; v6 = 2u; goto L21;
 L14:;
-    v5 = 2u; v6 = 11u; v7 = 6u; v8 = ADDRESS(c160); goto L21;
+    v5 = 12u; v6 = 0u; goto L21;
 L15:;
-    v5 = 3u; v6 = 11u; v7 = 6u; v8 = ADDRESS(c161); goto L21;
+    v5 = 13u; v6 = 0u; goto L21;
 L16:;
-    v5 = 4u; v6 = 11u; v7 = 6u; v8 = ADDRESS(c162); goto L21;
+    v5 = 14u; v6 = 0u; goto L21;
 L17:;
-    v5 = 0u; v6 = 12u; v7 = 6u; v8 = ADDRESS(c163); goto L21;
+    v5 = 15u; v6 = 0u; goto L21;
 L18:;
-    v5 = 0u; v6 = 15u; v7 = 6u; v8 = ADDRESS(c164); goto L21;
+    v5 = 16u; v6 = 0u; goto L21;
 L19:;
-    v5 = 0u; v6 = 16u; v7 = 24u; v8 = ADDRESS(c165); goto L21;
+    v5 = 11u; v6 = 3u; goto L21;
 L20:;
-    UNREACHABLE;
+    v5 = 11u; v6 = 4u; goto L21;
 L21:;
-    v136 = v8 + v7 * 1u;
-    v137 = v136 + UINT64_C(18446744073709551613) * 1u;
-    v138 = load8(v137);
-    v139 = (u64)v138;
-    v140 = v136 + UINT64_C(18446744073709551614) * 1u;
-    v141 = load8(v140);
-    switch (v141) {
-    case 0u: goto L25;
-    case 1u: goto L25;
-    case 2u: goto L25;
-    case 3u: v9 = 1u; goto L27;
-    case 4u: v9 = 1u; goto L27;
-    case 5u: v9 = 1u; goto L27;
-    case 9u: v9 = 1u; goto L27;
-    case 10u: v9 = 1u; goto L27;
-    case 6u: goto L22;
-    case 7u: goto L22;
-    case 8u: goto L23;
-    case 11u: goto L24;
-    default: goto L26;
-    }
+    v185 = f38(v5, v6);
+    v186 = a2 == v185;
+    if (v186) { goto L22; }
+    else { goto L53; }
 L22:;
-    v9 = 8u; goto L27;
-L23:;
-    v9 = 10u; goto L27;
-L24:;
-    v9 = 0u; goto L27;
-L25:;
-    v142 = v136 + UINT64_C(18446744073709551615) * 1u;
-    v143 = load8(v142);
-    v144 = (u64)v143;
-    v9 = v144; goto L27;
-L26:;
-    UNREACHABLE;
-L27:;
-    v145 = (u64)((u64)v9 + (u64)v139);
-    v10 = v5; v11 = v6; v12 = v145; goto L28;
-L28:;
-    v146 = (u64)((u64)v12 & (u64)1u);
-    v147 = (u64)((u64)v146 + (u64)v12);
-    v148 = a2 == v147;
-    if (v148) { goto L29; }
-    else { goto L45; }
-L29:;
-    switch (v11) {
-    case 1u: v13 = 1u; v14 = ADDRESS(c148); goto L44;
-    case 2u: goto L30;
-    case 3u: goto L31;
-    case 4u: goto L32;
-    case 5u: goto L33;
-    case 6u: goto L34;
-    case 7u: goto L35;
-    case 8u: goto L36;
-    case 9u: goto L37;
-    case 10u: goto L38;
-    case 11u: goto L43;
-    case 12u: goto L39;
-    case 15u: goto L40;
-    case 16u: goto L41;
-    case 0u: goto L45;
-    case 13u: goto L45;
-    case 14u: goto L45;
-    default: goto L20;
+    switch (v5) {
+    case 1u: v9 = 1u; v10 = ADDRESS(c149); goto L52;
+    case 2u: goto L23;
+    case 3u: goto L24;
+    case 4u: goto L25;
+    case 5u: goto L26;
+    case 6u: goto L27;
+    case 7u: goto L28;
+    case 8u: goto L29;
+    case 9u: goto L30;
+    case 10u: goto L31;
+    case 11u: goto L51;
+    case 12u: goto L32;
+    case 15u: goto L33;
+    case 16u: goto L34;
+    case 0u: goto L53;
+    case 13u: goto L53;
+    case 14u: goto L53;
+    default: goto L35;
     }
+L23:;
+    v9 = 10u; v10 = ADDRESS(c150); goto L52;
+L24:;
+    v9 = 3u; v10 = ADDRESS(c151); goto L52;
+L25:;
+    v9 = 10u; v10 = ADDRESS(c152); goto L52;
+L26:;
+    v9 = 8u; v10 = ADDRESS(c153); goto L52;
+L27:;
+    v9 = 10u; v10 = ADDRESS(c154); goto L52;
+L28:;
+    v9 = 1u; v10 = ADDRESS(c155); goto L52;
+L29:;
+    v9 = 1u; v10 = ADDRESS(c156); goto L52;
 L30:;
-    v13 = 10u; v14 = ADDRESS(c149); goto L44;
+    v9 = 1u; v10 = ADDRESS(c157); goto L52;
 L31:;
-    v13 = 3u; v14 = ADDRESS(c150); goto L44;
+    v9 = 1u; v10 = ADDRESS(c158); goto L52;
 L32:;
-    v13 = 10u; v14 = ADDRESS(c151); goto L44;
+    v9 = 1u; v10 = ADDRESS(c164); goto L52;
 L33:;
-    v13 = 8u; v14 = ADDRESS(c152); goto L44;
+    v9 = 1u; v10 = ADDRESS(c165); goto L52;
 L34:;
-    v13 = 10u; v14 = ADDRESS(c153); goto L44;
+    v9 = 4u; v10 = ADDRESS(c166); goto L52;
 L35:;
-    v13 = 1u; v14 = ADDRESS(c154); goto L44;
+    UNREACHABLE;
 L36:;
-    v13 = 1u; v14 = ADDRESS(c155); goto L44;
+    v7 = 0u; v8 = 10u; goto L47;
 L37:;
-    v13 = 1u; v14 = ADDRESS(c156); goto L44;
+    v7 = 1u; v8 = 2u; goto L47;
 L38:;
-    v13 = 1u; v14 = ADDRESS(c157); goto L44;
+    v7 = 2u; v8 = 2u; goto L47;
 L39:;
-    v13 = 1u; v14 = ADDRESS(c163); goto L44;
+    v7 = 5u; v8 = 8u; goto L47;
 L40:;
-    v13 = 1u; v14 = ADDRESS(c164); goto L44;
+    v7 = 6u; v8 = 8u; goto L47;
 L41:;
-    v13 = 4u; v14 = ADDRESS(c165); goto L44;
+    v187 = f46(v177, a2);
+    v188 = v187.m1;
+    v189 = v188 == 0u;
+    if (v189) { goto L53; }
+    else { goto L42; }
 L42:;
-    v149 = load8(v128);
-    v150 = (u64)v149;
-    v151 = (u64)((u64)v150 + (u64)1u);
-    v152 = (u64)((u64)v151 & (u64)1u);
-    v153 = (u64)((u64)v152 + (u64)v151);
-    v154 = a2 == v153;
-    if (v154) { v13 = 1u; v14 = ADDRESS(c148); goto L44; }
-    else { goto L45; }
+    v190 = v187.m0;
+    v191 = (u64)((u64)v188 + (u64)UINT64_C(18446744073709551615));
+    v192 = load8(v190);
+    v193 = (u64)v192;
+    v194 = v191 >= v193;
+    v195 = v191 > v193 ? (u64)((u64)v191 - (u64)v193) : 0u;
+    v196 = (u64)((u64)v195 & (u64)UINT64_C(18446744073709551614));
+    v197 = v196 == 6u;
+    v198 = (u8)(((u32)v194 & (u32)v197) & UINT64_C(1));
+    v199 = a2 > 1u;
+    v200 = (u8)(((u32)v199 & (u32)v198) & UINT64_C(1));
+    if (v200) { v9 = 10u; v10 = ADDRESS(c256); goto L52; }
+    else { goto L53; }
 L43:;
-    v155 = ADDRESS(c234) + v10 * 8u;
-    v156 = load_address(v155);
-    v13 = 1u; v14 = v156; goto L44;
+    v201 = a2 > 11u;
+    if (v201) { goto L44; }
+    else { goto L53; }
 L44:;
-    v157 = v124 + 1u * 1u;
-    v158 = v124 + 2u * 1u;
-    v159 = v116 + 8u * 1u;
-    v160 = v116 + 16u * 1u;
-    v161 = v117 + 8u * 1u;
-    v162 = v117 + 16u * 1u;
-    v163 = v120 + 6u * 1u;
-    v164 = v119 + 1u * 1u;
-    v165 = v119 + 7u * 1u;
-    v166 = v123 + 8u * 1u;
-    v167 = v123 + 6u * 1u;
-    v30 = 1u; v31 = 1u; v32 = 0u; goto L68;
+    v202 = (u64)((u64)a2 + (u64)UINT64_C(18446744073709551604));
+    v203 = v202 == 0u;
+    if (v203) { goto L55; }
+    else { goto L45; }
 L45:;
-    v168 = a4 < 6u;
-    if (v168) { goto L52; }
-    else { goto L47; }
+    v204 = v177 + 12u * 1u;
+    v205 = load8(v204);
+    v206 = (u64)v205;
+    v207 = (u64)((u64)v206 + (u64)1u);
+    v208 = (u64)((u64)v207 & (u64)1u);
+    v209 = (u64)((u64)v208 + (u64)v207);
+    v210 = v202 == v209;
+    if (v210) { v9 = 4u; v10 = ADDRESS(c264); goto L52; }
+    else { goto L53; }
 L46:;
-    v169 = a4 < 6u;
-    if (v169) { goto L188; }
-    else { goto L47; }
+    v7 = 8u; v8 = 266u; goto L47;
 L47:;
-    v170 = (u64)v131;
-    v171 = (u64)((u64)v170 - (u64)ADDRESS(c211));
-    v172 = v171 < 6u;
-    if (v172) { goto L48; }
-    else { goto L49; }
+    v211 = a2 == v8;
+    if (v211) { goto L49; }
+    else { goto L53; }
 L48:;
-    store8(v131, 118u);
-    v173 = v131 + 1u * 1u;
-    store8(v173, 97u);
-    v174 = v131 + 2u * 1u;
-    store8(v174, 108u);
-    v175 = v131 + 3u * 1u;
-    store8(v175, 117u);
-    v176 = v131 + 4u * 1u;
-    store8(v176, 101u);
-    v177 = v131 + 5u * 1u;
-    store8(v177, 32u);
-    goto L50;
+    v212 = a2 > 7u;
+    v213 = (u64)((u64)a2 & (u64)7u);
+    v214 = v213 == 0u;
+    v215 = (u8)(((u32)v212 & (u32)v214) & UINT64_C(1));
+    if (v215) { v9 = 1u; v10 = ADDRESS(c260); goto L52; }
+    else { goto L53; }
 L49:;
-    memory_cpy(v131, ADDRESS(c211), 6u);
-    goto L50;
+    v216 = ADDRESS(c306) + v7 * 8u;
+    v217 = load64(v216);
+    v218 = ADDRESS(c307) + v7 * 8u;
+    v219 = load_address(v218);
+    v9 = v217; v10 = v219; goto L52;
 L50:;
-    v178 = a2 == 0u;
-    if (v178) { goto L53; }
-    else { v15 = 6u; v16 = 1u; v17 = 1u; goto L51; }
+    v220 = load8(v177);
+    v221 = (u64)v220;
+    v222 = (u64)((u64)v221 + (u64)1u);
+    v223 = (u64)((u64)v222 & (u64)1u);
+    v224 = (u64)((u64)v223 + (u64)v222);
+    v225 = a2 == v224;
+    if (v225) { v9 = 1u; v10 = ADDRESS(c149); goto L52; }
+    else { goto L53; }
 L51:;
-    v23 = v15; v24 = v16; v25 = v17; v26 = 0u; goto L61;
+    v226 = (u64)v6;
+    v227 = ADDRESS(c305) + v226 * 8u;
+    v228 = load_address(v227);
+    v9 = 1u; v10 = v228; goto L52;
 L52:;
-    v179 = a2 == 0u;
-    if (v179) { goto L188; }
-    else { v15 = 0u; v16 = 0u; v17 = 0u; goto L51; }
+    v229 = v173 + 1u * 1u;
+    v230 = v173 + 2u * 1u;
+    v231 = v164 + 8u * 1u;
+    v232 = v164 + 16u * 1u;
+    v233 = v165 + 8u * 1u;
+    v234 = v165 + 16u * 1u;
+    v235 = v166 + 8u * 1u;
+    v236 = v166 + 16u * 1u;
+    v237 = v169 + 6u * 1u;
+    v238 = v168 + 1u * 1u;
+    v239 = v168 + 7u * 1u;
+    v26 = 1u; v27 = 1u; v28 = 0u; goto L77;
 L53:;
-    v180 = a4 == 6u;
-    if (v180) { goto L188; }
-    else { goto L54; }
+    v240 = a4 < 6u;
+    if (v240) { goto L61; }
+    else { goto L57; }
 L54:;
-    v181 = v131 + 6u * 1u;
-    store8(v181, 45u);
-    v28 = a4; v29 = 7u; goto L66;
+    v241 = a4 < 6u;
+    if (v241) { goto L277; }
+    else { goto L57; }
 L55:;
-    v182 = (u64)((u64)v18 + (u64)1u);
-    v183 = v182 == a2;
-    if (v183) { goto L64; }
-    else { v18 = v182; goto L55; }
+    v242 = a4 < 6u;
+    if (v242) { v11 = 0u; v12 = 0u; v13 = 0u; goto L56; }
+    else { goto L57; }
 L56:;
-    v184 = load64(v132);
-    v185 = v184 > v23;
-    if (v185) { goto L57; }
-    else { goto L63; }
+    v15 = v11; v16 = v12; v17 = v13; v18 = 0u; goto L69;
 L57:;
-    v186 = load_address(v125);
-    v187 = (u64)((u64)v23 + (u64)1u);
-    v188 = v186 + v23 * 1u;
-    store8(v188, v189);
-    v190 = load64(v132);
-    v191 = v190 > v187;
-    if (v191) { goto L58; }
+    v243 = (u64)v180;
+    v244 = (u64)((u64)v243 - (u64)ADDRESS(c266));
+    v245 = v244 < 6u;
+    if (v245) { goto L58; }
     else { goto L59; }
 L58:;
-    v193 = (u8)((u32)v192 & (u32)15u);
-    v194 = v193 < 10u;
-    v195 = (u8)((u32)v193 | (u32)48u);
-    v196 = (u8)((u32)v193 + (u32)87u);
-    v197 = v194 ? v195 : v196;
-    v198 = load_address(v125);
-    v199 = (u64)((u64)v23 + (u64)2u);
-    v200 = v198 + v187 * 1u;
-    store8(v200, v197);
-    v201 = (u64)((u64)v26 + (u64)1u);
-    v202 = v201 == a2;
-    if (v202) { v27 = v199; goto L65; }
-    else { v19 = v199; v20 = 1u; v21 = 1u; v22 = v201; goto L60; }
+    store8(v180, 118u);
+    v246 = v180 + 1u * 1u;
+    store8(v246, 97u);
+    v247 = v180 + 2u * 1u;
+    store8(v247, 108u);
+    v248 = v180 + 3u * 1u;
+    store8(v248, 117u);
+    v249 = v180 + 4u * 1u;
+    store8(v249, 101u);
+    v250 = v180 + 5u * 1u;
+    store8(v250, 32u);
+    goto L60;
 L59:;
-    v203 = (u64)((u64)v26 + (u64)1u);
-    v204 = v203 == a2;
-    if (v204) { v113 = 0u; v114 = 0u; goto L189; }
-    else { v19 = 0u; v20 = 0u; v21 = 0u; v22 = v203; goto L60; }
+    memory_cpy(v180, ADDRESS(c266), 6u);
+    goto L60;
 L60:;
-    v23 = v19; v24 = v20; v25 = v21; v26 = v22; goto L61;
+    v251 = a2 == 0u;
+    if (v251) { goto L62; }
+    else { v11 = 6u; v12 = 1u; v13 = 1u; goto L56; }
 L61:;
-    v205 = v128 + v26 * 1u;
-    v192 = load8(v205);
-    v206 = (u8)((u32)v192 >> (4u & 7u));
-    v207 = v192 < 160u;
-    v208 = (u8)((u32)v206 | (u32)48u);
-    v209 = (u8)((u32)v206 + (u32)87u);
-    v189 = v207 ? v208 : v209;
-    if (v25) { goto L56; }
-    else { goto L62; }
+    v252 = a2 == 0u;
+    if (v252) { goto L277; }
+    else { v11 = 0u; v12 = 0u; v13 = 0u; goto L56; }
 L62:;
-    v210 = (u64)((u64)v26 + (u64)1u);
-    v211 = v210 == a2;
-    if (v211) { goto L64; }
-    else { v18 = v210; goto L55; }
+    v253 = a4 == 6u;
+    if (v253) { goto L277; }
+    else { goto L63; }
 L63:;
-    v212 = (u64)((u64)v26 + (u64)1u);
-    v213 = v212 == a2;
-    if (v213) { v113 = 0u; v114 = 0u; goto L189; }
-    else { v19 = 0u; v20 = 0u; v21 = 0u; v22 = v212; goto L60; }
+    v254 = v180 + 6u * 1u;
+    store8(v254, 45u);
+    v24 = a4; v25 = 7u; goto L75;
 L64:;
-    v214 = v24 == 0u;
-    if (v214) { v113 = v23; v114 = v24; goto L189; }
-    else { v27 = v23; goto L65; }
+    v255 = (u64)((u64)v14 + (u64)1u);
+    v256 = v255 == a2;
+    if (v256) { goto L73; }
+    else { v14 = v255; goto L64; }
 L65:;
-    v215 = load64(v132);
-    v28 = v215; v29 = v27; goto L66;
+    v257 = load64(v181);
+    v258 = v257 > v15;
+    if (v258) { goto L66; }
+    else { goto L71; }
 L66:;
-    v216 = v28 > v29;
-    if (v216) { goto L67; }
-    else { goto L188; }
+    v259 = load_address(v174);
+    v260 = (u64)((u64)v15 + (u64)1u);
+    v261 = v259 + v15 * 1u;
+    store8(v261, v262);
+    v263 = load64(v181);
+    v264 = v263 > v260;
+    if (v264) { goto L67; }
+    else { goto L68; }
 L67:;
-    v217 = load_address(v125);
-    v218 = (u64)((u64)v29 + (u64)1u);
-    v219 = v217 + v29 * 1u;
-    store8(v219, 10u);
-    v115 = v218; goto L190;
+    v266 = (u8)((u32)v265 & (u32)15u);
+    v267 = v266 < 10u;
+    v268 = (u8)((u32)v266 | (u32)48u);
+    v269 = (u8)((u32)v266 + (u32)87u);
+    v270 = v267 ? v268 : v269;
+    v271 = load_address(v174);
+    v272 = (u64)((u64)v15 + (u64)2u);
+    v273 = v271 + v260 * 1u;
+    store8(v273, v270);
+    v274 = (u64)((u64)v18 + (u64)1u);
+    v275 = v274 == a2;
+    if (v275) { v23 = v272; goto L74; }
+    else { v19 = v272; v20 = 1u; v21 = 1u; v22 = v274; goto L72; }
 L68:;
-    v220 = (u64)((u64)v32 * (u64)6u);
-    v221 = v14 + v220 * 1u;
-    v222 = load8(v221);
-    v223 = v221 + 1u * 1u;
-    v224 = load8(v223);
-    v225 = v221 + 2u * 1u;
-    v226 = load8(v225);
-    v227 = v221 + 3u * 1u;
-    v228 = load8(v227);
-    v229 = v221 + 4u * 1u;
-    v230 = load8(v229);
-    v231 = v221 + 5u * 1u;
-    v232 = load8(v231);
-    v233 = (u64)v228;
-    v234 = v128 + v233 * 1u;
-    v235 = v31 == 1u;
-    if (v235) { goto L69; }
-    else { v33 = v30; v34 = v31; goto L70; }
+    v276 = (u64)((u64)v18 + (u64)1u);
+    v277 = v276 == a2;
+    if (v277) { v161 = 0u; v162 = 0u; goto L278; }
+    else { v19 = 0u; v20 = 0u; v21 = 0u; v22 = v276; goto L72; }
 L69:;
-    v236 = load64(v134);
-    v237 = load64(v132);
-    v238 = v237 >= v236;
-    v239 = v238 ? v236 : 0u;
-    v240 = (u64)v238;
-    store64(v133, v240);
-    store64(v134, v239);
-    v241 = (u8)v238;
-    v33 = v241; v34 = v241; goto L70;
+    v278 = v177 + v18 * 1u;
+    v265 = load8(v278);
+    v279 = (u8)((u32)v265 >> (4u & 7u));
+    v280 = v265 < 160u;
+    v281 = (u8)((u32)v279 | (u32)48u);
+    v282 = (u8)((u32)v279 + (u32)87u);
+    v262 = v280 ? v281 : v282;
+    if (v17) { goto L65; }
+    else { goto L70; }
 L70:;
-    store8(v124, v222);
-    store8(v157, v224);
-    store8(v158, v226);
-    v242 = f42(v124);
-    v243 = v242.m0;
-    v244 = v242.m1;
-    v245 = v34 == 1u;
-    if (v245) { goto L71; }
-    else { v39 = v33; v40 = v34; goto L79; }
+    v283 = (u64)((u64)v18 + (u64)1u);
+    v284 = v283 == a2;
+    if (v284) { goto L73; }
+    else { v14 = v283; goto L64; }
 L71:;
-    v246 = load64(v134);
-    v247 = load64(v132);
-    v248 = v247 < v246;
-    v249 = (u64)((u64)v247 - (u64)v246);
-    v250 = v249 < v244;
-    v251 = v248 ? 1u : v250;
-    if (v251) { goto L80; }
-    else { goto L72; }
+    v285 = (u64)((u64)v18 + (u64)1u);
+    v286 = v285 == a2;
+    if (v286) { v161 = 0u; v162 = 0u; goto L278; }
+    else { v19 = 0u; v20 = 0u; v21 = 0u; v22 = v285; goto L72; }
 L72:;
-    v252 = load_address(v125);
-    v253 = (u64)((u64)v246 + (u64)v244);
-    v254 = v252 + v246 * 1u;
-    v255 = (u64)v254;
-    v256 = (u64)v243;
-    v257 = (u64)((u64)v255 - (u64)v256);
-    v258 = v257 < v244;
-    if (v258) { v35 = 0u; goto L74; }
-    else { goto L73; }
+    v15 = v19; v16 = v20; v17 = v21; v18 = v22; goto L69;
 L73:;
-    memory_move(v254, v243, v244);
-    v36 = v247; goto L76;
+    v287 = v16 == 0u;
+    if (v287) { v161 = v15; v162 = v16; goto L278; }
+    else { v23 = v15; goto L74; }
 L74:;
-    v259 = v254 + v35 * 1u;
-    v260 = v243 + v35 * 1u;
-    v261 = load8(v260);
-    store8(v259, v261);
-    v262 = (u64)((u64)v35 + (u64)1u);
-    v263 = v262 == v244;
-    if (v263) { goto L75; }
-    else { v35 = v262; goto L74; }
+    v288 = load64(v181);
+    v24 = v288; v25 = v23; goto L75;
 L75:;
-    v264 = load64(v132);
-    v36 = v264; goto L76;
+    v289 = v24 > v25;
+    if (v289) { goto L76; }
+    else { goto L277; }
 L76:;
-    v265 = v36 > v253;
-    if (v265) { goto L77; }
-    else { v37 = 0u; v38 = 0u; goto L78; }
+    v290 = load_address(v174);
+    v291 = (u64)((u64)v25 + (u64)1u);
+    v292 = v290 + v25 * 1u;
+    store8(v292, 10u);
+    v163 = v291; goto L279;
 L77:;
-    v266 = load_address(v125);
-    v267 = (u64)((u64)v253 + (u64)1u);
-    v268 = v266 + v253 * 1u;
-    store8(v268, 32u);
-    v37 = v267; v38 = 1u; goto L78;
+    v293 = (u64)((u64)v28 * (u64)6u);
+    v294 = v10 + v293 * 1u;
+    v295 = load8(v294);
+    v296 = v294 + 1u * 1u;
+    v297 = load8(v296);
+    v298 = v294 + 2u * 1u;
+    v299 = load8(v298);
+    v300 = v294 + 3u * 1u;
+    v301 = load8(v300);
+    v302 = v294 + 4u * 1u;
+    v303 = load8(v302);
+    v304 = v294 + 5u * 1u;
+    v305 = load8(v304);
+    v306 = (u64)v301;
+    v307 = v177 + v306 * 1u;
+    v308 = (u64)((u64)a2 - (u64)v306);
+    v309 = v27 == 1u;
+    if (v309) { goto L78; }
+    else { v29 = v26; v30 = v27; goto L79; }
 L78:;
-    store64(v133, v38);
-    store64(v134, v37);
-    v269 = (u8)(v38);
-    v39 = v269; v40 = v269; goto L79;
+    v310 = load64(v183);
+    v311 = load64(v181);
+    v312 = v311 >= v310;
+    v313 = v312 ? v310 : 0u;
+    v314 = (u64)v312;
+    store64(v182, v314);
+    store64(v183, v313);
+    v315 = (u8)v312;
+    v29 = v315; v30 = v315; goto L79;
 L79:;
-    v270 = v230 == 1u;
-    if (v270) { goto L81; }
-    else { v56 = v40; goto L95; }
+    store8(v173, v295);
+    store8(v229, v297);
+    store8(v230, v299);
+    v316 = f43(v173);
+    v317 = v316.m0;
+    v318 = v316.m1;
+    v319 = v30 == 1u;
+    if (v319) { goto L80; }
+    else { v35 = v29; v36 = v30; goto L89; }
 L80:;
-    v271 = v230 == 1u;
-    memory_set(v133, 0u, 16u);
-    if (v271) { v43 = 0u; v44 = 0u; goto L87; }
-    else { v56 = 0u; goto L95; }
+    v320 = load64(v183);
+    v321 = load64(v181);
+    v322 = v321 < v320;
+    v323 = (u64)((u64)v321 - (u64)v320);
+    v324 = v323 < v318;
+    v325 = v322 ? 1u : v324;
+    if (v325) { goto L84; }
+    else { goto L81; }
 L81:;
-    v272 = v40 == 1u;
-    if (v272) { goto L82; }
-    else { v43 = v39; v44 = v40; goto L87; }
+    v326 = load_address(v174);
+    v327 = (u64)((u64)v320 + (u64)v318);
+    v328 = v326 + v320 * 1u;
+    v329 = (u64)v328;
+    v330 = (u64)v317;
+    v331 = (u64)((u64)v329 - (u64)v330);
+    v332 = v331 < v318;
+    if (v332) { v31 = 0u; goto L83; }
+    else { goto L82; }
 L82:;
-    v273 = load64(v134);
-    v274 = load64(v132);
-    v275 = v274 < v273;
-    v276 = (u64)((u64)v274 - (u64)v273);
-    v277 = v276 < 2u;
-    v278 = v275 ? 1u : v277;
-    if (v278) { v41 = 0u; v42 = 0u; goto L86; }
-    else { goto L83; }
+    memory_move(v328, v317, v318);
+    v32 = v321; goto L86;
 L83:;
-    v279 = load_address(v125);
-    v280 = (u64)((u64)v273 + (u64)2u);
-    v281 = v279 + v273 * 1u;
-    v282 = (u64)v281;
-    v283 = (u64)((u64)v282 - (u64)ADDRESS(c212));
-    v284 = v283 < 2u;
-    if (v284) { goto L84; }
-    else { goto L85; }
+    v333 = v328 + v31 * 1u;
+    v334 = v317 + v31 * 1u;
+    v335 = load8(v334);
+    store8(v333, v335);
+    v336 = (u64)((u64)v31 + (u64)1u);
+    v337 = v336 == v318;
+    if (v337) { goto L85; }
+    else { v31 = v336; goto L83; }
 L84:;
-    store8(v281, 48u);
-    v285 = v281 + 1u * 1u;
-    store8(v285, 120u);
-    v41 = v280; v42 = 1u; goto L86;
+    memory_set(v182, 0u, 16u);
+    v35 = 0u; v36 = 0u; goto L89;
 L85:;
-    store16(v281, 30768u);
-    v41 = v280; v42 = 1u; goto L86;
+    v338 = load64(v181);
+    v32 = v338; goto L86;
 L86:;
-    store64(v133, v42);
-    store64(v134, v41);
-    v286 = (u8)(v42);
-    v43 = v286; v44 = v286; goto L87;
+    v339 = v32 > v327;
+    if (v339) { goto L87; }
+    else { v33 = 0u; v34 = 0u; goto L88; }
 L87:;
-    v287 = (u64)v232;
-    v288 = v232 == 0u;
-    if (v288) { v106 = v43; v107 = v44; v108 = v44; goto L182; }
-    else { v45 = v43; v46 = v44; v47 = v44; v48 = v44; v49 = 0u; goto L88; }
+    v340 = load_address(v174);
+    v341 = (u64)((u64)v327 + (u64)1u);
+    v342 = v340 + v327 * 1u;
+    store8(v342, 32u);
+    v33 = v341; v34 = 1u; goto L88;
 L88:;
-    v289 = v234 + v49 * 1u;
-    v290 = load8(v289);
-    v291 = (u8)((u32)v290 >> (4u & 7u));
-    v292 = v290 < 160u;
-    v293 = (u8)((u32)v291 | (u32)48u);
-    v294 = (u8)((u32)v291 + (u32)87u);
-    v295 = v292 ? v293 : v294;
-    v296 = v48 == 1u;
-    if (v296) { goto L89; }
-    else { v52 = v45; v53 = v46; v54 = v47; v55 = v48; goto L94; }
+    store64(v182, v34);
+    store64(v183, v33);
+    v343 = (u8)(v34);
+    v35 = v343; v36 = v343; goto L89;
 L89:;
-    v297 = load64(v134);
-    v298 = load64(v132);
-    v299 = v298 > v297;
-    if (v299) { goto L90; }
-    else { goto L93; }
-L90:;
-    v300 = load_address(v125);
-    v301 = (u64)((u64)v297 + (u64)1u);
-    v302 = v300 + v297 * 1u;
-    store8(v302, v295);
-    v303 = load64(v132);
-    v304 = v303 > v301;
-    if (v304) { goto L91; }
-    else { v50 = 0u; v51 = 0u; goto L92; }
-L91:;
-    v305 = (u8)((u32)v290 & (u32)15u);
-    v306 = v305 < 10u;
-    v307 = (u8)((u32)v305 | (u32)48u);
-    v308 = (u8)((u32)v305 + (u32)87u);
-    v309 = v306 ? v307 : v308;
-    v310 = load_address(v125);
-    v311 = (u64)((u64)v297 + (u64)2u);
-    v312 = v310 + v301 * 1u;
-    store8(v312, v309);
-    v50 = v311; v51 = 1u; goto L92;
-L92:;
-    store64(v133, v51);
-    store64(v134, v50);
-    v313 = (u8)(v51);
-    v52 = v313; v53 = v313; v54 = v313; v55 = v313; goto L94;
-L93:;
-    memory_set(v133, 0u, 16u);
-    v52 = 0u; v53 = 0u; v54 = 0u; v55 = 0u; goto L94;
-L94:;
-    v314 = (u64)((u64)v49 + (u64)1u);
-    v315 = v314 == v287;
-    if (v315) { v106 = v52; v107 = v53; v108 = v54; goto L182; }
-    else { v45 = v52; v46 = v53; v47 = v54; v48 = v55; v49 = v314; goto L88; }
-L95:;
-    switch (v230) {
-    case 0u: goto L100;
-    case 11u: goto L98;
-    case 2u: goto L103;
-    case 3u: v66 = v232; goto L119;
-    case 4u: goto L96;
-    case 5u: goto L97;
-    case 6u: goto L125;
-    case 7u: goto L135;
-    case 8u: goto L143;
-    case 9u: goto L157;
-    case 10u: goto L160;
-    default: goto L101;
+    switch (v303) {
+    case 1u: goto L90;
+    case 0u: goto L161;
+    case 16u: goto L115;
+    case 2u: goto L104;
+    case 3u: v78 = v305; goto L164;
+    case 4u: goto L105;
+    case 5u: goto L106;
+    case 6u: goto L107;
+    case 7u: goto L108;
+    case 8u: goto L109;
+    case 9u: goto L215;
+    case 10u: goto L218;
+    case 11u: goto L110;
+    case 12u: goto L112;
+    case 13u: goto L113;
+    case 14u: goto L253;
+    case 15u: goto L114;
+    default: goto L162;
     }
+L90:;
+    v344 = (u64)v305;
+    v345 = v36 == 1u;
+    if (v345) { goto L91; }
+    else { v39 = v35; v40 = v36; goto L96; }
+L91:;
+    v346 = load64(v183);
+    v347 = load64(v181);
+    v348 = v347 < v346;
+    v349 = (u64)((u64)v347 - (u64)v346);
+    v350 = v349 < 2u;
+    v351 = v348 ? 1u : v350;
+    if (v351) { v37 = 0u; v38 = 0u; goto L95; }
+    else { goto L92; }
+L92:;
+    v352 = load_address(v174);
+    v353 = (u64)((u64)v346 + (u64)2u);
+    v354 = v352 + v346 * 1u;
+    v355 = (u64)v354;
+    v356 = (u64)((u64)v355 - (u64)ADDRESS(c267));
+    v357 = v356 < 2u;
+    if (v357) { goto L93; }
+    else { goto L94; }
+L93:;
+    store8(v354, 48u);
+    v358 = v354 + 1u * 1u;
+    store8(v358, 120u);
+    v37 = v353; v38 = 1u; goto L95;
+L94:;
+    store16(v354, 30768u);
+    v37 = v353; v38 = 1u; goto L95;
+L95:;
+    store64(v182, v38);
+    store64(v183, v37);
+    v359 = (u8)(v38);
+    v39 = v359; v40 = v359; goto L96;
 L96:;
-    v66 = 3u; goto L119;
+    v360 = v305 == 0u;
+    if (v360) { v154 = v39; v155 = v40; v156 = v40; goto L271; }
+    else { v41 = v39; v42 = v40; v43 = v40; v44 = v40; v45 = 0u; goto L97; }
 L97:;
-    v316 = load8(v234);
-    v317 = (u8)((u32)v316 & (u32)15u);
-    v318 = (u64)v317;
-    v57 = v318; goto L102;
-L98:;
-    v319 = a2 == v233;
-    if (v319) { goto L99; }
-    else { goto L163; }
-L99:;
-    goto L181;
-L100:;
-    v320 = (u64)v232;
-    store64(v121, 0u);
-    v321 = (u64)((u64)8u - (u64)v320);
-    v322 = v121 + v321 * 1u;
-    memory_cpy(v322, v234, v320);
-    v323 = load64(v121);
-    v324 = swap64(v323);
-    v57 = v324; goto L102;
-L101:;
-    UNREACHABLE;
-L102:;
-    f44(v57, v125);
-    goto L181;
-L103:;
-    v325 = (u64)v232;
-    store64(v122, 0u);
-    v326 = (u64)((u64)8u - (u64)v325);
-    v327 = v122 + v326 * 1u;
-    memory_cpy(v327, v234, v325);
-    v328 = load64(v122);
-    v329 = swap64(v328);
-    v330 = (u64)((u64)v325 << (3u & 63u));
-    v331 = (u64)((u64)v330 + (u64)UINT64_C(18446744073709551615));
-    v332 = (u64)((u64)v329 >> (v331 & 63u));
-    v333 = v332 == 0u;
-    v334 = (u64)((u64)UINT64_C(18446744073709551614) << (v331 & 63u));
-    v335 = v333 ? 0u : v334;
-    v336 = (u64)((u64)v335 + (u64)v329);
-    memory_set(v118, 0u, 40u);
-    v337 = (i64)v336 < 0 ? (u64)(0u - (u64)v336) : v336;
-    v338 = v337 > 9999u;
-    if (v338) { v58 = v337; v59 = 40u; goto L104; }
-    else { v60 = 40u; v61 = v337; goto L105; }
-L104:;
-    v339 = v58;
-    v340 = (u64)((u64)v339 / (u64)10000u);
-    v341 = (u64)((u64)v340 * (u64)10000u);
-    v342 = (u64)((u64)v339 - (u64)v341);
-    v343 = (u16)(v342);
-    v344 = (u16)((u32)v343 / (u32)100u);
-    v345 = (u16)((u32)v344 * (u32)100u);
-    v346 = (u16)((u32)v343 - (u32)v345);
-    v347 = (u16)((u32)v346 << (1u & 15u));
-    v348 = (u64)v347;
-    v349 = ADDRESS(c213) + v348 * 1u;
-    v350 = load8(v349);
-    v351 = v349 + 1u * 1u;
-    v352 = load8(v351);
-    v353 = v118 + v59 * 1u;
-    v354 = v353 + UINT64_C(18446744073709551614) * 1u;
-    store8(v354, v350);
-    v355 = v353 + UINT64_C(18446744073709551615) * 1u;
-    store8(v355, v352);
-    v356 = (u64)((u64)v59 + (u64)UINT64_C(18446744073709551612));
-    v357 = (u16)((u32)v344 << (1u & 15u));
-    v358 = (u64)v357;
-    v359 = ADDRESS(c213) + v358 * 1u;
-    v360 = load8(v359);
-    v361 = v359 + 1u * 1u;
+    v361 = v307 + v45 * 1u;
     v362 = load8(v361);
-    v363 = v118 + v356 * 1u;
-    store8(v363, v360);
-    v364 = v363 + 1u * 1u;
-    store8(v364, v362);
-    v365 = v58 > UINT64_C(99999999);
-    if (v365) { v58 = v340; v59 = v356; goto L104; }
-    else { v60 = v356; v61 = v340; goto L105; }
+    v363 = (u8)((u32)v362 >> (4u & 7u));
+    v364 = v362 < 160u;
+    v365 = (u8)((u32)v363 | (u32)48u);
+    v366 = (u8)((u32)v363 + (u32)87u);
+    v367 = v364 ? v365 : v366;
+    v368 = v44 == 1u;
+    if (v368) { goto L98; }
+    else { v48 = v41; v49 = v42; v50 = v43; v51 = v44; goto L103; }
+L98:;
+    v369 = load64(v183);
+    v370 = load64(v181);
+    v371 = v370 > v369;
+    if (v371) { goto L99; }
+    else { goto L102; }
+L99:;
+    v372 = load_address(v174);
+    v373 = (u64)((u64)v369 + (u64)1u);
+    v374 = v372 + v369 * 1u;
+    store8(v374, v367);
+    v375 = load64(v181);
+    v376 = v375 > v373;
+    if (v376) { goto L100; }
+    else { v46 = 0u; v47 = 0u; goto L101; }
+L100:;
+    v377 = (u8)((u32)v362 & (u32)15u);
+    v378 = v377 < 10u;
+    v379 = (u8)((u32)v377 | (u32)48u);
+    v380 = (u8)((u32)v377 + (u32)87u);
+    v381 = v378 ? v379 : v380;
+    v382 = load_address(v174);
+    v383 = (u64)((u64)v369 + (u64)2u);
+    v384 = v382 + v373 * 1u;
+    store8(v384, v381);
+    v46 = v383; v47 = 1u; goto L101;
+L101:;
+    store64(v182, v47);
+    store64(v183, v46);
+    v385 = (u8)(v47);
+    v48 = v385; v49 = v385; v50 = v385; v51 = v385; goto L103;
+L102:;
+    memory_set(v182, 0u, 16u);
+    v48 = 0u; v49 = 0u; v50 = 0u; v51 = 0u; goto L103;
+L103:;
+    v386 = (u64)((u64)v45 + (u64)1u);
+    v387 = v386 == v344;
+    if (v387) { v154 = v48; v155 = v49; v156 = v50; goto L271; }
+    else { v41 = v48; v42 = v49; v43 = v50; v44 = v51; v45 = v386; goto L97; }
+L104:;
+    v388 = (u64)v305;
+    store64(v172, 0u);
+    v389 = (u64)((u64)8u - (u64)v388);
+    v390 = v172 + v389 * 1u;
+    memory_cpy(v390, v307, v388);
+    v391 = load64(v172);
+    v392 = swap64(v391);
+    v393 = (u64)((u64)v388 << (3u & 63u));
+    v394 = (u64)((u64)v393 + (u64)UINT64_C(18446744073709551615));
+    v395 = (u64)((u64)v392 >> (v394 & 63u));
+    v396 = v395 == 0u;
+    v397 = (u64)((u64)UINT64_C(18446744073709551614) << (v394 & 63u));
+    v398 = v396 ? 0u : v397;
+    v399 = (u64)((u64)v398 + (u64)v392);
+    memory_set(v167, 0u, 40u);
+    v400 = (i64)v399 < 0 ? (u64)(0u - (u64)v399) : v399;
+    v401 = v400 > 9999u;
+    if (v401) { v80 = v400; v81 = 40u; goto L166; }
+    else { v82 = 40u; v83 = v400; goto L167; }
 L105:;
-    v366 = v61 < 100u;
-    if (v366) { goto L106; }
-    else { goto L109; }
+    v78 = 3u; goto L164;
 L106:;
-    v367 = v61 < 10u;
-    if (v367) { goto L107; }
-    else { goto L108; }
+    v402 = load8(v307);
+    v403 = (u8)((u32)v402 & (u32)15u);
+    v75 = v403; v76 = 0u; v77 = 0u; goto L163;
 L107:;
-    v368 = (u8)(v61);
-    v369 = (u8)((u32)v368 | (u32)48u);
-    v370 = (u64)((u64)v60 + (u64)UINT64_C(18446744073709551615));
-    v371 = v118 + v370 * 1u;
-    store8(v371, v369);
-    v62 = v370; goto L112;
+    v404 = load64(v307);
+    v405 = swap64(v404);
+    v406 = (i64)v405 < 0 ? (u64)(0u - (u64)v405) : v405;
+    v407 = (i64)v405 < (i64)0u;
+    v408 = v36 == 1u;
+    v409 = v407 ? v408 : 0u;
+    if (v409) { goto L186; }
+    else { goto L189; }
 L108:;
-    v372 = (u64)((u64)v60 + (u64)UINT64_C(18446744073709551614));
-    v373 = (u64)((u64)v61 << (1u & 63u));
-    v374 = ADDRESS(c213) + v373 * 1u;
-    v375 = load8(v374);
-    v376 = v374 + 1u * 1u;
-    v377 = load8(v376);
-    v378 = v118 + v372 * 1u;
-    store8(v378, v375);
-    v379 = v378 + 1u * 1u;
-    store8(v379, v377);
-    v62 = v372; goto L112;
+    v410 = load64(v307);
+    v411 = (u64)((u64)v410 >> (56u & 63u));
+    v412 = (u8)(v411);
+    v413 = (u8)(v410);
+    v414 = (u64)((u64)v410 >> (8u & 63u));
+    v415 = (u64)((v414) & UINT64_C(281474976710655));
+    store8(v168, v413);
+    store8(v238 + 0u, (u8)((u64)v415 >> 0));
+    store8(v238 + 1u, (u8)((u64)v415 >> 8));
+    store8(v238 + 2u, (u8)((u64)v415 >> 16));
+    store8(v238 + 3u, (u8)((u64)v415 >> 24));
+    store8(v238 + 4u, (u8)((u64)v415 >> 32));
+    store8(v238 + 5u, (u8)((u64)v415 >> 40));
+    store8(v239, v412);
+    v97 = v36; v98 = 0u; goto L195;
 L109:;
-    v380 = (u16)(v61);
-    v381 = (u16)((u32)v380 / (u32)100u);
-    v382 = (u16)((u32)v381 * (u32)100u);
-    v383 = (u16)((u32)v380 - (u32)v382);
-    v384 = (u16)((u32)v383 << (1u & 15u));
-    v385 = (u64)v384;
-    v386 = ADDRESS(c213) + v385 * 1u;
-    v387 = load8(v386);
-    v388 = v386 + 1u * 1u;
-    v389 = load8(v388);
-    v390 = v118 + v60 * 1u;
-    v391 = v390 + UINT64_C(18446744073709551614) * 1u;
-    store8(v391, v387);
-    v392 = v390 + UINT64_C(18446744073709551615) * 1u;
-    store8(v392, v389);
-    v393 = v61 < 1000u;
-    if (v393) { goto L110; }
-    else { goto L111; }
+    v416 = load64(v307);
+    v417 = v307 + 8u * 1u;
+    v418 = load8(v417);
+    v419 = v307 + 9u * 1u;
+    v420 = load8(v419);
+    v421 = (u64)v418;
+    v422 = (u64)((u64)v421 << (8u & 63u));
+    v423 = (u64)v420;
+    v424 = (u64)((u64)v422 | (u64)v423);
+    v425 = (u64)((v416) & UINT64_C(281474976710655));
+    v426 = (16u & 63u) ? (u64)(((u64)v424 << (16u & 63u)) | ((u64)v416 >> (64u - (16u & 63u)))) : v424;
+    store8(v169 + 0u, (u8)((u64)v425 >> 0));
+    store8(v169 + 1u, (u8)((u64)v425 >> 8));
+    store8(v169 + 2u, (u8)((u64)v425 >> 16));
+    store8(v169 + 3u, (u8)((u64)v425 >> 24));
+    store8(v169 + 4u, (u8)((u64)v425 >> 32));
+    store8(v169 + 5u, (u8)((u64)v425 >> 40));
+    v427 = (u32)(v426);
+    store32(v237, v427);
+    v428 = (u8)(v416);
+    v102 = v428; v103 = v36; v104 = v36; v105 = 0u; goto L202;
 L110:;
-    v394 = (u8)(v381);
-    v395 = (u8)((u32)v394 | (u32)48u);
-    v396 = (u64)((u64)v60 + (u64)UINT64_C(18446744073709551613));
-    v397 = v118 + v396 * 1u;
-    store8(v397, v395);
-    v62 = v396; goto L112;
+    v429 = v308 == 0u;
+    if (v429) { goto L221; }
+    else { goto L111; }
 L111:;
-    v398 = (u64)((u64)v60 + (u64)UINT64_C(18446744073709551612));
-    v399 = (u16)((u32)v381 << (1u & 15u));
-    v400 = (u64)v399;
-    v401 = ADDRESS(c213) + v400 * 1u;
-    v402 = load8(v401);
-    v403 = v401 + 1u * 1u;
-    v404 = load8(v403);
-    v405 = v118 + v398 * 1u;
-    store8(v405, v402);
-    v406 = v405 + 1u * 1u;
-    store8(v406, v404);
-    v62 = v398; goto L112;
+    v430 = load8(v307);
+    v431 = (u64)v430;
+    v120 = v307; v121 = v431; goto L222;
 L112:;
-    v407 = (i64)v336 > (i64)UINT64_C(18446744073709551615);
-    if (v407) { v63 = v62; goto L114; }
-    else { goto L113; }
+    v432 = (u64)v305;
+    store64(v171, 0u);
+    memory_cpy(v171, v307, v432);
+    v433 = load64(v171);
+    v434 = (u8)(v433);
+    v435 = (u64)((u64)v433 & (u64)UINT64_C(18446744069414584320));
+    v75 = v434; v76 = v433; v77 = v435; goto L163;
 L113:;
-    v408 = (u64)((u64)v62 + (u64)UINT64_C(18446744073709551615));
-    v409 = v118 + v408 * 1u;
-    store8(v409, 45u);
-    v63 = v408; goto L114;
+    v436 = (u64)v305;
+    v129 = v307; v130 = v436; goto L241;
 L114:;
-    v410 = v118 + v63 * 1u;
-    v411 = (u64)((u64)40u - (u64)v63);
-    v412 = v56 == 1u;
-    if (v412) { goto L115; }
-    else { goto L118; }
+    v437 = v308 < 8u;
+    if (v437) { goto L270; }
+    else { v141 = v36; v142 = v308; v143 = v307; goto L256; }
 L115:;
-    v413 = load64(v134);
-    v414 = load64(v132);
-    v415 = v414 < v413;
-    v416 = (u64)((u64)v414 - (u64)v413);
-    v417 = v416 < v411;
-    v418 = v415 ? 1u : v417;
-    if (v418) { v64 = 0u; v65 = 0u; goto L117; }
-    else { goto L116; }
+    switch (v305) {
+    case 0u: goto L116;
+    case 1u: goto L117;
+    case 2u: goto L119;
+    case 3u: goto L123;
+    case 4u: goto L128;
+    case 5u: goto L134;
+    case 6u: goto L141;
+    case 7u: goto L150;
+    case 8u: goto L151;
+    default: goto L153;
+    }
 L116:;
-    v419 = load_address(v125);
-    v420 = (u64)((u64)v413 + (u64)v411);
-    v421 = v419 + v413 * 1u;
-    memory_cpy(v421, v410, v411);
-    v64 = v420; v65 = 1u; goto L117;
+    v438 = v308 < 2u;
+    v439 = v307 + 2u * 1u;
+    v440 = v438 ? ADDRESS(c112) : v439;
+    v441 = v308 > 2u ? (u64)((u64)v308 - (u64)2u) : 0u;
+    v442 = (struct s5){ 0 };
+    v442.m0 = v440;
+    v443 = v442;
+    v443.m1 = v441;
+    v74 = v443; goto L159;
 L117:;
-    store64(v133, v65);
-    store64(v134, v64);
-    goto L118;
+    v444 = v308 < 3u;
+    if (v444) { goto L240; }
+    else { goto L118; }
 L118:;
-    goto L181;
+    v445 = v307 + 2u * 1u;
+    v446 = v307 + 3u * 1u;
+    v447 = (u64)((u64)v308 + (u64)UINT64_C(18446744073709551613));
+    v448 = load8(v445);
+    v449 = (u64)v448;
+    v450 = v447 < v449;
+    v451 = v446 + v449 * 1u;
+    v452 = v447 > v449 ? (u64)((u64)v447 - (u64)v449) : 0u;
+    if (v450) { goto L240; }
+    else { v68 = v451; v69 = v452; goto L154; }
 L119:;
-    v422 = load8(v234);
-    v423 = (u8)((u32)v422 & (u32)v66);
-    v424 = v423 == 0u;
-    v425 = v424 ? 5u : 4u;
-    v426 = v424 ? ADDRESS(c167) : ADDRESS(c166);
-    v427 = v56 == 1u;
-    if (v427) { goto L120; }
-    else { goto L181; }
+    v453 = v308 < 3u;
+    if (v453) { v70 = 0u; v71 = 0u; v72 = ADDRESS(c112); goto L156; }
+    else { goto L120; }
 L120:;
-    v428 = load64(v134);
-    v429 = load64(v132);
-    v430 = v429 < v428;
-    v431 = (u64)((u64)v429 - (u64)v428);
-    v432 = v431 < v425;
-    v433 = v430 ? 1u : v432;
-    if (v433) { v68 = 0u; v69 = 0u; goto L124; }
+    v454 = v307 + 2u * 1u;
+    v455 = v307 + 3u * 1u;
+    v456 = (u64)((u64)v308 + (u64)UINT64_C(18446744073709551613));
+    v457 = load8(v454);
+    v458 = (u64)v457;
+    v459 = v456 < v458;
+    v460 = v455 + v458 * 1u;
+    v461 = v456 > v458 ? (u64)((u64)v456 - (u64)v458) : 0u;
+    if (v459) { v70 = 0u; v71 = 0u; v72 = ADDRESS(c112); goto L156; }
     else { goto L121; }
 L121:;
-    v434 = load_address(v125);
-    v435 = (u64)((u64)v428 + (u64)v425);
-    v436 = v434 + v428 * 1u;
-    v437 = (u64)v436;
-    v438 = (u64)v426;
-    v439 = (u64)((u64)v437 - (u64)v438);
-    v440 = v439 < v425;
-    if (v440) { v67 = 0u; goto L123; }
+    v462 = v461 < 2u;
+    if (v462) { v70 = 0u; v71 = v461; v72 = ADDRESS(c112); goto L156; }
     else { goto L122; }
 L122:;
-    memory_cpy(v436, v426, v425);
-    v68 = v435; v69 = 1u; goto L124;
+    v463 = v460 + 1u * 1u;
+    v464 = load8(v460);
+    v465 = (u64)v464;
+    v466 = (u64)((u64)v465 << (8u & 63u));
+    v467 = load8(v463);
+    v468 = (u64)v467;
+    v469 = (u64)((u64)v466 | (u64)v468);
+    v470 = v460 + 2u * 1u;
+    v70 = v469; v71 = v461; v72 = v470; goto L156;
 L123:;
-    v441 = v436 + v67 * 1u;
-    v442 = v426 + v67 * 1u;
-    v443 = load8(v442);
-    store8(v441, v443);
-    v444 = (u64)((u64)v67 + (u64)1u);
-    v445 = v444 == v425;
-    if (v445) { v68 = v435; v69 = 1u; goto L124; }
-    else { v67 = v444; goto L123; }
+    v471 = v308 < 3u;
+    if (v471) { v52 = 0u; v53 = 0u; v54 = ADDRESS(c112); goto L127; }
+    else { goto L124; }
 L124:;
-    store64(v133, v69);
-    store64(v134, v68);
-    goto L181;
+    v472 = v307 + 2u * 1u;
+    v473 = v307 + 3u * 1u;
+    v474 = (u64)((u64)v308 + (u64)UINT64_C(18446744073709551613));
+    v475 = load8(v472);
+    v476 = (u64)v475;
+    v477 = v474 < v476;
+    v478 = v473 + v476 * 1u;
+    v479 = v474 > v476 ? (u64)((u64)v474 - (u64)v476) : 0u;
+    if (v477) { v52 = 0u; v53 = 0u; v54 = ADDRESS(c112); goto L127; }
+    else { goto L125; }
 L125:;
-    v446 = load64(v234);
-    v447 = swap64(v446);
-    v448 = (i64)v447 < 0 ? (u64)(0u - (u64)v447) : v447;
-    v449 = (i64)v447 < (i64)0u;
-    v450 = v56 == 1u;
-    v451 = v449 ? v450 : 0u;
-    if (v451) { goto L126; }
-    else { goto L129; }
+    v480 = v479 < 2u;
+    if (v480) { v52 = 0u; v53 = v479; v54 = ADDRESS(c112); goto L127; }
+    else { goto L126; }
 L126:;
-    v452 = load64(v134);
-    v453 = load64(v132);
-    v454 = v453 > v452;
-    if (v454) { goto L127; }
-    else { v70 = 0u; v71 = 0u; goto L128; }
+    v481 = v478 + 1u * 1u;
+    v482 = load8(v478);
+    v483 = (u64)v482;
+    v484 = (u64)((u64)v483 << (8u & 63u));
+    v485 = load8(v481);
+    v486 = (u64)v485;
+    v487 = (u64)((u64)v484 | (u64)v486);
+    v488 = v478 + 2u * 1u;
+    v52 = v487; v53 = v479; v54 = v488; goto L127;
 L127:;
-    v455 = load_address(v125);
-    v456 = (u64)((u64)v452 + (u64)1u);
-    v457 = v455 + v452 * 1u;
-    store8(v457, 45u);
-    v70 = v456; v71 = 1u; goto L128;
+    v489 = v53 > 2u ? (u64)((u64)v53 - (u64)2u) : 0u;
+    v490 = v489 < v52;
+    v491 = v54 + v52 * 1u;
+    v492 = v489 > v52 ? (u64)((u64)v489 - (u64)v52) : 0u;
+    v493 = v490 ? ADDRESS(c112) : v491;
+    v494 = v490 ? 0u : v492;
+    v495 = v494 < 2u;
+    v496 = v493 + 2u * 1u;
+    v497 = (u64)((u64)v494 + (u64)UINT64_C(18446744073709551614));
+    if (v495) { goto L240; }
+    else { v68 = v496; v69 = v497; goto L154; }
 L128:;
-    store64(v133, v71);
-    store64(v134, v70);
-    goto L129;
+    v498 = v308 < 3u;
+    if (v498) { v55 = 0u; v56 = 0u; v57 = ADDRESS(c112); goto L132; }
+    else { goto L129; }
 L129:;
-    v458 = (u64)((u64)v448 >> (16u & 63u));
-    f44(v458, v125);
-    v459 = load8(v133);
-    v460 = v459 == 1u;
-    if (v460) { goto L130; }
-    else { goto L133; }
+    v499 = v307 + 2u * 1u;
+    v500 = v307 + 3u * 1u;
+    v501 = (u64)((u64)v308 + (u64)UINT64_C(18446744073709551613));
+    v502 = load8(v499);
+    v503 = (u64)v502;
+    v504 = v501 < v503;
+    v505 = v500 + v503 * 1u;
+    v506 = v501 > v503 ? (u64)((u64)v501 - (u64)v503) : 0u;
+    if (v504) { v55 = 0u; v56 = 0u; v57 = ADDRESS(c112); goto L132; }
+    else { goto L130; }
 L130:;
-    v461 = load64(v134);
-    v462 = load64(v132);
-    v463 = v462 > v461;
-    if (v463) { goto L131; }
-    else { v72 = 0u; v73 = 0u; goto L132; }
+    v507 = v506 < 2u;
+    if (v507) { v55 = 0u; v56 = v506; v57 = ADDRESS(c112); goto L132; }
+    else { goto L131; }
 L131:;
-    v464 = load_address(v125);
-    v465 = (u64)((u64)v461 + (u64)1u);
-    v466 = v464 + v461 * 1u;
-    store8(v466, 46u);
-    v72 = v465; v73 = 1u; goto L132;
+    v508 = v505 + 1u * 1u;
+    v509 = load8(v505);
+    v510 = (u64)v509;
+    v511 = (u64)((u64)v510 << (8u & 63u));
+    v512 = load8(v508);
+    v513 = (u64)v512;
+    v514 = (u64)((u64)v511 | (u64)v513);
+    v515 = v505 + 2u * 1u;
+    v55 = v514; v56 = v506; v57 = v515; goto L132;
 L132:;
-    store64(v133, v73);
-    store64(v134, v72);
-    goto L133;
+    v516 = v56 > 2u ? (u64)((u64)v56 - (u64)2u) : 0u;
+    v517 = v516 < v55;
+    v518 = v57 + v55 * 1u;
+    v519 = v516 > v55 ? (u64)((u64)v516 - (u64)v55) : 0u;
+    v520 = v517 ? ADDRESS(c112) : v518;
+    v521 = v517 ? 0u : v519;
+    v522 = v521 < 2u;
+    v523 = v520 + 2u * 1u;
+    v524 = v521 > 2u ? (u64)((u64)v521 - (u64)2u) : 0u;
+    v525 = v522 ? ADDRESS(c112) : v523;
+    v526 = v522 ? 0u : v524;
+    v527 = v526 < 2u;
+    if (v527) { v73 = 0u; goto L158; }
+    else { goto L133; }
 L133:;
-    v467 = (u32)(v448);
-    v468 = (u32)((u32)v467 & (u32)65535u);
-    v74 = v468; v75 = 16u; goto L134;
+    v528 = v525 + 1u * 1u;
+    v529 = load8(v525);
+    v530 = (u64)v529;
+    v531 = (u64)((u64)v530 << (8u & 63u));
+    v532 = load8(v528);
+    v533 = (u64)v532;
+    v534 = (u64)((u64)v531 | (u64)v533);
+    v73 = v534; goto L158;
 L134:;
-    v469 = (u32)((u32)v74 * (u32)10u);
-    v470 = (u32)((u32)v469 >> (16u & 31u));
-    v471 = (u64)v470;
-    f44(v471, v125);
-    v472 = (u32)((u32)v469 & (u32)65534u);
-    v473 = v472 == 0u;
-    v474 = (u8)((u32)v75 + (u32)255u);
-    v475 = v474 == 0u;
-    v476 = v473 ? 1u : v475;
-    if (v476) { goto L181; }
-    else { v74 = v472; v75 = v474; goto L134; }
+    v535 = v308 < 3u;
+    if (v535) { v58 = 0u; v59 = 0u; v60 = ADDRESS(c112); goto L138; }
+    else { goto L135; }
 L135:;
-    v477 = load64(v234);
-    v478 = (u8)(v477);
-    v479 = (u64)((u64)v477 >> (8u & 63u));
-    v480 = (u64)((v479) & UINT64_C(281474976710655));
-    v481 = (u64)((u64)v477 >> (56u & 63u));
-    store8(v119, v478);
-    store8(v164 + 0u, (u8)((u64)v480 >> 0));
-    store8(v164 + 1u, (u8)((u64)v480 >> 8));
-    store8(v164 + 2u, (u8)((u64)v480 >> 16));
-    store8(v164 + 3u, (u8)((u64)v480 >> 24));
-    store8(v164 + 4u, (u8)((u64)v480 >> 32));
-    store8(v164 + 5u, (u8)((u64)v480 >> 40));
-    v482 = (u8)(v481);
-    store8(v165, v482);
-    v76 = v56; v77 = 0u; goto L136;
+    v536 = v307 + 2u * 1u;
+    v537 = v307 + 3u * 1u;
+    v538 = (u64)((u64)v308 + (u64)UINT64_C(18446744073709551613));
+    v539 = load8(v536);
+    v540 = (u64)v539;
+    v541 = v538 < v540;
+    v542 = v537 + v540 * 1u;
+    v543 = v538 > v540 ? (u64)((u64)v538 - (u64)v540) : 0u;
+    if (v541) { v58 = 0u; v59 = 0u; v60 = ADDRESS(c112); goto L138; }
+    else { goto L136; }
 L136:;
-    v483 = v119 + v77 * 1u;
-    v484 = load8(v483);
-    v485 = (u8)((u32)v484 >> (4u & 7u));
-    v486 = v484 < 160u;
-    v487 = (u8)((u32)v485 | (u32)48u);
-    v488 = (u8)((u32)v485 + (u32)87u);
-    v489 = v486 ? v487 : v488;
-    v490 = v76 == 1u;
-    if (v490) { goto L137; }
-    else { v80 = v76; goto L142; }
+    v544 = v543 < 2u;
+    if (v544) { v58 = 0u; v59 = v543; v60 = ADDRESS(c112); goto L138; }
+    else { goto L137; }
 L137:;
-    v491 = load64(v134);
-    v492 = load64(v132);
-    v493 = v492 > v491;
-    if (v493) { goto L138; }
-    else { goto L141; }
+    v545 = v542 + 1u * 1u;
+    v546 = load8(v542);
+    v547 = (u64)v546;
+    v548 = (u64)((u64)v547 << (8u & 63u));
+    v549 = load8(v545);
+    v550 = (u64)v549;
+    v551 = (u64)((u64)v548 | (u64)v550);
+    v552 = v542 + 2u * 1u;
+    v58 = v551; v59 = v543; v60 = v552; goto L138;
 L138:;
-    v494 = load_address(v125);
-    v495 = (u64)((u64)v491 + (u64)1u);
-    v496 = v494 + v491 * 1u;
-    store8(v496, v489);
-    v497 = load64(v132);
-    v498 = v497 > v495;
-    if (v498) { goto L139; }
-    else { v78 = 0u; v79 = 0u; goto L140; }
+    v553 = v59 > 2u ? (u64)((u64)v59 - (u64)2u) : 0u;
+    v554 = v553 < v58;
+    v555 = v60 + v58 * 1u;
+    v556 = v553 > v58 ? (u64)((u64)v553 - (u64)v58) : 0u;
+    v557 = v554 ? ADDRESS(c112) : v555;
+    v558 = v554 ? 0u : v556;
+    v559 = v558 < 2u;
+    v560 = v557 + 2u * 1u;
+    v561 = v558 > 2u ? (u64)((u64)v558 - (u64)2u) : 0u;
+    v562 = v559 ? ADDRESS(c112) : v560;
+    v563 = v559 ? 0u : v561;
+    v564 = v563 < 2u;
+    if (v564) { v61 = 0u; goto L140; }
+    else { goto L139; }
 L139:;
-    v499 = (u8)((u32)v484 & (u32)15u);
-    v500 = v499 < 10u;
-    v501 = (u8)((u32)v499 | (u32)48u);
-    v502 = (u8)((u32)v499 + (u32)87u);
-    v503 = v500 ? v501 : v502;
-    v504 = load_address(v125);
-    v505 = (u64)((u64)v491 + (u64)2u);
-    v506 = v504 + v495 * 1u;
-    store8(v506, v503);
-    v78 = v505; v79 = 1u; goto L140;
+    v565 = v562 + 1u * 1u;
+    v566 = load8(v562);
+    v567 = (u64)v566;
+    v568 = (u64)((u64)v567 << (8u & 63u));
+    v569 = load8(v565);
+    v570 = (u64)v569;
+    v571 = (u64)((u64)v568 | (u64)v570);
+    v61 = v571; goto L140;
 L140:;
-    store64(v133, v79);
-    store64(v134, v78);
-    v507 = (u8)(v79);
-    v80 = v507; goto L142;
+    v572 = v562 + 2u * 1u;
+    v573 = v564 ? ADDRESS(c112) : v572;
+    v574 = v563 > 2u ? (u64)((u64)v563 - (u64)2u) : 0u;
+    v575 = v574 < v61;
+    v576 = v573 + v61 * 1u;
+    v577 = v574 > v61 ? (u64)((u64)v574 - (u64)v61) : 0u;
+    v578 = v575 ? ADDRESS(c112) : v576;
+    v579 = v575 ? 0u : v577;
+    v580 = v579 < 4u;
+    v581 = v578 + 4u * 1u;
+    v582 = v579 > 4u ? (u64)((u64)v579 - (u64)4u) : 0u;
+    v583 = v580 ? ADDRESS(c112) : v581;
+    v584 = v580 ? 0u : v582;
+    v585 = (struct s5){ 0 };
+    v585.m0 = v583;
+    v586 = v585;
+    v586.m1 = v584;
+    v74 = v586; goto L159;
 L141:;
-    memory_set(v133, 0u, 16u);
-    v80 = 0u; goto L142;
+    v587 = v308 < 3u;
+    if (v587) { v62 = 0u; v63 = 0u; v64 = ADDRESS(c112); goto L145; }
+    else { goto L142; }
 L142:;
-    v508 = (u64)((u64)v77 + (u64)1u);
-    v509 = v508 == 8u;
-    if (v509) { goto L181; }
-    else { v76 = v80; v77 = v508; goto L136; }
+    v588 = v307 + 2u * 1u;
+    v589 = v307 + 3u * 1u;
+    v590 = (u64)((u64)v308 + (u64)UINT64_C(18446744073709551613));
+    v591 = load8(v588);
+    v592 = (u64)v591;
+    v593 = v590 < v592;
+    v594 = v589 + v592 * 1u;
+    v595 = v590 > v592 ? (u64)((u64)v590 - (u64)v592) : 0u;
+    if (v593) { v62 = 0u; v63 = 0u; v64 = ADDRESS(c112); goto L145; }
+    else { goto L143; }
 L143:;
-    v510 = load64(v234);
-    v511 = v234 + 8u * 1u;
-    v512 = load8(v511);
-    v513 = v234 + 9u * 1u;
-    v514 = load8(v513);
-    v515 = (u16)v512;
-    v516 = (u16)((u32)v515 << (8u & 15u));
-    v517 = (u16)v514;
-    v518 = (u16)((u32)v516 | (u32)v517);
-    store64(v123, v510);
-    store16(v166, v518);
-    v519 = (u64)((v510) & UINT64_C(281474976710655));
-    v520 = load32(v167);
-    store8(v120 + 0u, (u8)((u64)v519 >> 0));
-    store8(v120 + 1u, (u8)((u64)v519 >> 8));
-    store8(v120 + 2u, (u8)((u64)v519 >> 16));
-    store8(v120 + 3u, (u8)((u64)v519 >> 24));
-    store8(v120 + 4u, (u8)((u64)v519 >> 32));
-    store8(v120 + 5u, (u8)((u64)v519 >> 40));
-    store32(v163, v520);
-    v521 = (u32)((u32)v520 >> (16u & 31u));
-    v522 = (u64)v521;
-    v523 = (u8)(v510);
-    v81 = v523; v82 = v56; v83 = v56; v84 = 0u; goto L144;
+    v596 = v595 < 2u;
+    if (v596) { v62 = 0u; v63 = v595; v64 = ADDRESS(c112); goto L145; }
+    else { goto L144; }
 L144:;
-    v524 = (u8)((u32)v81 >> (4u & 7u));
-    v525 = v81 < 160u;
-    v526 = (u8)((u32)v524 | (u32)48u);
-    v527 = (u8)((u32)v524 + (u32)87u);
-    v528 = v525 ? v526 : v527;
-    v529 = v83 == 1u;
-    if (v529) { goto L145; }
-    else { v87 = v82; v88 = v83; goto L149; }
+    v597 = v594 + 1u * 1u;
+    v598 = load8(v594);
+    v599 = (u64)v598;
+    v600 = (u64)((u64)v599 << (8u & 63u));
+    v601 = load8(v597);
+    v602 = (u64)v601;
+    v603 = (u64)((u64)v600 | (u64)v602);
+    v604 = v594 + 2u * 1u;
+    v62 = v603; v63 = v595; v64 = v604; goto L145;
 L145:;
-    v530 = load64(v134);
-    v531 = load64(v132);
-    v532 = v531 > v530;
-    if (v532) { goto L146; }
-    else { goto L151; }
+    v605 = v63 > 2u ? (u64)((u64)v63 - (u64)2u) : 0u;
+    v606 = v605 < v62;
+    v607 = v64 + v62 * 1u;
+    v608 = v605 > v62 ? (u64)((u64)v605 - (u64)v62) : 0u;
+    v609 = v606 ? ADDRESS(c112) : v607;
+    v610 = v606 ? 0u : v608;
+    v611 = v610 < 2u;
+    v612 = v609 + 2u * 1u;
+    v613 = v610 > 2u ? (u64)((u64)v610 - (u64)2u) : 0u;
+    v614 = v611 ? ADDRESS(c112) : v612;
+    v615 = v611 ? 0u : v613;
+    v616 = v615 < 2u;
+    if (v616) { v65 = 0u; goto L147; }
+    else { goto L146; }
 L146:;
-    v533 = load_address(v125);
-    v534 = (u64)((u64)v530 + (u64)1u);
-    v535 = v533 + v530 * 1u;
-    store8(v535, v528);
-    v536 = load64(v132);
-    v537 = v536 > v534;
-    if (v537) { goto L147; }
-    else { v85 = 0u; v86 = 0u; goto L148; }
+    v617 = v614 + 1u * 1u;
+    v618 = load8(v614);
+    v619 = (u64)v618;
+    v620 = (u64)((u64)v619 << (8u & 63u));
+    v621 = load8(v617);
+    v622 = (u64)v621;
+    v623 = (u64)((u64)v620 | (u64)v622);
+    v65 = v623; goto L147;
 L147:;
-    v538 = (u8)((u32)v81 & (u32)15u);
-    v539 = v538 < 10u;
-    v540 = (u8)((u32)v538 | (u32)48u);
-    v541 = (u8)((u32)v538 + (u32)87u);
-    v542 = v539 ? v540 : v541;
-    v543 = load_address(v125);
-    v544 = (u64)((u64)v530 + (u64)2u);
-    v545 = v543 + v534 * 1u;
-    store8(v545, v542);
-    v85 = v544; v86 = 1u; goto L148;
+    v624 = v614 + 2u * 1u;
+    v625 = v616 ? ADDRESS(c112) : v624;
+    v626 = v615 > 2u ? (u64)((u64)v615 - (u64)2u) : 0u;
+    v627 = v626 < v65;
+    v628 = v625 + v65 * 1u;
+    v629 = v626 > v65 ? (u64)((u64)v626 - (u64)v65) : 0u;
+    v630 = v627 ? ADDRESS(c112) : v628;
+    v631 = v627 ? 0u : v629;
+    v632 = v631 < 4u;
+    v633 = v630 + 4u * 1u;
+    v634 = v632 ? ADDRESS(c112) : v633;
+    v635 = v631 < 5u;
+    if (v635) { v66 = v634; v67 = 0u; goto L149; }
+    else { goto L148; }
 L148:;
-    store64(v133, v86);
-    store64(v134, v85);
-    v546 = (u8)(v86);
-    v87 = v546; v88 = v546; goto L149;
+    v636 = v630 + 5u * 1u;
+    v637 = (u64)((u64)v631 + (u64)UINT64_C(18446744073709551611));
+    v638 = load8(v633);
+    v639 = (u64)v638;
+    v640 = v637 < v639;
+    v641 = v636 + v639 * 1u;
+    v642 = v637 > v639 ? (u64)((u64)v637 - (u64)v639) : 0u;
+    v643 = v640 ? ADDRESS(c112) : v641;
+    v644 = v640 ? 0u : v642;
+    v66 = v643; v67 = v644; goto L149;
 L149:;
-    v547 = (u64)((u64)v84 + (u64)1u);
-    v548 = v547 == 8u;
-    if (v548) { goto L152; }
-    else { v89 = v87; v90 = v88; v91 = v547; goto L150; }
+    v645 = (struct s5){ 0 };
+    v645.m0 = v66;
+    v646 = v645;
+    v646.m1 = v67;
+    v74 = v646; goto L159;
 L150:;
-    v549 = v120 + v91 * 1u;
-    v550 = load8(v549);
-    v81 = v550; v82 = v89; v83 = v90; v84 = v91; goto L144;
+    v647 = f46(v307, v308);
+    v74 = v647; goto L159;
 L151:;
-    memory_set(v133, 0u, 16u);
-    v551 = (u64)((u64)v84 + (u64)1u);
-    v552 = v551 == 8u;
-    if (v552) { goto L156; }
-    else { v89 = 0u; v90 = 0u; v91 = v551; goto L150; }
+    v648 = f46(v307, v308);
+    v649 = v648.m1;
+    v650 = v649 == 0u;
+    if (v650) { goto L240; }
+    else { goto L152; }
 L152:;
-    v553 = v87 == 1u;
-    if (v553) { goto L153; }
-    else { goto L156; }
+    v651 = v648.m0;
+    v652 = v651 + 1u * 1u;
+    v653 = (u64)((u64)v649 + (u64)UINT64_C(18446744073709551615));
+    v654 = load8(v651);
+    v655 = (u64)v654;
+    v656 = v653 < v655;
+    v657 = v652 + v655 * 1u;
+    v658 = v653 > v655 ? (u64)((u64)v653 - (u64)v655) : 0u;
+    v659 = v658 < 6u ? v658 : 6u;
+    if (v656) { goto L240; }
+    else { v129 = v657; v130 = v659; goto L241; }
 L153:;
-    v554 = load64(v134);
-    v555 = load64(v132);
-    v556 = v555 > v554;
-    if (v556) { goto L154; }
-    else { v92 = 0u; v93 = 0u; goto L155; }
+    UNREACHABLE;
 L154:;
-    v557 = load_address(v125);
-    v558 = (u64)((u64)v554 + (u64)1u);
-    v559 = v557 + v554 * 1u;
-    store8(v559, 47u);
-    v92 = v558; v93 = 1u; goto L155;
+    v660 = v69 < 2u;
+    if (v660) { goto L240; }
+    else { goto L155; }
 L155:;
-    store64(v133, v93);
-    store64(v134, v92);
-    goto L156;
+    v661 = v68 + 1u * 1u;
+    v662 = load8(v68);
+    v663 = (u64)v662;
+    v664 = (u64)((u64)v663 << (8u & 63u));
+    v665 = load8(v661);
+    v666 = (u64)v665;
+    v667 = (u64)((u64)v664 | (u64)v666);
+    v668 = v68 + 2u * 1u;
+    v669 = (u64)((u64)v69 + (u64)UINT64_C(18446744073709551614));
+    v670 = v669 < v667 ? v669 : v667;
+    v129 = v668; v130 = v670; goto L241;
 L156:;
-    f44(v522, v125);
-    goto L181;
+    v671 = v71 > 2u ? (u64)((u64)v71 - (u64)2u) : 0u;
+    v672 = v671 < v70;
+    v673 = v671 > v70 ? (u64)((u64)v671 - (u64)v70) : 0u;
+    v674 = v673 < 2u;
+    v675 = (u8)(((u32)v672 | (u32)v674) & UINT64_C(1));
+    if (v675) { v79 = 0u; goto L165; }
+    else { goto L157; }
 L157:;
-    v560 = load8(v234);
-    v561 = (u8)((u32)v560 + (u32)255u);
-    v562 = v561 < 9u;
-    if (v562) { goto L158; }
-    else { v94 = 0u; v95 = 0u; goto L159; }
+    v676 = v72 + v70 * 1u;
+    v677 = v676 + 1u * 1u;
+    v678 = load8(v676);
+    v679 = (u64)v678;
+    v680 = (u64)((u64)v679 << (8u & 63u));
+    v681 = load8(v677);
+    v682 = (u64)v681;
+    v683 = (u64)((u64)v680 | (u64)v682);
+    v79 = v683; goto L165;
 L158:;
-    v563 = (u8)((u32)v560 + (u32)255u);
-    v564 = (u64)v563;
-    v565 = ADDRESS(c235) + v564 * 8u;
-    v566 = load_address(v565);
-    v567 = (u64)v563;
-    v568 = ADDRESS(c236) + v567 * 8u;
-    v569 = load64(v568);
-    v94 = v566; v95 = v569; goto L159;
+    v684 = v525 + 2u * 1u;
+    v685 = v527 ? ADDRESS(c112) : v684;
+    v686 = v526 > 2u ? (u64)((u64)v526 - (u64)2u) : 0u;
+    v687 = v686 < v73;
+    v688 = v685 + v73 * 1u;
+    v689 = v686 > v73 ? (u64)((u64)v686 - (u64)v73) : 0u;
+    v690 = v689 < 3u ? v689 : 3u;
+    v691 = (u64)v688;
+    v692 = v687 ? ADDRESS(c112) : v691;
+    v693 = (address)v692;
+    if (v687) { goto L240; }
+    else { v129 = v693; v130 = v690; goto L241; }
 L159:;
-    v570 = (u64)v562;
-    store64(v117, v570);
-    store_address(v161, v94);
-    store64(v162, v95);
-    f45(v117, v560, v125);
-    goto L181;
+    v694 = v74.m1;
+    v695 = v694 == 0u;
+    if (v695) { goto L221; }
+    else { goto L160; }
 L160:;
-    v571 = load8(v234);
-    v572 = (u8)((u32)v571 + (u32)2u);
-    v573 = v572 < 7u;
-    if (v573) { goto L161; }
-    else { v96 = 0u; v97 = 0u; v98 = 0u; goto L162; }
+    v696 = v74.m0;
+    v697 = (u64)((u64)v694 + (u64)UINT64_C(18446744073709551615));
+    v698 = load8(v696);
+    v699 = (u64)v698;
+    v700 = v697 < v699 ? v697 : v699;
+    v120 = v696; v121 = v700; goto L222;
 L161:;
-    v574 = (u64)v572;
-    v575 = ADDRESS(c237) + v574 * 8u;
-    v576 = load64(v575);
-    v577 = (u64)v572;
-    v578 = ADDRESS(c238) + v577 * 8u;
-    v579 = load_address(v578);
-    v580 = (u64)v572;
-    v581 = ADDRESS(c239) + v580 * 8u;
-    v582 = load64(v581);
-    v96 = v576; v97 = v579; v98 = v582; goto L162;
+    v701 = (u64)v305;
+    store64(v170, 0u);
+    v702 = (u64)((u64)8u - (u64)v701);
+    v703 = v170 + v702 * 1u;
+    memory_cpy(v703, v307, v701);
+    v704 = load64(v170);
+    v705 = swap64(v704);
+    v706 = (u8)(v705);
+    v707 = (u64)((u64)v705 & (u64)UINT64_C(18446744069414584320));
+    v75 = v706; v76 = v705; v77 = v707; goto L163;
 L162:;
-    store64(v116, v96);
-    store_address(v159, v97);
-    store64(v160, v98);
-    f45(v116, v571, v125);
-    goto L181;
+    UNREACHABLE;
 L163:;
-    v583 = v234 + 1u * 1u;
-    v584 = load8(v234);
-    v585 = (u64)v584;
-    v586 = v584 == 0u;
-    if (v586) { goto L181; }
-    else { v99 = v56; v100 = 0u; goto L164; }
+    v708 = (u64)v75;
+    v709 = (u64)((u64)v76 & (u64)UINT64_C(4294967040));
+    v710 = (u64)((u64)v709 | (u64)v708);
+    v711 = (u64)((u64)v710 | (u64)v77);
+    v79 = v711; goto L165;
 L164:;
-    v587 = v583 + v100 * 1u;
-    v588 = load8(v587);
-    v589 = (u8)((u32)v588 + (u32)129u);
-    v590 = v589 < 161u;
-    v591 = v588 == 92u;
-    v592 = (u8)(((u32)v591 | (u32)v590) & UINT64_C(1));
-    v593 = v99 == 1u;
-    if (v592) { goto L169; }
-    else { goto L165; }
+    v712 = load8(v307);
+    v713 = (u8)((u32)v712 & (u32)v78);
+    v714 = v713 == 0u;
+    v715 = v714 ? 5u : 4u;
+    v716 = v714 ? ADDRESS(c168) : ADDRESS(c167);
+    v717 = v36 == 1u;
+    if (v717) { goto L181; }
+    else { goto L270; }
 L165:;
-    if (v593) { goto L166; }
-    else { v105 = v99; goto L180; }
+    f47(v79, v174);
+    goto L270;
 L166:;
-    v594 = load64(v134);
-    v595 = load64(v132);
-    v596 = v595 > v594;
-    if (v596) { goto L167; }
-    else { v101 = 0u; v102 = 0u; goto L168; }
+    v718 = v80;
+    v719 = (u64)((u64)v718 / (u64)10000u);
+    v720 = (u64)((u64)v719 * (u64)10000u);
+    v721 = (u64)((u64)v718 - (u64)v720);
+    v722 = (u16)(v721);
+    v723 = (u16)((u32)v722 / (u32)100u);
+    v724 = (u16)((u32)v723 * (u32)100u);
+    v725 = (u16)((u32)v722 - (u32)v724);
+    v726 = (u16)((u32)v725 << (1u & 15u));
+    v727 = (u64)v726;
+    v728 = ADDRESS(c268) + v727 * 1u;
+    v729 = load8(v728);
+    v730 = v728 + 1u * 1u;
+    v731 = load8(v730);
+    v732 = v167 + v81 * 1u;
+    v733 = v732 + UINT64_C(18446744073709551614) * 1u;
+    store8(v733, v729);
+    v734 = v732 + UINT64_C(18446744073709551615) * 1u;
+    store8(v734, v731);
+    v735 = (u64)((u64)v81 + (u64)UINT64_C(18446744073709551612));
+    v736 = (u16)((u32)v723 << (1u & 15u));
+    v737 = (u64)v736;
+    v738 = ADDRESS(c268) + v737 * 1u;
+    v739 = load8(v738);
+    v740 = v738 + 1u * 1u;
+    v741 = load8(v740);
+    v742 = v167 + v735 * 1u;
+    store8(v742, v739);
+    v743 = v742 + 1u * 1u;
+    store8(v743, v741);
+    v744 = v80 > UINT64_C(99999999);
+    if (v744) { v80 = v719; v81 = v735; goto L166; }
+    else { v82 = v735; v83 = v719; goto L167; }
 L167:;
-    v597 = load_address(v125);
-    v598 = (u64)((u64)v594 + (u64)1u);
-    v599 = v597 + v594 * 1u;
-    store8(v599, v588);
-    v101 = v598; v102 = 1u; goto L168;
-L168:;
-    store64(v133, v102);
-    store64(v134, v101);
-    v600 = (u8)(v102);
-    v105 = v600; goto L180;
-L169:;
-    if (v593) { goto L170; }
-    else { v105 = v99; goto L180; }
-L170:;
-    v601 = load64(v134);
-    v602 = load64(v132);
-    v603 = v602 < v601;
-    v604 = (u64)((u64)v602 - (u64)v601);
-    v605 = v604 < 2u;
-    v606 = v603 ? 1u : v605;
-    if (v606) { goto L179; }
+    v745 = v83 < 100u;
+    if (v745) { goto L168; }
     else { goto L171; }
+L168:;
+    v746 = v83 < 10u;
+    if (v746) { goto L169; }
+    else { goto L170; }
+L169:;
+    v747 = (u8)(v83);
+    v748 = (u8)((u32)v747 | (u32)48u);
+    v749 = (u64)((u64)v82 + (u64)UINT64_C(18446744073709551615));
+    v750 = v167 + v749 * 1u;
+    store8(v750, v748);
+    v84 = v749; goto L174;
+L170:;
+    v751 = (u64)((u64)v82 + (u64)UINT64_C(18446744073709551614));
+    v752 = (u64)((u64)v83 << (1u & 63u));
+    v753 = ADDRESS(c268) + v752 * 1u;
+    v754 = load8(v753);
+    v755 = v753 + 1u * 1u;
+    v756 = load8(v755);
+    v757 = v167 + v751 * 1u;
+    store8(v757, v754);
+    v758 = v757 + 1u * 1u;
+    store8(v758, v756);
+    v84 = v751; goto L174;
 L171:;
-    v607 = load_address(v125);
-    v608 = (u64)((u64)v601 + (u64)2u);
-    v609 = v607 + v601 * 1u;
-    v610 = (u64)v609;
-    v611 = (u64)((u64)v610 - (u64)ADDRESS(c223));
-    v612 = v611 < 2u;
-    if (v612) { goto L172; }
+    v759 = (u16)(v83);
+    v760 = (u16)((u32)v759 / (u32)100u);
+    v761 = (u16)((u32)v760 * (u32)100u);
+    v762 = (u16)((u32)v759 - (u32)v761);
+    v763 = (u16)((u32)v762 << (1u & 15u));
+    v764 = (u64)v763;
+    v765 = ADDRESS(c268) + v764 * 1u;
+    v766 = load8(v765);
+    v767 = v765 + 1u * 1u;
+    v768 = load8(v767);
+    v769 = v167 + v82 * 1u;
+    v770 = v769 + UINT64_C(18446744073709551614) * 1u;
+    store8(v770, v766);
+    v771 = v769 + UINT64_C(18446744073709551615) * 1u;
+    store8(v771, v768);
+    v772 = v83 < 1000u;
+    if (v772) { goto L172; }
     else { goto L173; }
 L172:;
-    store8(v609, 92u);
-    v613 = v609 + 1u * 1u;
-    store8(v613, 120u);
-    goto L174;
+    v773 = (u8)(v760);
+    v774 = (u8)((u32)v773 | (u32)48u);
+    v775 = (u64)((u64)v82 + (u64)UINT64_C(18446744073709551613));
+    v776 = v167 + v775 * 1u;
+    store8(v776, v774);
+    v84 = v775; goto L174;
 L173:;
-    store16(v609, 30812u);
-    goto L174;
+    v777 = (u64)((u64)v82 + (u64)UINT64_C(18446744073709551612));
+    v778 = (u16)((u32)v760 << (1u & 15u));
+    v779 = (u64)v778;
+    v780 = ADDRESS(c268) + v779 * 1u;
+    v781 = load8(v780);
+    v782 = v780 + 1u * 1u;
+    v783 = load8(v782);
+    v784 = v167 + v777 * 1u;
+    store8(v784, v781);
+    v785 = v784 + 1u * 1u;
+    store8(v785, v783);
+    v84 = v777; goto L174;
 L174:;
-    v614 = load64(v132);
-    v615 = v614 > v608;
-    if (v615) { goto L175; }
-    else { goto L178; }
+    v786 = (i64)v399 > (i64)UINT64_C(18446744073709551615);
+    if (v786) { v85 = v84; goto L176; }
+    else { goto L175; }
 L175:;
-    v616 = v588 < 160u;
-    v617 = (u8)((u32)v588 >> (4u & 7u));
-    v618 = (u8)((u32)v617 | (u32)48u);
-    v619 = (u8)((u32)v617 + (u32)87u);
-    v620 = v616 ? v618 : v619;
-    v621 = load_address(v125);
-    v622 = (u64)((u64)v601 + (u64)3u);
-    v623 = v621 + v608 * 1u;
-    store8(v623, v620);
-    v624 = load64(v132);
-    v625 = v624 > v622;
-    if (v625) { goto L176; }
-    else { v103 = 0u; v104 = 0u; goto L177; }
+    v787 = (u64)((u64)v84 + (u64)UINT64_C(18446744073709551615));
+    v788 = v167 + v787 * 1u;
+    store8(v788, 45u);
+    v85 = v787; goto L176;
 L176:;
-    v626 = (u8)((u32)v588 & (u32)15u);
-    v627 = v626 < 10u;
-    v628 = (u8)((u32)v626 | (u32)48u);
-    v629 = (u8)((u32)v626 + (u32)87u);
-    v630 = v627 ? v628 : v629;
-    v631 = load_address(v125);
-    v632 = (u64)((u64)v601 + (u64)4u);
-    v633 = v631 + v622 * 1u;
-    store8(v633, v630);
-    v103 = v632; v104 = 1u; goto L177;
+    v789 = v167 + v85 * 1u;
+    v790 = (u64)((u64)40u - (u64)v85);
+    v791 = v36 == 1u;
+    if (v791) { goto L177; }
+    else { goto L180; }
 L177:;
-    store64(v133, v104);
-    store64(v134, v103);
-    v634 = (u8)(v104);
-    v105 = v634; goto L180;
+    v792 = load64(v183);
+    v793 = load64(v181);
+    v794 = v793 < v792;
+    v795 = (u64)((u64)v793 - (u64)v792);
+    v796 = v795 < v790;
+    v797 = v794 ? 1u : v796;
+    if (v797) { v86 = 0u; v87 = 0u; goto L179; }
+    else { goto L178; }
 L178:;
-    memory_set(v133, 0u, 16u);
-    v105 = 0u; goto L180;
+    v798 = load_address(v174);
+    v799 = (u64)((u64)v792 + (u64)v790);
+    v800 = v798 + v792 * 1u;
+    memory_cpy(v800, v789, v790);
+    v86 = v799; v87 = 1u; goto L179;
 L179:;
-    memory_set(v133, 0u, 16u);
-    v105 = 0u; goto L180;
+    store64(v182, v87);
+    store64(v183, v86);
+    goto L180;
 L180:;
-    v635 = (u64)((u64)v100 + (u64)1u);
-    v636 = v635 == v585;
-    if (v636) { goto L181; }
-    else { v99 = v105; v100 = v635; goto L164; }
+    goto L270;
 L181:;
-    v637 = load8(v133);
-    v106 = v637; v107 = v637; v108 = v637; goto L182;
+    v801 = load64(v183);
+    v802 = load64(v181);
+    v803 = v802 < v801;
+    v804 = (u64)((u64)v802 - (u64)v801);
+    v805 = v804 < v715;
+    v806 = v803 ? 1u : v805;
+    if (v806) { v89 = 0u; v90 = 0u; goto L185; }
+    else { goto L182; }
 L182:;
-    v638 = v108 == 1u;
-    if (v638) { goto L183; }
-    else { v111 = v106; v112 = v107; goto L186; }
+    v807 = load_address(v174);
+    v808 = (u64)((u64)v801 + (u64)v715);
+    v809 = v807 + v801 * 1u;
+    v810 = (u64)v809;
+    v811 = (u64)v716;
+    v812 = (u64)((u64)v810 - (u64)v811);
+    v813 = v812 < v715;
+    if (v813) { v88 = 0u; goto L184; }
+    else { goto L183; }
 L183:;
-    v639 = load64(v134);
-    v640 = load64(v132);
-    v641 = v640 > v639;
-    if (v641) { goto L184; }
-    else { v109 = 0u; v110 = 0u; goto L185; }
+    memory_cpy(v809, v716, v715);
+    v89 = v808; v90 = 1u; goto L185;
 L184:;
-    v642 = load_address(v125);
-    v643 = (u64)((u64)v639 + (u64)1u);
-    v644 = v642 + v639 * 1u;
-    store8(v644, 10u);
-    v109 = v643; v110 = 1u; goto L185;
+    v814 = v809 + v88 * 1u;
+    v815 = v716 + v88 * 1u;
+    v816 = load8(v815);
+    store8(v814, v816);
+    v817 = (u64)((u64)v88 + (u64)1u);
+    v818 = v817 == v715;
+    if (v818) { v89 = v808; v90 = 1u; goto L185; }
+    else { v88 = v817; goto L184; }
 L185:;
-    store64(v133, v110);
-    store64(v134, v109);
-    v645 = (u8)(v110);
-    v111 = v645; v112 = v645; goto L186;
+    store64(v182, v90);
+    store64(v183, v89);
+    goto L270;
 L186:;
-    v646 = v111;
-    v647 = (u64)((u64)v32 + (u64)1u);
-    v648 = v647 == v13;
-    if (v648) { goto L187; }
-    else { v30 = v646; v31 = v112; v32 = v647; goto L68; }
+    v819 = load64(v183);
+    v820 = load64(v181);
+    v821 = v820 > v819;
+    if (v821) { goto L187; }
+    else { v91 = 0u; v92 = 0u; goto L188; }
 L187:;
-    v649 = load64(v134);
-    v113 = v649; v114 = v646; goto L189;
+    v822 = load_address(v174);
+    v823 = (u64)((u64)v819 + (u64)1u);
+    v824 = v822 + v819 * 1u;
+    store8(v824, 45u);
+    v91 = v823; v92 = 1u; goto L188;
 L188:;
-    v115 = 0u; goto L190;
+    store64(v182, v92);
+    store64(v183, v91);
+    goto L189;
 L189:;
-    v650 = v114 == 1u;
-    v651 = v650 ? v113 : 0u;
-    v115 = v651; goto L190;
+    v825 = (u64)((u64)v406 >> (16u & 63u));
+    f47(v825, v174);
+    v826 = load8(v182);
+    v827 = v826 == 1u;
+    if (v827) { goto L190; }
+    else { goto L193; }
 L190:;
-    return v115;
+    v828 = load64(v183);
+    v829 = load64(v181);
+    v830 = v829 > v828;
+    if (v830) { goto L191; }
+    else { v93 = 0u; v94 = 0u; goto L192; }
+L191:;
+    v831 = load_address(v174);
+    v832 = (u64)((u64)v828 + (u64)1u);
+    v833 = v831 + v828 * 1u;
+    store8(v833, 46u);
+    v93 = v832; v94 = 1u; goto L192;
+L192:;
+    store64(v182, v94);
+    store64(v183, v93);
+    goto L193;
+L193:;
+    v834 = (u32)(v406);
+    v835 = (u32)((u32)v834 & (u32)65535u);
+    v95 = v835; v96 = 16u; goto L194;
+L194:;
+    v836 = (u32)((u32)v95 * (u32)10u);
+    v837 = (u32)((u32)v836 >> (16u & 31u));
+    v838 = (u64)v837;
+    f47(v838, v174);
+    v839 = (u32)((u32)v836 & (u32)65534u);
+    v840 = v839 == 0u;
+    v841 = (u8)((u32)v96 + (u32)255u);
+    v842 = v841 == 0u;
+    v843 = v840 ? 1u : v842;
+    if (v843) { goto L270; }
+    else { v95 = v839; v96 = v841; goto L194; }
+L195:;
+    v844 = v168 + v98 * 1u;
+    v845 = load8(v844);
+    v846 = (u8)((u32)v845 >> (4u & 7u));
+    v847 = v845 < 160u;
+    v848 = (u8)((u32)v846 | (u32)48u);
+    v849 = (u8)((u32)v846 + (u32)87u);
+    v850 = v847 ? v848 : v849;
+    v851 = v97 == 1u;
+    if (v851) { goto L196; }
+    else { v101 = v97; goto L201; }
+L196:;
+    v852 = load64(v183);
+    v853 = load64(v181);
+    v854 = v853 > v852;
+    if (v854) { goto L197; }
+    else { goto L200; }
+L197:;
+    v855 = load_address(v174);
+    v856 = (u64)((u64)v852 + (u64)1u);
+    v857 = v855 + v852 * 1u;
+    store8(v857, v850);
+    v858 = load64(v181);
+    v859 = v858 > v856;
+    if (v859) { goto L198; }
+    else { v99 = 0u; v100 = 0u; goto L199; }
+L198:;
+    v860 = (u8)((u32)v845 & (u32)15u);
+    v861 = v860 < 10u;
+    v862 = (u8)((u32)v860 | (u32)48u);
+    v863 = (u8)((u32)v860 + (u32)87u);
+    v864 = v861 ? v862 : v863;
+    v865 = load_address(v174);
+    v866 = (u64)((u64)v852 + (u64)2u);
+    v867 = v865 + v856 * 1u;
+    store8(v867, v864);
+    v99 = v866; v100 = 1u; goto L199;
+L199:;
+    store64(v182, v100);
+    store64(v183, v99);
+    v868 = (u8)(v100);
+    v101 = v868; goto L201;
+L200:;
+    memory_set(v182, 0u, 16u);
+    v101 = 0u; goto L201;
+L201:;
+    v869 = (u64)((u64)v98 + (u64)1u);
+    v870 = v869 == 8u;
+    if (v870) { goto L270; }
+    else { v97 = v101; v98 = v869; goto L195; }
+L202:;
+    v871 = (u8)((u32)v102 >> (4u & 7u));
+    v872 = v102 < 160u;
+    v873 = (u8)((u32)v871 | (u32)48u);
+    v874 = (u8)((u32)v871 + (u32)87u);
+    v875 = v872 ? v873 : v874;
+    v876 = v104 == 1u;
+    if (v876) { goto L203; }
+    else { v108 = v103; v109 = v104; goto L207; }
+L203:;
+    v877 = load64(v183);
+    v878 = load64(v181);
+    v879 = v878 > v877;
+    if (v879) { goto L204; }
+    else { goto L209; }
+L204:;
+    v880 = load_address(v174);
+    v881 = (u64)((u64)v877 + (u64)1u);
+    v882 = v880 + v877 * 1u;
+    store8(v882, v875);
+    v883 = load64(v181);
+    v884 = v883 > v881;
+    if (v884) { goto L205; }
+    else { v106 = 0u; v107 = 0u; goto L206; }
+L205:;
+    v885 = (u8)((u32)v102 & (u32)15u);
+    v886 = v885 < 10u;
+    v887 = (u8)((u32)v885 | (u32)48u);
+    v888 = (u8)((u32)v885 + (u32)87u);
+    v889 = v886 ? v887 : v888;
+    v890 = load_address(v174);
+    v891 = (u64)((u64)v877 + (u64)2u);
+    v892 = v890 + v881 * 1u;
+    store8(v892, v889);
+    v106 = v891; v107 = 1u; goto L206;
+L206:;
+    store64(v182, v107);
+    store64(v183, v106);
+    v893 = (u8)(v107);
+    v108 = v893; v109 = v893; goto L207;
+L207:;
+    v894 = (u64)((u64)v105 + (u64)1u);
+    v895 = v894 == 8u;
+    if (v895) { goto L210; }
+    else { v110 = v108; v111 = v109; v112 = v894; goto L208; }
+L208:;
+    v896 = v169 + v112 * 1u;
+    v897 = load8(v896);
+    v102 = v897; v103 = v110; v104 = v111; v105 = v112; goto L202;
+L209:;
+    memory_set(v182, 0u, 16u);
+    v898 = (u64)((u64)v105 + (u64)1u);
+    v899 = v898 == 8u;
+    if (v899) { goto L214; }
+    else { v110 = 0u; v111 = 0u; v112 = v898; goto L208; }
+L210:;
+    v900 = v108 == 1u;
+    if (v900) { goto L211; }
+    else { goto L214; }
+L211:;
+    v901 = load64(v183);
+    v902 = load64(v181);
+    v903 = v902 > v901;
+    if (v903) { goto L212; }
+    else { v113 = 0u; v114 = 0u; goto L213; }
+L212:;
+    v904 = load_address(v174);
+    v905 = (u64)((u64)v901 + (u64)1u);
+    v906 = v904 + v901 * 1u;
+    store8(v906, 47u);
+    v113 = v905; v114 = 1u; goto L213;
+L213:;
+    store64(v182, v114);
+    store64(v183, v113);
+    goto L214;
+L214:;
+    f47(v424, v174);
+    goto L270;
+L215:;
+    v907 = load8(v307);
+    v908 = (u8)((u32)v907 + (u32)255u);
+    v909 = v908 < 9u;
+    if (v909) { goto L216; }
+    else { v115 = 0u; v116 = 0u; goto L217; }
+L216:;
+    v910 = (u8)((u32)v907 + (u32)255u);
+    v911 = (u64)v910;
+    v912 = ADDRESS(c308) + v911 * 8u;
+    v913 = load_address(v912);
+    v914 = (u64)v910;
+    v915 = ADDRESS(c309) + v914 * 8u;
+    v916 = load64(v915);
+    v115 = v913; v116 = v916; goto L217;
+L217:;
+    v917 = (u64)v909;
+    store64(v166, v917);
+    store_address(v235, v115);
+    store64(v236, v116);
+    f48(v166, v907, v174);
+    goto L270;
+L218:;
+    v918 = load8(v307);
+    v919 = (u8)((u32)v918 + (u32)2u);
+    v920 = v919 < 7u;
+    if (v920) { goto L219; }
+    else { v117 = 0u; v118 = 0u; v119 = 0u; goto L220; }
+L219:;
+    v921 = (u64)v919;
+    v922 = ADDRESS(c310) + v921 * 8u;
+    v923 = load64(v922);
+    v924 = (u64)v919;
+    v925 = ADDRESS(c311) + v924 * 8u;
+    v926 = load_address(v925);
+    v927 = (u64)v919;
+    v928 = ADDRESS(c312) + v927 * 8u;
+    v929 = load64(v928);
+    v117 = v923; v118 = v926; v119 = v929; goto L220;
+L220:;
+    store64(v165, v117);
+    store_address(v233, v118);
+    store64(v234, v119);
+    f48(v165, v918, v174);
+    goto L270;
+L221:;
+    goto L270;
+L222:;
+    v930 = v120 + 1u * 1u;
+    v931 = v121 == 0u;
+    if (v931) { goto L270; }
+    else { v122 = v36; v123 = 0u; goto L223; }
+L223:;
+    v932 = v930 + v123 * 1u;
+    v933 = load8(v932);
+    v934 = (u8)((u32)v933 + (u32)129u);
+    v935 = v934 < 161u;
+    v936 = v933 == 92u;
+    v937 = (u8)(((u32)v936 | (u32)v935) & UINT64_C(1));
+    v938 = v122 == 1u;
+    if (v937) { goto L228; }
+    else { goto L224; }
+L224:;
+    if (v938) { goto L225; }
+    else { v128 = v122; goto L239; }
+L225:;
+    v939 = load64(v183);
+    v940 = load64(v181);
+    v941 = v940 > v939;
+    if (v941) { goto L226; }
+    else { v124 = 0u; v125 = 0u; goto L227; }
+L226:;
+    v942 = load_address(v174);
+    v943 = (u64)((u64)v939 + (u64)1u);
+    v944 = v942 + v939 * 1u;
+    store8(v944, v933);
+    v124 = v943; v125 = 1u; goto L227;
+L227:;
+    store64(v182, v125);
+    store64(v183, v124);
+    v945 = (u8)(v125);
+    v128 = v945; goto L239;
+L228:;
+    if (v938) { goto L229; }
+    else { v128 = v122; goto L239; }
+L229:;
+    v946 = load64(v183);
+    v947 = load64(v181);
+    v948 = v947 < v946;
+    v949 = (u64)((u64)v947 - (u64)v946);
+    v950 = v949 < 2u;
+    v951 = v948 ? 1u : v950;
+    if (v951) { goto L238; }
+    else { goto L230; }
+L230:;
+    v952 = load_address(v174);
+    v953 = (u64)((u64)v946 + (u64)2u);
+    v954 = v952 + v946 * 1u;
+    v955 = (u64)v954;
+    v956 = (u64)((u64)v955 - (u64)ADDRESS(c278));
+    v957 = v956 < 2u;
+    if (v957) { goto L231; }
+    else { goto L232; }
+L231:;
+    store8(v954, 92u);
+    v958 = v954 + 1u * 1u;
+    store8(v958, 120u);
+    goto L233;
+L232:;
+    store16(v954, 30812u);
+    goto L233;
+L233:;
+    v959 = load64(v181);
+    v960 = v959 > v953;
+    if (v960) { goto L234; }
+    else { goto L237; }
+L234:;
+    v961 = v933 < 160u;
+    v962 = (u8)((u32)v933 >> (4u & 7u));
+    v963 = (u8)((u32)v962 | (u32)48u);
+    v964 = (u8)((u32)v962 + (u32)87u);
+    v965 = v961 ? v963 : v964;
+    v966 = load_address(v174);
+    v967 = (u64)((u64)v946 + (u64)3u);
+    v968 = v966 + v953 * 1u;
+    store8(v968, v965);
+    v969 = load64(v181);
+    v970 = v969 > v967;
+    if (v970) { goto L235; }
+    else { v126 = 0u; v127 = 0u; goto L236; }
+L235:;
+    v971 = (u8)((u32)v933 & (u32)15u);
+    v972 = v971 < 10u;
+    v973 = (u8)((u32)v971 | (u32)48u);
+    v974 = (u8)((u32)v971 + (u32)87u);
+    v975 = v972 ? v973 : v974;
+    v976 = load_address(v174);
+    v977 = (u64)((u64)v946 + (u64)4u);
+    v978 = v976 + v967 * 1u;
+    store8(v978, v975);
+    v126 = v977; v127 = 1u; goto L236;
+L236:;
+    store64(v182, v127);
+    store64(v183, v126);
+    v979 = (u8)(v127);
+    v128 = v979; goto L239;
+L237:;
+    memory_set(v182, 0u, 16u);
+    v128 = 0u; goto L239;
+L238:;
+    memory_set(v182, 0u, 16u);
+    v128 = 0u; goto L239;
+L239:;
+    v980 = (u64)((u64)v123 + (u64)1u);
+    v981 = v980 == v121;
+    if (v981) { goto L270; }
+    else { v122 = v128; v123 = v980; goto L223; }
+L240:;
+    goto L242;
+L241:;
+    v982 = v130 == 0u;
+    if (v982) { goto L242; }
+    else { v133 = v36; v134 = 0u; goto L246; }
+L242:;
+    v983 = v36 == 1u;
+    if (v983) { goto L243; }
+    else { goto L270; }
+L243:;
+    v984 = load64(v183);
+    v985 = load64(v181);
+    v986 = v985 > v984;
+    if (v986) { goto L244; }
+    else { v131 = 0u; v132 = 0u; goto L245; }
+L244:;
+    v987 = load_address(v174);
+    v988 = (u64)((u64)v984 + (u64)1u);
+    v989 = v987 + v984 * 1u;
+    store8(v989, 45u);
+    v131 = v988; v132 = 1u; goto L245;
+L245:;
+    store64(v182, v132);
+    store64(v183, v131);
+    goto L270;
+L246:;
+    v990 = v129 + v134 * 1u;
+    v991 = load8(v990);
+    v992 = (u8)((u32)v991 >> (4u & 7u));
+    v993 = v991 < 160u;
+    v994 = (u8)((u32)v992 | (u32)48u);
+    v995 = (u8)((u32)v992 + (u32)87u);
+    v996 = v993 ? v994 : v995;
+    v997 = v133 == 1u;
+    if (v997) { goto L247; }
+    else { v137 = v133; goto L252; }
+L247:;
+    v998 = load64(v183);
+    v999 = load64(v181);
+    v1000 = v999 > v998;
+    if (v1000) { goto L248; }
+    else { goto L251; }
+L248:;
+    v1001 = load_address(v174);
+    v1002 = (u64)((u64)v998 + (u64)1u);
+    v1003 = v1001 + v998 * 1u;
+    store8(v1003, v996);
+    v1004 = load64(v181);
+    v1005 = v1004 > v1002;
+    if (v1005) { goto L249; }
+    else { v135 = 0u; v136 = 0u; goto L250; }
+L249:;
+    v1006 = (u8)((u32)v991 & (u32)15u);
+    v1007 = v1006 < 10u;
+    v1008 = (u8)((u32)v1006 | (u32)48u);
+    v1009 = (u8)((u32)v1006 + (u32)87u);
+    v1010 = v1007 ? v1008 : v1009;
+    v1011 = load_address(v174);
+    v1012 = (u64)((u64)v998 + (u64)2u);
+    v1013 = v1011 + v1002 * 1u;
+    store8(v1013, v1010);
+    v135 = v1012; v136 = 1u; goto L250;
+L250:;
+    store64(v182, v136);
+    store64(v183, v135);
+    v1014 = (u8)(v136);
+    v137 = v1014; goto L252;
+L251:;
+    memory_set(v182, 0u, 16u);
+    v137 = 0u; goto L252;
+L252:;
+    v1015 = (u64)((u64)v134 + (u64)1u);
+    v1016 = v1015 == v130;
+    if (v1016) { goto L270; }
+    else { v133 = v137; v134 = v1015; goto L246; }
+L253:;
+    v1017 = load8(v307);
+    v1018 = v1017 < 5u;
+    if (v1018) { goto L254; }
+    else { v138 = 0u; v139 = 0u; v140 = 0u; goto L255; }
+L254:;
+    v1019 = (u64)v1017;
+    v1020 = ADDRESS(c313) + v1019 * 8u;
+    v1021 = load64(v1020);
+    v1022 = (u64)v1017;
+    v1023 = ADDRESS(c314) + v1022 * 8u;
+    v1024 = load_address(v1023);
+    v138 = v1021; v139 = v1024; v140 = 1u; goto L255;
+L255:;
+    store64(v164, v140);
+    store_address(v231, v139);
+    store64(v232, v138);
+    f48(v164, v1017, v174);
+    goto L270;
+L256:;
+    v144 = v141; v145 = v141; v146 = 0u; goto L257;
+L257:;
+    v1025 = v143 + v146 * 1u;
+    v1026 = load8(v1025);
+    v1027 = (u8)((u32)v1026 >> (4u & 7u));
+    v1028 = v1026 < 160u;
+    v1029 = (u8)((u32)v1027 | (u32)48u);
+    v1030 = (u8)((u32)v1027 + (u32)87u);
+    v1031 = v1028 ? v1029 : v1030;
+    v1032 = v145 == 1u;
+    if (v1032) { goto L258; }
+    else { v149 = v144; v150 = v145; goto L263; }
+L258:;
+    v1033 = load64(v183);
+    v1034 = load64(v181);
+    v1035 = v1034 > v1033;
+    if (v1035) { goto L259; }
+    else { goto L262; }
+L259:;
+    v1036 = load_address(v174);
+    v1037 = (u64)((u64)v1033 + (u64)1u);
+    v1038 = v1036 + v1033 * 1u;
+    store8(v1038, v1031);
+    v1039 = load64(v181);
+    v1040 = v1039 > v1037;
+    if (v1040) { goto L260; }
+    else { v147 = 0u; v148 = 0u; goto L261; }
+L260:;
+    v1041 = (u8)((u32)v1026 & (u32)15u);
+    v1042 = v1041 < 10u;
+    v1043 = (u8)((u32)v1041 | (u32)48u);
+    v1044 = (u8)((u32)v1041 + (u32)87u);
+    v1045 = v1042 ? v1043 : v1044;
+    v1046 = load_address(v174);
+    v1047 = (u64)((u64)v1033 + (u64)2u);
+    v1048 = v1046 + v1037 * 1u;
+    store8(v1048, v1045);
+    v147 = v1047; v148 = 1u; goto L261;
+L261:;
+    store64(v182, v148);
+    store64(v183, v147);
+    v1049 = (u8)(v148);
+    v149 = v1049; v150 = v1049; goto L263;
+L262:;
+    memory_set(v182, 0u, 16u);
+    v149 = 0u; v150 = 0u; goto L263;
+L263:;
+    v1050 = (u64)((u64)v146 + (u64)1u);
+    v1051 = v1050 == 8u;
+    if (v1051) { goto L264; }
+    else { v144 = v149; v145 = v150; v146 = v1050; goto L257; }
+L264:;
+    v1052 = v143 + 8u * 1u;
+    v1053 = (u64)((u64)v142 + (u64)UINT64_C(18446744073709551608));
+    v1054 = v1053 > 7u;
+    if (v1054) { goto L265; }
+    else { goto L270; }
+L265:;
+    v1055 = v149 == 1u;
+    if (v1055) { goto L266; }
+    else { v153 = v149; goto L269; }
+L266:;
+    v1056 = load64(v183);
+    v1057 = load64(v181);
+    v1058 = v1057 > v1056;
+    if (v1058) { goto L267; }
+    else { v151 = 0u; v152 = 0u; goto L268; }
+L267:;
+    v1059 = load_address(v174);
+    v1060 = (u64)((u64)v1056 + (u64)1u);
+    v1061 = v1059 + v1056 * 1u;
+    store8(v1061, 32u);
+    v151 = v1060; v152 = 1u; goto L268;
+L268:;
+    store64(v182, v152);
+    store64(v183, v151);
+    v1062 = (u8)(v152);
+    v153 = v1062; goto L269;
+L269:;
+    v141 = v153; v142 = v1053; v143 = v1052; goto L256;
+L270:;
+    v1063 = load8(v182);
+    v154 = v1063; v155 = v1063; v156 = v1063; goto L271;
+L271:;
+    v1064 = v156 == 1u;
+    if (v1064) { goto L272; }
+    else { v159 = v154; v160 = v155; goto L275; }
+L272:;
+    v1065 = load64(v183);
+    v1066 = load64(v181);
+    v1067 = v1066 > v1065;
+    if (v1067) { goto L273; }
+    else { v157 = 0u; v158 = 0u; goto L274; }
+L273:;
+    v1068 = load_address(v174);
+    v1069 = (u64)((u64)v1065 + (u64)1u);
+    v1070 = v1068 + v1065 * 1u;
+    store8(v1070, 10u);
+    v157 = v1069; v158 = 1u; goto L274;
+L274:;
+    store64(v182, v158);
+    store64(v183, v157);
+    v1071 = (u8)(v158);
+    v159 = v1071; v160 = v1071; goto L275;
+L275:;
+    v1072 = v159;
+    v1073 = (u64)((u64)v28 + (u64)1u);
+    v1074 = v1073 == v9;
+    if (v1074) { goto L276; }
+    else { v26 = v1072; v27 = v160; v28 = v1073; goto L77; }
+L276:;
+    v1075 = load64(v183);
+    v161 = v1075; v162 = v1072; goto L278;
+L277:;
+    v163 = 0u; goto L279;
+L278:;
+    v1076 = v162 == 1u;
+    v1077 = v1076 ? v161 : 0u;
+    v163 = v1077; goto L279;
+L279:;
+    return v163;
 }
 
 u32 portable_ptpm_id_at(u64 a0) {
@@ -25850,7 +27339,7 @@ u32 portable_ptpm_id_at(u64 a0) {
     else { v1 = UINT32_C(65536); goto L2; }
 L1:;
     v3 = (u64)((u64)a0 << (1u & 63u));
-    v4 = ADDRESS(c224) + v3 * 1u;
+    v4 = ADDRESS(c284) + v3 * 1u;
     v5 = load16(v4);
     v6 = (u32)v5;
     v1 = v6; goto L2;
@@ -25866,7 +27355,7 @@ u64 portable_ptpm_id_name(u16 a0, address a1, u64 a2) {
     v8 = v7 ? 4096u : 0u;
     v9 = a1 + v8 * 1u;
     switch (a0) {
-    case 0u: v3 = ADDRESS(c113); v4 = 19u; goto L21;
+    case 0u: v3 = ADDRESS(c114); v4 = 19u; goto L21;
     case 2u: goto L1;
     case 8192u: goto L2;
     case 8193u: goto L3;
@@ -25890,45 +27379,45 @@ u64 portable_ptpm_id_name(u16 a0, address a1, u64 a2) {
     default: v6 = 0u; goto L25;
     }
 L1:;
-    v3 = ADDRESS(c114); v4 = 16u; goto L21;
-L2:;
     v3 = ADDRESS(c115); v4 = 16u; goto L21;
-L3:;
+L2:;
     v3 = ADDRESS(c116); v4 = 16u; goto L21;
+L3:;
+    v3 = ADDRESS(c117); v4 = 16u; goto L21;
 L4:;
-    v3 = ADDRESS(c117); v4 = 15u; goto L21;
+    v3 = ADDRESS(c118); v4 = 15u; goto L21;
 L5:;
-    v3 = ADDRESS(c118); v4 = 24u; goto L21;
+    v3 = ADDRESS(c119); v4 = 24u; goto L21;
 L6:;
-    v3 = ADDRESS(c119); v4 = 13u; goto L21;
+    v3 = ADDRESS(c120); v4 = 13u; goto L21;
 L7:;
-    v3 = ADDRESS(c120); v4 = 9u; goto L21;
-L8:;
     v3 = ADDRESS(c121); v4 = 9u; goto L21;
+L8:;
+    v3 = ADDRESS(c122); v4 = 9u; goto L21;
 L9:;
-    v3 = ADDRESS(c122); v4 = 6u; goto L21;
+    v3 = ADDRESS(c123); v4 = 6u; goto L21;
 L10:;
-    v3 = ADDRESS(c123); v4 = 10u; goto L21;
+    v3 = ADDRESS(c124); v4 = 10u; goto L21;
 L11:;
-    v3 = ADDRESS(c129); v4 = 21u; goto L21;
+    v3 = ADDRESS(c130); v4 = 21u; goto L21;
 L12:;
-    v3 = ADDRESS(c131); v4 = 24u; goto L21;
+    v3 = ADDRESS(c132); v4 = 24u; goto L21;
 L13:;
-    v3 = ADDRESS(c133); v4 = 17u; goto L21;
+    v3 = ADDRESS(c134); v4 = 17u; goto L21;
 L14:;
-    v3 = ADDRESS(c124); v4 = 14u; goto L21;
+    v3 = ADDRESS(c125); v4 = 14u; goto L21;
 L15:;
-    v3 = ADDRESS(c125); v4 = 11u; goto L21;
+    v3 = ADDRESS(c126); v4 = 11u; goto L21;
 L16:;
-    v3 = ADDRESS(c126); v4 = 12u; goto L21;
+    v3 = ADDRESS(c127); v4 = 12u; goto L21;
 L17:;
-    v3 = ADDRESS(c127); v4 = 14u; goto L21;
-L18:;
     v3 = ADDRESS(c128); v4 = 14u; goto L21;
+L18:;
+    v3 = ADDRESS(c129); v4 = 14u; goto L21;
 L19:;
-    v3 = ADDRESS(c135); v4 = 15u; goto L21;
+    v3 = ADDRESS(c136); v4 = 15u; goto L21;
 L20:;
-    v3 = ADDRESS(c137); v4 = 27u; goto L21;
+    v3 = ADDRESS(c138); v4 = 27u; goto L21;
 L21:;
     v10 = a2 < v4;
     if (v10) { v6 = 0u; goto L25; }
@@ -25968,10 +27457,10 @@ u32 portable_ptpm_id_named(address a0, u64 a1) {
     v2 = 0u; goto L1;
 L1:;
     v10 = (u64)((u64)v2 << (1u & 63u));
-    v11 = ADDRESS(c224) + v10 * 1u;
+    v11 = ADDRESS(c284) + v10 * 1u;
     v12 = load16(v11);
     switch (v12) {
-    case 0u: v3 = ADDRESS(c113); v4 = 19u; goto L22;
+    case 0u: v3 = ADDRESS(c114); v4 = 19u; goto L22;
     case 2u: goto L2;
     case 8192u: goto L3;
     case 8193u: goto L4;
@@ -25995,45 +27484,45 @@ L1:;
     default: goto L25;
     }
 L2:;
-    v3 = ADDRESS(c114); v4 = 16u; goto L22;
-L3:;
     v3 = ADDRESS(c115); v4 = 16u; goto L22;
-L4:;
+L3:;
     v3 = ADDRESS(c116); v4 = 16u; goto L22;
+L4:;
+    v3 = ADDRESS(c117); v4 = 16u; goto L22;
 L5:;
-    v3 = ADDRESS(c117); v4 = 15u; goto L22;
+    v3 = ADDRESS(c118); v4 = 15u; goto L22;
 L6:;
-    v3 = ADDRESS(c118); v4 = 24u; goto L22;
+    v3 = ADDRESS(c119); v4 = 24u; goto L22;
 L7:;
-    v3 = ADDRESS(c119); v4 = 13u; goto L22;
+    v3 = ADDRESS(c120); v4 = 13u; goto L22;
 L8:;
-    v3 = ADDRESS(c120); v4 = 9u; goto L22;
-L9:;
     v3 = ADDRESS(c121); v4 = 9u; goto L22;
+L9:;
+    v3 = ADDRESS(c122); v4 = 9u; goto L22;
 L10:;
-    v3 = ADDRESS(c122); v4 = 6u; goto L22;
+    v3 = ADDRESS(c123); v4 = 6u; goto L22;
 L11:;
-    v3 = ADDRESS(c123); v4 = 10u; goto L22;
+    v3 = ADDRESS(c124); v4 = 10u; goto L22;
 L12:;
-    v3 = ADDRESS(c129); v4 = 21u; goto L22;
+    v3 = ADDRESS(c130); v4 = 21u; goto L22;
 L13:;
-    v3 = ADDRESS(c131); v4 = 24u; goto L22;
+    v3 = ADDRESS(c132); v4 = 24u; goto L22;
 L14:;
-    v3 = ADDRESS(c133); v4 = 17u; goto L22;
+    v3 = ADDRESS(c134); v4 = 17u; goto L22;
 L15:;
-    v3 = ADDRESS(c124); v4 = 14u; goto L22;
+    v3 = ADDRESS(c125); v4 = 14u; goto L22;
 L16:;
-    v3 = ADDRESS(c125); v4 = 11u; goto L22;
+    v3 = ADDRESS(c126); v4 = 11u; goto L22;
 L17:;
-    v3 = ADDRESS(c126); v4 = 12u; goto L22;
+    v3 = ADDRESS(c127); v4 = 12u; goto L22;
 L18:;
-    v3 = ADDRESS(c127); v4 = 14u; goto L22;
-L19:;
     v3 = ADDRESS(c128); v4 = 14u; goto L22;
+L19:;
+    v3 = ADDRESS(c129); v4 = 14u; goto L22;
 L20:;
-    v3 = ADDRESS(c135); v4 = 15u; goto L22;
+    v3 = ADDRESS(c136); v4 = 15u; goto L22;
 L21:;
-    v3 = ADDRESS(c137); v4 = 27u; goto L22;
+    v3 = ADDRESS(c138); v4 = 27u; goto L22;
 L22:;
     v13 = v4 == a1;
     if (v13) { v5 = 0u; goto L24; }
@@ -26096,7 +27585,7 @@ L1:;
     v18 = v7 + 4u * 1u;
     store64(v18, v17);
     store64(v16, 12u);
-    v19 = f46(v14, a2, v7, 12u);
+    v19 = f49(v14, a2, v7, 12u);
     v20 = swap32(v19);
     v21 = v7 + 12u * 1u;
     store32(v21, v20);
@@ -26122,7 +27611,7 @@ u32 portable_ptpm_image_unseal(address a0, u64 a1, address a2, address a3) {
     memory_set(v5, 0u, 24u);
     store64(a2, 0u);
     store64(a3, 0u);
-    f47(v5, v8, a1);
+    f50(v5, v8, a1);
     v9 = load8(v5);
     v10 = v9 == 0u;
     if (v10) { goto L1; }
@@ -26209,11 +27698,11 @@ u16 portable_ptpm_limits_say(address a0, u64 a1, address a2) {
     default: goto L11;
     }
 L1:;
-    v11 = f48(v8, a1, a2);
+    v11 = f51(v8, a1, a2);
     if (v11) { v5 = 6u; goto L12; }
     else { goto L11; }
 L2:;
-    v12 = f48(v8, a1, a2);
+    v12 = f51(v8, a1, a2);
     if (v12) { v5 = 5u; goto L12; }
     else { goto L3; }
 L3:;
@@ -26301,7 +27790,7 @@ L3:;
     memory_set(v17, 0u, 24u);
     v26 = (u64)((u64)v5 * (u64)a2);
     v27 = v20 + v26 * 1u;
-    f47(v17, v27, a2);
+    f50(v17, v27, a2);
     v28 = load8(v17);
     v29 = v28 == 0u;
     if (v29) { goto L5; }
@@ -26333,6 +27822,160 @@ L10:;
     store64(a3, v14);
     store64(a4, v15);
     return v16;
+}
+
+u32 portable_ptpm_other_id_at(u64 a0) {
+    u32 v1, v7;
+    u8 v2, v4;
+    address v3, v6;
+    u64 v5;
+    v2 = a0 < 10u;
+    if (v2) { goto L1; }
+    else { v1 = UINT32_C(65536); goto L2; }
+L1:;
+    v3 = ADDRESS(c287) + a0 * 1u;
+    v4 = load8(v3);
+    v5 = (u64)v4;
+    v6 = ADDRESS(c317) + v5 * 4u;
+    v7 = load32(v6);
+    v1 = v7; goto L2;
+L2:;
+    return v1;
+}
+
+u64 portable_ptpm_other_id_name(u16 a0, address a1, u64 a2) {
+    address v3, v9, v15, v16;
+    u64 v4, v5, v6, v8, v11, v12, v13, v18;
+    u8 v7, v10, v14, v17, v19;
+    v7 = a1 == 0u;
+    v8 = v7 ? 4096u : 0u;
+    v9 = a1 + v8 * 1u;
+    switch (a0) {
+    case 1u: v3 = ADDRESS(c288); v4 = 17u; goto L10;
+    case 8207u: goto L9;
+    case 8210u: goto L1;
+    case 8211u: goto L2;
+    case 8213u: goto L3;
+    case 49152u: goto L4;
+    case 49153u: goto L5;
+    case 49154u: goto L6;
+    case 49156u: goto L7;
+    case 49157u: goto L8;
+    default: v6 = 0u; goto L14;
+    }
+L1:;
+    v3 = ADDRESS(c290); v4 = 23u; goto L10;
+L2:;
+    v3 = ADDRESS(c291); v4 = 20u; goto L10;
+L3:;
+    v3 = ADDRESS(c292); v4 = 15u; goto L10;
+L4:;
+    v3 = ADDRESS(c293); v4 = 14u; goto L10;
+L5:;
+    v3 = ADDRESS(c294); v4 = 23u; goto L10;
+L6:;
+    v3 = ADDRESS(c295); v4 = 16u; goto L10;
+L7:;
+    v3 = ADDRESS(c296); v4 = 18u; goto L10;
+L8:;
+    v3 = ADDRESS(c297); v4 = 13u; goto L10;
+L9:;
+    v3 = ADDRESS(c289); v4 = 4u; goto L10;
+L10:;
+    v10 = a2 < v4;
+    if (v10) { v6 = 0u; goto L14; }
+    else { goto L11; }
+L11:;
+    v11 = (u64)v9;
+    v12 = (u64)v3;
+    v13 = (u64)((u64)v11 - (u64)v12);
+    v14 = v13 < v4;
+    if (v14) { v5 = 0u; goto L13; }
+    else { goto L12; }
+L12:;
+    memory_move(v9, v3, v4);
+    v6 = v4; goto L14;
+L13:;
+    v15 = v9 + v5 * 1u;
+    v16 = v3 + v5 * 1u;
+    v17 = load8(v16);
+    store8(v15, v17);
+    v18 = (u64)((u64)v5 + (u64)1u);
+    v19 = v18 == v4;
+    if (v19) { v6 = v4; goto L14; }
+    else { v5 = v18; goto L13; }
+L14:;
+    return v6;
+}
+
+u32 portable_ptpm_other_id_named(address a0, u64 a1) {
+    u64 v2, v3, v7, v14, v17, v19, v20, v24, v39, v41;
+    u32 v4, v43;
+    address v5, v8, v11, v12, v13, v15, v18, v21, v22, v26, v28, v42;
+    u8 v6, v9, v10, v16, v23, v25, v27, v29, v30, v31, v32, v33, v34, v35, v36, v37;
+    u8 v38, v40;
+    u64 block0[3];
+    v5 = ADDRESS(block0);
+    v6 = a0 == 0u;
+    v7 = v6 ? 4096u : 0u;
+    v8 = a0 + v7 * 1u;
+    memory_set(v5, 0u, 24u);
+    f16(v5, v8, a1);
+    v9 = load8(v5);
+    v10 = v9 == 0u;
+    if (v10) { goto L1; }
+    else { v4 = UINT32_C(65536); goto L7; }
+L1:;
+    v11 = v5 + 8u * 1u;
+    v12 = load_address(v11);
+    v13 = v5 + 16u * 1u;
+    v14 = load64(v13);
+    v2 = 0u; goto L2;
+L2:;
+    v15 = ADDRESS(c287) + v2 * 1u;
+    v16 = load8(v15);
+    v17 = (u64)v16;
+    v18 = ADDRESS(c315) + v17 * 8u;
+    v19 = load64(v18);
+    v20 = (u64)v16;
+    v21 = ADDRESS(c316) + v20 * 8u;
+    v22 = load_address(v21);
+    v23 = v14 == v19;
+    if (v23) { v3 = 0u; goto L4; }
+    else { goto L5; }
+L3:;
+    v24 = (u64)((u64)v3 + (u64)1u);
+    v25 = v24 == v14;
+    if (v25) { goto L6; }
+    else { v3 = v24; goto L4; }
+L4:;
+    v26 = v12 + v3 * 1u;
+    v27 = load8(v26);
+    v28 = v22 + v3 * 1u;
+    v29 = load8(v28);
+    v30 = (u8)((u32)v27 + (u32)191u);
+    v31 = v30 < 26u;
+    v32 = (u8)((u32)v27 + (u32)32u);
+    v33 = v31 ? v32 : v27;
+    v34 = (u8)((u32)v29 + (u32)191u);
+    v35 = v34 < 26u;
+    v36 = (u8)((u32)v29 + (u32)32u);
+    v37 = v35 ? v36 : v29;
+    v38 = v33 == v37;
+    if (v38) { goto L3; }
+    else { goto L5; }
+L5:;
+    v39 = (u64)((u64)v2 + (u64)1u);
+    v40 = v39 == 10u;
+    if (v40) { v4 = UINT32_C(65536); goto L7; }
+    else { v2 = v39; goto L2; }
+L6:;
+    v41 = (u64)v16;
+    v42 = ADDRESS(c317) + v41 * 4u;
+    v43 = load32(v42);
+    v4 = v43; goto L7;
+L7:;
+    return v4;
 }
 
 u8 portable_ptpm_passed_on_is_first(address a0, address a1, u64 a2, u64 a3, u64 a4) {
@@ -26668,7 +28311,7 @@ L2:;
     v44 = v5 + 1u * 1u;
     v45 = load8(v44);
     v46 = (u64)v45;
-    v47 = ADDRESS(c240) + v46 * 4u;
+    v47 = ADDRESS(c318) + v46 * 4u;
     v48 = load32(v47);
     v4 = v48; goto L10;
 L3:;
@@ -26844,85 +28487,152 @@ void portable_ptpm_session_stop(address a0) {
 }
 
 u32 portable_ptpm_sizes_agree(address a0, u64 a1) {
-    u64 v2, v3, v6, v9, v11, v14, v15, v17, v18, v21, v22, v24, v25, v28, v29, v31;
-    u64 v32, v35, v36, v38, v42, v45;
-    u32 v4, v47;
-    u8 v5, v8, v10, v16, v23, v30, v37, v39, v40, v43, v46;
-    address v7, v12, v13, v19, v20, v26, v27, v33, v34, v41, v44;
-    v5 = a0 == 0u;
-    v6 = v5 ? 4096u : 0u;
-    v7 = a0 + v6 * 1u;
-    v8 = a1 == 18u;
-    if (v8) { v2 = 0u; goto L1; }
-    else { v4 = 47u; goto L11; }
+    u64 v2, v3, v4, v5, v8, v10, v12, v15, v16, v18, v19, v22, v23, v25, v26, v29;
+    u64 v30, v32, v33, v36, v37, v39, v43, v45, v47, v50, v51, v53, v54, v57, v58, v60;
+    u64 v61, v64, v65, v67, v68, v71, v72, v74, v78, v81;
+    u32 v6;
+    u8 v7, v11, v17, v24, v31, v38, v40, v41, v44, v46, v52, v59, v66, v73, v75, v76;
+    u8 v79, v82;
+    address v9, v13, v14, v20, v21, v27, v28, v34, v35, v42, v48, v49, v55, v56, v62, v63;
+    address v69, v70, v77, v80;
+    v7 = a0 == 0u;
+    v8 = v7 ? 4096u : 0u;
+    v9 = a0 + v8 * 1u;
+    switch (a1) {
+    case 21u: v2 = 0u; goto L1;
+    case 18u: v4 = 0u; goto L10;
+    default: v6 = 47u; goto L21;
+    }
 L1:;
-    v9 = (u64)((u64)v2 + (u64)4u);
-    v10 = v2 == UINT64_C(18446744073709551612);
-    if (v10) { goto L2; }
-    else { goto L3; }
+    v10 = (u64)((u64)v2 + (u64)4u);
+    v11 = v2 == UINT64_C(18446744073709551612);
+    if (v11) { goto L8; }
+    else { goto L2; }
 L2:;
-    v2 = v9; goto L1;
-L3:;
-    v11 = (u64)((u64)v2 << (3u & 63u));
-    v12 = v7 + v11 * 1u;
-    v13 = ADDRESS(c227) + v11 * 1u;
-    v14 = load64(v12);
+    v12 = (u64)((u64)v2 << (3u & 63u));
+    v13 = v9 + v12 * 1u;
+    v14 = ADDRESS(c298) + v12 * 1u;
     v15 = load64(v13);
-    v16 = v14 == v15;
-    if (v16) { goto L4; }
-    else { v3 = v2; goto L7; }
-L4:;
-    v17 = (u64)((u64)v2 | (u64)1u);
-    v18 = (u64)((u64)v17 << (3u & 63u));
-    v19 = v7 + v18 * 1u;
-    v20 = ADDRESS(c227) + v18 * 1u;
-    v21 = load64(v19);
+    v16 = load64(v14);
+    v17 = v15 == v16;
+    if (v17) { goto L3; }
+    else { v3 = v2; goto L6; }
+L3:;
+    v18 = (u64)((u64)v2 | (u64)1u);
+    v19 = (u64)((u64)v18 << (3u & 63u));
+    v20 = v9 + v19 * 1u;
+    v21 = ADDRESS(c298) + v19 * 1u;
     v22 = load64(v20);
-    v23 = v21 == v22;
-    if (v23) { goto L5; }
-    else { v3 = v17; goto L7; }
-L5:;
-    v24 = (u64)((u64)v2 | (u64)2u);
-    v25 = (u64)((u64)v24 << (3u & 63u));
-    v26 = v7 + v25 * 1u;
-    v27 = ADDRESS(c227) + v25 * 1u;
-    v28 = load64(v26);
+    v23 = load64(v21);
+    v24 = v22 == v23;
+    if (v24) { goto L4; }
+    else { v3 = v18; goto L6; }
+L4:;
+    v25 = (u64)((u64)v2 | (u64)2u);
+    v26 = (u64)((u64)v25 << (3u & 63u));
+    v27 = v9 + v26 * 1u;
+    v28 = ADDRESS(c298) + v26 * 1u;
     v29 = load64(v27);
-    v30 = v28 == v29;
-    if (v30) { goto L6; }
-    else { v3 = v24; goto L7; }
-L6:;
-    v31 = (u64)((u64)v2 | (u64)3u);
-    v32 = (u64)((u64)v31 << (3u & 63u));
-    v33 = v7 + v32 * 1u;
-    v34 = ADDRESS(c227) + v32 * 1u;
-    v35 = load64(v33);
+    v30 = load64(v28);
+    v31 = v29 == v30;
+    if (v31) { goto L5; }
+    else { v3 = v25; goto L6; }
+L5:;
+    v32 = (u64)((u64)v2 | (u64)3u);
+    v33 = (u64)((u64)v32 << (3u & 63u));
+    v34 = v9 + v33 * 1u;
+    v35 = ADDRESS(c298) + v33 * 1u;
     v36 = load64(v34);
-    v37 = v35 == v36;
-    v38 = v37 ? v9 : v31;
-    v3 = v38; goto L7;
+    v37 = load64(v35);
+    v38 = v36 == v37;
+    v39 = v38 ? v10 : v32;
+    v3 = v39; goto L6;
+L6:;
+    v40 = v3 < v10;
+    if (v40) { v6 = 47u; goto L21; }
+    else { goto L7; }
 L7:;
-    v39 = v3 < v9;
-    if (v39) { v4 = 47u; goto L11; }
+    v41 = v2 == 16u;
+    if (v41) { goto L9; }
     else { goto L8; }
 L8:;
-    v40 = v2 == 12u;
-    if (v40) { goto L9; }
-    else { goto L2; }
+    v2 = v10; goto L1;
 L9:;
-    v41 = v7 + 128u * 1u;
-    v42 = load64(v41);
-    v43 = v42 == 36u;
-    if (v43) { goto L10; }
-    else { v4 = 47u; goto L11; }
+    v42 = v9 + 160u * 1u;
+    v43 = load64(v42);
+    v44 = v43 == 36u;
+    if (v44) { goto L20; }
+    else { v6 = 47u; goto L21; }
 L10:;
-    v44 = v7 + 136u * 1u;
-    v45 = load64(v44);
-    v46 = v45 == 24u;
-    v47 = v46 ? 0u : 47u;
-    v4 = v47; goto L11;
+    v45 = (u64)((u64)v4 + (u64)4u);
+    v46 = v4 == UINT64_C(18446744073709551612);
+    if (v46) { goto L17; }
+    else { goto L11; }
 L11:;
-    return v4;
+    v47 = (u64)((u64)v4 << (3u & 63u));
+    v48 = v9 + v47 * 1u;
+    v49 = ADDRESS(c298) + v47 * 1u;
+    v50 = load64(v48);
+    v51 = load64(v49);
+    v52 = v50 == v51;
+    if (v52) { goto L12; }
+    else { v5 = v4; goto L15; }
+L12:;
+    v53 = (u64)((u64)v4 | (u64)1u);
+    v54 = (u64)((u64)v53 << (3u & 63u));
+    v55 = v9 + v54 * 1u;
+    v56 = ADDRESS(c298) + v54 * 1u;
+    v57 = load64(v55);
+    v58 = load64(v56);
+    v59 = v57 == v58;
+    if (v59) { goto L13; }
+    else { v5 = v53; goto L15; }
+L13:;
+    v60 = (u64)((u64)v4 | (u64)2u);
+    v61 = (u64)((u64)v60 << (3u & 63u));
+    v62 = v9 + v61 * 1u;
+    v63 = ADDRESS(c298) + v61 * 1u;
+    v64 = load64(v62);
+    v65 = load64(v63);
+    v66 = v64 == v65;
+    if (v66) { goto L14; }
+    else { v5 = v60; goto L15; }
+L14:;
+    v67 = (u64)((u64)v4 | (u64)3u);
+    v68 = (u64)((u64)v67 << (3u & 63u));
+    v69 = v9 + v68 * 1u;
+    v70 = ADDRESS(c298) + v68 * 1u;
+    v71 = load64(v69);
+    v72 = load64(v70);
+    v73 = v71 == v72;
+    v74 = v73 ? v45 : v67;
+    v5 = v74; goto L15;
+L15:;
+    v75 = v5 < v45;
+    if (v75) { v6 = 47u; goto L21; }
+    else { goto L16; }
+L16:;
+    v76 = v4 == 12u;
+    if (v76) { goto L18; }
+    else { goto L17; }
+L17:;
+    v4 = v45; goto L10;
+L18:;
+    v77 = v9 + 128u * 1u;
+    v78 = load64(v77);
+    v79 = v78 == 36u;
+    if (v79) { goto L19; }
+    else { v6 = 47u; goto L21; }
+L19:;
+    v80 = v9 + 136u * 1u;
+    v81 = load64(v80);
+    v82 = v81 == 24u;
+    if (v82) { goto L20; }
+    else { v6 = 47u; goto L21; }
+L20:;
+    v6 = 0u; goto L21;
+L21:;
+    return v6;
 }
 
 u32 portable_ptpm_step_standing(u32 a0, u16 a1, u16 a2, address a3, u64 a4, u32 a5, address a6, u64 a7) {
@@ -27235,7 +28945,7 @@ L1:;
     memory_set(v35, 0u, 24u);
     v36 = v4 + 136u * 1u;
     store64(v36, UINT64_C(2611923443488327891));
-    v37 = f49(a0, v4);
+    v37 = f52(a0, v4);
     v2 = v37; goto L2;
 L2:;
     return v2;
@@ -27320,120 +29030,276 @@ L4:;
     memory_set(v40, 0u, 24u);
     v41 = v5 + 136u * 1u;
     store64(v41, UINT64_C(2611923443488327891));
-    v42 = f49(a0, v5);
+    v42 = f52(a0, v5);
     v3 = v42; goto L5;
 L5:;
     return v3;
 }
 
 u32 portable_ptpm_clock_ask(address a0, u16 a1, address a2, u64 a3, address a4) {
-    u8 v5, v11, v15, v16, v18, v22, v23, v26, v30, v31, v32, v40, v49;
-    address v6, v9, v10, v13, v14, v17, v19, v20, v21, v24, v25, v27, v33, v35, v37, v39;
-    address v41, v43, v45, v46, v47, v51, v52, v53, v54, v55, v56, v57, v58;
-    u16 v7, v29, v36, v38, v42, v44, v50;
+    u8 v5, v14, v18, v19, v21, v25, v26, v29, v33, v34, v35, v43, v52, v54, v55, v58;
+    u8 v60, v61, v66, v68, v70, v72, v93, v98, v99, v101, v102, v103, v105, v107, v108, v111;
+    u8 v112, v113, v114, v117, v118, v119, v129, v131, v133, v135;
+    address v6, v9, v10, v11, v12, v13, v16, v17, v20, v22, v23, v24, v27, v28, v30, v36;
+    address v38, v40, v42, v44, v46, v48, v49, v50, v56, v57, v59, v62, v65, v67, v69, v71;
+    address v73, v75, v77, v87, v88, v89, v90, v91, v92, v94, v96, v100, v104, v106, v109, v120;
+    address v121, v122, v123, v124, v125, v126, v127, v128, v130, v132, v134, v144, v145, v146, v147, v148;
+    address v149, v150;
+    u16 v7, v32, v39, v41, v45, v47, v53, v79, v80, v81, v82, v83, v84, v85, v86, v116;
+    u16 v136, v137, v138, v139, v140, v141, v142, v143;
     u32 v8;
-    u64 v12, v28, v34, v48;
-    u64 block0[17];
-    u64 block1[6];
+    u64 v15, v31, v37, v51, v63, v64, v74, v76, v78, v95, v97, v110, v115;
+    u64 block0[3];
+    u64 block1[3];
+    u64 block2[4];
+    u64 block3[17];
+    u64 block4[6];
     v9 = ADDRESS(block0);
     v10 = ADDRESS(block1);
-    v11 = a2 == 0u;
-    v12 = v11 ? 4096u : 0u;
-    v13 = a2 + v12 * 1u;
+    v11 = ADDRESS(block2);
+    v12 = ADDRESS(block3);
+    v13 = ADDRESS(block4);
+    v14 = a2 == 0u;
+    v15 = v14 ? 4096u : 0u;
+    v16 = a2 + v15 * 1u;
     memory_set(a4, 0u, 150u);
-    v14 = a0 + 8u * 1u;
-    v15 = load8(v14);
-    v16 = (u8)((v15) & UINT64_C(1));
-    if (v16) { goto L1; }
-    else { v8 = 32u; goto L13; }
-L1:;
-    v17 = load_address(a0);
+    v17 = a0 + 8u * 1u;
     v18 = load8(v17);
-    switch (v18) {
+    v19 = (u8)((v18) & UINT64_C(1));
+    if (v19) { goto L1; }
+    else { v8 = 32u; goto L25; }
+L1:;
+    v20 = load_address(a0);
+    v21 = load8(v20);
+    switch (v21) {
     case 4u: goto L2;
     case 1u: goto L3;
-    default: v8 = 32u; goto L13;
+    default: v8 = 32u; goto L25;
     }
 L2:;
-    v19 = v17 + 8u * 1u;
-    v20 = load_address(v19);
-    v21 = v20 + 16u * 1u;
-    v22 = load8(v21);
-    v23 = v22 == 0u;
-    v5 = v23; v6 = v20; goto L4;
+    v22 = v20 + 8u * 1u;
+    v23 = load_address(v22);
+    v24 = v23 + 16u * 1u;
+    v25 = load8(v24);
+    v26 = v25 == 0u;
+    v5 = v26; v6 = v23; goto L4;
 L3:;
-    v24 = v17 + 8u * 1u;
-    v5 = 1u; v6 = v24; goto L4;
+    v27 = v20 + 8u * 1u;
+    v5 = 1u; v6 = v27; goto L4;
 L4:;
-    v25 = load_address(v6);
-    v26 = a1 == 0u;
-    if (v26) { goto L12; }
+    v28 = load_address(v6);
+    v29 = a1 == 0u;
+    if (v29) { goto L24; }
     else { goto L5; }
 L5:;
-    v27 = v25 + 432u * 1u;
-    v28 = load64(v27);
-    v29 = (u16)(v28);
-    v30 = a1 > v29;
-    if (v30) { goto L12; }
+    v30 = v28 + 432u * 1u;
+    v31 = load64(v30);
+    v32 = (u16)(v31);
+    v33 = a1 > v32;
+    if (v33) { goto L24; }
     else { goto L6; }
 L6:;
-    f50(v10, v25, v13, a3);
-    v31 = load8(v10);
-    v32 = v31 == 1u;
-    if (v32) { goto L7; }
+    f53(v13, v28, v16, a3);
+    v34 = load8(v13);
+    v35 = v34 == 1u;
+    if (v35) { goto L7; }
     else { goto L9; }
 L7:;
-    v33 = v10 + 8u * 1u;
-    v34 = load64(v33);
-    v35 = v10 + 16u * 1u;
-    v36 = load16(v35);
-    v37 = v10 + 18u * 1u;
-    v38 = load16(v37);
-    v39 = v10 + 24u * 1u;
-    v40 = load8(v39);
-    v41 = v10 + 26u * 1u;
-    v42 = load16(v41);
-    v43 = v10 + 28u * 1u;
-    v44 = load16(v43);
-    v45 = v10 + 32u * 1u;
-    v46 = load_address(v45);
-    v47 = v10 + 40u * 1u;
-    v48 = load64(v47);
-    memory_set(v9, 0u, 130u);
-    v49 = v48 > 130u;
-    if (v49) { v7 = 0u; goto L10; }
+    v36 = v13 + 8u * 1u;
+    v37 = load64(v36);
+    v38 = v13 + 16u * 1u;
+    v39 = load16(v38);
+    v40 = v13 + 18u * 1u;
+    v41 = load16(v40);
+    v42 = v13 + 24u * 1u;
+    v43 = load8(v42);
+    v44 = v13 + 26u * 1u;
+    v45 = load16(v44);
+    v46 = v13 + 28u * 1u;
+    v47 = load16(v46);
+    v48 = v13 + 32u * 1u;
+    v49 = load_address(v48);
+    v50 = v13 + 40u * 1u;
+    v51 = load64(v50);
+    memory_set(v12, 0u, 130u);
+    v52 = v51 > 130u;
+    if (v52) { v7 = 0u; goto L20; }
     else { goto L8; }
 L8:;
-    memory_cpy(v9, v46, v48);
-    v50 = (u16)(v48);
-    v7 = v50; goto L10;
+    memory_cpy(v12, v49, v51);
+    v53 = (u16)(v51);
+    v7 = v53; goto L20;
 L9:;
-    v8 = 0u; goto L13;
+    memory_set(v11, 0u, 32u);
+    f8(v11, v16, a3);
+    v54 = load8(v11);
+    v55 = v54 == 0u;
+    if (v55) { goto L10; }
+    else { goto L19; }
 L10:;
-    if (v5) { goto L11; }
-    else { v8 = 0u; goto L13; }
+    v56 = v11 + 8u * 1u;
+    memory_cpy(v10, v56, 24u);
+    v57 = v10 + 16u * 1u;
+    v58 = load8(v57);
+    v59 = v10 + 17u * 1u;
+    v60 = load8(v59);
+    v61 = v60 == 0u;
+    v62 = load_address(v10);
+    v63 = v61 ? 52u : 54u;
+    v64 = v61 ? 53u : 55u;
+    v65 = v62 + v63 * 1u;
+    v66 = load8(v65);
+    v67 = v62 + v64 * 1u;
+    v68 = load8(v67);
+    v69 = v62 + 42u * 1u;
+    v70 = load8(v69);
+    v71 = v62 + 43u * 1u;
+    v72 = load8(v71);
+    v73 = v10 + 8u * 1u;
+    v74 = load64(v73);
+    v75 = v62 + 54u * 1u;
+    v76 = (u64)((u64)v74 + (u64)UINT64_C(18446744073709551562));
+    v77 = v61 ? v75 : ADDRESS(c112);
+    v78 = v61 ? v76 : 0u;
+    v79 = (u16)v70;
+    v80 = (u16)((u32)v79 << (8u & 15u));
+    v81 = (u16)v72;
+    v82 = (u16)((u32)v80 | (u32)v81);
+    v83 = (u16)v66;
+    v84 = (u16)((u32)v83 << (8u & 15u));
+    v85 = (u16)v68;
+    v86 = (u16)((u32)v84 | (u32)v85);
+    store8(v9, v58);
+    v87 = v9 + 1u * 1u;
+    store8(v87, 0u);
+    v88 = v9 + 2u * 1u;
+    store16(v88, v86);
+    v89 = v9 + 4u * 1u;
+    store16(v89, v82);
+    v90 = v9 + 6u * 1u;
+    store16(v90, 0u);
+    v91 = v9 + 8u * 1u;
+    store_address(v91, v77);
+    v92 = v9 + 16u * 1u;
+    store64(v92, v78);
+    v93 = f60(v9);
+    if (v93) { goto L11; }
+    else { goto L17; }
 L11:;
-    store64(a4, v34);
-    v51 = a4 + 8u * 1u;
-    store16(v51, v36);
-    v52 = a4 + 10u * 1u;
-    store16(v52, v38);
-    v53 = a4 + 12u * 1u;
-    store16(v53, v42);
-    v54 = a4 + 14u * 1u;
-    store16(v54, v44);
-    v55 = a4 + 16u * 1u;
-    store16(v55, v7);
-    v56 = a4 + 18u * 1u;
-    store8(v56, v40);
-    v57 = a4 + 19u * 1u;
-    memory_cpy(v57, v9, 130u);
-    v58 = a4 + 149u * 1u;
-    store8(v58, 0u);
-    v8 = 29u; goto L13;
+    v94 = v62 + 34u * 1u;
+    v95 = load64(v94);
+    v96 = v28 + 440u * 1u;
+    v97 = load64(v96);
+    v98 = load8(v62);
+    v99 = (u8)((u32)v98 >> (4u & 7u));
+    v100 = v62 + 5u * 1u;
+    v101 = load8(v100);
+    v102 = (u8)((u32)v99 | (u32)v101);
+    v103 = v102 == 0u;
+    if (v103) { goto L12; }
+    else { goto L17; }
 L12:;
-    v8 = 33u; goto L13;
+    v104 = v62 + 4u * 1u;
+    v105 = load8(v104);
+    v106 = v28 + 8u * 1u;
+    v107 = load8(v106);
+    v108 = v105 == v107;
+    if (v108) { goto L13; }
+    else { goto L17; }
 L13:;
+    v109 = v62 + 20u * 1u;
+    v110 = load64(v109);
+    v111 = v110 == v97;
+    if (v111) { goto L17; }
+    else { goto L14; }
+L14:;
+    v112 = v95 == v97;
+    v113 = v95 == UINT64_C(18446744073709551615);
+    v114 = (u8)(((u32)v113 | (u32)v112) & UINT64_C(1));
+    if (v114) { goto L15; }
+    else { goto L17; }
+L15:;
+    switch (v82) {
+    case 65535u: goto L18;
+    case 0u: goto L17;
+    default: goto L16;
+    }
+L16:;
+    v115 = load64(v30);
+    v116 = (u16)(v115);
+    v117 = v82 > v116;
+    if (v117) { goto L17; }
+    else { goto L18; }
+L17:;
+    goto L19;
+L18:;
+    v118 = f61(v28, v10);
+    v119 = v118 < 2u;
+    if (v119) { goto L22; }
+    else { goto L19; }
+L19:;
+    v8 = 0u; goto L25;
+L20:;
+    if (v5) { goto L21; }
+    else { v8 = 0u; goto L25; }
+L21:;
+    store64(a4, v37);
+    v120 = a4 + 8u * 1u;
+    store16(v120, v39);
+    v121 = a4 + 10u * 1u;
+    store16(v121, v41);
+    v122 = a4 + 12u * 1u;
+    store16(v122, v45);
+    v123 = a4 + 14u * 1u;
+    store16(v123, v47);
+    v124 = a4 + 16u * 1u;
+    store16(v124, v7);
+    v125 = a4 + 18u * 1u;
+    store8(v125, v43);
+    v126 = a4 + 19u * 1u;
+    memory_cpy(v126, v12, 130u);
+    v127 = a4 + 149u * 1u;
+    store8(v127, 0u);
+    v8 = 29u; goto L25;
+L22:;
+    v128 = v62 + 28u * 1u;
+    v129 = load8(v128);
+    v130 = v62 + 29u * 1u;
+    v131 = load8(v130);
+    v132 = v62 + 30u * 1u;
+    v133 = load8(v132);
+    v134 = v62 + 31u * 1u;
+    v135 = load8(v134);
+    if (v5) { goto L23; }
+    else { v8 = 0u; goto L25; }
+L23:;
+    v136 = (u16)v129;
+    v137 = (u16)((u32)v136 << (8u & 15u));
+    v138 = (u16)v131;
+    v139 = (u16)((u32)v137 | (u32)v138);
+    v140 = (u16)v133;
+    v141 = (u16)((u32)v140 << (8u & 15u));
+    v142 = (u16)v135;
+    v143 = (u16)((u32)v141 | (u32)v142);
+    store64(a4, v110);
+    v144 = a4 + 8u * 1u;
+    store16(v144, v139);
+    v145 = a4 + 10u * 1u;
+    store16(v145, v143);
+    v146 = a4 + 12u * 1u;
+    store16(v146, v86);
+    v147 = a4 + 14u * 1u;
+    store16(v147, v82);
+    v148 = a4 + 16u * 1u;
+    store16(v148, 0u);
+    v149 = a4 + 18u * 1u;
+    store8(v149, v58);
+    v150 = a4 + 19u * 1u;
+    memory_set(v150, 0u, 131u);
+    v8 = 30u; goto L25;
+L24:;
+    v8 = 33u; goto L25;
+L25:;
     return v8;
 }
 
@@ -27862,10 +29728,10 @@ L3:;
     v42 = v5 + 38u * 1u;
     store16(v42, 0u);
     v43 = v5 + 40u * 1u;
-    store_address(v43, ADDRESS(c111));
+    store_address(v43, ADDRESS(c112));
     v44 = v5 + 48u * 1u;
     store64(v44, 0u);
-    f57(v5, v6);
+    f62(v5, v6);
     v45 = v6 + 1472u * 1u;
     v46 = load64(v45);
     memory_cpy(v9, v6, v46);
@@ -28060,7 +29926,7 @@ L15:;
     portable_rattle_dealloc(v116);
     v12 = (struct s2){ 0 }; goto L18;
 L16:;
-    v126 = f60(v58, v78, a4, 0u, 0u, v64, a7);
+    v126 = f65(v58, v78, a4, 0u, 0u, v64, a7);
     v127 = v58 + 48u * 1u;
     v128 = load8(v127);
     v129 = v58 + 80u * 1u;
@@ -28194,7 +30060,7 @@ L31:;
     store8(v187, 0u);
     v188 = v73 + 353u * 1u;
     store8(v188, 0u);
-    f61(v53, v73, v76, a1);
+    f66(v53, v73, v76, a1);
     v189 = load8(v53);
     v190 = v53 + 1u * 1u;
     v191 = load8(v190);
@@ -28292,7 +30158,7 @@ L40:;
     else { goto L44; }
 L41:;
     v249 = v73 + 48u * 1u;
-    v250 = f62(v52, v55, v249);
+    v250 = f67(v52, v55, v249);
     v251 = v250.m0;
     v252 = v251 == 0u;
     if (v252) { goto L44; }
@@ -28351,7 +30217,7 @@ L49:;
 L50:;
     v279 = v73 + 80u * 1u;
     v280 = v73 + 48u * 1u;
-    v281 = f62(v279, v55, v280);
+    v281 = f67(v279, v55, v280);
     v282 = v281.m0;
     v26 = v282; goto L51;
 L51:;
@@ -28520,7 +30386,7 @@ L76:;
 L77:;
     v346 = v12.m1;
     v347 = (u64)v346;
-    v348 = ADDRESS(c244) + v347 * 4u;
+    v348 = ADDRESS(c322) + v347 * 4u;
     v349 = load32(v348);
     v47 = v349; goto L78;
 L78:;
@@ -28582,7 +30448,7 @@ L3:;
     else { goto L16; }
 L4:;
     v28 = v23 + 80u * 1u;
-    f63(v10, v28, v14, a2);
+    f68(v10, v28, v14, a2);
     v29 = load8(v10);
     v30 = v10 + 24u * 1u;
     v31 = load8(v30);
@@ -28654,7 +30520,7 @@ L11:;
     goto L18;
 L12:;
     v69 = v23 + 240u * 1u;
-    f63(v11, v69, v14, a2);
+    f68(v11, v69, v14, a2);
     v70 = load8(v11);
     v71 = v11 + 24u * 1u;
     v72 = load8(v71);
@@ -28977,7 +30843,7 @@ L11:;
     store_address(v56, v37);
     v57 = v11 + 16u * 1u;
     store64(v57, v39);
-    v58 = f59(v28, v11);
+    v58 = f64(v28, v11);
     v59 = v58.m0;
     v60 = v58.m1;
     v2 = v60; v3 = v59; goto L12;
@@ -28988,7 +30854,7 @@ L12:;
     v62.m1 = v2;
     v4 = v62; goto L14;
 L13:;
-    v63 = f60(v28, v29, v31, 0u, 0u, v37, v39);
+    v63 = f65(v28, v29, v31, 0u, 0u, v37, v39);
     v4 = v63; goto L14;
 L14:;
     v64 = v4.m0;
@@ -29032,7 +30898,7 @@ L20:;
 L21:;
     v78 = v4.m1;
     v79 = (u64)v78;
-    v80 = ADDRESS(c244) + v79 * 4u;
+    v80 = ADDRESS(c322) + v79 * 4u;
     v81 = load32(v80);
     v8 = 5u; v9 = v81; goto L22;
 L22:;
@@ -29114,7 +30980,7 @@ L6:;
     store8(v51, 0u);
     v52 = v38 + 353u * 1u;
     store8(v52, 0u);
-    f61(v22, v38, v40, a1);
+    f66(v22, v38, v40, a1);
     v53 = load8(v22);
     v54 = v22 + 1u * 1u;
     v55 = load8(v54);
@@ -29367,7 +31233,7 @@ L15:;
     store8(v71, 0u);
     v72 = v28 + 353u * 1u;
     store8(v72, 0u);
-    f61(v16, v28, v30, a1);
+    f66(v16, v28, v30, a1);
     v73 = load8(v16);
     v74 = v16 + 1u * 1u;
     v75 = load8(v74);
@@ -29717,7 +31583,7 @@ L6:;
     v43 = load16(v42);
     v44 = v33 + 237u * 1u;
     v45 = load8(v44);
-    f64(v23, v33, v36, a1, v43, v45);
+    f69(v23, v33, v36, a1, v43, v45);
     goto L47;
 L7:;
     memory_set(v22, 0u, 64u);
@@ -29831,7 +31697,7 @@ L15:;
     store_address(v96, v18);
     v97 = v20 + 48u * 1u;
     store64(v97, 0u);
-    f57(v20, v36);
+    f62(v20, v36);
     v98 = v33 + 32u * 1u;
     v99 = load64(v98);
     v100 = (u64)((u64)v99 + (u64)a1) < v99 ? UINT64_C(18446744073709551615) : (u64)((u64)v99 + (u64)a1);
@@ -29995,7 +31861,7 @@ L24:;
     store_address(v192, v175);
     v193 = v19 + 48u * 1u;
     store64(v193, v177);
-    f57(v19, v36);
+    f62(v19, v36);
     v194 = load8(v152);
     v195 = (u8)((u32)v194 + (u32)255u);
     store8(v152, v195);
@@ -30149,7 +32015,7 @@ L43:;
     v263 = load16(v262);
     v264 = (u16)((u32)v263 + (u32)16384u);
     v265 = (u8)((u32)v238 + (u32)255u);
-    f64(v22, v33, v36, a1, v264, v265);
+    f69(v22, v33, v36, a1, v264, v265);
     goto L44;
 L44:;
     memory_cpy(v23, v22, 64u);
@@ -30250,7 +32116,7 @@ L58:;
     v16 = 0u; goto L60;
 L59:;
     v307 = (u64)v284;
-    v308 = ADDRESS(c244) + v307 * 4u;
+    v308 = ADDRESS(c322) + v307 * 4u;
     v309 = load32(v308);
     v16 = v309; goto L60;
 L60:;
@@ -30276,7 +32142,7 @@ u32 portable_ptpm_clock_handle(address a0, u16 a1, address a2, u64 a3, address a
     v10 = a4 == 0u;
     v11 = v10 ? 4096u : 0u;
     v12 = a4 + v11 * 1u;
-    v13 = f65(a0, a1, v9, a3, v12, a5, a6);
+    v13 = f70(a0, a1, v9, a3, v12, a5, a6);
     return v13;
 }
 
@@ -30336,12 +32202,12 @@ L3:;
     store8(v22, 1u);
     v32 = a0 + 9u * 1u;
     memory_set(v32, 0u, 7u);
-    v33 = f65(a0, a1, v16, a3, v19, a5, a6);
+    v33 = f70(a0, a1, v16, a3, v19, a5, a6);
     v34 = v33 == 5u;
     if (v34) { goto L5; }
     else { v10 = v33; goto L10; }
 L4:;
-    v35 = f83(a0, a1, v16, a3, v19, a5, a6, a7);
+    v35 = f88(a0, a1, v16, a3, v19, a5, a6, a7);
     v10 = v35; goto L10;
 L5:;
     memory_set(v11, 0u, 12u);
@@ -30369,7 +32235,7 @@ L7:;
     memory_set(v32, 0u, 7u);
     v8 = 0u; v9 = 0u; goto L9;
 L8:;
-    f84(v11, v43, v12);
+    f89(v11, v43, v12);
     store64(v36, 1u);
     store_address(v40, v43);
     store_address(a0, v36);
@@ -30428,13 +32294,13 @@ L2:;
     memory_set(v23, 0u, 7u);
     goto L4;
 L3:;
-    f86(v9, v21, a1, v12, a3);
+    f91(v9, v21, a1, v12, a3);
     v24 = load8(v9);
     v25 = v24 == 0u;
     if (v25) { goto L5; }
     else { goto L14; }
 L4:;
-    v26 = f85(a0, a1, v12, a3, a4);
+    v26 = f90(a0, a1, v12, a3, a4);
     v8 = v26; goto L53;
 L5:;
     v27 = v9 + 8u * 1u;
@@ -30780,7 +32646,7 @@ L17:;
     memory_move(v83, v8, 80u);
     goto L19;
 L18:;
-    f76(v83, v8, v77);
+    f81(v83, v8, v77);
     goto L19;
 L19:;
     v84 = v80 + 8u * 1u;
@@ -30819,228 +32685,790 @@ L24:;
 }
 
 u32 portable_ptpm_clock_handle_said(address a0, u16 a1, address a2, u64 a3, address a4, address a5, u64 a6, address a7, address a8) {
-    u8 v9, v17, v20, v26, v27, v28, v31, v33, v37, v38, v40, v43, v45, v46, v49, v50;
-    u8 v51, v53, v54, v59, v60, v67, v68, v70, v71, v73, v75;
-    u32 v10, v11, v61, v62, v72;
-    address v12, v13, v14, v15, v16, v19, v22, v23, v24, v25, v29, v32, v34, v39, v48, v52;
-    address v55, v57, v58, v63, v65, v66, v69, v76;
-    u64 v18, v21, v30, v35, v47, v56, v64, v74, v77;
-    u16 v36, v41, v42, v44;
-    u64 block0[6];
+    u64 v9, v10, v11, v12, v13, v15, v16, v18, v20, v23, v41, v44, v53, v58, v83, v84;
+    u64 v97, v98, v109, v110, v120, v122, v124, v141, v143, v156, v161, v170, v171, v174, v182, v183;
+    u64 v184, v186, v187, v189, v192, v200, v204, v205, v210, v215, v216, v221, v222, v256, v275, v276;
+    u64 v277, v282, v287, v297, v298, v308, v310, v312, v329, v331, v344, v349, v387, v391, v401, v404;
+    u16 v14, v59, v64, v65, v67, v71, v72, v125, v126, v127, v128, v129, v130, v131, v132, v162;
+    u16 v169, v177, v178, v196, v197, v198, v199, v201, v223, v224, v225, v226, v236, v237, v238, v239;
+    u16 v244, v245, v246, v247, v248, v249, v250, v251, v255, v258, v284, v285, v286, v313, v314, v315;
+    u16 v316, v317, v318, v319, v320, v350, v362, v363, v364, v365, v366, v367, v368, v369;
+    u8 v17, v19, v21, v22, v40, v43, v49, v50, v51, v54, v56, v60, v61, v63, v66, v68;
+    u8 v69, v73, v74, v75, v76, v77, v79, v81, v86, v87, v88, v90, v91, v93, v95, v100;
+    u8 v101, v104, v106, v107, v112, v114, v116, v118, v139, v144, v145, v147, v148, v149, v151, v153;
+    u8 v154, v157, v158, v159, v160, v163, v164, v165, v167, v168, v172, v176, v179, v185, v188, v191;
+    u8 v194, v195, v206, v209, v211, v213, v214, v217, v218, v219, v220, v228, v230, v231, v233, v235;
+    u8 v241, v243, v278, v281, v283, v288, v289, v292, v294, v295, v300, v302, v304, v306, v327, v332;
+    u8 v333, v335, v336, v337, v339, v341, v342, v345, v346, v347, v348, v351, v352, v353, v355, v357;
+    u8 v359, v361, v380, v381, v383, v385, v394, v395, v397, v398, v400, v402;
+    u32 v24, v25, v252, v253, v254, v388, v389, v399;
+    address v26, v27, v28, v29, v30, v31, v32, v33, v34, v35, v36, v37, v38, v39, v42, v45;
+    address v46, v47, v48, v52, v55, v57, v62, v70, v78, v80, v82, v85, v89, v92, v94, v96;
+    address v99, v102, v103, v105, v108, v111, v113, v115, v117, v119, v121, v123, v133, v134, v135, v136;
+    address v137, v138, v140, v142, v146, v150, v152, v155, v166, v173, v175, v180, v181, v190, v193, v202;
+    address v203, v207, v208, v212, v227, v229, v232, v234, v240, v242, v257, v259, v260, v261, v262, v263;
+    address v264, v265, v266, v267, v268, v269, v270, v271, v272, v273, v274, v279, v280, v290, v291, v293;
+    address v296, v299, v301, v303, v305, v307, v309, v311, v321, v322, v323, v324, v325, v326, v328, v330;
+    address v334, v338, v340, v343, v354, v356, v358, v360, v370, v371, v372, v373, v374, v375, v376, v377;
+    address v378, v379, v382, v384, v386, v390, v392, v393, v396, v403;
+    u64 block0[3];
     u64 block1[3];
-    u64 block2[55];
-    u64 block3[55];
-    u64 block4[2];
-    v12 = ADDRESS(block0);
-    v13 = ADDRESS(block1);
-    v14 = ADDRESS(block2);
-    v15 = ADDRESS(block3);
-    v16 = ADDRESS(block4);
-    v17 = a2 == 0u;
-    v18 = v17 ? 4096u : 0u;
-    v19 = a2 + v18 * 1u;
-    v20 = a5 == 0u;
-    v21 = v20 ? 4096u : 0u;
-    v22 = a5 + v21 * 1u;
+    u64 block2[3];
+    u64 block3[4];
+    u64 block4[5];
+    u64 block5[3];
+    u64 block6[3];
+    u64 block7[4];
+    u64 block8[3];
+    u64 block9[6];
+    u64 block10[3];
+    u64 block11[55];
+    u64 block12[55];
+    u64 block13[2];
+    v26 = ADDRESS(block0);
+    v27 = ADDRESS(block1);
+    v28 = ADDRESS(block2);
+    v29 = ADDRESS(block3);
+    v30 = ADDRESS(block4);
+    v31 = ADDRESS(block5);
+    v32 = ADDRESS(block6);
+    v33 = ADDRESS(block7);
+    v34 = ADDRESS(block8);
+    v35 = ADDRESS(block9);
+    v36 = ADDRESS(block10);
+    v37 = ADDRESS(block11);
+    v38 = ADDRESS(block12);
+    v39 = ADDRESS(block13);
+    v40 = a2 == 0u;
+    v41 = v40 ? 4096u : 0u;
+    v42 = a2 + v41 * 1u;
+    v43 = a5 == 0u;
+    v44 = v43 ? 4096u : 0u;
+    v45 = a5 + v44 * 1u;
     store64(a7, 0u);
     store32(a8, 0u);
-    v23 = a8 + 4u * 1u;
-    store64(v23, 0u);
-    v24 = load_address(a0);
-    v25 = a0 + 8u * 1u;
-    v26 = load8(v25);
+    v46 = a8 + 4u * 1u;
+    store64(v46, 0u);
+    v47 = load_address(a0);
+    v48 = a0 + 8u * 1u;
+    v49 = load8(v48);
     memory_set(a0, 0u, 16u);
-    v27 = (u8)((v26) & UINT64_C(1));
-    if (v27) { goto L1; }
-    else { goto L30; }
+    v50 = (u8)((v49) & UINT64_C(1));
+    if (v50) { goto L1; }
+    else { goto L76; }
 L1:;
-    v28 = load8(v24);
-    v29 = v24 + 8u * 1u;
-    v30 = load64(v29);
-    memory_set(v24, 0u, 16u);
-    v31 = v28 == 1u;
-    v32 = (address)v30;
-    if (v31) { goto L2; }
-    else { goto L29; }
+    v51 = load8(v47);
+    v52 = v47 + 8u * 1u;
+    v53 = load64(v52);
+    memory_set(v47, 0u, 16u);
+    v54 = v51 == 1u;
+    v55 = (address)v53;
+    if (v54) { goto L2; }
+    else { goto L75; }
 L2:;
-    memory_set(v15, 0u, 440u);
-    memory_set(v16, 0u, 12u);
+    memory_set(v38, 0u, 440u);
+    memory_set(v39, 0u, 12u);
     store64(a7, 0u);
     store32(a8, 0u);
-    store64(v23, 0u);
-    f31(v15, v32);
-    memory_cpy(v14, v15, 440u);
-    memory_set(v13, 0u, 24u);
-    v33 = a1 == 0u;
-    if (v33) { goto L27; }
+    store64(v46, 0u);
+    f31(v38, v55);
+    memory_cpy(v37, v38, 440u);
+    v56 = a1 == 0u;
+    if (v56) { v24 = 33u; goto L74; }
     else { goto L3; }
 L3:;
-    v34 = v32 + 432u * 1u;
-    v35 = load64(v34);
-    v36 = (u16)(v35);
-    v37 = a1 > v36;
-    if (v37) { goto L27; }
+    v57 = v55 + 432u * 1u;
+    v58 = load64(v57);
+    v59 = (u16)(v58);
+    v60 = a1 > v59;
+    if (v60) { v24 = 33u; goto L74; }
     else { goto L4; }
 L4:;
-    v38 = a6 < 15u;
-    if (v38) { goto L26; }
+    v61 = a6 < 15u;
+    if (v61) { v24 = 34u; goto L74; }
     else { goto L5; }
 L5:;
-    v39 = a4 + 4u * 1u;
-    v40 = load8(v39);
-    switch (v40) {
-    case 0u: goto L7;
+    v62 = a4 + 4u * 1u;
+    v63 = load8(v62);
+    switch (v63) {
+    case 0u: goto L8;
     case 1u: goto L6;
-    default: goto L25;
+    case 2u: goto L7;
+    default: v24 = 121u; goto L74;
     }
 L6:;
-    v41 = load16(a4);
-    v42 = (u16)((u32)v41 + (u32)2u);
-    v43 = v42 < 9u;
-    v44 = (u16)((u32)449u >> (v42 & 15u));
-    v45 = (u8)((v44) & UINT64_C(1));
-    v46 = v43 ? v45 : 0u;
-    if (v46) { goto L8; }
-    else { goto L25; }
+    v64 = load16(a4);
+    v65 = (u16)((u32)v64 + (u32)2u);
+    v66 = v65 < 9u;
+    v67 = (u16)((u32)449u >> (v65 & 15u));
+    v68 = (u8)((v67) & UINT64_C(1));
+    v69 = v66 ? v68 : 0u;
+    if (v69) { goto L11; }
+    else { v24 = 121u; goto L74; }
 L7:;
-    v9 = 0u; goto L10;
+    v70 = a4 + 2u * 1u;
+    v71 = load16(v70);
+    v72 = (u16)((u32)v71 & (u32)1u);
+    v73 = v72 == 0u;
+    v74 = v71 < 1419u;
+    v75 = (u8)(((u32)v74 & (u32)v73) & UINT64_C(1));
+    if (v75) { goto L16; }
+    else { v24 = 121u; goto L74; }
 L8:;
-    v47 = (u64)v42;
-    v48 = ADDRESS(c241) + v47 * 1u;
-    v49 = load8(v48);
-    f50(v12, v32, v19, a3);
-    v50 = load8(v12);
-    v51 = v50 == 1u;
-    if (v51) { goto L9; }
-    else { v9 = 0u; goto L10; }
+    memory_set(v36, 0u, 24u);
+    f73(v36, v55, a1, v42, a3, v45, a6);
+    v76 = load8(v36);
+    v77 = v76 == 0u;
+    if (v77) { goto L10; }
+    else { goto L9; }
 L9:;
-    v52 = v12 + 8u * 1u;
-    f88(v32, v52, v49);
-    v9 = 1u; goto L10;
-L10:;
-    f68(v13, v32, a1, v19, a3, v22, a6);
-    v53 = load8(v13);
-    v54 = v53 == 0u;
-    if (v54) { goto L11; }
-    else { goto L13; }
-L11:;
-    v55 = v13 + 16u * 1u;
-    v56 = load64(v55);
-    if (v9) { goto L12; }
-    else { goto L14; }
-L12:;
-    store64(a7, v56);
-    f84(v16, v32, v14);
-    memory_cpy(a8, v16, 12u);
-    goto L19;
-L13:;
     TRAP;
     UNREACHABLE;
+L10:;
+    v78 = v36 + 8u * 1u;
+    v79 = load8(v78);
+    v80 = v36 + 9u * 1u;
+    v81 = load8(v80);
+    v82 = v36 + 16u * 1u;
+    v83 = load64(v82);
+    v21 = v79; v22 = v81; v23 = v83; goto L63;
+L11:;
+    v84 = (u64)v65;
+    v85 = ADDRESS(c319) + v84 * 1u;
+    v86 = load8(v85);
+    f53(v35, v55, v42, a3);
+    v87 = load8(v35);
+    v88 = v87 == 1u;
+    if (v88) { goto L12; }
+    else { goto L13; }
+L12:;
+    v89 = v35 + 8u * 1u;
+    f93(v55, v89, v86);
+    goto L13;
+L13:;
+    memory_set(v34, 0u, 24u);
+    f73(v34, v55, a1, v42, a3, v45, a6);
+    v90 = load8(v34);
+    v91 = v90 == 0u;
+    if (v91) { goto L15; }
+    else { goto L14; }
 L14:;
-    v57 = v13 + 8u * 1u;
-    v58 = v13 + 9u * 1u;
-    v59 = load8(v58);
-    v60 = load8(v57);
-    store64(a7, v56);
-    f84(v16, v32, v14);
-    memory_cpy(a8, v16, 12u);
-    switch (v60) {
-    case 0u: goto L15;
-    case 9u: goto L23;
-    case 1u: v10 = 1u; goto L28;
-    case 2u: goto L16;
-    case 3u: goto L17;
-    case 4u: goto L18;
-    case 5u: goto L19;
-    case 6u: goto L20;
-    case 7u: goto L21;
-    case 8u: goto L22;
-    default: goto L24;
-    }
-L15:;
-    v61 = (u32)v59;
-    v62 = (u32)((u32)v61 + (u32)16u);
-    v10 = v62; goto L28;
-L16:;
-    v10 = 2u; goto L28;
-L17:;
-    v10 = 3u; goto L28;
-L18:;
-    v10 = 4u; goto L28;
-L19:;
-    v10 = 5u; goto L28;
-L20:;
-    v10 = 6u; goto L28;
-L21:;
-    v10 = 7u; goto L28;
-L22:;
-    v10 = 8u; goto L28;
-L23:;
-    v10 = 9u; goto L28;
-L24:;
+    TRAP;
     UNREACHABLE;
+L15:;
+    v92 = v34 + 8u * 1u;
+    v93 = load8(v92);
+    v94 = v34 + 9u * 1u;
+    v95 = load8(v94);
+    v96 = v34 + 16u * 1u;
+    v97 = load64(v96);
+    if (v88) { v20 = v97; goto L62; }
+    else { v21 = v93; v22 = v95; v23 = v97; goto L63; }
+L16:;
+    v98 = (u64)v71;
+    v99 = a4 + 5u * 1u;
+    memory_set(v33, 0u, 32u);
+    f8(v33, v42, a3);
+    v100 = load8(v33);
+    v101 = v100 == 0u;
+    if (v101) { goto L17; }
+    else { goto L47; }
+L17:;
+    v102 = v33 + 8u * 1u;
+    memory_cpy(v32, v102, 24u);
+    v103 = v32 + 16u * 1u;
+    v104 = load8(v103);
+    v105 = v32 + 17u * 1u;
+    v106 = load8(v105);
+    v107 = v106 == 0u;
+    v108 = load_address(v32);
+    v109 = v107 ? 52u : 54u;
+    v110 = v107 ? 53u : 55u;
+    v111 = v108 + v109 * 1u;
+    v112 = load8(v111);
+    v113 = v108 + v110 * 1u;
+    v114 = load8(v113);
+    v115 = v108 + 42u * 1u;
+    v116 = load8(v115);
+    v117 = v108 + 43u * 1u;
+    v118 = load8(v117);
+    v119 = v32 + 8u * 1u;
+    v120 = load64(v119);
+    v121 = v108 + 54u * 1u;
+    v122 = (u64)((u64)v120 + (u64)UINT64_C(18446744073709551562));
+    v123 = v107 ? v121 : ADDRESS(c112);
+    v124 = v107 ? v122 : 0u;
+    v125 = (u16)v116;
+    v126 = (u16)((u32)v125 << (8u & 15u));
+    v127 = (u16)v118;
+    v128 = (u16)((u32)v126 | (u32)v127);
+    v129 = (u16)v112;
+    v130 = (u16)((u32)v129 << (8u & 15u));
+    v131 = (u16)v114;
+    v132 = (u16)((u32)v130 | (u32)v131);
+    store8(v31, v104);
+    v133 = v31 + 1u * 1u;
+    store8(v133, 0u);
+    v134 = v31 + 2u * 1u;
+    store16(v134, v132);
+    v135 = v31 + 4u * 1u;
+    store16(v135, v128);
+    v136 = v31 + 6u * 1u;
+    store16(v136, 0u);
+    v137 = v31 + 8u * 1u;
+    store_address(v137, v123);
+    v138 = v31 + 16u * 1u;
+    store64(v138, v124);
+    v139 = f60(v31);
+    if (v139) { goto L18; }
+    else { goto L24; }
+L18:;
+    v140 = v108 + 34u * 1u;
+    v141 = load64(v140);
+    v142 = v55 + 440u * 1u;
+    v143 = load64(v142);
+    v144 = load8(v108);
+    v145 = (u8)((u32)v144 >> (4u & 7u));
+    v146 = v108 + 5u * 1u;
+    v147 = load8(v146);
+    v148 = (u8)((u32)v145 | (u32)v147);
+    v149 = v148 == 0u;
+    if (v149) { goto L19; }
+    else { goto L24; }
+L19:;
+    v150 = v108 + 4u * 1u;
+    v151 = load8(v150);
+    v152 = v55 + 8u * 1u;
+    v153 = load8(v152);
+    v154 = v151 == v153;
+    if (v154) { goto L20; }
+    else { goto L24; }
+L20:;
+    v155 = v108 + 20u * 1u;
+    v156 = load64(v155);
+    v157 = v156 == v143;
+    if (v157) { goto L24; }
+    else { goto L21; }
+L21:;
+    v158 = v141 == v143;
+    v159 = v141 == UINT64_C(18446744073709551615);
+    v160 = (u8)(((u32)v159 | (u32)v158) & UINT64_C(1));
+    if (v160) { goto L22; }
+    else { goto L24; }
+L22:;
+    switch (v128) {
+    case 65535u: goto L25;
+    case 0u: goto L24;
+    default: goto L23;
+    }
+L23:;
+    v161 = load64(v57);
+    v162 = (u16)(v161);
+    v163 = v128 > v162;
+    if (v163) { goto L24; }
+    else { goto L25; }
+L24:;
+    goto L47;
 L25:;
-    v10 = 121u; goto L28;
+    v164 = f61(v55, v32);
+    v165 = v164 == 0u;
+    if (v165) { goto L26; }
+    else { goto L47; }
 L26:;
-    v10 = 34u; goto L28;
+    if (v158) { v13 = 0u; v14 = v132; v15 = v156; v16 = v141; v17 = v151; goto L43; }
+    else { goto L27; }
 L27:;
-    v10 = 33u; goto L28;
+    v166 = v108 + 45u * 1u;
+    v167 = load8(v166);
+    v168 = v167 == 0u;
+    if (v168) { v13 = 0u; v14 = v132; v15 = v156; v16 = v143; v17 = v151; goto L43; }
+    else { goto L28; }
 L28:;
-    store64(v24, 1u);
-    store_address(v29, v32);
-    store_address(a0, v24);
-    store8(v25, 1u);
-    v63 = a0 + 9u * 1u;
-    memory_set(v63, 0u, 7u);
-    v11 = v10; goto L35;
+    v169 = (u16)((u32)a1 + (u32)65535u);
+    v170 = load64(v57);
+    v171 = (u64)v169;
+    v172 = v170 > v171;
+    if (v172) { goto L29; }
+    else { v13 = 0u; v14 = v132; v15 = v156; v16 = v143; v17 = v151; goto L43; }
 L29:;
-    v64 = (u64)v28;
-    store64(v24, v64);
-    store_address(v29, v32);
-    store_address(a0, v24);
-    store8(v25, 1u);
-    v65 = a0 + 9u * 1u;
-    memory_set(v65, 0u, 7u);
-    v66 = a4 + 4u * 1u;
-    v67 = load8(v66);
-    v68 = v67 == 0u;
-    if (v68) { goto L31; }
-    else { goto L32; }
+    v173 = v55 + 240u * 1u;
+    v174 = (u64)((u64)v171 * (u64)24u);
+    v175 = v173 + v174 * 1u;
+    v176 = load8(v175);
+    switch (v176) {
+    case 4u: goto L31;
+    case 5u: goto L31;
+    case 7u: goto L31;
+    case 8u: goto L31;
+    case 0u: v13 = 0u; v14 = v132; v15 = v156; v16 = v143; v17 = v151; goto L43;
+    case 1u: v13 = 0u; v14 = v132; v15 = v156; v16 = v143; v17 = v151; goto L43;
+    case 2u: v13 = 0u; v14 = v132; v15 = v156; v16 = v143; v17 = v151; goto L43;
+    case 3u: v13 = 0u; v14 = v132; v15 = v156; v16 = v143; v17 = v151; goto L43;
+    case 6u: v13 = 0u; v14 = v132; v15 = v156; v16 = v143; v17 = v151; goto L43;
+    default: goto L30;
+    }
 L30:;
-    v69 = a4 + 4u * 1u;
-    v70 = load8(v69);
-    v71 = v70 == 0u;
-    if (v71) { goto L31; }
-    else { v11 = 32u; goto L35; }
+    UNREACHABLE;
 L31:;
-    v72 = f83(a0, a1, v19, a3, v22, a6, a7, a8);
-    v11 = v72; goto L35;
+    v177 = (u16)(v170);
+    v178 = (u16)((u32)v177 + (u32)1u);
+    v179 = v178 > 1u;
+    if (v179) { goto L32; }
+    else { v13 = 0u; v14 = v132; v15 = v156; v16 = v143; v17 = v151; goto L43; }
 L32:;
-    memory_set(a0, 0u, 16u);
-    v73 = load8(v24);
-    v74 = load64(v29);
-    memory_set(v24, 0u, 16u);
-    v75 = v73 == 4u;
-    v76 = (address)v74;
-    if (v75) { goto L34; }
-    else { goto L33; }
+    v180 = v42 + 2u * 1u;
+    v181 = v42 + 3u * 1u;
+    v182 = (u64)v42;
+    v183 = (u64)a1;
+    v184 = (u64)v178;
+    v9 = 0u; v10 = 1u; goto L33;
 L33:;
-    v77 = (u64)v73;
-    store64(v24, v77);
-    store_address(v29, v76);
-    store_address(a0, v24);
-    store8(v25, 1u);
-    memory_set(v65, 0u, 7u);
-    v11 = 32u; goto L35;
+    v185 = v10 == v183;
+    if (v185) { v12 = v9; goto L41; }
+    else { goto L34; }
 L34:;
-    store64(v24, 4u);
-    store_address(v29, v76);
-    store_address(a0, v24);
-    store8(v25, 1u);
-    memory_set(v65, 0u, 7u);
-    v11 = 122u; goto L35;
+    v186 = (u64)((u64)v10 + (u64)UINT64_C(18446744073709551615));
+    v187 = load64(v57);
+    v188 = v187 > v186;
+    if (v188) { goto L35; }
+    else { v12 = v9; goto L41; }
 L35:;
-    return v11;
+    v189 = (u64)((u64)v186 * (u64)24u);
+    v190 = v173 + v189 * 1u;
+    v191 = load8(v190);
+    switch (v191) {
+    case 4u: goto L37;
+    case 5u: goto L37;
+    case 7u: goto L37;
+    case 8u: goto L37;
+    case 0u: v12 = v9; goto L41;
+    case 1u: v12 = v9; goto L41;
+    case 2u: v12 = v9; goto L41;
+    case 3u: v12 = v9; goto L41;
+    case 6u: v12 = v9; goto L41;
+    default: goto L36;
+    }
+L36:;
+    UNREACHABLE;
+L37:;
+    v192 = (u64)((u64)v9 * (u64)1476u);
+    v193 = v45 + v192 * 1u;
+    v194 = load8(v180);
+    v195 = load8(v181);
+    v196 = (u16)v194;
+    v197 = (u16)((u32)v196 << (8u & 15u));
+    v198 = (u16)v195;
+    v199 = (u16)((u32)v197 | (u32)v198);
+    v200 = (u64)v199;
+    v201 = (u16)(v10);
+    store16(v193, v201);
+    v202 = v193 + 2u * 1u;
+    store16(v202, v199);
+    v203 = v193 + 4u * 1u;
+    v204 = (u64)v203;
+    v205 = (u64)((u64)v204 - (u64)v182);
+    v206 = v205 < v200;
+    if (v206) { v11 = 0u; goto L39; }
+    else { goto L38; }
+L38:;
+    memory_move(v203, v42, v200);
+    goto L40;
+L39:;
+    v207 = v203 + v11 * 1u;
+    v208 = v42 + v11 * 1u;
+    v209 = load8(v208);
+    store8(v207, v209);
+    v210 = (u64)((u64)v11 + (u64)1u);
+    v211 = v210 == v200;
+    if (v211) { goto L40; }
+    else { v11 = v210; goto L39; }
+L40:;
+    v212 = v193 + 49u * 1u;
+    v213 = load8(v212);
+    v214 = (u8)((u32)v213 + (u32)255u);
+    store8(v212, v214);
+    v215 = (u64)((u64)v9 + (u64)1u);
+    v12 = v215; goto L41;
+L41:;
+    v216 = (u64)((u64)v10 + (u64)1u);
+    v217 = v216 == v184;
+    if (v217) { goto L42; }
+    else { v9 = v12; v10 = v216; goto L33; }
+L42:;
+    v218 = load8(v111);
+    v219 = load8(v113);
+    v220 = load8(v150);
+    v221 = load64(v142);
+    v222 = load64(v155);
+    v223 = (u16)v218;
+    v224 = (u16)((u32)v223 << (8u & 15u));
+    v225 = (u16)v219;
+    v226 = (u16)((u32)v224 | (u32)v225);
+    v13 = v12; v14 = v226; v15 = v222; v16 = v221; v17 = v220; goto L43;
+L43:;
+    v227 = v108 + 44u * 1u;
+    v228 = load8(v227);
+    v229 = v108 + 45u * 1u;
+    v230 = load8(v229);
+    v231 = v228 > v230 ? (u8)((u32)v228 - (u32)v230) : 0u;
+    v232 = v108 + 30u * 1u;
+    v233 = load8(v232);
+    v234 = v108 + 31u * 1u;
+    v235 = load8(v234);
+    v236 = (u16)v233;
+    v237 = (u16)((u32)v236 << (8u & 15u));
+    v238 = (u16)v235;
+    v239 = (u16)((u32)v237 | (u32)v238);
+    v240 = v108 + 28u * 1u;
+    v241 = load8(v240);
+    v242 = v108 + 29u * 1u;
+    v243 = load8(v242);
+    v244 = (u16)v241;
+    v245 = (u16)((u32)v244 << (8u & 15u));
+    v246 = (u16)v243;
+    v247 = (u16)((u32)v245 | (u32)v246);
+    v248 = (u16)v17;
+    v249 = swap16(a1);
+    v250 = swap16(v239);
+    v251 = swap16(v247);
+    v252 = (u32)v231;
+    v253 = (u32)((u32)v252 * (u32)257u);
+    v254 = (u32)((u32)v253 | (u32)UINT32_C(131072));
+    v255 = swap16(v14);
+    v256 = (u64)((u64)v13 * (u64)1476u);
+    v257 = v45 + v256 * 1u;
+    store16(v257, a1);
+    v258 = (u16)((u32)v71 + (u32)54u);
+    v259 = v257 + 2u * 1u;
+    store16(v259, v258);
+    v260 = v257 + 4u * 1u;
+    v261 = v257 + 58u * 1u;
+    store16(v260, 4621u);
+    v262 = v257 + 6u * 1u;
+    store16(v262, 13824u);
+    v263 = v257 + 8u * 1u;
+    store16(v263, v248);
+    v264 = v257 + 10u * 1u;
+    memory_set(v264, 0u, 14u);
+    v265 = v257 + 24u * 1u;
+    store64(v265, v16);
+    v266 = v257 + 32u * 1u;
+    store16(v266, v249);
+    v267 = v257 + 34u * 1u;
+    store16(v267, v250);
+    v268 = v257 + 36u * 1u;
+    store16(v268, 32516u);
+    v269 = v257 + 38u * 1u;
+    store64(v269, v15);
+    v270 = v257 + 46u * 1u;
+    store16(v270, v251);
+    v271 = v257 + 48u * 1u;
+    store32(v271, v254);
+    v272 = v257 + 52u * 1u;
+    store16(v272, 256u);
+    v273 = v257 + 54u * 1u;
+    store16(v273, 512u);
+    v274 = v257 + 56u * 1u;
+    store16(v274, v255);
+    v275 = (u64)v261;
+    v276 = (u64)v99;
+    v277 = (u64)((u64)v275 - (u64)v276);
+    v278 = v277 < v98;
+    if (v278) { v18 = 0u; goto L45; }
+    else { goto L44; }
+L44:;
+    memory_move(v261, v99, v98);
+    goto L46;
+L45:;
+    v279 = v261 + v18 * 1u;
+    v280 = v99 + v18 * 1u;
+    v281 = load8(v280);
+    store8(v279, v281);
+    v282 = (u64)((u64)v18 + (u64)1u);
+    v283 = v282 == v98;
+    if (v283) { goto L46; }
+    else { v18 = v282; goto L45; }
+L46:;
+    v284 = swap16(v258);
+    store16(v262, v284);
+    store16(v266, v249);
+    v285 = (u16)((u32)v71 + (u32)2u);
+    v286 = swap16(v285);
+    store16(v273, v286);
+    v287 = (u64)((u64)v13 + (u64)1u);
+    store64(a7, v287);
+    f89(v39, v55, v37);
+    memory_cpy(a8, v39, 12u);
+    goto L72;
+L47:;
+    memory_set(v29, 0u, 32u);
+    f8(v29, v42, a3);
+    v288 = load8(v29);
+    v289 = v288 == 0u;
+    if (v289) { goto L48; }
+    else { goto L57; }
+L48:;
+    v290 = v29 + 8u * 1u;
+    memory_cpy(v28, v290, 24u);
+    v291 = v28 + 16u * 1u;
+    v292 = load8(v291);
+    v293 = v28 + 17u * 1u;
+    v294 = load8(v293);
+    v295 = v294 == 0u;
+    v296 = load_address(v28);
+    v297 = v295 ? 52u : 54u;
+    v298 = v295 ? 53u : 55u;
+    v299 = v296 + v297 * 1u;
+    v300 = load8(v299);
+    v301 = v296 + v298 * 1u;
+    v302 = load8(v301);
+    v303 = v296 + 42u * 1u;
+    v304 = load8(v303);
+    v305 = v296 + 43u * 1u;
+    v306 = load8(v305);
+    v307 = v28 + 8u * 1u;
+    v308 = load64(v307);
+    v309 = v296 + 54u * 1u;
+    v310 = (u64)((u64)v308 + (u64)UINT64_C(18446744073709551562));
+    v311 = v295 ? v309 : ADDRESS(c112);
+    v312 = v295 ? v310 : 0u;
+    v313 = (u16)v304;
+    v314 = (u16)((u32)v313 << (8u & 15u));
+    v315 = (u16)v306;
+    v316 = (u16)((u32)v314 | (u32)v315);
+    v317 = (u16)v300;
+    v318 = (u16)((u32)v317 << (8u & 15u));
+    v319 = (u16)v302;
+    v320 = (u16)((u32)v318 | (u32)v319);
+    store8(v27, v292);
+    v321 = v27 + 1u * 1u;
+    store8(v321, 0u);
+    v322 = v27 + 2u * 1u;
+    store16(v322, v320);
+    v323 = v27 + 4u * 1u;
+    store16(v323, v316);
+    v324 = v27 + 6u * 1u;
+    store16(v324, 0u);
+    v325 = v27 + 8u * 1u;
+    store_address(v325, v311);
+    v326 = v27 + 16u * 1u;
+    store64(v326, v312);
+    v327 = f60(v27);
+    if (v327) { goto L49; }
+    else { goto L55; }
+L49:;
+    v328 = v296 + 34u * 1u;
+    v329 = load64(v328);
+    v330 = v55 + 440u * 1u;
+    v331 = load64(v330);
+    v332 = load8(v296);
+    v333 = (u8)((u32)v332 >> (4u & 7u));
+    v334 = v296 + 5u * 1u;
+    v335 = load8(v334);
+    v336 = (u8)((u32)v333 | (u32)v335);
+    v337 = v336 == 0u;
+    if (v337) { goto L50; }
+    else { goto L55; }
+L50:;
+    v338 = v296 + 4u * 1u;
+    v339 = load8(v338);
+    v340 = v55 + 8u * 1u;
+    v341 = load8(v340);
+    v342 = v339 == v341;
+    if (v342) { goto L51; }
+    else { goto L55; }
+L51:;
+    v343 = v296 + 20u * 1u;
+    v344 = load64(v343);
+    v345 = v344 == v331;
+    if (v345) { goto L55; }
+    else { goto L52; }
+L52:;
+    v346 = v329 == v331;
+    v347 = v329 == UINT64_C(18446744073709551615);
+    v348 = (u8)(((u32)v347 | (u32)v346) & UINT64_C(1));
+    if (v348) { goto L53; }
+    else { goto L55; }
+L53:;
+    switch (v316) {
+    case 65535u: goto L56;
+    case 0u: goto L55;
+    default: goto L54;
+    }
+L54:;
+    v349 = load64(v57);
+    v350 = (u16)(v349);
+    v351 = v316 > v350;
+    if (v351) { goto L55; }
+    else { goto L56; }
+L55:;
+    goto L57;
+L56:;
+    v352 = f61(v55, v28);
+    v353 = v352 == 1u;
+    if (v353) { goto L58; }
+    else { goto L57; }
+L57:;
+    v19 = 0u; goto L59;
+L58:;
+    v354 = v296 + 28u * 1u;
+    v355 = load8(v354);
+    v356 = v296 + 29u * 1u;
+    v357 = load8(v356);
+    v358 = v296 + 30u * 1u;
+    v359 = load8(v358);
+    v360 = v296 + 31u * 1u;
+    v361 = load8(v360);
+    v362 = (u16)v359;
+    v363 = (u16)((u32)v362 << (8u & 15u));
+    v364 = (u16)v361;
+    v365 = (u16)((u32)v363 | (u32)v364);
+    v366 = (u16)v355;
+    v367 = (u16)((u32)v366 << (8u & 15u));
+    v368 = (u16)v357;
+    v369 = (u16)((u32)v367 | (u32)v368);
+    store64(v30, v344);
+    v370 = v30 + 8u * 1u;
+    store16(v370, v369);
+    v371 = v30 + 10u * 1u;
+    store16(v371, v365);
+    v372 = v30 + 12u * 1u;
+    store32(v372, 0u);
+    v373 = v30 + 16u * 1u;
+    store8(v373, v292);
+    v374 = v30 + 17u * 1u;
+    store8(v374, 0u);
+    v375 = v30 + 18u * 1u;
+    store16(v375, v320);
+    v376 = v30 + 20u * 1u;
+    store16(v376, v316);
+    v377 = v30 + 22u * 1u;
+    store16(v377, 0u);
+    v378 = v30 + 24u * 1u;
+    store_address(v378, v311);
+    v379 = v30 + 32u * 1u;
+    store64(v379, v312);
+    f97(v55, v30, v99, v98);
+    v19 = 1u; goto L59;
+L59:;
+    memory_set(v26, 0u, 24u);
+    f73(v26, v55, a1, v42, a3, v45, a6);
+    v380 = load8(v26);
+    v381 = v380 == 0u;
+    if (v381) { goto L61; }
+    else { goto L60; }
+L60:;
+    TRAP;
+    UNREACHABLE;
+L61:;
+    v382 = v26 + 8u * 1u;
+    v383 = load8(v382);
+    v384 = v26 + 9u * 1u;
+    v385 = load8(v384);
+    v386 = v26 + 16u * 1u;
+    v387 = load64(v386);
+    if (v19) { v20 = v387; goto L62; }
+    else { v21 = v383; v22 = v385; v23 = v387; goto L63; }
+L62:;
+    store64(a7, v20);
+    f89(v39, v55, v37);
+    memory_cpy(a8, v39, 12u);
+    goto L68;
+L63:;
+    store64(a7, v23);
+    f89(v39, v55, v37);
+    memory_cpy(a8, v39, 12u);
+    switch (v21) {
+    case 0u: goto L64;
+    case 9u: goto L72;
+    case 1u: v24 = 1u; goto L74;
+    case 2u: goto L65;
+    case 3u: goto L66;
+    case 4u: goto L67;
+    case 5u: goto L68;
+    case 6u: goto L69;
+    case 7u: goto L70;
+    case 8u: goto L71;
+    default: goto L73;
+    }
+L64:;
+    v388 = (u32)v22;
+    v389 = (u32)((u32)v388 + (u32)16u);
+    v24 = v389; goto L74;
+L65:;
+    v24 = 2u; goto L74;
+L66:;
+    v24 = 3u; goto L74;
+L67:;
+    v24 = 4u; goto L74;
+L68:;
+    v24 = 5u; goto L74;
+L69:;
+    v24 = 6u; goto L74;
+L70:;
+    v24 = 7u; goto L74;
+L71:;
+    v24 = 8u; goto L74;
+L72:;
+    v24 = 9u; goto L74;
+L73:;
+    UNREACHABLE;
+L74:;
+    store64(v47, 1u);
+    store_address(v52, v55);
+    store_address(a0, v47);
+    store8(v48, 1u);
+    v390 = a0 + 9u * 1u;
+    memory_set(v390, 0u, 7u);
+    v25 = v24; goto L81;
+L75:;
+    v391 = (u64)v51;
+    store64(v47, v391);
+    store_address(v52, v55);
+    store_address(a0, v47);
+    store8(v48, 1u);
+    v392 = a0 + 9u * 1u;
+    memory_set(v392, 0u, 7u);
+    v393 = a4 + 4u * 1u;
+    v394 = load8(v393);
+    v395 = v394 == 0u;
+    if (v395) { goto L77; }
+    else { goto L78; }
+L76:;
+    v396 = a4 + 4u * 1u;
+    v397 = load8(v396);
+    v398 = v397 == 0u;
+    if (v398) { goto L77; }
+    else { v25 = 32u; goto L81; }
+L77:;
+    v399 = f88(a0, a1, v42, a3, v45, a6, a7, a8);
+    v25 = v399; goto L81;
+L78:;
+    memory_set(a0, 0u, 16u);
+    v400 = load8(v47);
+    v401 = load64(v52);
+    memory_set(v47, 0u, 16u);
+    v402 = v400 == 4u;
+    v403 = (address)v401;
+    if (v402) { goto L80; }
+    else { goto L79; }
+L79:;
+    v404 = (u64)v400;
+    store64(v47, v404);
+    store_address(v52, v403);
+    store_address(a0, v47);
+    store8(v48, 1u);
+    memory_set(v392, 0u, 7u);
+    v25 = 32u; goto L81;
+L80:;
+    store64(v47, 4u);
+    store_address(v52, v403);
+    store_address(a0, v47);
+    store8(v48, 1u);
+    memory_set(v392, 0u, 7u);
+    v25 = 122u; goto L81;
+L81:;
+    return v25;
 }
 
 u32 portable_ptpm_clock_saving(address a0) {
@@ -31181,7 +33609,7 @@ L2:;
     store8(v21, 1u);
     goto L4;
 L3:;
-    f92(v15, v28, a1, a2, a3, v18, a5);
+    f98(v15, v28, a1, a2, a3, v18, a5);
     v30 = load8(v15);
     v31 = v30 == 0u;
     if (v31) { goto L16; }
@@ -31211,7 +33639,7 @@ L6:;
 L7:;
     memory_set(v13, 0u, 16u);
     v41 = load_address(v39);
-    f92(v13, v41, a1, a2, a3, v18, a5);
+    f98(v13, v41, a1, a2, a3, v18, a5);
     v42 = load8(v13);
     v43 = v42 == 0u;
     if (v43) { goto L8; }
@@ -31247,14 +33675,14 @@ L11:;
     else { goto L13; }
 L12:;
     v58 = (u64)v54;
-    v59 = ADDRESS(c242) + v58 * 2u;
+    v59 = ADDRESS(c320) + v58 * 2u;
     v60 = load16(v59);
     store16(a7, v60);
     v8 = 4u; v9 = 26u; goto L14;
 L13:;
     store16(a7, 0u);
     v61 = (u64)v56;
-    v62 = ADDRESS(c243) + v61 * 4u;
+    v62 = ADDRESS(c321) + v61 * 4u;
     v63 = load32(v62);
     v8 = 4u; v9 = v63; goto L14;
 L14:;
@@ -31281,14 +33709,14 @@ L18:;
     v69 = v15 + 2u * 1u;
     v70 = load8(v69);
     v71 = (u64)v70;
-    v72 = ADDRESS(c242) + v71 * 2u;
+    v72 = ADDRESS(c320) + v71 * 2u;
     v73 = load16(v72);
     store16(a7, v73);
     v11 = 26u; goto L20;
 L19:;
     store16(a7, 0u);
     v74 = (u64)v67;
-    v75 = ADDRESS(c243) + v74 * 4u;
+    v75 = ADDRESS(c321) + v74 * 4u;
     v76 = load32(v75);
     v11 = v76; goto L20;
 L20:;
@@ -31335,7 +33763,7 @@ L2:;
 L3:;
     v22 = a1 < 4u;
     v23 = v22 ? a1 : 2u;
-    v24 = f60(v20, v23, a2, 1u, a3, v11, a5);
+    v24 = f65(v20, v23, a2, 1u, a3, v11, a5);
     v25 = v24.m0;
     v26 = v25 == 0u;
     if (v26) { goto L4; }
@@ -31372,7 +33800,7 @@ L6:;
 L7:;
     v44 = v24.m1;
     v45 = (u64)v44;
-    v46 = ADDRESS(c244) + v45 * 4u;
+    v46 = ADDRESS(c322) + v45 * 4u;
     v47 = load32(v46);
     v6 = 2u; v7 = v47; goto L8;
 L8:;
@@ -31462,7 +33890,7 @@ L8:;
     store_address(v44, v15);
     v45 = v12 + 16u * 1u;
     store64(v45, a5);
-    v46 = f59(v24, v12);
+    v46 = f64(v24, v12);
     v47 = v46.m0;
     v48 = v46.m1;
     v49 = v47 == 0u;
@@ -31504,7 +33932,7 @@ L12:;
     else { goto L13; }
 L13:;
     v69 = (u64)v8;
-    v70 = ADDRESS(c244) + v69 * 4u;
+    v70 = ADDRESS(c322) + v69 * 4u;
     v71 = load32(v70);
     v9 = 2u; v10 = v71; goto L14;
 L14:;
@@ -31624,7 +34052,7 @@ L2:;
     v3 = v19; v4 = 37u; goto L18;
 L3:;
     memory_set(v6, 0u, 56u);
-    f63(v6, v18, v9, a2);
+    f68(v6, v18, v9, a2);
     v20 = load8(v6);
     v21 = v6 + 16u * 1u;
     v22 = load64(v21);
@@ -32030,7 +34458,7 @@ L8:;
     store_address(v73, v56);
     v74 = v7 + 48u * 1u;
     store64(v74, v58);
-    f57(v7, v29);
+    f62(v7, v29);
     v75 = load8(v33);
     v76 = (u8)((u32)v75 + (u32)255u);
     store8(v33, v76);
@@ -32566,7 +34994,7 @@ L24:;
     switch (v46) {
     case 0u: goto L26;
     case 1u: goto L25;
-    default: v5 = v21; v6 = ADDRESS(c111); v7 = 0u; goto L30;
+    default: v5 = v21; v6 = ADDRESS(c112); v7 = 0u; goto L30;
     }
 L25:;
     v328 = v40 + 52u * 1u;
@@ -32911,7 +35339,7 @@ L41:;
     if (v573) { goto L42; }
     else { v16 = v450; v17 = v449; goto L44; }
 L42:;
-    v574 = f93(v106);
+    v574 = f99(v106);
     v575 = v574 == 0u;
     if (v575) { goto L43; }
     else { goto L50; }
