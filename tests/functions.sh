@@ -91,6 +91,10 @@ followers() {
         -e 's/.*"because":{"clockIdentity":"\([^"]*\)","finding":"\([^"]*\)"},"clockIdentity":"\([^"]*\)".*"finding":"\([^"]*\)".*/\4 \3 < \2 \1/p'
 }
 
+# Of lines for `ptpm site`: a note of the host that asked. And ten clocks more, each with these words.
+host() { echo "#ptpm own=#ee $1"; }
+slaves() { for clock in 02 03 04 05 06 07 08 09 0a 0b; do printf '; %s %s' $clock "$1"; done; }
+
 # play NETWORK: runs the events on standard input in a network of data/ and prints what each did. Its trace is then in the file
 # trace.
 play() { { cat "data/$1.network" && echo %% && cat; } | ptpm run > trace && outcomes < trace; }
