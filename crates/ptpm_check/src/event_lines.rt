@@ -1,4 +1,4 @@
-//! The fault of an event's line, as `read_line` finds it, with the word that is to blame.
+//! The fault that `read_line` finds in an event's line, with the word that is to blame (this project's profile).
 
 ghost use Rattle.std.specs.Prelude.{◌≡◌, IfOk, option_map, option_and_then, slice_get};
 ghost use Rattle.std.specs.Result.{result_err};

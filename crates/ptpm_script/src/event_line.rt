@@ -18,7 +18,7 @@ use std::alloc::Global;
 /// The word that stands for no value.
 const NONE: &str = "-";
 
-/// The event of a line of a script, as `read_line` reads it.
+/// The event of a line of a script. `read_line` reads it.
 ///
 /// Refused with the first `EventError` that holds; only want of memory may come in place of another.
 pub fn read_event(alloc: Global, line: &str) -> Result<Event, EventError>
@@ -31,7 +31,7 @@ pub fn read_event(alloc: Global, line: &str) -> Result<Event, EventError>
     }
 }
 
-/// The event of a line of a script, or the line's first fault. Only want of memory may come in place of either.
+/// The event of a line of a script, or the line's first fault. Only want of memory may come in place of both.
 pub fn read_line(alloc: Global, line: &str) -> Result<Event, LineError>
     ensures { IsRead result (line_of (words line.now)) }
 {

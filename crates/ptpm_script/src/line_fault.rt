@@ -6,7 +6,7 @@ ghost use Rattle.ptpm_script.specs.EventLine.{error_of};
 use crate::event::EventError;
 use ptpm_codec::OutOfMemory;
 
-/// The first fault of a line: a word that cannot stand at its place.
+/// The first fault of a line: a word that is not what is expected at its place.
 #[derive(Clone, Copy, Debug, PartialEq, Eq)]
 pub struct LineFault {
     /// The word's place, from 0. A line without words has none there.
