@@ -40,6 +40,6 @@ pub use numbers::decimal_u16;
 pub use request_names::{action_named, id_named};
 pub use session_entries::{SESSION_RULES, right_of};
 pub use shapes::{Kind, Rule, kind_of};
-pub use spellings::{clock_identity, end_spelling, port_identity};
-pub use values::value_at;
+pub use spellings::end_spelling;
+pub use values::{clock_at, port_at, text_at, u16_at, value_at};
 pub use words::word_at;
