@@ -33,13 +33,13 @@ abbrev pub follower_cmp : Follower → Follower → Ordering
 follower_cmp a b = ordering_then (nat_cmp a.above b.above) (ordering_then (nat_cmp a.port b.port) (nat_cmp a.place b.place))
 
 abbrev pub lost_cmp : Lost → Lost → Ordering
-lost_cmp a b = ordering_then (nat_cmp a.domain b.domain) (ordering_then (identity_cmp a.parent b.parent) (nat_cmp a.place b.place))
+lost_cmp a b = ordering_then (nat_cmp a.domain.0 b.domain.0) (ordering_then (identity_cmp a.parent b.parent) (nat_cmp a.place b.place))
 
 pub by_above : (xs : List Follower) → IsSorted follower_cmp xs → IsNonDecreasingBy (λ (f : Follower). f.above) xs
 by_above xs h = by_first (λ (f : Follower). f.above) (λ a b. ordering_then (nat_cmp a.port b.port) (nat_cmp a.place b.place)) xs h
 
 pub by_domain : (xs : List Lost) → IsSorted lost_cmp xs → AreByDomain xs
-by_domain xs h = by_first (λ (l : Lost). l.domain) (λ a b. ordering_then (identity_cmp a.parent b.parent) (nat_cmp a.place b.place)) xs h
+by_domain xs h = by_first (λ (l : Lost). l.domain.0) (λ a b. ordering_then (identity_cmp a.parent b.parent) (nat_cmp a.place b.place)) xs h
 
 pub sources_by_domain : (xs : List Source) → IsStrictlySortedBy source_cmp xs → AreSourcesByDomain xs
-sources_by_domain xs h = by_first (λ (s : Source). s.domain) (λ a b. slice_cmp nat_cmp a.clock.0 b.clock.0) xs (rising xs h)
+sources_by_domain xs h = by_first (λ (s : Source). s.domain.0) (λ a b. slice_cmp nat_cmp a.clock.0 b.clock.0) xs (rising xs h)
