@@ -83,7 +83,7 @@ exact_clocks a b h = ap clock_from (exact_bytes a.0 b.0 h) where
   clock_from : List ℕ → ClockIdentity
   clock_from octets = record { 0 = octets }
 
-exact_domains : CmpEqualImpliesEq domain_cmp
+pub exact_domains : CmpEqualImpliesEq domain_cmp
 exact_domains a b h = ap domain_from (exact_unsigned a.0 b.0 h) where
   domain_from : ℕ → Domain
   domain_from n = record { 0 = n }

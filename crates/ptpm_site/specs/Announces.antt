@@ -1,6 +1,8 @@
 -- Announce messages: which ports send them, and how often (IEEE 1588-2019, 13.5).
-use Rattle.std.specs.Prelude.{ℕ, ◌==◌, ◌&&◌, nat_le, List, length, reverse, Option, Some, None, if◌then◌else◌, find, option_and_then}
+use Rattle.std.specs.Prelude.{ℕ, pos, ◌==◌, ◌&&◌, Bool, false, nat_le, List, length, reverse, Option, Some, None, if◌then◌else◌, find, option_and_then}
 use Rattle.std.specs.List.{filter_map}
+use Rattle.std.specs.Option.{option_map_or}
+use Rattle.std.specs.Ordering.{int_eq}
 use Rattle.ptpm_codec.specs.Layout as layout
 use Rattle.ptpm_data.specs.ImageReading.{i8_at}
 use Rattle.ptpm_site.specs.declared.announces.Announced.{Announced}
@@ -32,3 +34,10 @@ last_announced announced p = find (λ a. same_port a.port p) (reverse announced)
 -- and the last of all that was heard
 abbrev pub announced_by_port : List Heard → SourcePort → Option Announced
 announced_by_port all p = last_announced (filter_map announces_in all) p
+
+-- logMessageInterval of an Announce by unicast (table 42)
+abbrev pub is_unicast : Announced → Bool
+is_unicast a = int_eq a.log (pos 0x7f)
+
+abbrev pub is_by_unicast : List Heard → SourcePort → Bool
+is_by_unicast all p = option_map_or is_unicast (announced_by_port all p) false

@@ -1,9 +1,8 @@
 -- A port whose parent announces too seldom for it: `intervals`. An interval is 2 to its logarithm, in seconds (IEEE 1588-2019, 7.7.2).
-use Rattle.std.specs.Prelude.{ℕ, ℤ, pos, ◌-◌, ◌*◌, ◌-ℤ◌, ◌^◌, ◌==◌, ◌&&◌, ◌||◌, Bool, true, false, not, nat_le, nat_lt, unsigned_abs, List, length, slice_get, find, Option, Some, None, if◌then◌else◌, is_some, option_and_then}
+use Rattle.std.specs.Prelude.{ℕ, ℤ, ◌-◌, ◌*◌, ◌-ℤ◌, ◌^◌, ◌==◌, ◌&&◌, ◌||◌, Bool, true, false, not, nat_le, nat_lt, unsigned_abs, List, length, slice_get, find, Option, Some, None, if◌then◌else◌, is_some, option_and_then}
 use Rattle.std.specs.Int.{is_negative}
 use Rattle.std.specs.List.{list_any}
 use Rattle.std.specs.Option.{option_map_or}
-use Rattle.std.specs.Ordering.{int_eq}
 use Rattle.ptpm_codec.specs.declared.identity.PortIdentity.{PortIdentity}
 use Rattle.ptpm_data.specs.declared.port_state.PortState.{PortState}
 use Rattle.ptpm_data.specs.declared.port_state.PortState.TheVariants as states
@@ -13,7 +12,7 @@ use Rattle.ptpm_site.specs.declared.arrival.SourcePort.{SourcePort}
 use Rattle.ptpm_site.specs.declared.clock.Received.{Received}
 use Rattle.ptpm_site.specs.declared.data_sets.PortDataSet.{PortDataSet}
 use Rattle.ptpm_site.specs.declared.source.Source.{Source}
-use Rattle.ptpm_site.specs.Announces.{announced_by_port}
+use Rattle.ptpm_site.specs.Announces.{announced_by_port, is_by_unicast}
 use Rattle.ptpm_site.specs.Following.{beside}
 use Rattle.ptpm_site.specs.PortStates.{is_another, is_following, is_slave}
 use Rattle.ptpm_site.specs.SiteAnswers.{SiteAnswers}
@@ -50,14 +49,14 @@ port_above s parent = record { source = beside s parent.clock; port = parent.por
 abbrev pub parent_log : SiteAnswers → SourcePort → PortDataSet → ℤ
 parent_log site p above = option_map_or (λ a. a.log) (announced_by_port site.heard p) above.log_announce
 
--- one that announces by unicast says no interval
 abbrev pub seldom_by : SiteAnswers → Source → PortIdentity → PortDataSet → ℤ → Option Seldom
 seldom_by site s parent own log =
-    if not (int_eq log (pos 0x7f)) && takes_time site s own.state && is_too_seldom own log
+    if takes_time site s own.state && is_too_seldom own log
     then Some (record { log_announce = own.log_announce; timeout = own.receipt_timeout; parent = parent; parent_log = log }) else None
 
+-- one that announces by unicast says no interval
 abbrev pub seldom_above : SiteAnswers → Source → PortIdentity → PortDataSet → PortDataSet → Option Seldom
-seldom_above site s parent own above = seldom_by site s parent own (parent_log site (port_above s parent) above)
+seldom_above site s parent own above = if is_by_unicast site.heard (port_above s parent) then None else seldom_by site s parent own (parent_log site (port_above s parent) above)
 
 -- by what both say
 abbrev pub too_seldom : SiteAnswers → Source → ℕ → Option Seldom

@@ -4,7 +4,7 @@ ghost use Rattle.std.specs.Prelude.{◌≡◌, IfOk};
 ghost use Rattle.std.specs.BTreeMap.{get};
 ghost use Rattle.std.specs.List.{filter_map};
 ghost use Rattle.ptpm_site.specs.declared.arrival.SourcePort.{SourcePort};
-ghost use Rattle.ptpm_site.specs.Announces.{announced_by, announced_in, announces_in, last_announced};
+ghost use Rattle.ptpm_site.specs.Announces.{announced_by, announced_in, announces_in, is_unicast, last_announced};
 ghost use Rattle.ptpm_site.specs.TwoAddresses.{port_cmp};
 
 use crate::arrival::SourcePort;
@@ -20,6 +20,18 @@ pub struct Announced {
     pub port: SourcePort,
     /// logMessageInterval. 0x7F is said by unicast.
     pub log: i8,
+}
+
+/// logMessageInterval of an Announce by unicast (table 42).
+const BY_UNICAST: i8 = 0x7f;
+
+impl Announced {
+    /// Whether it was sent by unicast.
+    pub fn is_by_unicast(&self) -> bool
+        ensures { result ≡ is_unicast self.now }
+    {
+        self.log == BY_UNICAST
+    }
 }
 
 fn announced_by(datagram: &[u8], sender: Sender) -> Option<Announced>

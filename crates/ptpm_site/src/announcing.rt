@@ -44,9 +44,6 @@ fn outlasts(n: i16, timeout: u8) -> bool
     }
 }
 
-/// logMessageInterval of an Announce by unicast (table 42).
-const BY_UNICAST: i8 = 0x7f;
-
 /// Whether the parent announces too seldom for the port.
 fn is_too_seldom(own: &PortDataSet, parent_log: i8) -> bool
     ensures { result ≡ is_too_seldom own.now parent_log }
@@ -96,7 +93,7 @@ fn left_slave(received: &[Received<PortDataSet>]) -> bool
 }
 
 /// The port of a clock that another clock of its domain follows.
-fn port_above(source: Source, parent: PortIdentity) -> SourcePort
+pub fn port_above(source: Source, parent: PortIdentity) -> SourcePort
     ensures { result ≡ port_above source parent }
 {
     SourcePort {
@@ -148,7 +145,11 @@ fn seldom_above(
     requires { IsOf (site_answers site.now).heard evidence.now }
     ensures { result ≡ seldom_above (site_answers site.now) source parent own.now above.now }
 {
-    let log = parent_log(site, evidence, port_above(source, parent), above);
+    let port = port_above(source, parent);
+    if evidence.is_by_unicast(port) {
+        return None;
+    }
+    let log = parent_log(site, evidence, port, above);
     seldom_by(site, source, parent, own, log)
 }
 

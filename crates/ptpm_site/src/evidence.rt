@@ -1,12 +1,14 @@
 //! What all lines show beside the answers: the host that asks, the domains that were asked, who sends by itself, who
 //! announces, and who is gone.
 
-ghost use Rattle.std.specs.Prelude.{◌≡◌, IfOk};
+ghost use Rattle.std.specs.Prelude.{◌≡◌, IfOk, List};
 ghost use Rattle.std.specs.BTreeSet.{contains};
 ghost use Rattle.std.specs.List.{filter_map};
 ghost use Rattle.ptpm_codec.specs.declared.identity.ClockIdentity.{ClockIdentity};
 ghost use Rattle.ptpm_site.specs.declared.domain.Domain.{Domain};
+ghost use Rattle.ptpm_site.specs.declared.heard.Heard.{Heard};
 ghost use Rattle.ptpm_site.specs.declared.heard.Sender.{Sender};
+ghost use Rattle.ptpm_site.specs.Announces.{is_by_unicast};
 ghost use Rattle.ptpm_site.specs.Domains.{domain_cmp};
 ghost use Rattle.ptpm_site.specs.Evidence.{IsOf, clock_cmp, domain_in, host_in, is_asked, is_host_of, is_sent, sender_cmp, sent_in};
 
@@ -49,6 +51,16 @@ impl Evidence {
             gone: gone_set(alloc, heard, &last)?,
             announced: last_announces(alloc, heard)?,
         })
+    }
+
+    /// Whether the last Announce of a port was sent by unicast.
+    pub fn is_by_unicast(&self, port: SourcePort) -> bool
+        ensures { (heard : List Heard) → IsOf heard self.now → result ≡ is_by_unicast heard port }
+    {
+        match self.announced.get(&port) {
+            Some(announced) => announced.is_by_unicast(),
+            None => false,
+        }
     }
 }
 
