@@ -122,7 +122,7 @@ fn seldom_by(
 ) -> Option<Seldom>
     ensures { result ≡ seldom_by (site_answers site.now) source parent own.now parent_log }
 {
-    if parent_log != BY_UNICAST && takes_time(site, source, own) && is_too_seldom(own, parent_log) {
+    if takes_time(site, source, own) && is_too_seldom(own, parent_log) {
         Some(Seldom {
             log_announce: own.log_announce,
             timeout: own.receipt_timeout,
