@@ -51,7 +51,7 @@ fn entry_of(alloc: Global, line: &[u8]) -> Result<Option<Entry>, ReadFault> {
     Ok(Some(Entry { domain, rule }))
 }
 
-/// A domainNumber, and behind @ an sdoId, unless that is 0.
+/// A domainNumber, and @ with an sdoId, unless that is 0.
 fn domain_of(word: &str) -> Result<Domain, LineFault> {
     let (number, sdo) = match word.split_once('@') {
         Some((number, sdo)) => (number, sdo_of(sdo)?),
@@ -63,7 +63,7 @@ fn domain_of(word: &str) -> Result<Domain, LineFault> {
     }
 }
 
-/// An sdoId, in one to three hexadecimal digits behind 0x.
+/// An sdoId: 0x, and one to three hexadecimal digits.
 fn sdo_of(word: &str) -> Result<u16, LineFault> {
     let digits = word.strip_prefix("0x").ok_or(LineFault::NoSdo)?;
     match u16::from_str_radix(digits, 16) {

@@ -19,7 +19,7 @@ announced_by d s =
     if s.kind == 11 && nat_le 34 (length d)
     then Some (record { port = record { source = s.source; port = (layout.source_port_identity d).port }; log = i8_at 33 d }) else None
 
--- the port of which a datagram is an Announce
+-- the port whose Announce a datagram is
 abbrev pub announced_in : List ℕ → Option Announced
 announced_in d = option_and_then (announced_by d) (sender_in d)
 

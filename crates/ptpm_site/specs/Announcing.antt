@@ -63,7 +63,7 @@ abbrev pub too_seldom : SiteAnswers → Source → ℕ → Option Seldom
 too_seldom site s n = option_and_then (λ p. option_and_then (λ own. option_and_then (seldom_above site s p.parent own)
     (site.port (beside s p.parent.clock) p.parent.port)) (site.port s n)) (site.parent s)
 
--- it is certain if an Announce of the parent was heard, so that it is none by unicast, or the port was seen without a lock
+-- it is certain if an Announce of the parent was heard, or the port was seen without a lock
 abbrev pub is_certain : SiteAnswers → Source → ℕ → PortIdentity → Bool
 is_certain site s n parent = is_some (announced_by_port site.heard (port_above s parent)) || left_slave (site.port_answers s n)
 

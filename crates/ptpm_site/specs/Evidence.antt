@@ -1,5 +1,4 @@
--- What all lines show beside the answers: the host that asks, the domains that were asked, who sends by itself, who
--- announces, and who is gone.
+-- What all lines show beside the answers: who asks, which domains were asked, who sends or announces, and who is gone.
 use Rattle.std.specs.Prelude.{◌≡◌, ℕ, ◌==◌, ◌&&◌, Bool, List, Option, Some, None}
 use Rattle.std.specs.BTreeSet.{contains}
 use Rattle.std.specs.Cmp.Lexicographic.{slice_cmp}

@@ -49,7 +49,7 @@ fn announced_by(datagram: &[u8], sender: Sender) -> Option<Announced>
     })
 }
 
-/// The port of which a datagram is an Announce.
+/// The port whose Announce a datagram is.
 pub fn announced_in(datagram: &[u8]) -> Option<Announced>
     ensures { result ≡ announced_in datagram.now }
 {

@@ -164,7 +164,7 @@ fn too_seldom(site: &Site, evidence: &Evidence, source: Source, port: u16) -> Op
     seldom_above(site, evidence, source, parent, &own, &above)
 }
 
-/// Whether it is certain: an Announce of the parent was heard, so that it is none by unicast, or the port was seen without a lock.
+/// Whether it is certain: an Announce of the parent was heard, or the port was seen without a lock.
 fn is_certain(
     site: &Site,
     evidence: &Evidence,
