@@ -1,5 +1,5 @@
 -- Grandmasters of a domain: `two_grandmasters`, `no_master`, `grandmaster_not_seen`.
-use Rattle.std.specs.Prelude.{ℕ, ◌==◌, ◌&&◌, Bool, not, nat_le, nat_lt, List, Option, Some, None, if◌then◌else◌, option_and_then}
+use Rattle.std.specs.Prelude.{◌&&◌, Bool, not, nat_le, nat_lt, List, Option, Some, None, if◌then◌else◌, option_and_then}
 use Rattle.std.specs.List.{count_by, filter}
 use Rattle.ptpm_codec.specs.Identity.{same_clock}
 use Rattle.ptpm_codec.specs.declared.identity.ClockIdentity.{ClockIdentity}

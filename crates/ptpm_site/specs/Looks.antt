@@ -1,5 +1,5 @@
 -- Requests to all clocks. The last one of a domain for an id is its last look.
-use Rattle.std.specs.Prelude.{◌≡◌, ℕ, ◌==◌, ◌&&◌, Bool, true, List, Option, Some, None, if◌then◌else◌, find, reverse}
+use Rattle.std.specs.Prelude.{◌≡◌, ◌==◌, ◌&&◌, Bool, true, List, Option, Some, None, if◌then◌else◌, find, reverse}
 use Rattle.std.specs.declared.cmp.Ordering.{Ordering}
 use Rattle.std.specs.BTreeMap.{get}
 use Rattle.std.specs.List.{filter_map}

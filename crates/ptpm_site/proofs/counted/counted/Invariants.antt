@@ -1,5 +1,5 @@
 -- Those so far that count, before those of the rest, are all that count. The last looks so far began.
-use Rattle.std.proofs.Common.{◌≡◌, ℕ, ◌++◌, take, drop}
+use Rattle.std.proofs.Common.{◌≡◌, ◌++◌, take, drop}
 use Rattle.std.specs.BTreeSet.{contains}
 use Rattle.ptpm_site.specs.Counted.{counted, counted_after, has_begun}
 use Rattle.ptpm_site.proofs.counted.counted.Given as goal

@@ -1,5 +1,5 @@
 -- The clock is the least of a loop.
-use Rattle.std.proofs.Common.{◌≡◌, ℕ, ◌<◌, length, get_or, inr, sym, subst, ◌∙◌, arith}
+use Rattle.std.proofs.Common.{◌≡◌, ◌<◌, length, get_or, inr, sym, subst, ◌∙◌, arith}
 use Rattle.ptpm_site.specs.declared.source.Source.{Source}
 use Rattle.ptpm_site.specs.declared.tree_builder.TreeBuilder.{TreeBuilder}
 use Rattle.ptpm_site.specs.Growing.{Adds, AreTrue, IsRowOf}

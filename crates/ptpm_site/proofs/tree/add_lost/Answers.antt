@@ -1,5 +1,5 @@
 -- The row of the port is there already, or is the last one now.
-use Rattle.std.proofs.Common.{◌≡◌, ℕ, ◌<◌, [], length, refl, true, Option, Some, None, get_or, inr, subst, sym, ap, ◌∙◌, arith}
+use Rattle.std.proofs.Common.{◌≡◌, ◌<◌, [], length, refl, true, Option, Some, None, get_or, inr, subst, sym, ap, ◌∙◌, arith}
 use Rattle.std.proofs.lemmas.Bool.{not-false}
 use Rattle.std.proofs.lemmas.List.Elements.{All-contains}
 use Rattle.std.proofs.lemmas.Option.{same_Some}
