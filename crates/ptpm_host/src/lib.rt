@@ -63,7 +63,7 @@ pub use numbers::{
 };
 pub use observing::{ObservedClock, ObservedPort, left_number};
 pub use parsing::parse_field;
-pub use passed_on::{MessageKey, PassedOn, PassedOnPlace};
+pub use passed_on::{MessageKey, PassedOn, PassedOnPlace, is_first_of};
 pub use rate::Rate;
 pub use refusal::{
     AskerRefusal, ChangeRefusal, ClockRestoreRefusal, HandleRefusal, ParseRefusal, ReadRefusal,
