@@ -7,7 +7,7 @@
 
    The proofs about a call hold for callers that keep these rules:
 
-   - No pointer is null, even if its size is 0 (any valid address will do then), but for the handle of a stop. Each pointer is aligned
+   - No pointer is null, even if its size is 0 (any valid address will do then), except the handle of a stop. Each pointer is aligned
      as its type requires.
    - The memory that a pointer and its size describe may be read, and written unless it is const. It stays the caller's: the library
      keeps no pointer to it after the call. Output buffers must not overlap other arguments.
@@ -1002,9 +1002,8 @@ enum ptpm_restored ptpm_clock_restore(struct ptpm_clock *clock, const uint8_t id
                                       const struct ptpm_manager_settings *managers, size_t manager_count,
                                       const uint8_t *image, size_t size, size_t *gone);
 
-/* Returns the most messages that ptpm_clock_handle and the like, or ptpm_clock_saved, can write for this clock: as many places of theirs
-   at most get a message. So a host knows how long a queue of its own has to be. It is 2 * port_count - 1: a copy for each other port,
-   and an answer of each port. It is more only if one of the clock's kept replies has more answers, and no more than these. Only an
+/* Returns the most messages that a call writes for this clock, such as ptpm_clock_handle or ptpm_clock_saved. So a host knows how long a
+   queue of its own has to be. It is 2 * port_count - 1: a copy for each other port, and an answer of each port. It is more only if one of the clock's kept replies has more answers, and no more than these. Only an
    image that another program has made can bring such a reply.
    Returns: the number, at most PTPM_MOST_SENT; 0 if the handle holds no clock. */
 size_t ptpm_clock_most_sent(const struct ptpm_clock *clock);

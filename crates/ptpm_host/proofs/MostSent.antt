@@ -1,6 +1,6 @@
 -- No datagram has a clock send more messages than its ports allow, or one of its kept replies.
 use Rattle.std.proofs.Common.{arith, ◌≡◌, ◌∙◌, ◌≤◌, ◌<◌, ◌+◌, ◌*◌, ◌-◌, ℕ, Bool, true, false, not, List, [], ◌∷◌, ◌++◌, Option, Some, None, Result, Ok, Err, All, ap, cond, length, map, refl, subst, sym, zero, suc, if◌then◌else◌}
-use Rattle.std.proofs.lemmas.Bool.{cases_Bool, cond-false, cond-true}
+use Rattle.std.proofs.lemmas.Bool.{and_parts}
 use Rattle.std.proofs.lemmas.List.{length-append, length-map}
 use Rattle.std.proofs.lemmas.List.Filters.{length-filter_both}
 use Rattle.std.proofs.lemmas.List.FromFn.{length-range_with_len}
@@ -30,11 +30,11 @@ use Rattle.ptpm_table.specs.Entries.{Entries, Entry}
 use Rattle.ptpm_table.specs.Rendering.{rendered}
 use Rattle.ptpm_agent.specs.declared.verdict.Verdict.{Verdict}
 use Rattle.ptpm_agent.specs.declared.verdict.Verdict.TheVariants as verdicts
-use Rattle.ptpm_agent.specs.Addressing.{heard_of, is_for_this_clock, request_of}
+use Rattle.ptpm_agent.specs.Addressing.{heard_of, is_for_this_clock, is_numbered, request_of}
 use Rattle.ptpm_agent.specs.Forwarding.{egress_ports, forwarded, is_forwarded, with_less_hop}
 use Rattle.ptpm_agent.specs.Turn.{Clock, State, judged, kept_reply_of, reply_by, reply_messages, outbox_of, turn, turn_by}
 use Rattle.ptpm_agent.proofs.Egress.{copies_up_to-all, length-copies_up_to_but_one}
-use Rattle.ptpm_agent.proofs.Turns.{forwarded-copy, forwarded-not, forwarded-on, message_of-reading, reading-message_of, target-repeat}
+use Rattle.ptpm_agent.proofs.Turns.{forwarded-copy, forwarded-not, forwarded-on, judged-each, message_of-reading, reading-message_of, verdict_at-unnumbered}
 use Rattle.ptpm_device.specs.Asking.{is_lacked, is_permitted}
 use Rattle.ptpm_device.specs.Saying as says
 use Rattle.ptpm_device.specs.Saying.{Say, most_given, new_said, reply_given, reply_said, reply_told, said_at, said_by, turn_said, unnumbered_said}
@@ -124,6 +124,17 @@ kept_few c s ingress heard who most is =
 
 -- ---- a turn of the clock's own
 
+-- what is answered as before is a numbered request, and so for this clock alone
+for_this_clock : (c : Clock) (s : State) (v : Message)
+    → judged c s v ≡ verdicts.AnsweredRepeat
+    → is_for_this_clock c v ≡ true
+for_this_clock c s v repeat =
+    elim (is_numbered c v) as (λ b. is_numbered c v ≡ b → is_for_this_clock c v ≡ true) [
+      | true ↦ λ numbered. (and_parts _ _ numbered).1
+      | false ↦ λ other. absurd (judged-each (λ (w : Verdict). w ≡ verdicts.AnsweredRepeat → ⊥) c s v
+          (λ e. cc) (λ e. cc) (λ e. cc) (λ e. cc) (λ d o a q e. let unnumbered = verdict_at-unnumbered c s v other in cc) repeat)
+    ] refl
+
 passed_none : (me : ClockIdentity) (ingress : ℕ) (d : DataSetsValue) (datagram : List ℕ) (cause : DecodeError)
     → reading datagram ≡ Err cause
     → forwarded me ingress d datagram ≡ []
@@ -166,7 +177,7 @@ module _ (c : Clock) (s : State) (ingress : ℕ) (datagram : List ℕ) (most : �
   at_verdict v verdicts.AnsweredUnnumbered read is =
       both_few v (read_reply_to (request_of v) s.sets) read (read_few (request_of v) s.sets sized)
   at_verdict v verdicts.AnsweredRepeat read is =
-      let none = forwarded-copy c ingress s.sets datagram v (message_of-reading datagram v read) (target-repeat c s v is) in
+      let none = forwarded-copy c ingress s.sets datagram v (message_of-reading datagram v read) (for_this_clock c s v is) in
       subst (λ (xs : List (ℕ × List ℕ)). length (xs ++ reply_messages c ingress (heard_of v) (kept_reply_of (get s.entries v.source))) ≤ most) (sym none)
       (kept_few c s ingress (heard_of v) v.source most is_most)
   at_verdict v _ read is = nothing_few v read

@@ -46,7 +46,7 @@ unfoldable pub stirred : ℕ → ℕ → ℕ
 stirred number by =
     let product = (bit_xor number by * 0x9e3779b97f4a7c15) % 2 ^ 64 in bit_xor product (product / 2 ^ 32)
 
--- of so many places
+-- of a table with that number of places
 unfoldable pub first_place : ℕ → ℕ → MessageKey → ℕ
 first_place count seed key =
     let clocks = stirred (stirred seed key.source_clock) key.target_clock in

@@ -73,7 +73,7 @@ impl MessageKey {
         self == other
     }
 
-    /// The first of its places in a table of so many and this seed.
+    /// The first of its places in a table of this number of places and this seed.
     #[tactic(auto, unfolding(crate::specs::PassedOn::first_place))]
     fn first_place(&self, count: usize, seed: u64) -> usize
         requires { IsTableSize count }
