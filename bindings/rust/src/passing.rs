@@ -27,7 +27,8 @@ enum Places {
 
 const WORDS: usize = size_of::<sys::ptpm_passed_on>() / size_of::<u64>();
 const PLACES: usize = (WORDS - 1) / 6;
-const _: () = assert!(align_of::<sys::ptpm_passed_on>() == align_of::<u64>() && (1 + 6 * PLACES) * 8 == size_of::<sys::ptpm_passed_on>());
+const _: () =
+    assert!(align_of::<sys::ptpm_passed_on>() == align_of::<u64>() && (1 + 6 * PLACES) * 8 == size_of::<sys::ptpm_passed_on>());
 
 impl PassedOn {
     /// How many words a table of 4,096 messages has, with its seed.

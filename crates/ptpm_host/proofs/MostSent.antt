@@ -1,11 +1,11 @@
 -- No datagram has a clock send more messages than its ports allow, or one of its kept replies.
-use Rattle.std.proofs.Common.{arith, ◌≡◌, ◌∙◌, ◌≤◌, ◌<◌, ◌+◌, ◌*◌, ◌-◌, ℕ, Bool, true, false, not, List, [], ◌∷◌, ◌++◌, Option, Some, None, Result, Ok, Err, All, ap, cond, length, map, refl, subst, sym, zero, suc, if◌then◌else◌}
+use Rattle.std.proofs.Common.{arith, ◌≡◌, ◌∙◌, ◌≤◌, ◌+◌, ℕ, Bool, true, false, not, List, [], ◌∷◌, ◌++◌, Option, Some, None, Result, Ok, Err, cond, length, refl, subst, sym, suc, if◌then◌else◌}
 use Rattle.std.proofs.lemmas.Bool.{and_parts}
 use Rattle.std.proofs.lemmas.List.{length-append, length-map}
 use Rattle.std.proofs.lemmas.List.Filters.{length-filter_both}
 use Rattle.std.proofs.lemmas.List.FromFn.{length-range_with_len}
 use Rattle.std.specs.FinMap.{entries, find, get, get-entries}
-use Rattle.std.specs.List.{filter, range_with_len}
+use Rattle.std.specs.List.{range_with_len}
 use Rattle.std.specs.Ordering.{eq_by_cmp}
 use Rattle.ptpm_codec.specs.declared.error.DecodeError.{DecodeError}
 use Rattle.ptpm_codec.specs.declared.error.ErrorId.{ErrorId}
@@ -19,30 +19,27 @@ use Rattle.ptpm_data.specs.Changes.{changed_by, is_named}
 use Rattle.ptpm_data.specs.ManagementId.{is_of_port}
 use Rattle.ptpm_data.specs.Members.{DataSetsValue, HasPort}
 use Rattle.ptpm_data.specs.Refusals.{refusal_of}
-use Rattle.ptpm_data.specs.Replies.{answer, named_ports, read_refusal, read_reply_to, reply_of, reply_to}
+use Rattle.ptpm_data.specs.Replies.{named_ports, read_refusal, read_reply_to, reply_of, reply_to}
 use Rattle.ptpm_data.specs.Reply.{ReplyValue}
 use Rattle.ptpm_data.specs.Request.{RequestValue}
 use Rattle.ptpm_data.specs.RequestLaws.{IsSized}
 use Rattle.ptpm_data.proofs.Keeping.{changed_by-ports, changed_by-sized}
 use Rattle.ptpm_data.proofs.ReplyLemmas.{answers_of}
 use Rattle.ptpm_table.specs.declared.heard.Heard.{Heard}
-use Rattle.ptpm_table.specs.Entries.{Entries, Entry}
+use Rattle.ptpm_table.specs.Entries.{Entry}
 use Rattle.ptpm_table.specs.Rendering.{rendered}
 use Rattle.ptpm_agent.specs.declared.verdict.Verdict.{Verdict}
 use Rattle.ptpm_agent.specs.declared.verdict.Verdict.TheVariants as verdicts
 use Rattle.ptpm_agent.specs.Addressing.{heard_of, is_for_this_clock, is_numbered, request_of}
-use Rattle.ptpm_agent.specs.Forwarding.{egress_ports, forwarded, is_forwarded, with_less_hop}
+use Rattle.ptpm_agent.specs.Forwarding.{forwarded, is_forwarded}
 use Rattle.ptpm_agent.specs.Turn.{Clock, State, judged, kept_reply_of, reply_by, reply_messages, outbox_of, turn, turn_by}
 use Rattle.ptpm_agent.proofs.Egress.{copies_up_to-all, length-copies_up_to_but_one}
 use Rattle.ptpm_agent.proofs.Turns.{forwarded-copy, forwarded-not, forwarded-on, judged-each, message_of-reading, reading-message_of, verdict_at-unnumbered}
 use Rattle.ptpm_device.specs.Asking.{is_lacked, is_permitted}
 use Rattle.ptpm_device.specs.Saying as says
 use Rattle.ptpm_device.specs.Saying.{Say, most_given, new_said, reply_given, reply_said, reply_told, said_at, said_by, turn_said, unnumbered_said}
-use Rattle.ptpm_host.specs.declared.clock.HostedClock.{HostedClock}
-use Rattle.ptpm_host.specs.declared.standing.Standing.{Standing}
 use Rattle.ptpm_host.specs.declared.standing.Standing.TheVariants as standings
 use Rattle.ptpm_host.specs.Clock.{clock_in, state_in}
-use Rattle.ptpm_host.specs.Withheld.{messages_due}
 use Rattle.ptpm_host.specs.MostSent.{HaveAnswers, IsMostSent, SendsNoMore, SendsNoMoreAlone, WaitsNoMore}
 
 -- ---- how many answers a reply has

@@ -1,5 +1,5 @@
 -- How many messages a clock sends for a datagram at most.
-use Rattle.std.specs.Prelude.{◌≤◌, ℕ, ◌*◌, ◌-◌, All, List, length, Result, Ok}
+use Rattle.std.specs.Prelude.{◌≤◌, ℕ, ◌*◌, ◌-◌, All, List, length}
 use Rattle.std.specs.FinMap.{entries}
 use Rattle.ptpm_codec.specs.declared.identity.PortIdentity.{PortIdentity}
 use Rattle.ptpm_data.specs.Members.{HasPort}
@@ -9,7 +9,7 @@ use Rattle.ptpm_agent.specs.Turn.{Clock, State, outbox_of, turn}
 use Rattle.ptpm_device.specs.Saying.{Say, turn_said}
 use Rattle.ptpm_host.specs.declared.clock.HostedClock.{HostedClock}
 use Rattle.ptpm_host.specs.declared.standing.Standing.{Standing}
-use Rattle.ptpm_host.specs.Clock.{clock_in, state_in}
+use Rattle.ptpm_host.specs.Clock.{state_in}
 use Rattle.ptpm_host.specs.Withheld.{messages_due}
 
 -- each of these kept replies has this many answers at most

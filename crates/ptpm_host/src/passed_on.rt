@@ -4,7 +4,7 @@
 ghost use Rattle.std.specs.Prelude.{◌≡◌, ◌<◌, ◌≤◌, IfSome, MatchBool, MatchOption, MatchResult, false, length};
 ghost use Rattle.ptpm_codec.specs.declared.message.Message.{Message};
 ghost use Rattle.ptpm_codec.specs.Reading.{reading};
-ghost use Rattle.ptpm_host.specs.PassedOn.{FreeFrom, HasFrom, IsAsked, IsTableSize, LacksFrom, NotesNothing, TakenFrom, first_place, free, is_live, is_noted, key_of, nth_from, same_key, stirred, table_of};
+ghost use Rattle.ptpm_host.specs.PassedOn.{FreeFrom, HasFrom, IsAsked, IsTableSize, LacksFrom, NotesNothing, TakenFrom, first_place, free, is_live, is_noted, key_of, nth_from, place_from, same_key, stirred, table_of};
 
 use ptpm_codec::{View, view};
 
@@ -222,7 +222,7 @@ fn free_from(places: &[PassedOnPlace], first: usize, now: u64) -> Option<usize>
 {
     for i in 0..TRIED {
         if !nth_from(places, first, i).is_live(now) {
-            return Some((first + i) % places.len());
+            return Some(place_from(places.len(), first, i));
         }
     }
     None
@@ -235,5 +235,18 @@ fn nth_from(places: &[PassedOnPlace], first: usize, i: usize) -> &PassedOnPlace
     requires nth { i < 16 }
     ensures { result.now ≡ nth_from places.now first i }
 {
-    &places[(first + i) % places.len()]
+    &places[place_from(places.len(), first, i)]
+}
+
+/// The same as a number, of a table of this number of places. Cheaper than a remainder.
+#[inline(always)]
+fn place_from(count: usize, first: usize, i: usize) -> usize
+    requires size { IsTableSize count }
+    requires first { first < count }
+    requires nth { i < 16 }
+    ensures place { result ≡ place_from count first i }
+    ensures within { result < count }
+{
+    let place = first + i;
+    if place < count { place } else { place - count }
 }

@@ -1,5 +1,4 @@
 use Rattle.std.proofs.Common.{◌≤◌, ◌*◌, ◌-◌, ℕ, length, take}
-use Rattle.ptpm_host.specs.Clock.{state_in}
 use Rattle.ptpm_host.specs.MostSent.{HaveAnswers}
 use Rattle.ptpm_host.proofs.clock.HostedClock.most_sent.Given as goal
 
