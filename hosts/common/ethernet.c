@@ -93,7 +93,7 @@ bool is_to_station(const uint8_t *frame, const uint8_t own[STATION]) { return me
 
 const uint8_t *station_of(const uint8_t *frame) { return frame + STATION; }
 
-/* Where the message begins in a frame of at least a head. */
+/* The place of the message in a frame that has a whole head. */
 static size_t place_of_message(const uint8_t *frame, size_t size) {
     size_t place = TYPE;
     while (place + 2 + TAG_SIZE <= size && (type_at(frame, place) == TAG || type_at(frame, place) == SERVICE_TAG)) place += TAG_SIZE;

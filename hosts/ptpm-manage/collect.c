@@ -153,7 +153,7 @@ static struct request *asked_under(const uint8_t *datagram, size_t size) {
     return NULL;
 }
 
-/* What the library says of a datagram. It knows sdoId 0 alone, so it judges a copy that has this one. */
+/* What the library says of a datagram. It knows only sdoId 0, so it judges a copy that has this one. */
 static uint32_t judge(struct request *request, const uint8_t *datagram, size_t size) {
     static uint8_t copy[MOST_DATAGRAM];
     if (request->domain.sdo == 0 || size > sizeof copy) return ptpm_survey_receive(&request->survey, datagram, size);

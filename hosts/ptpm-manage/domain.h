@@ -1,5 +1,5 @@
-/* A domain of a site: its domainNumber and its sdoId (IEEE 1588-2019, 7.1.1 and 7.1.4). The library asks and judges in sdoId 0 alone, so the
-   sdoId is written into what it sends, and taken out of what it judges. */
+/* A domain of a site: its domainNumber and its sdoId (IEEE 1588-2019, 7.1.1 and 7.1.4). The library asks and judges only in sdoId 0. So
+   another one is written into what it sends, and taken out of what it judges. */
 #ifndef DOMAIN_H
 #define DOMAIN_H
 
@@ -13,7 +13,7 @@ struct domain { uint8_t number; uint16_t sdo; };
 
 bool is_same_domain(struct domain one, struct domain other);
 
-/* That of a message, of which the header is there. */
+/* That of a message whose header is there. */
 struct domain domain_of(const uint8_t *message);
 
 /* Gives a message this sdoId. */

@@ -40,7 +40,7 @@ static int copies = -1;         /* of what comes by unicast to UDP port 320 of t
 /* What the transport is called in a notice. */
 static char name[MOST_INTERFACES * (IFNAMSIZ + 2) + sizeof ((struct sockaddr_un *)0)->sun_path];
 static bool is_six, is_ethernet, is_any_source;
-static bool has_link_group;     /* over Ethernet clocks of 802.1AS are asked */
+static bool has_link_group;     /* over Ethernet clocks of 802.1AS are heard too */
 static bool is_to_one;          /* messages go to one address, and not to a group */
 
 enum { ROOM_FOR_MANY = 4 << 20, SOCKETS_OF_END = 3, MOST_WAITS = SOCKETS_OF_END * MOST_INTERFACES + 2 };
@@ -130,7 +130,7 @@ static void add_end(const char *interface) {
 
 static void find_at_interfaces(struct task *task) {
     is_ethernet = task->is_ethernet;
-    has_link_group = task->site.is_every_sdo || task->site.sdo == SDO_OF_GPTP;
+    has_link_group = task->site.is_collected;
     if (!is_ethernet) find_udp(task);
     if (task->interface_count == 0 && lacks_link()) {
         refuse("--udp %s: every link may have it: add --interface NAME, or write %s%%NAME", task->address, task->address);
@@ -302,7 +302,7 @@ static ssize_t send_frame_to(const uint8_t *group, const struct end *end, const 
     return sendmsg(end->socket, &frame, MSG_DONTWAIT);
 }
 
-/* A clock of 802.1AS may have joined the group of its link alone. */
+/* A clock of 802.1AS may have joined only the group of its link. */
 static ssize_t send_frame(const struct end *end, const uint8_t *octets, size_t size) {
     if (domain_of(octets).sdo == SDO_OF_GPTP) send_frame_to(link_group, end, octets, size);
     return send_frame_to(NULL, end, octets, size);
