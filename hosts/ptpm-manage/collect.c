@@ -326,6 +326,16 @@ static bool ask_in(const struct task *task, const struct domain *domains, size_t
     return true;
 }
 
+/* Says in which sdoId a clock is heard, if it is asked in no domain of it. */
+static void advise_on_sdo(const struct domains *domains) {
+    struct domain domain;
+    for (size_t place = 0; heard_domain(place, &domain); place++) {
+        if (is_sdo_asked(domains, domain.sdo)) continue;
+        complain("a clock is heard in sdoId 0x%03x: --sdo 0x%03x asks there", domain.sdo, domain.sdo);
+        return;
+    }
+}
+
 static int end_of_collection(const struct task *task, const struct domains *domains) {
     clear_progress();
     if (unseen_answers() > 0) {
@@ -341,6 +351,7 @@ static int end_of_collection(const struct task *task, const struct domains *doma
     complain("no answer at %s in %s to %ld message%s", transport_name(), domains_text(domains), sent, sent == 1 ? "" : "s");
     tell_missing_addresses();
     if (!task->site.is_every_domain) complain("--domain all asks in each domain in which a clock is heard");
+    if (!task->site.is_every_sdo) advise_on_sdo(domains);
     advise_on_time(task);
     return NOT_ANSWERED;
 }

@@ -15,9 +15,17 @@ static void tell_no_room(void) {
     is_told = true;
 }
 
-void add_domain(struct domains *domains, struct domain domain) {
+/* The place of an sdoId; the count if it has none. */
+static size_t place_of_sdo(const struct domains *domains, uint16_t sdo) {
     size_t place = 0;
-    while (place < domains->sdo_count && domains->sdos[place] != domain.sdo) place++;
+    while (place < domains->sdo_count && domains->sdos[place] != sdo) place++;
+    return place;
+}
+
+bool is_sdo_asked(const struct domains *domains, uint16_t sdo) { return place_of_sdo(domains, sdo) < domains->sdo_count; }
+
+void add_domain(struct domains *domains, struct domain domain) {
+    size_t place = place_of_sdo(domains, domain.sdo);
     if (place == MOST_SDOS) {
         tell_no_room();
         return;

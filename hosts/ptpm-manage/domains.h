@@ -24,6 +24,9 @@ void listen_for_domains(struct domains *domains, const struct task *task, int64_
 /* Adds one. If there is no room for its sdoId that is said once. */
 void add_domain(struct domains *domains, struct domain domain);
 
+/* Whether it is asked in one of this sdoId. */
+bool is_sdo_asked(const struct domains *domains, uint16_t sdo);
+
 /* The domains, sdoId by sdoId, each time the one from this place on; and whether there is one. The place begins with 0. */
 bool next_domain(const struct domains *domains, size_t *place, struct domain *domain);
 

@@ -94,6 +94,12 @@ const uint8_t *heard_clock(size_t place, struct domain *domain) {
     return NULL;
 }
 
+bool heard_domain(size_t place, struct domain *domain) {
+    if (place >= kept_count) return false;
+    *domain = domain_of(all[place].message);
+    return true;
+}
+
 void write_heard(FILE *to, bool is_of_all) {
     for (size_t i = 0; i < kept_count; i++) {
         struct kept *one = &all[i];

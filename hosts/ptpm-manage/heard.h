@@ -20,6 +20,9 @@ bool keep_heard(const uint8_t *datagram, size_t size);
    last. */
 const uint8_t *heard_clock(size_t place, struct domain *domain);
 
+/* The domain of the message at a place; whether there is one. */
+bool heard_domain(size_t place, struct domain *domain);
+
 /* Writes a line of each message that is kept, or only of those that came after the last time. */
 void write_heard(FILE *to, bool is_of_all);
 
