@@ -12,8 +12,8 @@ enum { VERSION = 2, SYNC = 0, DELAY_REQ = 1, FOLLOW_UP = 8, TIMED_SIZE = 44, ANN
 /* Room for four messages of 256 ports. A longer message is not kept. */
 enum { MOST_KEPT_MESSAGES = 1024, MOST_OCTETS_KEPT = 1500, PORT_IDENTITY = 10, MOST_SENDER = 64 };
 
-/* A message is sent again after two to its logMessageInterval, in seconds (13.3.2.14). One that lacks that, or has less than a second or
-   more than the standard's greatest of an Announce, counts as one with these. */
+/* A message is sent again after two to its logMessageInterval, in seconds (13.3.2.14). What is less than a second counts as one, and what
+   is more than the standard's greatest of an Announce as that. So does 0x7F, by which a Delay_Req says nothing. */
 enum { SENDINGS = 4, SECOND = 1000, MOST_INTERVAL = 4 };
 
 struct kept {
@@ -59,8 +59,8 @@ static struct kept *place_of(const uint8_t *message) {
 /* How long it is kept, in milliseconds. */
 static int64_t lasting(const uint8_t *message) {
     int interval = (int8_t)message[INTERVAL_AT];
-    bool is_slow = interval > 0 && interval <= MOST_INTERVAL;
-    return (int64_t)SENDINGS * SECOND << (is_slow ? interval : 0);
+    if (interval < 0) interval = 0;
+    return (int64_t)SENDINGS * SECOND << (interval < MOST_INTERVAL ? interval : MOST_INTERVAL);
 }
 
 void forget_silent(void) {

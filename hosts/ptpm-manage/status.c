@@ -220,6 +220,7 @@ static void look_until_decided(struct look *look, const struct task *task, struc
         keep_clocks();
         look_at_site(&next, task, domains, look);
         leave_out_passing(&next.report, &look->report);
+        leave_needed(look, 0);
         if (look->size > 0) join_lines(&next, look);
         free_look(look);
         *look = next;
