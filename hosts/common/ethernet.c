@@ -16,6 +16,7 @@
 enum { PTP = 0x88f7, TAG = 0x8100, SERVICE_TAG = 0x88a8, TAG_SIZE = 4, TYPE = 12 };
 
 static const uint8_t group_station[STATION] = { 0x01, 0x1b, 0x19, 0x00, 0x00, 0x00 };
+const uint8_t link_group[STATION] = { 0x01, 0x80, 0xc2, 0x00, 0x00, 0x0e };
 
 /* Of frames with this Ethertype, after one tag or none, those whose messageType is 0xD. */
 static const struct sock_filter wanted[] = {
@@ -49,13 +50,23 @@ bool filter_ethernet(int socket, bool is_management_alone) {
                                : setsockopt(socket, SOL_SOCKET, SO_DETACH_FILTER, &none, sizeof none) == 0;
 }
 
+static struct packet_mreq membership(unsigned index, const uint8_t group[STATION]) {
+    struct packet_mreq join = { .mr_ifindex = (int)index, .mr_type = PACKET_MR_MULTICAST, .mr_alen = STATION };
+    memcpy(join.mr_address, group, STATION);
+    return join;
+}
+
+bool join_link_group(int socket, const char *interface) {
+    struct packet_mreq join = membership(if_nametoindex(interface), link_group);
+    return setsockopt(socket, SOL_PACKET, PACKET_ADD_MEMBERSHIP, &join, sizeof join) == 0;
+}
+
 /* The socket hears nothing until it is bound, and by then it has its filter. */
 static bool join_group(int socket, const char *interface, uint8_t own[STATION], const char **what) {
     int one = 1;
     unsigned index = if_nametoindex(interface);
     struct sockaddr_ll place = { .sll_family = AF_PACKET, .sll_protocol = htons(PTP), .sll_ifindex = (int)index };
-    struct packet_mreq join = { .mr_ifindex = (int)index, .mr_type = PACKET_MR_MULTICAST, .mr_alen = STATION };
-    memcpy(join.mr_address, group_station, STATION);
+    struct packet_mreq join = membership(index, group_station);
     *what = interface;
     if (index == 0 || !read_station(socket, index, own)) return false;
     *what = "SO_ATTACH_FILTER";
@@ -82,11 +93,20 @@ bool is_to_station(const uint8_t *frame, const uint8_t own[STATION]) { return me
 
 const uint8_t *station_of(const uint8_t *frame) { return frame + STATION; }
 
-size_t message_in(const uint8_t *frame, size_t size, const uint8_t own[STATION]) {
+/* The place of the message in a frame that has a whole head. */
+static size_t place_of_message(const uint8_t *frame, size_t size) {
     size_t place = TYPE;
-    if (size < ETHERNET_HEAD || (!is_to_station(frame, own) && memcmp(frame, group_station, STATION) != 0)) return 0;
     while (place + 2 + TAG_SIZE <= size && (type_at(frame, place) == TAG || type_at(frame, place) == SERVICE_TAG)) place += TAG_SIZE;
     return type_at(frame, place) == PTP ? place + 2 : 0;
+}
+
+size_t message_in(const uint8_t *frame, size_t size, const uint8_t own[STATION]) {
+    if (size < ETHERNET_HEAD || (!is_to_station(frame, own) && !is_to_station(frame, group_station))) return 0;
+    return place_of_message(frame, size);
+}
+
+size_t message_to_link(const uint8_t *frame, size_t size) {
+    return size < ETHERNET_HEAD || !is_to_station(frame, link_group) ? 0 : place_of_message(frame, size);
 }
 
 void write_head(uint8_t head[ETHERNET_HEAD], const uint8_t *to, const uint8_t own[STATION]) {

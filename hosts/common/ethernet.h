@@ -1,4 +1,5 @@
-/* Management messages in frames of Ethernet (IEEE 1588-2019, annex E): Ethertype 0x88F7, to the group 01-1B-19-00-00-00. */
+/* Management messages in frames of Ethernet (IEEE 1588-2019, annex E): Ethertype 0x88F7, to the group 01-1B-19-00-00-00. 802.1AS sends
+   all its messages to the group of one link, 01-80-C2-00-00-0E, which no bridge passes on. */
 #ifndef ETHERNET_H
 #define ETHERNET_H
 
@@ -15,6 +16,10 @@ enum { STATION = 6, ETHERNET_HEAD = 14, ETHERNET_LEAST = 60, FRAME_PARTS = 3 };
    and *what at which step. */
 int open_ethernet(const char *interface, uint8_t own[STATION], const char **what);
 
+/* The group of one link. A socket joins it, also beside the other one; whether it could. */
+extern const uint8_t link_group[STATION];
+bool join_link_group(int socket, const char *interface);
+
 /* Has a socket hear only frames with management messages, or frames with every message; whether it does. */
 bool filter_ethernet(int socket, bool is_management_alone);
 
@@ -22,13 +27,16 @@ bool filter_ethernet(int socket, bool is_management_alone);
    address. The frame may be padded after the message. */
 size_t message_in(const uint8_t *frame, size_t size, const uint8_t own[STATION]);
 
+/* The same in a frame to the group of one link. */
+size_t message_to_link(const uint8_t *frame, size_t size);
+
 /* Whether a frame is only to this address. */
 bool is_to_station(const uint8_t *frame, const uint8_t own[STATION]);
 
 /* Who sent a frame. */
 const uint8_t *station_of(const uint8_t *frame);
 
-/* Writes the head of a frame to a station, or to the group if there is none. */
+/* Writes the head of a frame to a station or a group. If it is NULL, that is the group of all clocks. */
 void write_head(uint8_t head[ETHERNET_HEAD], const uint8_t *to, const uint8_t own[STATION]);
 
 /* The parts of a frame: a head, a message, and zeros after it if the frame would be too short. */

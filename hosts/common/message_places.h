@@ -12,6 +12,7 @@ enum {
     SOURCE_AT = 20,             /* sourcePortIdentity, a clockIdentity */
     SOURCE_PORT_AT = 28,        /* and its portNumber */
     SEQUENCE_AT = 30,           /* sequenceId */
+    INTERVAL_AT = 33,           /* logMessageInterval */
     TARGET_AT = 34,             /* targetPortIdentity, a clockIdentity and a portNumber */
     STARTING_HOPS_AT = 44,      /* startingBoundaryHops */
     HOPS_AT = 45,               /* boundaryHops */

@@ -94,6 +94,7 @@ _ptpm_manage() {
     rollback,*) _ptpm_offer_applies ;;
     plan,* | apply,*) ;;
     --max-offset,*) _ptpm_offer none ;;
+    --sdo,*) _ptpm_offer 0x100 all ;;
     *)
         _ptpm_takes ptpm-manage "$before" || _ptpm_offer_member || [[ -n $(_ptpm_last "${actions[*]}") ]] ||
             _ptpm_offer "${actions[@]}"

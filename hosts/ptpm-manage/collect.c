@@ -44,7 +44,7 @@ static const uint16_t of_ports[] = {
 struct request {
     struct ptpm_survey survey;
     uint16_t number;
-    uint8_t domain;
+    struct domain domain;
     unsigned id;                        /* its place among what is collected */
     size_t size;
     uint8_t message[PTPM_MOST_OCTETS];
@@ -74,14 +74,14 @@ static bool is_of_port(unsigned id) {
 static unsigned two_octets(const uint8_t *at) { return (unsigned)at[0] << 8 | at[1]; }
 
 /* Starts the request of an id; whether the library would ask it. If not, that is said. */
-static bool start_request(const struct task *task, uint8_t domain, unsigned id) {
+static bool start_request(const struct task *task, struct domain domain, unsigned id) {
     static uint16_t number;
     static bool is_drawn;
     if (!is_drawn) number = draw_number();
     is_drawn = true;
     struct request *request = &requests[request_count];
     struct ptpm_survey_settings settings = {
-        .port = task->settings.port, .number = ++number, .id = collected->ids[id], .domain = domain, .hops = task->settings.hops,
+        .port = task->settings.port, .number = ++number, .id = collected->ids[id], .domain = domain.number, .hops = task->settings.hops,
     };
     memcpy(settings.clock, task->settings.clock, sizeof settings.clock);
     uint32_t refusal = ptpm_survey_start(&request->survey, &settings);
@@ -92,6 +92,7 @@ static bool start_request(const struct task *task, uint8_t domain, unsigned id) 
         complain("nothing was asked: %s", answer_name(refusal));
         return false;
     }
+    write_sdo(request->message, domain.sdo);
     request->number = number;
     request->domain = domain;
     request->id = id;
@@ -142,13 +143,23 @@ static void take_answer(const struct request *request, const uint8_t *message) {
     write_line(output, &(struct line){ .at = time_now(), .from = sender_text(), .on = came_in_at(), .message = message, .size = size });
 }
 
-/* The request that a datagram would answer by its number. The library judges whether it does. */
+/* The request that a datagram would answer by its number and its sdoId. The library judges whether it does. */
 static struct request *asked_under(const uint8_t *datagram, size_t size) {
     if (size < LEAST_MESSAGE || (datagram[TYPE_AT] & LOWER_HALF) != MANAGEMENT_TYPE) return NULL;
     for (size_t i = 0; i < request_count; i++) {
-        if (requests[i].number == two_octets(datagram + SEQUENCE_AT)) return &requests[i];
+        bool is_number = requests[i].number == two_octets(datagram + SEQUENCE_AT);
+        if (is_number && requests[i].domain.sdo == domain_of(datagram).sdo) return &requests[i];
     }
     return NULL;
+}
+
+/* What the library says of a datagram. It knows only sdoId 0, so it judges a copy that has this one. */
+static uint32_t judge(struct request *request, const uint8_t *datagram, size_t size) {
+    static uint8_t copy[MOST_DATAGRAM];
+    if (request->domain.sdo == 0 || size > sizeof copy) return ptpm_survey_receive(&request->survey, datagram, size);
+    memcpy(copy, datagram, size);
+    write_sdo(copy, 0);
+    return ptpm_survey_receive(&request->survey, copy, size);
 }
 
 static void hear_until(int64_t end) {
@@ -157,7 +168,7 @@ static void hear_until(int64_t end) {
         struct request *request = asked_under(datagram, size);
         if (request == NULL) keep_heard(datagram, size);
         if (request == NULL) continue;
-        switch ((uint32_t)ptpm_survey_receive(&request->survey, datagram, size)) {
+        switch (judge(request, datagram, size)) {
         case PTPM_TAKEN:
         case PTPM_AGAIN:                                /* which may be of another port, or of another clock with that identity */
         case PTPM_FULL:
@@ -199,9 +210,9 @@ static void ask_every(void) {
     }
 }
 
-static const struct request *request_of(uint8_t domain, unsigned id) {
+static const struct request *request_of(struct domain domain, unsigned id) {
     for (size_t i = 0; i < request_count; i++) {
-        if (requests[i].domain == domain && requests[i].id == id) return &requests[i];
+        if (is_same_domain(requests[i].domain, domain) && requests[i].id == id) return &requests[i];
     }
     return NULL;
 }
@@ -255,7 +266,7 @@ static bool is_own(const uint8_t clock[8]) {
 }
 
 /* The request for a clock that was heard and has not answered; NULL for any other one. */
-static const struct request *unanswered_by(uint8_t domain, const uint8_t clock[8]) {
+static const struct request *unanswered_by(struct domain domain, const uint8_t clock[8]) {
     return is_seen(domain, clock) || is_own(clock) ? NULL : request_of(domain, 0);
 }
 
@@ -265,7 +276,7 @@ void expect_clocks(const struct seen_clock *clocks, size_t count) {
 }
 
 /* Asks a clock for the first id, if it has not answered; whether it was asked. If it answers, it lacks the others. */
-static bool ask_silent(uint8_t domain, const uint8_t clock[8], bool is_written) {
+static bool ask_silent(struct domain domain, const uint8_t clock[8], bool is_written) {
     const struct request *request = unanswered_by(domain, clock);
     return request != NULL && ask_alone(request, clock, is_written);
 }
@@ -273,13 +284,14 @@ static bool ask_silent(uint8_t domain, const uint8_t clock[8], bool is_written) 
 /* Asks each clock of these domains that was heard or is expected and has not answered; how many these are. */
 static size_t ask_absent(bool is_written) {
     size_t count = 0;
-    uint8_t domain;
+    struct domain domain, domain_before = { 0 };
     const uint8_t *before = NULL;
     size_t place = 0;
     for (const uint8_t *clock; !stopped && (clock = heard_clock(place, &domain)) != NULL; place++) {
-        bool is_again = before != NULL && memcmp(before, clock, 8) == 0;
+        bool is_again = before != NULL && memcmp(before, clock, 8) == 0 && is_same_domain(domain_before, domain);
         count += !is_again && ask_silent(domain, clock, is_written);
         before = clock;
+        domain_before = domain;
     }
     for (size_t i = 0; i < expected_count && !stopped; i++) {
         count += ask_silent(expected[i].domain, expected[i].identity, is_written);
@@ -289,7 +301,7 @@ static size_t ask_absent(bool is_written) {
 }
 
 /* Asks in this many domains; whether the library would ask at all. */
-static bool ask_in(const struct task *task, const uint8_t *domains, size_t count) {
+static bool ask_in(const struct task *task, const struct domain *domains, size_t count) {
     for (size_t i = 0; i < count; i++) {
         for (unsigned id = 0; id < collected->count; id++) {
             if (start_request(task, domains[i], id)) continue;
@@ -297,7 +309,9 @@ static bool ask_in(const struct task *task, const uint8_t *domains, size_t count
             return false;
         }
     }
-    show_progress("%zu clocks so far; asking from domain %u on", seen_count(), domains[0]);
+    char first[DOMAIN_TEXT];
+    write_domain(first, domains[0]);
+    show_progress("%zu clocks so far; asking from domain %s on", seen_count(), first);
     ask_every();
     hear_until_quiet(task);
     for (int round = 1; round <= task->settings.attempts && !stopped && !has_no_transport; round++) {
@@ -310,6 +324,16 @@ static bool ask_in(const struct task *task, const uint8_t *domains, size_t count
     }
     stop_requests();
     return true;
+}
+
+/* Says in which sdoId a clock is heard, if it is asked in no domain of it. */
+static void advise_on_sdo(const struct domains *domains) {
+    struct domain domain;
+    for (size_t place = 0; heard_domain(place, &domain); place++) {
+        if (is_sdo_asked(domains, domain.sdo)) continue;
+        complain("a clock is heard in sdoId 0x%03x: --sdo 0x%03x asks there", domain.sdo, domain.sdo);
+        return;
+    }
 }
 
 static int end_of_collection(const struct task *task, const struct domains *domains) {
@@ -327,31 +351,32 @@ static int end_of_collection(const struct task *task, const struct domains *doma
     complain("no answer at %s in %s to %ld message%s", transport_name(), domains_text(domains), sent, sent == 1 ? "" : "s");
     tell_missing_addresses();
     if (!task->site.is_every_domain) complain("--domain all asks in each domain in which a clock is heard");
+    if (!task->site.is_every_sdo) advise_on_sdo(domains);
     advise_on_time(task);
     return NOT_ANSWERED;
 }
 
 /* Asks in these domains; whether the library would ask at all. */
 static bool ask_in_all(const struct task *task, const struct domains *domains) {
-    uint8_t together[DOMAINS_AT_ONCE];
-    size_t count = 0;
-    for (int domain = 0; domain < DOMAINS && !stopped && !has_no_transport; domain++) {
-        if (domains->is_in[domain]) together[count++] = (uint8_t)domain;
-        if (count < DOMAINS_AT_ONCE && (domain + 1 < DOMAINS || count == 0)) continue;
-        if (!ask_in(task, together, count)) return false;
-        count = 0;
-    }
+    struct domain together[DOMAINS_AT_ONCE];
+    size_t count, place = 0;
+    do {
+        for (count = 0; count < DOMAINS_AT_ONCE && next_domain(domains, &place, &together[count]);) count++;
+        if (count > 0 && !ask_in(task, together, count)) return false;
+    } while (count == DOMAINS_AT_ONCE && !stopped && !has_no_transport);
     return true;
 }
 
-/* Asks, and hears what clocks send by themselves meanwhile. What was heard since the last time counts too. */
+/* Asks, and hears what clocks send by themselves meanwhile. What was heard before is written first: a clock that answers no more may have
+   sent it while it still answered. */
 static bool ask_and_hear(const struct task *task, const struct domains *domains) {
     write_host_note(output);
+    forget_silent();
+    write_heard(output, true);
     receive_every_type(true);
     bool is_asked = ask_in_all(task, domains);
     receive_every_type(false);
-    write_heard(output);
-    hear_none();
+    write_heard(output, false);
     return is_asked;
 }
 
@@ -365,17 +390,22 @@ static void begin(const struct collected *what, FILE *to) {
     has_no_transport = false;
 }
 
-void add_answering_domains(struct domains *domains, const struct task *task) {
-    static const struct collected first_alone = { 1, { PTPM_ID_DEFAULT_DATA_SET } };
-    begin(&first_alone, NULL);
-    for (int domain = 0; domain < DOMAINS && !stopped && !has_no_transport; domain++) {
-        if (!start_request(task, (uint8_t)domain, 0)) break;
-        send_when_room(requests[domain].message, requests[domain].size, false);
+/* Asks once in each domain of an sdoId. */
+static void ask_each_domain(const struct task *task, uint16_t sdo) {
+    for (int number = 0; number < DOMAINS && !stopped && !has_no_transport; number++) {
+        if (!start_request(task, (struct domain){ (uint8_t)number, sdo }, 0)) break;
+        send_when_room(requests[number].message, requests[number].size, false);
         hear_until(milliseconds() + DOMAIN_STEP);
     }
     hear_until_quiet(task);
-    for (size_t i = 0; i < seen_count(); i++) domains->is_in[seen_clock(i)->domain] = true;
     stop_requests();
+}
+
+void add_answering_domains(struct domains *domains, const struct task *task) {
+    static const struct collected first_alone = { 1, { PTPM_ID_DEFAULT_DATA_SET } };
+    begin(&first_alone, NULL);
+    for (size_t i = 0; i < domains->sdo_count; i++) ask_each_domain(task, domains->sdos[i]);
+    for (size_t i = 0; i < seen_count(); i++) add_domain(domains, seen_clock(i)->domain);
 }
 
 int collect_answers(const struct task *task, const struct collected *what, const struct domains *domains, FILE *to) {

@@ -1,31 +1,61 @@
 #include "domains.h"
 #include "collect.h"
 #include "heard.h"
-#include "message_places.h"
 #include "monotonic.h"
 #include "notices.h"
 #include "transport.h"
-#include <stdbool.h>
 #include <stdio.h>
-#include <string.h>
-
-/* versionPTP, and how many octets an Announce message has (IEEE 1588-2019, 13.3 and 13.5). */
-enum { VERSION = 2, ANNOUNCE_SIZE = 64 };
 
 /* The standard's default, and that of SMPTE ST 2059-2. */
 enum { USUAL = 0, USUAL_IN_STUDIOS = 127 };
 
-static bool is_announce(const uint8_t *datagram, size_t size) {
-    if (size < ANNOUNCE_SIZE || (datagram[TYPE_AT] & LOWER_HALF) != ANNOUNCE_TYPE) return false;
-    if ((datagram[VERSION_AT] & LOWER_HALF) != VERSION) return false;
-    size_t length = (size_t)datagram[LENGTH_AT] << 8 | datagram[LENGTH_AT + 1];
-    return length >= ANNOUNCE_SIZE && length <= size;
+static void tell_no_room(void) {
+    static bool is_told;
+    if (!is_told) complain("clocks are heard in more than %d sdoIds: the others are left out", MOST_SDOS);
+    is_told = true;
 }
 
-static int count_of(const struct domains *domains) {
-    int count = 0;
-    for (int i = 0; i < DOMAINS; i++) count += domains->is_in[i];
-    return count;
+/* The place of an sdoId; the count if it has none. */
+static size_t place_of_sdo(const struct domains *domains, uint16_t sdo) {
+    size_t place = 0;
+    while (place < domains->sdo_count && domains->sdos[place] != sdo) place++;
+    return place;
+}
+
+bool is_sdo_asked(const struct domains *domains, uint16_t sdo) { return place_of_sdo(domains, sdo) < domains->sdo_count; }
+
+void add_domain(struct domains *domains, struct domain domain) {
+    size_t place = place_of_sdo(domains, domain.sdo);
+    if (place == MOST_SDOS) {
+        tell_no_room();
+        return;
+    }
+    domains->sdos[place] = domain.sdo;
+    if (place == domains->sdo_count) domains->sdo_count++;
+    domains->is_in[place][domain.number] = true;
+}
+
+bool next_domain(const struct domains *domains, size_t *place, struct domain *domain) {
+    for (; *place < domains->sdo_count * DOMAINS; ++*place) {
+        size_t sdo = *place / DOMAINS, number = *place % DOMAINS;
+        if (!domains->is_in[sdo][number]) continue;
+        *domain = (struct domain){ (uint8_t)number, domains->sdos[sdo] };
+        ++*place;
+        return true;
+    }
+    return false;
+}
+
+/* Adds those that the command line names, in this sdoId. */
+static void add_named(struct domains *domains, const struct site_options *site, uint16_t sdo) {
+    for (int number = site->first_domain; number <= site->last_domain; number++) add_domain(domains, (struct domain){ (uint8_t)number, sdo });
+}
+
+/* A clock sends in this domain. */
+static void take_heard(struct domains *domains, const struct site_options *site, struct domain heard) {
+    if (!site->is_every_sdo && heard.sdo != site->sdo) return;
+    if (site->is_every_domain) add_domain(domains, heard);
+    else add_named(domains, site, heard.sdo);
 }
 
 void listen_for_domains(struct domains *domains, const struct task *task, int64_t wanted) {
@@ -33,32 +63,33 @@ void listen_for_domains(struct domains *domains, const struct task *task, int64_
     size_t size;
     receive_every_type(true);
     for (const uint8_t *datagram; (datagram = receive_message(&size, end)) != NULL;) {
-        if (task->site.is_every_domain && is_announce(datagram, size)) domains->is_in[datagram[DOMAIN_AT]] = true;
-        keep_heard(datagram, size);
+        if (keep_heard(datagram, size)) take_heard(domains, &task->site, domain_of(datagram));
     }
     receive_every_type(false);
 }
 
 void find_domains(struct domains *domains, const struct task *task) {
     const struct site_options *site = &task->site;
-    memset(domains, 0, sizeof *domains);
-    if (site->is_every_domain && task->path == NULL) {
-        show_progress("listening for Announce messages");
-        listen_for_domains(domains, task, site->listen);
-        domains->is_in[USUAL] = domains->is_in[USUAL_IN_STUDIOS] = true;
-        show_progress("asking in each of the 256 domains once");
-        add_answering_domains(domains, task);
-        return;
-    }
-    int first = site->is_every_domain ? 0 : site->first_domain, last = site->is_every_domain ? DOMAINS - 1 : site->last_domain;
-    for (int i = first; i <= last; i++) domains->is_in[i] = true;
+    bool has_heard = task->path == NULL && (site->is_every_domain || site->is_every_sdo);
+    *domains = (struct domains){ 0 };
+    if (!site->is_every_domain || task->path != NULL) add_named(domains, site, site->sdo);
+    else add_domain(domains, (struct domain){ USUAL, site->sdo });
+    if (!has_heard) return;
+    show_progress("listening for clocks");
+    listen_for_domains(domains, task, site->listen);
+    if (!site->is_every_domain) return;
+    add_domain(domains, (struct domain){ USUAL_IN_STUDIOS, site->sdo });
+    show_progress("asking in each of the 256 domains once");
+    add_answering_domains(domains, task);
 }
 
 const char *domains_text(const struct domains *domains) {
     static char text[32];
-    int count = count_of(domains), one = 0;
-    while (one + 1 < DOMAINS && !domains->is_in[one]) one++;
-    if (count == 1) snprintf(text, sizeof text, "domain %d", one);
-    else snprintf(text, sizeof text, "%d domains", count);
+    char one[DOMAIN_TEXT];
+    struct domain domain;
+    size_t place = 0, count = 0;
+    for (; next_domain(domains, &place, &domain); count++) write_domain(one, domain);
+    if (count == 1) snprintf(text, sizeof text, "domain %s", one);
+    else snprintf(text, sizeof text, "%zu domains", count);
     return text;
 }

@@ -1,20 +1,34 @@
-/* The domains in which a site is asked: those that the command line names, or in which Announce messages are heard. */
+/* The domains in which a site is asked: those that the command line names, or in which clocks are heard. */
 #ifndef DOMAINS_H
 #define DOMAINS_H
 
+#include "domain.h"
 #include "task.h"
 #include <stdbool.h>
+#include <stddef.h>
 #include <stdint.h>
 
-struct domains { bool is_in[DOMAINS]; };
+/* Strangers may send in each of 4,096 sdoIds, so there is room for a number of them. */
+enum { MOST_SDOS = 8 };
 
-/* Finds them. With `all` it listens for Announce messages as long as the task says, and adds 0 and 127. Then it asks once in each
-   domain, and adds those in which a clock answers. On a Unix socket none
-   comes in: there it takes each of the 256. */
+struct domains { size_t sdo_count; uint16_t sdos[MOST_SDOS]; bool is_in[MOST_SDOS][DOMAINS]; };
+
+/* Finds them. With `all` domains, or `all` sdoIds, it listens as long as the task says, and adds what is heard. With `all` domains it then
+   asks once in each domain, and adds those in which a clock answers. On a Unix socket none comes in: there it takes each of the 256 of one
+   sdoId. */
 void find_domains(struct domains *domains, const struct task *task);
 
-/* Hears what comes in for this many milliseconds, and with `all` adds the domains of Announce messages. */
+/* Hears what comes in for this many milliseconds, and with `all` adds the domains in which a clock sends. */
 void listen_for_domains(struct domains *domains, const struct task *task, int64_t milliseconds);
+
+/* Adds one. If there is no room for its sdoId that is said once. */
+void add_domain(struct domains *domains, struct domain domain);
+
+/* Whether it is asked in one of this sdoId. */
+bool is_sdo_asked(const struct domains *domains, uint16_t sdo);
+
+/* The domains, sdoId by sdoId, each time the one from this place on; and whether there is one. The place begins with 0. */
+bool next_domain(const struct domains *domains, size_t *place, struct domain *domain);
 
 /* The domains as a text: `domain 5`, or `3 domains`. It is there until the next call. */
 const char *domains_text(const struct domains *domains);

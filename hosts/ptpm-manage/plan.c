@@ -38,7 +38,7 @@ static bool take_ask(struct collected *what, struct domains *domains, char *line
     *space = '\0';
     long domain = decimal(line, DOMAINS - 1), id = id_named(name);
     if (domain < 0 || id < 0) return false;
-    domains->is_in[domain] = true;
+    add_domain(domains, (struct domain){ (uint8_t)domain, 0 });
     if (is_collected(what, (uint16_t)id)) return true;
     if (what->count == MOST_COLLECTED) return false;
     what->ids[what->count++] = (uint16_t)id;

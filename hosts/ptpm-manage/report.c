@@ -103,13 +103,14 @@ static bool read_line(struct finding *finding, const char *at, const char *end) 
     const char *next = at;
     if (at == end || !isdigit((unsigned char)*at)) return false;
     finding->whole = (struct piece){ at, (size_t)(end - at) - (end[-1] == '\n') };
-    for (int part = 0; part < KEY_PARTS; part++) {
+    for (int part = 0; part < TEXT_PARTS; part++) {
         const char *first = next;
         while (next < end && !isspace((unsigned char)*next)) next++;
         finding->key[part] = (struct piece){ first, (size_t)(next - first) };
         if (next == first) return false;
-        if (part + 1 < KEY_PARTS && *next++ != ' ') return false;
+        if (part + 1 < TEXT_PARTS && *next++ != ' ') return false;
     }
+    finding->key[SDO_PART] = (struct piece){ next, 0 };
     read_followers(finding);
     return true;
 }
@@ -130,6 +131,7 @@ static void read_text(struct report *report) {
     report->has_findings = true;
     report->head.size = (size_t)(at - report->text);
     read_heading(report, at + sizeof heading - 1);
+    report->heading = (struct piece){ at, (size_t)(end_of_line(at, end) - at) };
     at = end_of_line(at, end);
     for (const char *next; at < end; at = next) {
         struct finding finding = { 0 };
@@ -193,31 +195,45 @@ static bool find_member(struct piece *member, const char *at, const char *end, c
 }
 
 static bool read_object(struct finding *finding, const char *at, const char *end) {
-    static const char *const names[KEY_PARTS] = { "domainNumber", "clockIdentity", "finding" };
+    static const char *const names[TEXT_PARTS] = { "domainNumber", "clockIdentity", "finding" };
     struct piece cause;
     while (end > at && isspace((unsigned char)end[-1])) end--;
     finding->whole = finding->words = (struct piece){ at, (size_t)(end - at) };
     finding->rest = (struct piece){ end, 0 };
     finding->has_cause = find_member(&cause, at, end, "because") && !is_piece(&cause, "null");
-    for (int part = 0; part < KEY_PARTS; part++) {
+    for (int part = 0; part < TEXT_PARTS; part++) {
         if (!find_member(&finding->key[part], at, end, names[part])) return false;
     }
+    if (!find_member(&finding->key[SDO_PART], at, end, "sdoId")) finding->key[SDO_PART] = (struct piece){ end, 0 };
+    return true;
+}
+
+/* A member that is a list; whether there is one. */
+static bool find_list(struct piece *list, const char *at, const char *end, const char *name) {
+    return find_member(list, at, end, name) && list->size >= 2 && *list->at == '[';
+}
+
+/* Takes the next object off a list, after the bracket or the comma before it; whether there is one. */
+static bool take_object(struct piece *list, struct piece *object) {
+    const char *end = list->at + list->size, *at = list->size == 0 ? end : after_spaces(list->at + 1, end);
+    if (at == end || *at != '{') return false;
+    const char *next = after_value(at, end);
+    *object = (struct piece){ at, (size_t)(next - at) };
+    *list = (struct piece){ next, (size_t)(end - next) };
     return true;
 }
 
 static void read_json(struct report *report) {
-    struct piece list;
+    struct piece list, object;
     const char *end = report->text + report->size;
-    if (!find_member(&list, report->text, end, "findings") || list.size < 2 || *list.at != '[') return;
-    const char *at = after_spaces(list.at + 1, end);
+    if (!find_list(&list, report->text, end, "findings")) return;
     report->has_findings = true;
     report->head.size = (size_t)(list.at + 1 - report->text);
-    while (at < end && *at == '{') {
+    while (take_object(&list, &object)) {
         struct finding finding = { 0 };
-        const char *next = after_value(at, end);
-        if (read_object(&finding, at, next)) add_finding(report, &finding);
-        at = next < end && *next == ',' ? after_spaces(next + 1, end) : next;
+        if (read_object(&finding, object.at, object.at + object.size)) add_finding(report, &finding);
     }
+    const char *at = after_spaces(list.at + (*list.at == '['), end);
     report->tail = (struct piece){ at, (size_t)(end - at) };
 }
 
@@ -231,6 +247,7 @@ void read_report(struct report *report) {
 }
 
 void free_report(struct report *report) {
+    for (size_t i = 0; i < report->count; i++) free(report->findings[i].own);
     free(report->text);
     free(report->findings);
     *report = (struct report){ 0 };
@@ -299,13 +316,11 @@ static bool has_open_line(const char *at, const char *end) {
 
 /* In JSON it is a list of the object. */
 static bool has_open_object(const char *text, const char *end) {
-    struct piece list;
+    struct piece list, object;
     struct finding open;
-    if (!find_member(&list, text, end, "open") || list.size < 2 || *list.at != '[') return false;
-    for (const char *at = after_spaces(list.at + 1, end), *next; at < end && *at == '{'; at = next) {
-        next = after_value(at, end);
-        if (read_object(&open, at, next) && !is_lasting(&open)) return true;
-        if (next < end && *next == ',') next = after_spaces(next + 1, end);
+    if (!find_list(&list, text, end, "open")) return false;
+    while (take_object(&list, &object)) {
+        if (read_object(&open, object.at, object.at + object.size) && !is_lasting(&open)) return true;
     }
     return false;
 }
@@ -321,12 +336,6 @@ bool is_over_time(const struct report *report) {
         if (is_one_of(&report->findings[i], over_time, sizeof over_time / sizeof *over_time)) return true;
     }
     return has_open(report);
-}
-
-void leave_out_changes(struct report *report) {
-    for (size_t i = 0; i < report->count; i++) {
-        if (is_change(&report->findings[i])) report->findings[i].is_left_out = true;
-    }
 }
 
 bool has_passing_finding(const struct report *report, const struct report *earlier) {
@@ -348,6 +357,105 @@ void leave_out_passing(struct report *report, const struct report *earlier) {
     free(keys.at);
 }
 
+/* What `ptpm site` says of a clock that is gone has no description, since nothing that it answered counts any more. */
+
+static bool is_gone(const struct finding *finding) { return is_piece(&finding->key[NAME_PART], "gone"); }
+
+static bool is_same_piece(const struct piece *one, const struct piece *other) { return compare_pieces(one, other) == 0; }
+
+/* The description in a line of the tree, in quotes, if it is that of the finding's clock; an empty one otherwise. */
+static struct piece description_in_line(const char *at, const char *end, const struct finding *finding) {
+    const struct piece *clock = &finding->key[CLOCK_PART];
+    at = after_spaces(at, end);
+    if ((size_t)(end - at) <= clock->size || memcmp(at, clock->at, clock->size) != 0) return (struct piece){ end, 0 };
+    at = after_spaces(at + clock->size, end);
+    return (struct piece){ at, at == end || *at != '"' ? 0 : (size_t)(after_string(at, end) - at) };
+}
+
+/* The tree of a domain is below a line `domain DOMAIN: ..`. */
+static struct piece description_in_text(const struct report *report, const struct finding *finding) {
+    static const char lead[] = "domain ";
+    const char *end = report->head.at + report->head.size;
+    bool is_in_domain = false;
+    for (const char *at = report->head.at, *next; at < end; at = next) {
+        next = end_of_line(at, end);
+        const char *colon = strncmp(at, lead, sizeof lead - 1) == 0 ? memchr(at, ':', (size_t)(next - at)) : NULL;
+        const char *domain = at + sizeof lead - 1;
+        if (colon != NULL) is_in_domain = is_same_piece(&(struct piece){ domain, (size_t)(colon - domain) }, &finding->key[DOMAIN_PART]);
+        struct piece found = is_in_domain ? description_in_line(at, next, finding) : (struct piece){ end, 0 };
+        if (found.size > 0) return found;
+    }
+    return (struct piece){ end, 0 };
+}
+
+/* Whether an object has a member with this value. */
+static bool has_value(const struct piece *object, const char *name, const struct piece *value) {
+    struct piece found;
+    return find_member(&found, object->at, object->at + object->size, name) && is_same_piece(&found, value);
+}
+
+/* Without its quotes. */
+static struct piece description_in_clocks(struct piece list, const struct finding *finding) {
+    struct piece clock, answer, found = { list.at, 0 };
+    while (take_object(&list, &clock)) {
+        if (!has_value(&clock, "clockIdentity", &finding->key[CLOCK_PART])) continue;
+        if (!find_member(&answer, clock.at, clock.at + clock.size, "USER_DESCRIPTION")) continue;
+        if (find_member(&found, answer.at, answer.at + answer.size, "userDescription")) break;
+    }
+    return found;
+}
+
+static struct piece description_in_json(const struct report *report, const struct finding *finding) {
+    const char *end = report->text + report->size;
+    struct piece list, domain, clocks, found = { end, 0 };
+    if (!find_list(&list, report->text, end, "domains")) return found;
+    while (found.size == 0 && take_object(&list, &domain)) {
+        if (!has_value(&domain, "domainNumber", &finding->key[DOMAIN_PART])) continue;
+        if (finding->key[SDO_PART].size > 0 && !has_value(&domain, "sdoId", &finding->key[SDO_PART])) continue;
+        if (find_list(&clocks, domain.at, domain.at + domain.size, "clocks")) found = description_in_clocks(clocks, finding);
+    }
+    return found;
+}
+
+/* The description at the end of a finding, as the two above have it. */
+static struct piece own_description(const struct report *report, const struct finding *finding) {
+    const char *end = finding->whole.at + finding->whole.size;
+    struct piece found = { end, 0 };
+    if (report->is_json) find_member(&found, finding->whole.at, end, "userDescription");
+    else if (finding->rest.size > 0) found = (struct piece){ finding->rest.at + 1, finding->rest.size - 1 };
+    return found;
+}
+
+/* The description of the finding's clock in a report: in its tree, or in a finding that the clock was gone by then. */
+static struct piece description_in(const struct report *report, const struct finding *finding) {
+    struct piece found = report->is_json ? description_in_json(report, finding) : description_in_text(report, finding);
+    for (size_t i = 0; i < report->count && found.size == 0; i++) {
+        const struct finding *other = &report->findings[i], *one = finding;
+        if (is_gone(other) && by_key(&one, &other) == 0) found = own_description(report, other);
+    }
+    return found;
+}
+
+/* Puts it at the end of a finding, which is then a text of its own. */
+static void add_description(struct finding *finding, const struct piece *description, bool is_json) {
+    int size = (int)finding->whole.size, more = (int)description->size;
+    int whole = is_json ? asprintf(&finding->own, "%.*s,\"userDescription\":\"%.*s\"}", size - 1, finding->whole.at, more, description->at)
+                        : asprintf(&finding->own, "%.*s %.*s", size, finding->whole.at, more, description->at);
+    if (whole < 0) give_up("the findings");
+    finding->whole = (struct piece){ finding->own, (size_t)whole };
+    if (is_json) finding->words = finding->whole;
+    else finding->rest = (struct piece){ finding->own + size, (size_t)(whole - size) };
+}
+
+void describe_gone(struct report *report, const struct report *earlier) {
+    for (size_t i = 0; i < report->count; i++) {
+        struct finding *finding = &report->findings[i];
+        if (!is_gone(finding) || own_description(report, finding).size > 0) continue;
+        struct piece found = description_in(earlier, finding);
+        if (found.size > 0) add_description(finding, &found, report->is_json);
+    }
+}
+
 size_t findings_left(const struct report *report) {
     size_t left = 0;
     for (size_t i = 0; i < report->count; i++) left += !report->findings[i].is_left_out;
@@ -360,18 +468,21 @@ static void print_piece(FILE *to, const struct report *report, const struct piec
     else print_lines(to, piece->at, piece->size);
 }
 
-/* How many lines there are, and how many more findings follow from theirs, without those that are left out. */
+/* How many lines there are, and how many more findings follow from theirs, without those that are left out. If each that follows has a
+   line too, nobody knows which these are: then all lines are counted. */
 static void print_heading(FILE *to, const struct report *report) {
-    size_t said = report->said, followers = report->followers;
+    size_t left = findings_left(report), followers = report->said == report->count ? report->followers : 0;
+    if (left == report->count) {
+        print_piece(to, report, &report->heading);
+        return;
+    }
     for (size_t i = 0; i < report->count; i++) {
         const struct finding *finding = &report->findings[i];
-        if (!finding->is_left_out) continue;
-        said -= said > 0;
-        followers -= finding->followers < followers ? finding->followers : followers;
+        if (finding->is_left_out) followers -= finding->followers < followers ? finding->followers : followers;
     }
-    if (findings_left(report) == 0) fprintf(to, "findings: none\n");
-    else if (followers == 0) fprintf(to, "findings: %zu\n", said);
-    else fprintf(to, "findings: %zu, and %zu that follow\n", said, followers);
+    if (left == 0) fprintf(to, "findings: none\n");
+    else if (followers == 0) fprintf(to, "findings: %zu\n", left);
+    else fprintf(to, "findings: %zu, and %zu that follow\n", left, followers);
 }
 
 void print_report_text(FILE *to, const struct report *report, bool is_coloured) {

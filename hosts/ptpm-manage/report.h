@@ -10,17 +10,18 @@
 struct piece { const char *at; size_t size; };
 
 /* A finding: all of it; its domain, its clock and its name, which together are its key; and whether it is left out. A line of text says
-   how many others follow from it: `words` come before that, and `rest` after it. In JSON one may have a cause, from which it follows. */
-enum { DOMAIN_PART, CLOCK_PART, NAME_PART, KEY_PARTS };
-struct finding { struct piece whole, key[KEY_PARTS], words, rest; size_t followers; bool has_cause, is_left_out; };
+   how many others follow from it: `words` come before that, and `rest` after it. In JSON one may have a cause, from which it follows. There
+   the domain's sdoId is a part of its own, which is empty in a text. */
+enum { DOMAIN_PART, CLOCK_PART, NAME_PART, TEXT_PARTS, SDO_PART = TEXT_PARTS, KEY_PARTS };
+struct finding { struct piece whole, key[KEY_PARTS], words, rest; size_t followers; bool has_cause, is_left_out; char *own; };
 
-/* A report. Its findings are between `head` and `tail`. If it has no place for findings, `head` is all of it. A text says how many it
-   has, and how many more follow from them. */
+/* A report. Its findings are between `head` and `tail`. If it has no place for findings, `head` is all of it. A text has a heading between
+   `head` and them: how many there are, and how many more follow from them. What a finding has `own` is no part of `text`. */
 struct report {
     char *text;
     size_t size;
     bool is_json, has_findings;
-    struct piece head, tail;
+    struct piece head, heading, tail;
     struct finding *findings;
     size_t count, said, followers;
 };
@@ -44,11 +45,11 @@ bool is_over_time(const struct report *report);
 /* Whether something is open that only time decides. */
 bool has_open(const struct report *report);
 
-/* Leaves out of a report what differs from the look before. */
-void leave_out_changes(struct report *report);
-
 /* Leaves out of a report each such finding whose key is not in an earlier one. */
 void leave_out_passing(struct report *report, const struct report *earlier);
+
+/* Adds to each finding of a clock that is gone the description that the clock had in an earlier report. */
+void describe_gone(struct report *report, const struct report *earlier);
 
 /* How many findings are not left out. */
 size_t findings_left(const struct report *report);

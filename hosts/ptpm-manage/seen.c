@@ -38,13 +38,13 @@ void see_none(void) {
 }
 
 /* The place that a clock has, or may take. */
-static size_t place_of_clock(uint8_t domain, const uint8_t clock[8]) {
+static size_t place_of_clock(struct domain domain, const uint8_t clock[8]) {
     uint64_t identity;
     memcpy(&identity, clock, sizeof identity);
-    size_t place = mix(mix(identity) + domain) % CLOCK_PLACES;
+    size_t place = mix(mix(identity) + ((uint64_t)domain.sdo << 8 | domain.number)) % CLOCK_PLACES;
     for (; clock_places[place] != 0; place = (place + 1) % CLOCK_PLACES) {
         const struct seen_clock *one = &clocks[clock_places[place] - 1];
-        if (one->domain == domain && memcmp(one->identity, clock, 8) == 0) break;
+        if (is_same_domain(one->domain, domain) && memcmp(one->identity, clock, 8) == 0) break;
     }
     return place;
 }
@@ -96,7 +96,7 @@ enum seen see_answer(const struct seen_answer *answer) {
     return DIFFERENT;
 }
 
-bool is_seen(uint8_t domain, const uint8_t clock[8]) { return clock_places[place_of_clock(domain, clock)] != 0; }
+bool is_seen(struct domain domain, const uint8_t clock[8]) { return clock_places[place_of_clock(domain, clock)] != 0; }
 
 size_t seen_count(void) { return clock_count; }
 

@@ -3,6 +3,7 @@
 #ifndef SEEN_H
 #define SEEN_H
 
+#include "domain.h"
 #include <stdbool.h>
 #include <stddef.h>
 #include <stdint.h>
@@ -12,7 +13,8 @@ enum { MOST_COLLECTED = 16, MOST_CLOCKS = 4096, MOST_KEPT = 65536 };
 
 /* A clock that answered. */
 struct seen_clock {
-    uint8_t identity[8], domain;
+    uint8_t identity[8];
+    struct domain domain;
     uint16_t answered, refused;         /* a bit for each id: an answer or a refusal came; a refusal came */
     uint16_t port_count;                /* numberPorts, 0 until it is known */
     uint16_t ports[MOST_COLLECTED];     /* of an id of a port, how many ports answered */
@@ -24,7 +26,7 @@ struct seen_clock {
 /* An answer: who gave it, to what, and its content. Copies of it have the same sum. */
 struct seen_answer {
     const uint8_t *clock;
-    uint8_t domain;
+    struct domain domain;
     unsigned id;                        /* its place */
     bool is_of_port;                    /* each port of the clock answers it */
     uint16_t port;                      /* that gave it, or of a PORT_DATA_SET the port that it describes */
@@ -44,7 +46,7 @@ void see_none(void);
 enum seen see_answer(const struct seen_answer *answer);
 
 /* Whether a clock was seen in a domain. */
-bool is_seen(uint8_t domain, const uint8_t clock[8]);
+bool is_seen(struct domain domain, const uint8_t clock[8]);
 
 /* The clocks, in the order in which they came. */
 size_t seen_count(void);

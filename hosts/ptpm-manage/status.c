@@ -35,12 +35,6 @@ enum { MOST_KEPT_LINES = 64 << 20 };
 /* `ptpm site` found something, or failed, or it lacks the answers. */
 enum { FINDINGS = 1 };
 
-/* Places in a line of hexadecimal. */
-enum {
-    DOMAIN_IN_LINE = 2 * DOMAIN_AT, CLOCK_IN_LINE = 2 * SOURCE_AT, LEAST_LINE = 2 * TLV_AT,
-    TYPE_IN_LINE = 2 * TYPE_AT + 1, ACTION_IN_LINE = 2 * ACTION_AT + 1,
-};
-
 /* A look at the site: the answers as lines, and what they show. */
 struct look {
     char *lines;
@@ -49,8 +43,8 @@ struct look {
     int status;
 };
 
-/* The clocks of the look before. */
-static struct seen_clock clocks_before[MOST_CLOCKS];
+/* The clocks of the look before, and after them those that the first of two looks has beside them. */
+static struct seen_clock clocks_before[2 * MOST_CLOCKS];
 static size_t count_before;
 
 static void free_look(struct look *look) {
@@ -59,36 +53,33 @@ static void free_look(struct look *look) {
     *look = (struct look){ 0 };
 }
 
-/* The message of a line, after its words, and in *size how much of the line it has. */
-static const char *message_in_line(const char *line, size_t *size) {
-    const char *space = memrchr(line, ' ', *size);
-    if (space == NULL) return line;
-    *size -= (size_t)(space + 1 - line);
-    return space + 1;
+/* The message of a line, after its words. The line ends with a line feed. */
+static const char *message_in_line(const char *line, size_t size) {
+    const char *space = memrchr(line, ' ', size);
+    return space == NULL ? line : space + 1;
 }
 
-/* Whether a line is the answer of a clock that did not answer in the latest look. */
-static bool is_of_absent_clock(const char *line, size_t size) {
-    uint8_t domain, clock[8];
-    line = message_in_line(line, &size);
-    const char *domain_text = line + DOMAIN_IN_LINE, *clock_text = line + CLOCK_IN_LINE;
-    if (size < LEAST_LINE || line[TYPE_IN_LINE] != 'd' || line[ACTION_IN_LINE] == '0') return false;
-    return read_octets(&domain_text, &domain, 1) == 1 && read_octets(&clock_text, clock, 8) == 8 && !is_seen(domain, clock);
+/* Whether a line of an earlier look says more than the latest look. What clocks send by themselves is in that one too, as long as they send
+   it. The answer of a clock that did not answer there is needed, so that it stays gone until it does. */
+static bool is_needed(const char *line, size_t size, bool are_others_needed) {
+    uint8_t head[TLV_AT];
+    const char *message = message_in_line(line, size);
+    if (read_octets(&message, head, sizeof head) < sizeof head || (head[TYPE_AT] & LOWER_HALF) != MANAGEMENT_TYPE) return false;
+    bool is_answer = (head[ACTION_AT] & LOWER_HALF) != PTPM_GET;
+    return are_others_needed || (is_answer && !is_seen(domain_of(head), head + SOURCE_AT));
 }
 
-/* Of the first lines of earlier looks, this many octets, keeps only the answers of clocks that did not answer in the latest one. So
-   they stay gone until they do. */
-static void leave_absent(struct look *look, size_t older) {
-    size_t left = 0, at = 0;
-    for (size_t next; at < older; at = next) {
+/* Keeps the lines of earlier looks that are needed. Of the first of these, this many octets, only clocks are that went. */
+static void leave_needed(struct look *look, size_t older) {
+    size_t left = 0;
+    for (size_t at = 0, next; at < look->size; at = next) {
         const char *end = memchr(look->lines + at, '\n', look->size - at);
         next = end == NULL ? look->size : (size_t)(end - look->lines) + 1;
-        if (!is_of_absent_clock(look->lines + at, next - at)) continue;
+        if (!is_needed(look->lines + at, next - at, at >= older)) continue;
         memmove(look->lines + left, look->lines + at, next - at);
         left += next - at;
     }
-    if (look->size > at) memmove(look->lines + left, look->lines + at, look->size - at);
-    look->size = left + look->size - at;
+    look->size = left;
 }
 
 /* How many octets of the lines of earlier looks the next one needs no more: those of the older half if there are too many. */
@@ -114,6 +105,15 @@ static int collect_lines(FILE *lines, const struct task *task, const struct doma
     return collect_answers(&as_far, &of_site, domains, lines);
 }
 
+/* Before a watch begins nobody asks what has changed. */
+static bool is_watching;
+
+static struct site_options as_looked_at(const struct task *task) {
+    struct site_options options = task->site;
+    options.is_without_changes = !is_watching;
+    return options;
+}
+
 /* Collects, and has it shown after the lines of an earlier look, if there is one; the status. */
 static int look_once(struct look *look, const struct task *task, const struct domains *domains, struct look *earlier) {
     *look = (struct look){ 0 };
@@ -130,7 +130,9 @@ static int look_once(struct look *look, const struct task *task, const struct do
         { earlier == NULL ? NULL : earlier->lines, earlier == NULL ? 0 : earlier->size }, { look->lines, look->size },
     };
     enum shown_as as = task->is_json ? AS_JSON : AS_TEXT;
-    look->status = run_site_program(&task->site, as, parts, 2, &look->report);
+    const struct site_options options = as_looked_at(task);
+    look->status = run_site_program(&options, as, parts, 2, &look->report);
+    if (earlier != NULL) describe_gone(&look->report, &earlier->report);
     return look->status;
 }
 
@@ -152,6 +154,30 @@ static int look_at_site(struct look *look, const struct task *task, const struct
     return look->status;
 }
 
+static bool was_seen(const struct seen_clock *clock) {
+    for (size_t i = 0; i < count_before; i++) {
+        const struct seen_clock *before = &clocks_before[i];
+        if (is_same_domain(before->domain, clock->domain) && memcmp(before->identity, clock->identity, 8) == 0) return true;
+    }
+    return false;
+}
+
+/* A clock of this look that is missing from the next one is asked there by itself. */
+static void keep_clocks(void) {
+    count_before = seen_count();
+    for (size_t i = 0; i < count_before; i++) clocks_before[i] = *seen_clock(i);
+    expect_clocks(clocks_before, count_before);
+}
+
+/* So is a clock of the first of two looks. It counts as one that came until then. */
+static void expect_more_clocks(void) {
+    size_t count = count_before;
+    for (size_t i = 0; i < seen_count(); i++) {
+        if (!was_seen(seen_clock(i))) clocks_before[count++] = *seen_clock(i);
+    }
+    expect_clocks(clocks_before, count);
+}
+
 /* Looks at the site. If a change may be on its way through it, which the look before did not show, it looks a second time. Then of
    such findings only those are left that both looks have. */
 static void look_twice(struct look *look, const struct task *task, struct domains *domains, struct look *earlier) {
@@ -162,18 +188,12 @@ static void look_twice(struct look *look, const struct task *task, struct domain
     show_progress("findings: %zu; a second look in %d s", look->report.count, BEFORE_SECOND_LOOK / 1000);
     listen_for_domains(domains, task, BEFORE_SECOND_LOOK);
     if (stopped) return;
+    expect_more_clocks();
     look_at_site(&second, task, domains, earlier);
     leave_out_passing(&second.report, &look->report);
     if (second.status == FINDINGS && second.report.has_findings && findings_left(&second.report) == 0) second.status = 0;
     free_look(look);
     *look = second;
-}
-
-/* A clock of this look that is missing from the next one is asked there by itself. */
-static void keep_clocks(void) {
-    count_before = seen_count();
-    for (size_t i = 0; i < count_before; i++) clocks_before[i] = *seen_clock(i);
-    expect_clocks(clocks_before, count_before);
 }
 
 /* Puts the lines of an earlier look before those of this one, if there is room for both. */
@@ -200,11 +220,11 @@ static void look_until_decided(struct look *look, const struct task *task, struc
         keep_clocks();
         look_at_site(&next, task, domains, look);
         leave_out_passing(&next.report, &look->report);
+        leave_needed(look, 0);
         if (look->size > 0) join_lines(&next, look);
         free_look(look);
         *look = next;
     }
-    leave_out_changes(&look->report);
     if (look->status == FINDINGS && look->report.has_findings && findings_left(&look->report) == 0) look->status = 0;
 }
 
@@ -222,8 +242,9 @@ static bool is_whole(const struct look *look) { return look->report.has_findings
 static int print_form(FILE *to, const struct look *look, const struct task *task) {
     struct report shown;
     const struct piece lines = { look->lines, look->size };
-    enum shown_as form = task->site.form;
-    int status = run_site_program(&task->site, form, &lines, 1, &shown);
+    const struct site_options options = as_looked_at(task);
+    enum shown_as form = options.form;
+    int status = run_site_program(&options, form, &lines, 1, &shown);
     if (shown.size > 0) fwrite(shown.text, 1, shown.size, to);
     free_report(&shown);
     return status > FINDINGS || form == AS_NUMBERS || form == AS_PLUGIN ? status : look->status;
@@ -258,22 +279,18 @@ static int print_look(const struct look *look, const struct task *task) {
     return print_look_to(stdout, look, task);
 }
 
-static bool was_seen(const struct seen_clock *clock) {
-    for (size_t i = 0; i < count_before; i++) {
-        if (clocks_before[i].domain == clock->domain && memcmp(clocks_before[i].identity, clock->identity, 8) == 0) return true;
-    }
-    return false;
-}
-
 /* Prints which clocks came since the look before. Those that went have a finding. */
 static void print_clocks(const char *lead, bool is_json) {
-    char clock[IDENTITY_TEXT];
+    char clock[IDENTITY_TEXT], domain[DOMAIN_TEXT];
     for (size_t i = 0; i < seen_count(); i++) {
         const struct seen_clock *seen = seen_clock(i);
         if (was_seen(seen)) continue;
         write_identity(clock, seen->identity);
-        if (!is_json) printf("%s+ %u %s answers\n", lead, seen->domain, clock);
-        else printf("{%s\"event\":\"came\",\"domainNumber\":%u,\"clockIdentity\":\"%s\",\"finding\":null}\n", lead, seen->domain, clock);
+        write_domain(domain, seen->domain);
+        if (is_json) {
+            printf("{%s\"event\":\"came\",\"domainNumber\":%u,\"sdoId\":%u,\"clockIdentity\":\"%s\",\"finding\":null}\n", lead,
+                   seen->domain.number, seen->domain.sdo, clock);
+        } else printf("%s+ %s %s answers\n", lead, domain, clock);
     }
 }
 
@@ -301,6 +318,7 @@ static bool has_lost_reader(void) {
 static int watch(struct look *earlier, const struct task *task, struct domains *domains) {
     struct look look;
     keep_clocks();
+    is_watching = true;
     while (!stopped && fflush(stdout) == 0 && !ferror(stdout) && !has_lost_reader()) {
         show_progress("%zu clocks; the next look comes %ld s after this one", count_before, task->site.watch / 1000);
         listen_for_domains(domains, task, task->site.watch);
@@ -313,7 +331,7 @@ static int watch(struct look *earlier, const struct task *task, struct domains *
         }
         print_difference(&look, earlier, task);
         keep_clocks();
-        leave_absent(earlier, not_needed(earlier, &look));
+        leave_needed(earlier, not_needed(earlier, &look));
         if (earlier->size > 0) join_lines(&look, earlier);
         free_look(earlier);
         *earlier = look;

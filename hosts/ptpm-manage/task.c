@@ -1,6 +1,7 @@
 #define _GNU_SOURCE
 #include "task.h"
 #include "clock_names.h"
+#include "domain.h"
 #include "exchange.h"
 #include "field_words.h"
 #include "names.h"
@@ -60,8 +61,10 @@ static const char help_text[] =
     "      --names FILE        what you call each clock: lines of an identity, a space and a name. Then IDENTITY\n"
     "                          may be such a name too, and status shows them\n"
     "  -p, --port PORT         the port, in place of one after IDENTITY; all, with get, asks each of them\n"
-    "  -d, --domain N          domainNumber, 0 to 255 (0). collect and status also take several: 0-7, or\n"
-    "                          all, which is those of Announce messages, 0 and 127\n"
+    "  -d, --domain N          domainNumber, 0 to 255 (0). collect and status also take several: 0-7, or all:\n"
+    "                          those in which clocks are heard or answer, 0 and 127\n"
+    "      --sdo N             sdoId of what collect and status ask, 0 to 4095 or 0x000 to 0xfff (0); that of\n"
+    "                          802.1AS is 0x100. With all it is 0, and each in which clocks are heard\n"
     "  -b, --hops N            how many boundary clocks pass the request on, 0 to 255 (1; collect,\n"
     "                          status, plan and what follows it 7)\n"
     "  -x, --hexadecimal       VALUE and answers are octets of the dataField in hexadecimal\n"
@@ -76,7 +79,7 @@ static const char site_text[] =
     "      --give-up           resume ends the apply, whose last step may have been carried out\n"
     "\n"
     "A whole site:\n"
-    "      --listen SECONDS    how long --domain all listens for Announce messages (4)\n"
+    "      --listen SECONDS    how long --domain all and --sdo all listen for clocks (4)\n"
     "      --max-offset NS     offsets above this limit are findings, in nanoseconds (1000000); none is no\n"
     "                          limit\n"
     "      --max-delay NS      delays above this limit too\n"
@@ -159,7 +162,7 @@ enum { WORD = 1, UDP = 256, TEXT, VERSION, GIVE_UP, JSON, ANY_SOURCE, NAMES, EXP
 
 /* The same, only for `collect` and `status`. */
 enum site_option {
-    LISTEN = 512, DRAW, HTML, OPENMETRICS, NAGIOS, OUTPUT, MAX_OFFSET, MAX_DELAY, TAI_UTC, SETTLE, PROFILE, IGNORE, ALL, ONCE, WATCH
+    LISTEN = 512, SDO, DRAW, HTML, OPENMETRICS, NAGIOS, OUTPUT, MAX_OFFSET, MAX_DELAY, TAI_UTC, SETTLE, PROFILE, IGNORE, ALL, ONCE, WATCH
 };
 
 enum { MOST_WORDS = 2 + MOST_FIELD_WORDS, MOST_FIELD = 1418, NOT_NAMED = -1 };
@@ -175,7 +178,8 @@ static const struct option options[] = {
     { "interface", required_argument, NULL, 'i' }, { "udp", required_argument, NULL, UDP }, { "ipv6", no_argument, NULL, '6' },
     { "ethernet", no_argument, NULL, '2' }, { "any-source", no_argument, NULL, ANY_SOURCE },
     { "unix", required_argument, NULL, 'u' }, { "target", required_argument, NULL, 'T' }, { "to", required_argument, NULL, 'T' },
-    { "port", required_argument, NULL, 'p' }, { "domain", required_argument, NULL, 'd' }, { "hops", required_argument, NULL, 'b' },
+    { "port", required_argument, NULL, 'p' }, { "domain", required_argument, NULL, 'd' }, { "sdo", required_argument, NULL, SDO },
+    { "hops", required_argument, NULL, 'b' },
     { "manager", required_argument, NULL, 'm' }, { "numbers", required_argument, NULL, 'k' },
     { "wait", required_argument, NULL, 'w' }, { "attempts", required_argument, NULL, 'a' },
     { "timeout", required_argument, NULL, 't' }, { "times", required_argument, NULL, 'n' },
@@ -232,6 +236,22 @@ static const char *settle(const char *option, const char *text) {
     return text;
 }
 
+/* An sdoId as it is written with 0x before it; -1 if it is none. */
+static long hexadecimal_sdo(const char *text) {
+    enum { MOST_DIGITS = 3 };
+    size_t digits = strncmp(text, "0x", 2) == 0 ? strspn(text + 2, "0123456789abcdefABCDEF") : 0;
+    return digits > 0 && digits <= MOST_DIGITS && text[2 + digits] == '\0' ? strtol(text, NULL, 16) : -1;
+}
+
+static void read_sdo(struct site_options *site, const char *text) {
+    long decimally = decimal(text, MOST_SDO), found = decimally >= 0 ? decimally : hexadecimal_sdo(text);
+    site->is_sdo_named = true;
+    site->is_every_sdo = strcasecmp(text, "all") == 0;
+    if (site->is_every_sdo) found = 0;
+    if (found < 0) refuse("--sdo %s: it takes a number from 0 to 4095, one from 0x000 to 0xfff, or all", text);
+    site->sdo = (uint16_t)found;
+}
+
 /* A site is shown in one form. */
 static void take_form(struct site_options *site, enum shown_as form) {
     if (site->form != AS_TEXT && site->form != form) refuse("--draw, --html, --openmetrics and --nagios exclude each other");
@@ -241,13 +261,14 @@ static void take_form(struct site_options *site, enum shown_as form) {
 /* Takes an option of `collect` and `status`; whether it is one of these. */
 static bool take_site_option(struct site_options *site, int option, const char *value) {
     static const char *const names[] = {
-        "--listen", "--draw", "--html", "--openmetrics", "--nagios", "--output", "--max-offset", "--max-delay", "--tai-utc",
+        "--listen", "--sdo", "--draw", "--html", "--openmetrics", "--nagios", "--output", "--max-offset", "--max-delay", "--tai-utc",
         "--settle", "--profile", "--ignore", "--all", "--once", "--watch",
     };
     if (option < LISTEN || option > WATCH) return false;
     const char *name = names[option - LISTEN];
     switch ((enum site_option)option) {
     case LISTEN: site->listen = seconds(name, value, 0); break;
+    case SDO: read_sdo(site, value); break;
     case WATCH: site->watch = seconds(name, value, 1); break;
     case MAX_OFFSET: site->max_offset = limit(name, value, true); break;
     case MAX_DELAY: site->max_delay = limit(name, value, false); break;
@@ -263,7 +284,7 @@ static bool take_site_option(struct site_options *site, int option, const char *
     case OUTPUT: site->output = value; break;
     case ONCE: site->is_once = true; break;
     }
-    if (option != LISTEN) site->given = name;
+    if (option > SDO) site->given = name;
     return true;
 }
 
@@ -284,7 +305,10 @@ static void read_domains(struct site_options *site, const char *text) {
 /* Refuses options that exclude each other, or that what is asked does not take. */
 static void judge_site_options(const struct site_options *site) {
     if (site->given != NULL && !site->is_shown) refuse("%s: it is of status alone", site->given);
-    if (site->listen >= 0 && !site->is_every_domain) refuse("--listen: it is of --domain all of collect and status");
+    if (site->is_sdo_named && !site->is_collected) refuse("--sdo: it is of collect and status alone");
+    if (site->listen >= 0 && !site->is_every_domain && !site->is_every_sdo) {
+        refuse("--listen: it is of --domain all and --sdo all of collect and status");
+    }
     if (site->form != AS_TEXT && site->watch > 0 && site->output == NULL) {
         refuse("--watch excludes --draw, --html, --openmetrics and --nagios, unless there is a file for them: --output FILE");
     }

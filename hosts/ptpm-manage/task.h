@@ -15,13 +15,16 @@ enum shown_as { AS_TEXT, AS_JSON, AS_DRAWING, AS_PAGE, AS_NUMBERS, AS_PLUGIN };
 struct site_options {
     bool is_collected, is_shown;                /* `collect`; `status` */
     uint8_t first_domain, last_domain;
-    bool is_every_domain;                       /* those in which Announce messages are heard, and 0 and 127 */
-    long listen, watch;                         /* in milliseconds: for such messages, or -1 by default; between two looks, or 0 */
+    bool is_every_domain;                       /* those in which clocks are heard or answer, and 0 and 127 */
+    uint16_t sdo;                               /* the sdoId of these domains */
+    bool is_sdo_named, is_every_sdo;            /* it was given; those in which clocks are heard, and 0 */
+    long listen, watch;                         /* in milliseconds: for clocks, or -1 by default; between two looks, or 0 */
     enum shown_as form;                         /* how it is shown, except by `--json` */
     bool is_once, is_as_far_as_named;           /* it does not look a second time; nor any further than by the hops that were named */
     const char *output;                         /* the file that gets what is printed, or NULL */
     const char *max_offset, *max_delay, *tai_utc, *settle, *profile, *inventory, *ignored;     /* as they are written, or NULL */
     bool is_all;                                /* the text has what follows from a finding too */
+    bool is_without_changes;                    /* what differs from the look before is no finding */
     const char *given;                          /* an option only of `status` that was given, or NULL */
 };
 

@@ -1,5 +1,6 @@
 #define _GNU_SOURCE
 #include "transport.h"
+#include "domain.h"
 #include "ethernet.h"
 #include "general_port.h"
 #include "message_places.h"
@@ -39,9 +40,10 @@ static int copies = -1;         /* of what comes by unicast to UDP port 320 of t
 /* What the transport is called in a notice. */
 static char name[MOST_INTERFACES * (IFNAMSIZ + 2) + sizeof ((struct sockaddr_un *)0)->sun_path];
 static bool is_six, is_ethernet, is_any_source;
+static bool has_link_group;     /* over Ethernet clocks of 802.1AS are heard too */
 static bool is_to_one;          /* messages go to one address, and not to a group */
 
-enum { MOST_DATAGRAM = 65536, ROOM_FOR_MANY = 4 << 20, SOCKETS_OF_END = 3, MOST_WAITS = SOCKETS_OF_END * MOST_INTERFACES + 2 };
+enum { ROOM_FOR_MANY = 4 << 20, SOCKETS_OF_END = 3, MOST_WAITS = SOCKETS_OF_END * MOST_INTERFACES + 2 };
 
 const char *transport_name(void) { return name; }
 
@@ -128,6 +130,7 @@ static void add_end(const char *interface) {
 
 static void find_at_interfaces(struct task *task) {
     is_ethernet = task->is_ethernet;
+    has_link_group = task->site.is_collected;
     if (!is_ethernet) find_udp(task);
     if (task->interface_count == 0 && lacks_link()) {
         refuse("--udp %s: every link may have it: add --interface NAME, or write %s%%NAME", task->address, task->address);
@@ -159,14 +162,21 @@ void find_transport(struct task *task) {
     if (is_nobodys) task->settings.port = port_of_nobody(task->action);
 }
 
+static bool open_second_part(struct end *end, const char **what) {
+    if (is_ethernet) {
+        *what = "the group 01-80-C2-00-00-0E";
+        return !has_link_group || join_link_group(end->socket, end->interface);
+    }
+    end->asking = open_asking_udp(end->interface, is_six, what);
+    return end->asking >= 0;
+}
+
 /* Whether it can be opened; otherwise errno says why not, and `what` of what. */
 static bool open_end(struct end *end, const char **what) {
     end->index = if_nametoindex(end->interface);
     end->asking = end->events = -1;
     end->socket = is_ethernet ? open_ethernet(end->interface, end->station, what) : open_udp(end->interface, is_six, what);
-    if (end->socket < 0 || is_ethernet) return end->socket >= 0;
-    end->asking = open_asking_udp(end->interface, is_six, what);
-    if (end->asking >= 0) return true;
+    if (end->socket < 0 || open_second_part(end, what)) return end->socket >= 0;
     int failure = errno;
     close(end->socket);
     errno = failure;
@@ -283,13 +293,19 @@ void receive_every_type(bool is_every) {
     }
 }
 
-static ssize_t send_frame(const struct end *end, const uint8_t *octets, size_t size) {
+static ssize_t send_frame_to(const uint8_t *group, const struct end *end, const uint8_t *octets, size_t size) {
     uint8_t head[ETHERNET_HEAD];
     struct iovec parts[FRAME_PARTS];
     const struct msghdr frame = { .msg_iov = parts, .msg_iovlen = FRAME_PARTS };
-    write_head(head, NULL, end->station);
+    write_head(head, group, end->station);
     join_frame(parts, head, octets, size);
     return sendmsg(end->socket, &frame, MSG_DONTWAIT);
+}
+
+/* A clock of 802.1AS may have joined only the group of its link. */
+static ssize_t send_frame(const struct end *end, const uint8_t *octets, size_t size) {
+    if (domain_of(octets).sdo == SDO_OF_GPTP) send_frame_to(link_group, end, octets, size);
+    return send_frame_to(NULL, end, octets, size);
 }
 
 static ssize_t send_datagram(const struct end *end, const uint8_t *octets, size_t size) {
@@ -474,6 +490,7 @@ static const uint8_t *message_of(const struct arrival *arrival, const uint8_t *o
     }
     bool is_frame = is_ethernet && end->interface != NULL;
     size_t place = is_frame ? message_in(octets, found, end->station) : 0;
+    if (is_frame && place == 0 && has_link_group) place = message_to_link(octets, found);
     *size -= place;
     return is_frame && place == 0 ? NULL : octets + place;
 }

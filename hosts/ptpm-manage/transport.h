@@ -49,6 +49,9 @@ enum sending send_message(const uint8_t *octets, size_t size);
    Unix socket there is none. */
 const char *sent_at(size_t place);
 
+/* How many octets come in at once at most. */
+enum { MOST_DATAGRAM = 65536 };
+
 /* The next message that comes in before a time. It stays until the next call, and octets may follow it. NULL if none does, or a
    signal asks the program to end. */
 const uint8_t *receive_message(size_t *size, int64_t end);

@@ -1,8 +1,10 @@
 /* Tests of what the hosts decide without a socket. They try the library's token buckets, its table of messages that were
-   passed on, and its stops. They try where a message is in a frame, and what the image of a session says. They try the seal of a file, TimeIntervals
+   passed on, and its stops. They try where a message is in a frame, which sdoId it has, and what the image of a session says. They try
+   the seal of a file, TimeIntervals
    and JSON as texts, and that a wait takes its time. Prints what does not hold, and `units: N passed, M failed`. */
 #define _GNU_SOURCE
 #include "checking.h"
+#include "domain.h"
 #include "ethernet.h"
 #include "field_text.h"
 #include "ptpm.h"
@@ -187,7 +189,10 @@ static void frames(void) {
     check(!is_to_station(frame, own) && message_in(frame, 13, own) == 0, "a frame without a whole head");
     memcpy(frame, peer, STATION);
     check(message_in(frame, sizeof frame, own) == 0, "a frame to another station");
+    memcpy(frame, (const uint8_t[]){ 0x01, 0x80, 0xc2, 0, 0, 0x0e }, STATION);
+    check(message_in(frame, sizeof frame, own) == 0 && message_to_link(frame, sizeof frame) == 14, "a message to the group of one link");
     memcpy(frame, own, STATION);
+    check(message_to_link(frame, sizeof frame) == 0, "a frame to this station is to no group");
     check(message_in(frame, sizeof frame, own) == 14 && is_to_station(frame, own), "a frame to this one");
     memcpy(frame + 12, (const uint8_t[]){ 0x81, 0, 0xa0, 0, 0x88, 0xf7 }, 6);
     check(message_in(frame, sizeof frame, own) == 18, "a frame with a tag");
@@ -204,6 +209,22 @@ static void frames(void) {
 
 /* The session of manager 0011223344556677/1 with clock aabbccfffeddee01 of two ports, from number 7 on. A GET of PRIORITY1 is
    under way, and then a COMMAND of DISABLE_PORT at port 2 in its place. */
+/* majorSdoId is in the upper half of the first octet, and minorSdoId in the sixth (IEEE 1588-2019, 13.3). */
+static void sdo_ids(void) {
+    uint8_t message[] = { 0x3d, 0x12, 0, MESSAGE, 4, 0x2a };
+    char text[DOMAIN_TEXT];
+    check(is_same_domain(domain_of(message), (struct domain){ 4, 0x32a }), "a domain with an sdoId");
+    write_domain(text, domain_of(message));
+    check(strcmp(text, "4@0x32a") == 0, "as a text");
+    write_sdo(message, 0x1b0);
+    check(memcmp(message, (const uint8_t[]){ 0x1d, 0x12, 0, MESSAGE, 4, 0xb0 }, sizeof message) == 0, "another sdoId");
+    write_sdo(message, 0);
+    write_domain(text, domain_of(message));
+    check(memcmp(message, (const uint8_t[]){ 0x0d, 0x12, 0, MESSAGE, 4, 0 }, sizeof message) == 0 && strcmp(text, "4") == 0, "sdoId 0");
+    write_domain(text, (struct domain){ 255, MOST_SDO });
+    check(strcmp(text, "255@0xfff") == 0, "the longest text");
+}
+
 static void images(void) {
     uint8_t octets[] = {
         'p', 't', 'p', 'm', 2, 1, 0, 0, 0, 0, 0, 48, 0x00, 0x11, 0x22, 0x33, 0x44, 0x55, 0x66, 0x77, 0, 1,
@@ -340,6 +361,7 @@ int main(void) {
     same_tables();
     stops();
     frames();
+    sdo_ids();
     images();
     seals();
     intervals();
