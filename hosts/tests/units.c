@@ -1,7 +1,7 @@
 /* Tests of what the hosts decide without a socket. They try the library's token buckets, its table of messages that were
    passed on, and its stops. They try where a message is in a frame, which sdoId it has, and what the image of a session says. They try
-   the seal of a file, TimeIntervals
-   and JSON as texts, and that a wait takes its time. Prints what does not hold, and `units: N passed, M failed`. */
+   the seal of a file, TimeIntervals and JSON as texts, and that a wait takes its time. Prints what does not hold, and
+   `units: N passed, M failed`. */
 #define _GNU_SOURCE
 #include "checking.h"
 #include "domain.h"
