@@ -47,7 +47,7 @@ line_names naming.Mute (Silences s) = s ∷ []
 line_names naming.Leading (Leads d choices) = flat_map (λ clocks. map (in_domain_of d) clocks) choices
 line_names way _ = []
 
-line_closes : Line → List ℕ
+line_closes : Line → List Domain
 line_closes (Closes d) = d ∷ []
 line_closes _ = []
 

@@ -1,5 +1,5 @@
 -- The findings of a site that is held to an inventory.
-use Rattle.std.specs.Prelude.{◌++◌, ◌==◌, ◌&&◌, Bool, true, false, not, List, filter}
+use Rattle.std.specs.Prelude.{◌++◌, ◌&&◌, Bool, true, false, not, List, filter}
 use Rattle.std.specs.List.{list_any}
 use Rattle.ptpm_codec.specs.Identity.{same_clock}
 use Rattle.ptpm_site.specs.declared.finding.Finding.{Finding}

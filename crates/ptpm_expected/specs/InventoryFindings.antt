@@ -1,5 +1,5 @@
 -- What an inventory finds of a site: the lines that do not hold, the clocks that are absent, and those that are not expected.
-use Rattle.std.specs.Prelude.{ℕ, ◌++◌, ◌&&◌, ◌||◌, Bool, not, List, [], ◌∷◌, map, replicate, slice_get, if◌then◌else◌}
+use Rattle.std.specs.Prelude.{◌++◌, ◌&&◌, ◌||◌, Bool, not, List, [], ◌∷◌, map, replicate, slice_get, if◌then◌else◌}
 use Rattle.std.specs.Cmp.Lexicographic.{pointwise}
 use Rattle.std.specs.List.{flat_map, list_any}
 use Rattle.std.specs.Option.{unwrap_or}

@@ -1,5 +1,5 @@
 -- Which clocks an inventory names, and how.
-use Rattle.std.specs.Prelude.{ℕ, ◌==◌, ◌||◌, Bool, true, false, List, [], ◌∷◌, map, if◌then◌else◌}
+use Rattle.std.specs.Prelude.{◌||◌, Bool, true, false, List, [], ◌∷◌, map, if◌then◌else◌}
 use Rattle.std.specs.BTreeSet.{insert_key}
 use Rattle.std.specs.List.{flat_map, fold, list_any}
 use Rattle.ptpm_codec.specs.declared.identity.ClockIdentity.{ClockIdentity}

@@ -90,7 +90,7 @@ fn hold_open(
     inventory: Option<&Inventory>,
     findings: &mut Vec<Finding<'_>>,
 ) -> Result<(), AllocError>
-    ensures { OnOk result (findings.new.items ≡ open_by (site_answers site.now) (option_map (λ inventory. inventory.now.entries.items) inventory) findings.old.items) }
+    ensures { OnOk result (findings.new.items ≡ open_by (site_answers site.now) (option_map (λ inventory. inventory.now.entries.items) inventory.entry) findings.old.items) }
 {
     match inventory {
         Some(inventory) => keep_open(alloc, site, inventory, findings),
