@@ -48,7 +48,9 @@ bool next_domain(const struct domains *domains, size_t *place, struct domain *do
 
 /* Adds those that the command line names, in this sdoId. */
 static void add_named(struct domains *domains, const struct site_options *site, uint16_t sdo) {
-    for (int number = site->first_domain; number <= site->last_domain; number++) add_domain(domains, (struct domain){ (uint8_t)number, sdo });
+    for (int number = site->first_domain; number <= site->last_domain; number++) {
+        add_domain(domains, (struct domain){ (uint8_t)number, sdo });
+    }
 }
 
 /* A clock sends in this domain. */

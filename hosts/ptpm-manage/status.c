@@ -59,25 +59,29 @@ static const char *message_in_line(const char *line, size_t size) {
     return space == NULL ? line : space + 1;
 }
 
-/* Whether a line of an earlier look says more than the latest look. What clocks send by themselves is in that one too, as long as they send
-   it. The answer of a clock that did not answer there is needed, so that it stays gone until it does. */
-static bool is_needed(const char *line, size_t size, bool are_others_needed) {
+/* The part of a line of an earlier look that says more than the latest look, up to its end; NULL if there is none. What clocks send by
+   themselves is in that look too, as long as they send it. The answer of a clock that did not answer there is needed, so that it stays gone
+   until it does. When that came is no time of this look. */
+static const char *needed_part(const char *line, size_t size, bool is_older) {
     uint8_t head[TLV_AT];
-    const char *message = message_in_line(line, size);
-    if (read_octets(&message, head, sizeof head) < sizeof head || (head[TYPE_AT] & LOWER_HALF) != MANAGEMENT_TYPE) return false;
+    const char *message = message_in_line(line, size), *rest = message;
+    if (read_octets(&rest, head, sizeof head) < sizeof head || (head[TYPE_AT] & LOWER_HALF) != MANAGEMENT_TYPE) return NULL;
     bool is_answer = (head[ACTION_AT] & LOWER_HALF) != PTPM_GET;
-    return are_others_needed || (is_answer && !is_seen(domain_of(head), head + SOURCE_AT));
+    if (!is_older) return line;
+    return is_answer && !is_seen(domain_of(head), head + SOURCE_AT) ? message : NULL;
 }
 
-/* Keeps the lines of earlier looks that are needed. Of the first of these, this many octets, only clocks are that went. */
+/* Keeps of the lines of earlier looks what is needed. The first of these, this many octets, are only needed for clocks that went. */
 static void leave_needed(struct look *look, size_t older) {
     size_t left = 0;
     for (size_t at = 0, next; at < look->size; at = next) {
         const char *end = memchr(look->lines + at, '\n', look->size - at);
         next = end == NULL ? look->size : (size_t)(end - look->lines) + 1;
-        if (!is_needed(look->lines + at, next - at, at >= older)) continue;
-        memmove(look->lines + left, look->lines + at, next - at);
-        left += next - at;
+        const char *part = needed_part(look->lines + at, next - at, at < older);
+        if (part == NULL) continue;
+        size_t size = (size_t)(look->lines + next - part);
+        memmove(look->lines + left, part, size);
+        left += size;
     }
     look->size = left;
 }
@@ -105,6 +109,10 @@ static int collect_lines(FILE *lines, const struct task *task, const struct doma
     return collect_answers(&as_far, &of_site, domains, lines);
 }
 
+static struct piece lines_of(const struct look *look) {
+    return look == NULL ? (struct piece){ NULL, 0 } : (struct piece){ look->lines, look->size };
+}
+
 /* Before a watch begins nobody asks what has changed. */
 static bool is_watching;
 
@@ -126,9 +134,7 @@ static int look_once(struct look *look, const struct task *task, const struct do
         return look->status = FINDINGS;
     }
     if (look->status != ANSWERED && look->status != NOT_ANSWERED) return look->status;
-    struct piece parts[2] = {
-        { earlier == NULL ? NULL : earlier->lines, earlier == NULL ? 0 : earlier->size }, { look->lines, look->size },
-    };
+    const struct piece parts[2] = { lines_of(earlier), lines_of(look) };
     enum shown_as as = task->is_json ? AS_JSON : AS_TEXT;
     const struct site_options options = as_looked_at(task);
     look->status = run_site_program(&options, as, parts, 2, &look->report);
@@ -238,21 +244,23 @@ static bool is_coloured(void) {
 /* Whether a look shows the site, which may have no clock by now; otherwise something failed, and that is said. */
 static bool is_whole(const struct look *look) { return look->report.has_findings || look->status == NOT_ANSWERED; }
 
-/* Has the lines of a look shown in the form that was asked for; the status. That of numbers and of a plugin is the program's own. */
-static int print_form(FILE *to, const struct look *look, const struct task *task) {
+/* Has the lines of a look shown in the form that was asked for, after those of an earlier one; the status. That of numbers and of a plugin is
+   the program's own. */
+static int print_form(FILE *to, const struct look *look, const struct look *earlier, const struct task *task) {
     struct report shown;
-    const struct piece lines = { look->lines, look->size };
+    const struct piece lines[2] = { lines_of(earlier), lines_of(look) };
     const struct site_options options = as_looked_at(task);
     enum shown_as form = options.form;
-    int status = run_site_program(&options, form, &lines, 1, &shown);
+    int status = run_site_program(&options, form, lines, 2, &shown);
     if (shown.size > 0) fwrite(shown.text, 1, shown.size, to);
     free_report(&shown);
     return status > FINDINGS || form == AS_NUMBERS || form == AS_PLUGIN ? status : look->status;
 }
 
-static int print_look_to(FILE *to, const struct look *look, const struct task *task) {
+static int print_look_to(FILE *to, const struct look *look, const struct look *earlier, const struct task *task) {
     bool is_drawing = task->site.form == AS_DRAWING;
-    if (task->site.form != AS_TEXT && is_whole(look) && !(is_drawing && look->status == NOT_ANSWERED)) return print_form(to, look, task);
+    bool has_form = task->site.form != AS_TEXT && is_whole(look) && !(is_drawing && look->status == NOT_ANSWERED);
+    if (has_form) return print_form(to, look, earlier, task);
     if (task->site.form == AS_PLUGIN) {
         fputs("PTP UNKNOWN - the site could not be shown\n", to);
         return NOT_ANSWERED;
@@ -262,21 +270,21 @@ static int print_look_to(FILE *to, const struct look *look, const struct task *t
 }
 
 /* Writes it into the file that was named; the status. */
-static int write_look(const struct look *look, const struct task *task) {
+static int write_look(const struct look *look, const struct look *earlier, const struct task *task) {
     char *text = NULL;
     size_t size = 0;
     FILE *to = open_memstream(&text, &size);
-    int status = to == NULL ? NOT_WRITTEN : print_look_to(to, look, task);
+    int status = to == NULL ? NOT_WRITTEN : print_look_to(to, look, earlier, task);
     if (to == NULL || fclose(to) != 0 || !write_output_file(text, size)) status = NOT_WRITTEN;
     free(text);
     return status;
 }
 
-/* Prints it; the status. */
-static int print_look(const struct look *look, const struct task *task) {
+/* Prints it, which was judged after an earlier one if there is one; the status. */
+static int print_look(const struct look *look, const struct look *earlier, const struct task *task) {
     clear_progress();
-    if (task->site.output != NULL) return write_look(look, task);
-    return print_look_to(stdout, look, task);
+    if (task->site.output != NULL) return write_look(look, earlier, task);
+    return print_look_to(stdout, look, earlier, task);
 }
 
 /* Prints which clocks came since the look before. Those that went have a finding. */
@@ -302,7 +310,7 @@ static void print_difference(const struct look *look, const struct look *earlier
     if (task->is_json) strftime(lead, sizeof lead, "\"time\":\"%FT%TZ\",", gmtime_r(&now, &parts));
     else strftime(lead, sizeof lead, "%F %T ", localtime_r(&now, &parts));
     clear_progress();
-    if (task->is_json || task->site.output != NULL) print_look(look, task);
+    if (task->is_json || task->site.output != NULL) print_look(look, earlier, task);
     if (task->site.output != NULL) return;
     print_clocks(lead, task->is_json);
     print_changes(stdout, lead, &look->report, &earlier->report, is_coloured());
@@ -347,7 +355,7 @@ int show_status(const struct task *task) {
     widen_transport();
     find_domains(&domains, task);
     look_until_decided(&look, task, &domains);
-    int status = stopped ? BY_SIGNAL + stopped : print_look(&look, task);
+    int status = stopped ? BY_SIGNAL + stopped : print_look(&look, NULL, task);
     if (!stopped && task->site.watch > 0 && status != NOT_ASKED) status = watch(&look, task, &domains);
     free_look(&look);
     return status;
