@@ -66,52 +66,23 @@ impl fmt::Display for AskedText<'_> {
 
 /// Writes the domains, those one after another as the first and the last of them.
 fn write_domains<W: fmt::Write>(asked: &[AskedDomain], f: &mut fmt::Formatter<W>) -> fmt::Result {
-    let mut before: Option<Run> = None;
     let mut between = "domain ";
-    for one in asked {
-        let next = Run {
-            first: one.domain,
-            last: one.domain,
+    let mut before = None;
+    for (place, one) in asked.iter().enumerate() {
+        let domain = one.domain;
+        let after = match asked.get(place.saturating_add(1)) {
+            Some(next) => next.domain.checked_sub(1),
+            None => None,
         };
-        before = match before {
-            Some(run) if run.goes_on(next) => Some(Run {
-                first: run.first,
-                last: next.last,
-            }),
-            Some(run) => {
-                run.write(between, f)?;
-                between = ", ";
-                Some(next)
-            }
-            None => Some(next),
-        };
-    }
-    match before {
-        Some(run) => run.write(between, f),
-        None => Ok(()),
-    }
-}
-
-/// Domains one after another.
-#[derive(Clone, Copy)]
-struct Run {
-    first: u8,
-    last: u8,
-}
-
-impl Run {
-    fn goes_on(self, next: Run) -> bool {
-        self.last.checked_add(1) == Some(next.first)
-    }
-
-    fn write<W: fmt::Write>(self, between: &str, f: &mut fmt::Formatter<W>) -> fmt::Result {
-        let Run { first, last } = self;
-        if first == last {
-            write!(f, "{between}{first}")
-        } else {
-            write!(f, "{between}{first}-{last}")
+        if before != domain.checked_sub(1) || before.is_none() {
+            write!(f, "{between}{domain}")?;
+            between = ", ";
+        } else if after != Some(domain) {
+            write!(f, "-{domain}")?;
         }
+        before = Some(domain);
     }
+    Ok(())
 }
 
 /// Writes with how many boundary hops the domains were asked: the least and the most, if these differ.

@@ -2,13 +2,16 @@
 
 use crate::asked_domains::AskedDomain;
 use crate::finding_json::finding_value;
-use crate::look::Look;
+use crate::look::{Look, cause_at};
 use crate::names::Names;
+use crate::span::Span;
 use crate::utc_text::UtcText;
+use ptpm_causes::Cause;
 use ptpm_codec::{ClockIdentity, PortIdentity};
 use ptpm_commands::Fault;
 use ptpm_site::clock::{Clock, Received};
 use ptpm_site::data_sets::ClockQuality;
+use ptpm_site::finding::Finding;
 use ptpm_site::member::{DataSet, Member, Value as MemberValue, mechanism_name, state_name};
 use ptpm_site::source::Source;
 use serde_json::{Map, Value, json, put};
@@ -16,39 +19,46 @@ use std::alloc::{AllocError, Global};
 use std::io;
 use std::io::Write;
 
-/// A site as JSON.
-#[derive(Clone, Copy)]
-pub(crate) struct Object<'a>(pub(crate) &'a Look<'a, 'a>);
-
-impl Object<'_> {
-    /// Prints one object: what was asked and when, the domains with their clocks, what is open, the findings, and how much was left
-    /// out.
-    pub(crate) fn print<O: Write>(&self, alloc: Global, out: &mut O) -> Result<(), Fault> {
-        print_head(self.0, out)?;
-        print_domains(alloc, self.0, out)?;
-        print_open(alloc, self.0, out)?;
-        print_findings(alloc, self.0, out)?;
-        let (clocks, ports) = (
-            self.0.picture.left_out.clocks,
-            self.0.picture.left_out.ports,
-        );
-        writeln!(
-            out,
-            "\"leftOut\":{{\"clocks\":{clocks},\"ports\":{ports}}}}}"
-        )?;
-        Ok(())
-    }
+/// Prints one object: what was asked and when, the domains with their clocks, what is open, the findings, and how much was left
+/// out.
+pub(crate) fn print_object<O: Write>(
+    alloc: Global,
+    look: &Look<'_, '_>,
+    out: &mut O,
+) -> Result<(), Fault> {
+    let picture = look.picture;
+    print_head(look, out)?;
+    print_domains(alloc, look, out)?;
+    let (open, found) = (
+        picture.open_findings.as_slice(),
+        picture.findings.as_slice(),
+    );
+    print_findings(alloc, look, "open", open, &[], out)?;
+    print_findings(alloc, look, "findings", found, look.causes.as_slice(), out)?;
+    let (clocks, ports) = (picture.left_out.clocks, picture.left_out.ports);
+    writeln!(
+        out,
+        "\"leftOut\":{{\"clocks\":{clocks},\"ports\":{ports}}}}}"
+    )?;
+    Ok(())
 }
 
 /// Prints when the datagrams came, and in which domains the clocks were asked.
 fn print_head<O: Write>(look: &Look<'_, '_>, out: &mut O) -> io::Result<()> {
-    write!(out, "{{\"time\":{{\"begin\":")?;
-    print_time(look.beside.span.map(|span| span.begin), out)?;
-    write!(out, ",\"end\":")?;
-    print_time(look.beside.span.map(|span| span.end), out)?;
-    write!(out, "}},\n\"asked\":[")?;
+    match look.beside.said.span {
+        Some(Span { begin, end }) => write!(
+            out,
+            "{{\"time\":{{\"begin\":\"{}\",\"end\":\"{}\"}},\n\"asked\":[",
+            UtcText(begin),
+            UtcText(end)
+        )?,
+        None => write!(
+            out,
+            "{{\"time\":{{\"begin\":null,\"end\":null}},\n\"asked\":["
+        )?,
+    }
     let mut between = "";
-    for AskedDomain { domain, hops } in look.beside.asked.as_slice() {
+    for AskedDomain { domain, hops } in look.beside.said.asked.as_slice() {
         write!(
             out,
             "{between}{{\"domainNumber\":{domain},\"sdoId\":0,\"boundaryHops\":{hops}}}"
@@ -56,13 +66,6 @@ fn print_head<O: Write>(look: &Look<'_, '_>, out: &mut O) -> io::Result<()> {
         between = ",";
     }
     writeln!(out, "],")
-}
-
-fn print_time<O: Write>(time: Option<u64>, out: &mut O) -> io::Result<()> {
-    match time {
-        Some(time) => write!(out, "\"{}\"", UtcText(time)),
-        None => write!(out, "null"),
-    }
 }
 
 /// Prints the member with the domains, each with those of its clocks that lead, and with all its clocks.
@@ -78,11 +81,8 @@ fn print_domains<O: Write>(alloc: Global, look: &Look<'_, '_>, out: &mut O) -> R
             print_domain_head(alloc, look, source.domain, out)?;
             domain = Some(source.domain);
         }
-        print_value(
-            alloc,
-            clock_value(alloc, *source, clock, look.beside.names),
-            out,
-        )?;
+        let value = clock_value(alloc, *source, clock, look.beside.names)?;
+        print_value(alloc, &value, out)?;
     }
     writeln!(out, "{}],", if domain.is_some() { "]}" } else { "" })?;
     Ok(())
@@ -99,7 +99,7 @@ fn print_domain_head<O: Write>(
         out,
         "{{\"domainNumber\":{domain},\"sdoId\":0,\"grandmasters\":"
     )?;
-    print_value(alloc, grandmasters_value(alloc, look, domain), out)?;
+    print_value(alloc, &grandmasters_value(alloc, look, domain)?, out)?;
     writeln!(out, ",\"clocks\":[")?;
     Ok(())
 }
@@ -108,16 +108,11 @@ fn print_domain_head<O: Write>(
 fn grandmasters_value(alloc: Global, look: &Look<'_, '_>, domain: u8) -> Result<Value, AllocError> {
     let mut values = Vec::new(alloc);
     for source in look.picture.forest.sources.as_slice() {
-        if leads_in(look, *source, domain) {
+        if source.domain == domain && look.picture.site.leads(*source) {
             values.push(grandmaster_value(alloc, look, *source)?)?;
         }
     }
     Ok(Value::Array(values))
-}
-
-/// Whether a clock is of a domain, and leads.
-fn leads_in(look: &Look<'_, '_>, source: Source, domain: u8) -> bool {
-    source.domain == domain && look.picture.site.leads(source)
 }
 
 /// A clock that leads: its identity, its quality, and what it says of its time. It said so itself.
@@ -140,47 +135,29 @@ fn grandmaster_value(
     Ok(Value::Object(map))
 }
 
-/// Prints the member with what is open.
-fn print_open<O: Write>(alloc: Global, look: &Look<'_, '_>, out: &mut O) -> Result<(), Fault> {
-    write!(out, "\"open\":[")?;
-    let mut between = "\n";
-    for finding in look.picture.open_findings.as_slice() {
-        write!(out, "{between}")?;
-        print_value(alloc, finding_value(alloc, look, finding, None), out)?;
-        between = ",\n";
-    }
-    writeln!(out, "],")?;
-    Ok(())
-}
-
-/// Prints the member with the findings.
-fn print_findings<O: Write>(alloc: Global, look: &Look<'_, '_>, out: &mut O) -> Result<(), Fault> {
-    write!(out, "\"findings\":[")?;
-    let mut between = "\n";
-    for (place, finding) in look.picture.findings.as_slice().iter().enumerate() {
-        write!(out, "{between}")?;
-        let cause = look.cause_of(place);
-        print_value(alloc, finding_value(alloc, look, finding, cause), out)?;
-        between = ",\n";
-    }
-    writeln!(out, "],")?;
-    Ok(())
-}
-
-/// Prints a value, if there was memory for it.
-fn print_value<O: Write>(
+/// Prints the member with the findings, or with what is open.
+fn print_findings<O: Write>(
     alloc: Global,
-    value: Result<Value, AllocError>,
+    look: &Look<'_, '_>,
+    name: &str,
+    findings: &[Finding<'_>],
+    causes: &[Option<Cause>],
     out: &mut O,
 ) -> Result<(), Fault> {
-    let text = match value {
-        Ok(value) => value.to_string(alloc),
-        Err(error) => Err(error),
-    };
-    match text {
-        Ok(text) => write!(out, "{text}")?,
-        Err(_) => return Err(Fault::OutOfMemory),
+    write!(out, "\"{name}\":[")?;
+    let mut between = "\n";
+    for (place, finding) in findings.iter().enumerate() {
+        write!(out, "{between}")?;
+        let value = finding_value(alloc, look, finding, cause_at(causes, place))?;
+        print_value(alloc, &value, out)?;
+        between = ",\n";
     }
+    writeln!(out, "],")?;
+    Ok(())
+}
+
+fn print_value<O: Write>(alloc: Global, value: &Value, out: &mut O) -> Result<(), Fault> {
+    write!(out, "{}", value.to_string(alloc)?)?;
     Ok(())
 }
 
@@ -192,59 +169,39 @@ fn clock_value(
     names: &Names,
 ) -> Result<Value, AllocError> {
     let mut map = Map::new(alloc);
-    put(
-        &mut map,
-        alloc,
-        "clockIdentity",
-        identity_value(alloc, source.clock)?,
-    )?;
+    let identity = identity_value(alloc, source.clock)?;
+    put(&mut map, alloc, "clockIdentity", identity)?;
     if let Some(name) = names.get(source.clock) {
         put(&mut map, alloc, "name", text_value(alloc, name)?)?;
     }
-    put_last(
-        alloc,
-        &mut map,
-        "DEFAULT_DATA_SET",
-        clock.defaults.as_slice(),
-    )?;
-    put_last(
-        alloc,
-        &mut map,
-        "CURRENT_DATA_SET",
-        clock.currents.as_slice(),
-    )?;
-    put_last(alloc, &mut map, "PARENT_DATA_SET", clock.parents.as_slice())?;
-    put_last(
-        alloc,
-        &mut map,
-        "TIME_PROPERTIES_DATA_SET",
-        clock.times.as_slice(),
-    )?;
-    put_last(
-        alloc,
-        &mut map,
-        "USER_DESCRIPTION",
-        clock.descriptions.as_slice(),
-    )?;
+    let (defaults, currents) = (clock.defaults.as_slice(), clock.currents.as_slice());
+    put_last(alloc, &mut map, "DEFAULT_DATA_SET", defaults)?;
+    put_last(alloc, &mut map, "CURRENT_DATA_SET", currents)?;
+    let (parents, times) = (clock.parents.as_slice(), clock.times.as_slice());
+    put_last(alloc, &mut map, "PARENT_DATA_SET", parents)?;
+    put_last(alloc, &mut map, "TIME_PROPERTIES_DATA_SET", times)?;
+    let descriptions = clock.descriptions.as_slice();
+    put_last(alloc, &mut map, "USER_DESCRIPTION", descriptions)?;
+    let ports = ports_value(alloc, source.clock, clock)?;
+    put(&mut map, alloc, "PORT_DATA_SET", ports)?;
+    Ok(Value::Object(map))
+}
+
+/// What a clock answered of its ports.
+fn ports_value(alloc: Global, identity: ClockIdentity, clock: &Clock) -> Result<Value, AllocError> {
     let mut ports = Vec::new(alloc);
     for (number, received) in clock.ports.iter() {
         if let Some(last) = received.last() {
-            let mut port = set_map(alloc, &last.set)?;
-            let identity = PortIdentity {
-                clock: source.clock,
+            let mut map = set_map(alloc, &last.set)?;
+            let port = PortIdentity {
+                clock: identity,
                 port: *number,
             };
-            put(
-                &mut port,
-                alloc,
-                "portIdentity",
-                port_value(alloc, identity)?,
-            )?;
-            ports.push(Value::Object(port))?;
+            put(&mut map, alloc, "portIdentity", port_value(alloc, port)?)?;
+            ports.push(Value::Object(map))?;
         }
     }
-    put(&mut map, alloc, "PORT_DATA_SET", Value::Array(ports))?;
-    Ok(Value::Object(map))
+    Ok(Value::Array(ports))
 }
 
 /// Puts the data set of the answer that counts, if there is one.

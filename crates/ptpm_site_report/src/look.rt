@@ -1,10 +1,12 @@
 //! A site as it is shown: its picture, and what is said beside it.
 
-use crate::asked_domains::{AskedDomain, AskedText};
-use crate::names::Names;
-use crate::rows::Rows;
-use crate::span::Span;
-use ptpm_causes::{Cause, Kind};
+use crate::asked_domains::AskedText;
+use crate::kinds::is_critical;
+use crate::names::{Names, Quoted};
+use crate::phrases::clock_of;
+use crate::site_lines::LinesSaid;
+use ptpm_causes::{Cause, Kind, named};
+use ptpm_site::clock::Clock;
 use ptpm_site::finding::Finding;
 use ptpm_site::picture::Picture;
 use ptpm_site::source::Source;
@@ -23,32 +25,46 @@ pub(crate) struct Look<'a, 'b> {
 pub(crate) struct Beside<'a> {
     /// The names of clocks.
     pub(crate) names: &'a Names,
-    /// The domains in which GETs among the lines ask.
-    pub(crate) asked: Vec<AskedDomain>,
-    /// `None` if no line says when its datagram came.
-    pub(crate) span: Option<Span>,
+    pub(crate) said: LinesSaid,
     /// Whether what follows from another finding is printed too, and each of many lines that are alike.
     pub(crate) is_all: bool,
 }
 
 impl Look<'_, '_> {
-    pub(crate) fn rows(&self) -> Rows<'_, '_> {
-        Rows(self.picture, self.beside.names)
+    /// What a person calls a clock: the name that an operator gave it, or else its description.
+    pub(crate) fn name_of<'c>(&'c self, source: Source, clock: &'c Clock) -> Option<&'c str> {
+        match self.beside.names.get(source.clock) {
+            Some(name) => Some(name),
+            None => clock.description(),
+        }
+    }
+
+    /// The same, of a clock that may be unseen. None if its description is empty.
+    pub(crate) fn called(&self, source: Source) -> Option<&str> {
+        match self.beside.names.get(source.clock) {
+            Some(name) => Some(name),
+            None => self.description(source),
+        }
+    }
+
+    /// What a person calls the clock of a finding, in quotes after a space. Nothing if there is none.
+    pub(crate) fn name_at(&self, finding: &Finding<'_>) -> Quoted<'_> {
+        match clock_of(finding) {
+            Some(_) => Quoted(self.called(finding.source)),
+            None => Quoted(None),
+        }
     }
 
     pub(crate) fn asked_text(&self) -> AskedText<'_> {
         AskedText {
-            asked: self.beside.asked.as_slice(),
-            span: self.beside.span,
+            asked: self.beside.said.asked.as_slice(),
+            span: self.beside.said.span,
         }
     }
 
     /// From which other finding the one at this place follows, if it does.
     pub(crate) fn cause_of(&self, place: usize) -> Option<Cause> {
-        match self.causes.get(place) {
-            Some(Some(cause)) => Some(*cause),
-            _ => None,
-        }
+        cause_at(self.causes.as_slice(), place)
     }
 
     /// How many findings follow from another.
@@ -57,7 +73,7 @@ impl Look<'_, '_> {
     }
 
     /// The userDescription of a clock, if it answered one that is not empty.
-    pub(crate) fn description(&self, source: Source) -> Option<&str> {
+    fn description(&self, source: Source) -> Option<&str> {
         let received = self.picture.site.descriptions(source).last()?;
         let text = received.set.text.as_str();
         if text.is_empty() { None } else { Some(text) }
@@ -70,12 +86,19 @@ impl Look<'_, '_> {
             if is_of_silence(self.cause_of(place)) {
                 continue;
             }
-            if finding.what.is_critical() {
+            if is_critical(named(finding).kind) {
                 return Severity::Critical;
             }
             severity = Severity::Warning;
         }
         severity
+    }
+}
+
+pub(crate) fn cause_at(causes: &[Option<Cause>], place: usize) -> Option<Cause> {
+    match causes.get(place) {
+        Some(Some(cause)) => Some(*cause),
+        _ => None,
     }
 }
 

@@ -1,8 +1,8 @@
 //! What is said of a clock below it in a picture and on a page: its findings, and what is open.
 
-use crate::expected_text::clock_of_cause;
 use crate::finding_text::Said;
 use crate::look::{Look, found_at};
+use crate::phrases::clock_of_cause;
 use ptpm_causes::Cause;
 use ptpm_site::finding::Finding;
 use ptpm_site::source::Source;
@@ -53,7 +53,7 @@ impl<'a> Remark<'a> {
 /// The name and the values, and from what it follows.
 impl fmt::Display for Remark<'_> {
     fn fmt<W: fmt::Write>(&self, f: &mut fmt::Formatter<W>) -> fmt::Result {
-        write!(f, "{}", Said(&self.finding.what))?;
+        write!(f, "{}", Said(self.finding))?;
         match self.cause {
             Some(cause) => write_cause(self.finding.source, cause, f),
             None => Ok(()),

@@ -1,0 +1,311 @@
+//! The values of a finding, by the names that its object has for them.
+
+use crate::phrases::Phrase;
+use crate::seconds::whole_seconds;
+use ptpm_codec::ClockIdentity;
+use ptpm_data::PortState;
+use ptpm_site::announcing::Seldom;
+use ptpm_site::asked::Asked;
+use ptpm_site::changes::Change;
+use ptpm_site::differences::Differs;
+use ptpm_site::expected::{OtherLeaders, Outside, Unmet};
+use ptpm_site::finding::What;
+use ptpm_site::grandmasters::Masterless;
+use ptpm_site::heard::kind_name;
+use ptpm_site::member::Value::{Clock, Flag, Number, Port, Quality, State, Text};
+use ptpm_site::member::{Member, Value};
+use ptpm_site::parents::NoMaster;
+use ptpm_site::tai_and_utc::OffByUtc;
+use ptpm_site::unseen::Absence;
+
+/// A value.
+#[derive(Clone, Copy)]
+pub(crate) enum Datum<'a> {
+    /// It was not said.
+    Null,
+    /// As a member of a data set has it.
+    Is(Value<'a>),
+    Count(u64),
+    /// Two to this power, in seconds.
+    Power(i8),
+    /// Nanoseconds, as a text of seconds.
+    Time(u64),
+    Words(Phrase<'a>),
+    Texts(&'a str, &'a str),
+    Numbers(i64, i64),
+    Clocks(&'a [ClockIdentity]),
+    Ids(&'a [Asked]),
+    /// Ports as runs: the first and the last of each.
+    Runs(&'a [(u16, u16)]),
+}
+
+/// A value and its name.
+#[derive(Clone, Copy)]
+pub(crate) struct Field<'a> {
+    pub(crate) name: &'static str,
+    pub(crate) datum: Datum<'a>,
+}
+
+/// The values that a finding has.
+pub(crate) type Fields<'a> = [Option<Field<'a>>; 4];
+
+const NONE: Fields<'static> = [None, None, None, None];
+
+/// A field whose value is as a member of a data set has it.
+pub(crate) fn field<'a>(name: &'static str, value: Value<'a>) -> Option<Field<'a>> {
+    datum(name, Datum::Is(value))
+}
+
+fn datum<'a>(name: &'static str, datum: Datum<'a>) -> Option<Field<'a>> {
+    Some(Field { name, datum })
+}
+
+/// A number, or null.
+fn number_or_null(name: &'static str, number: Option<u16>) -> Option<Field<'static>> {
+    match number {
+        Some(number) => field(name, Number(number as i64)),
+        None => datum(name, Datum::Null),
+    }
+}
+
+/// The portNumber.
+fn port_field(port: u16) -> Option<Field<'static>> {
+    field("portNumber", Number(port as i64))
+}
+
+fn member_field(member: Member) -> Option<Field<'static>> {
+    field("member", Text(member.name()))
+}
+
+fn one<'a>(first: Option<Field<'a>>) -> Fields<'a> {
+    [first, None, None, None]
+}
+
+fn two<'a>(first: Option<Field<'a>>, second: Option<Field<'a>>) -> Fields<'a> {
+    [first, second, None, None]
+}
+
+/// The values of what is wrong.
+pub(crate) fn fields_of<'a>(what: &'a What<'a>) -> Fields<'a> {
+    match what {
+        What::Absent(_)
+        | What::Unexpected
+        | What::Gone
+        | What::Unseen(Absence::OwnHost)
+        | What::TwoGrandmasters => NONE,
+        What::NotAsExpected(unmet) => fields_of_unmet(*unmet),
+        What::OtherLeaders(other) => fields_of_leaders(other),
+        What::Profile(outside) => fields_of_outside(outside),
+        What::Unseen(Absence::Mute(kind)) => one(field("message", Text(kind_name(*kind)))),
+        What::NotAsked(clocks) => one(datum("clocks", Datum::Count(*clocks as u64))),
+        What::NoMaster(why) => fields_of_masterless(why),
+        What::GrandmasterNotSeen(clock) => one(field("grandmasterIdentity", Clock(*clock))),
+        What::ParentNotSeen(parent) => one(field("parentPortIdentity", Port(*parent))),
+        What::ParentNotMaster(parent, why) => two(
+            field("parentPortIdentity", Port(*parent)),
+            match why {
+                NoMaster::NoPort => datum("portState", Datum::Null),
+                NoMaster::InState(state) => field("portState", State(*state)),
+            },
+        ),
+        What::Steps(steps) => two(
+            field("stepsRemoved", Number(steps.steps as i64)),
+            number_or_null("parentStepsRemoved", steps.parent),
+        ),
+        What::GrandmasterDiffers(differs) | What::Utc(differs) => fields_of_differs(None, differs),
+        What::Loop(clocks) => one(datum("clocks", Datum::Clocks(clocks.as_slice()))),
+        What::PortState(port, stay) => fields_of_state(*port, stay.state, stay.time, None),
+        What::NotLocked(port, unlocked) => fields_of_state(
+            *port,
+            PortState::Uncalibrated,
+            unlocked.time,
+            match unlocked.offset {
+                Some(offset) => field("offsetFromMaster", Number(offset)),
+                None => datum("offsetFromMaster", Datum::Null),
+            },
+        ),
+        What::OffByUtc(how) => fields_of_utc(how),
+        What::Offset(offset) => one(field("offsetFromMaster", Number(*offset))),
+        What::Delay(delay) => one(field("meanDelay", Number(*delay))),
+        What::LinkDelay(port, delay) => {
+            two(port_field(*port), field("meanLinkDelay", Number(*delay)))
+        }
+        What::Intervals(port, differs) => fields_of_differs(port_field(*port), differs),
+        What::Announces(port, seldom) => fields_of_seldom(*port, seldom),
+        What::Degraded(degraded) => one(field("clockQuality", Quality(degraded.quality))),
+        What::NotTraceable(untraceable) => [
+            field("clockClass", Number(untraceable.class as i64)),
+            field("timeTraceable", Flag(untraceable.time)),
+            field("frequencyTraceable", Flag(untraceable.frequency)),
+            None,
+        ],
+        What::UtcInvalid(offset) => two(
+            field("currentUtcOffset", Number(*offset as i64)),
+            field("currentUtcOffsetValid", Flag(false)),
+        ),
+        What::UtcOffset(offset) => two(
+            field("currentUtcOffset", Number(offset.said as i64)),
+            field("expected", Number(offset.is as i64)),
+        ),
+        What::Leap(leap) => two(
+            field("leap61", Flag(leap.leap61)),
+            field("leap59", Flag(leap.leap59)),
+        ),
+        What::BetterClock(better) => [
+            field("better", Clock(better.clock)),
+            field("clockQuality", Quality(better.quality)),
+            field("priority1", Number(better.priority1 as i64)),
+            None,
+        ],
+        What::Incomplete(missing) => two(
+            datum("managementIds", Datum::Ids(missing.asked.as_slice())),
+            datum("portNumbers", Datum::Runs(missing.ports.as_slice())),
+        ),
+        What::OutOfReach(hops) => one(field("boundaryHops", Number(*hops as i64))),
+        What::GrandmasterChanged(change) => [
+            field("before", Clock(change.before)),
+            field("after", Clock(change.after)),
+            datum("clocks", Datum::Count(change.clocks as u64)),
+            None,
+        ],
+        What::Changed(port, change) | What::IdentityTwice(port, change) => {
+            fields_of_change(*port, change)
+        }
+        What::TwoAddresses(addresses) => one(datum(
+            "addresses",
+            Datum::Texts(addresses.first.text, addresses.second.text),
+        )),
+        What::TwoOffsets(offsets) => one(datum(
+            "offsets",
+            Datum::Numbers(offsets.first, offsets.second),
+        )),
+    }
+}
+
+/// The member, its value or null if it was not answered, and what is wanted.
+fn fields_of_unmet<'a>(unmet: Unmet<'a>) -> Fields<'a> {
+    let Unmet {
+        port,
+        member,
+        value,
+        wanted,
+    } = unmet;
+    let said = match value {
+        Some(_) => Datum::Words(Phrase::Said(member, value, wanted)),
+        None => Datum::Null,
+    };
+    [
+        datum("member", Datum::Words(Phrase::Member(port, member))),
+        datum("value", said),
+        datum("expected", Datum::Words(Phrase::Wanted(member, wanted))),
+        None,
+    ]
+}
+
+/// The clocks that lead, or null if none does, and those that are wanted.
+fn fields_of_leaders<'a>(other: &'a OtherLeaders<'a>) -> Fields<'a> {
+    let leading = if other.leading.is_empty() {
+        Datum::Null
+    } else {
+        Datum::Words(Phrase::Clocks(other.leading.as_slice()))
+    };
+    [
+        field("member", Text("grandmaster")),
+        datum("value", leading),
+        datum("expected", Datum::Words(Phrase::Choices(other.wanted))),
+        None,
+    ]
+}
+
+/// The port or null, the member, its value, and what is allowed.
+fn fields_of_outside(outside: &Outside) -> Fields<'static> {
+    [
+        number_or_null("portNumber", outside.port),
+        member_field(outside.member),
+        field("value", outside.value),
+        datum("expected", Datum::Words(Phrase::Allowed(outside.allowed))),
+    ]
+}
+
+fn fields_of_masterless(why: &Masterless) -> Fields<'static> {
+    match why {
+        Masterless::SlaveOnly => one(field("reason", Text("slaveOnly"))),
+        Masterless::Silent => one(field("reason", Text("ownGrandmaster"))),
+        Masterless::Lost(grandmaster) => two(
+            field("reason", Text("lost")),
+            field("grandmasterIdentity", Clock(*grandmaster)),
+        ),
+    }
+}
+
+/// The member, its value, and what the other clock has.
+fn fields_of_differs(port: Option<Field<'static>>, differs: &Differs) -> Fields<'static> {
+    [
+        port,
+        member_field(differs.member),
+        field("value", differs.own),
+        field("expected", differs.other),
+    ]
+}
+
+/// The state of a port, and for how many whole seconds it is known to be in it or in another on its way.
+fn fields_of_state(
+    port: u16,
+    state: PortState,
+    time: Option<u64>,
+    offset: Option<Field<'static>>,
+) -> Fields<'static> {
+    let seconds = match time {
+        Some(time) => Datum::Count(whole_seconds(time)),
+        None => Datum::Null,
+    };
+    [
+        port_field(port),
+        field("portState", State(Some(state))),
+        datum("seconds", seconds),
+        offset,
+    ]
+}
+
+fn fields_of_utc(how: &OffByUtc) -> Fields<'static> {
+    match how {
+        OffByUtc::Offset(offset) => two(
+            field("reason", Text("offset")),
+            field("offsetFromMaster", Number(*offset)),
+        ),
+        OffByUtc::Followers(count) => two(
+            field("reason", Text("followers")),
+            datum("clocks", Datum::Count(*count as u64)),
+        ),
+        OffByUtc::Origin(origin) => [
+            field("reason", Text("origin")),
+            datum("origin", Datum::Time(origin.time)),
+            datum("at", Datum::Time(origin.at)),
+            None,
+        ],
+    }
+}
+
+/// What the port says of its intervals, and the interval of the port that it follows, in seconds.
+fn fields_of_seldom(port: u16, seldom: &Seldom) -> Fields<'static> {
+    [
+        port_field(port),
+        field("logAnnounceInterval", Number(seldom.log_announce as i64)),
+        field("announceReceiptTimeout", Number(seldom.timeout as i64)),
+        datum("parentSeconds", Datum::Power(seldom.parent_log)),
+    ]
+}
+
+/// The port if there is one, the member, the value of the earlier answer, and that of the later.
+fn fields_of_change<'a>(port: Option<u16>, change: &Change<'a>) -> Fields<'a> {
+    let port = match port {
+        Some(port) => port_field(port),
+        None => None,
+    };
+    [
+        port,
+        member_field(change.member),
+        field("before", change.before),
+        field("after", change.after),
+    ]
+}
