@@ -53,7 +53,7 @@ const NONE: Fields<'static> = [None, None, None, None];
 
 /// A field whose value is as a member of a data set has it.
 pub(crate) fn field<'a>(name: &'static str, value: Value<'a>) -> Option<Field<'a>> {
-    datum(name, Datum::Is(value))
+    datum_entry(name, Datum::Is(value))
 }
 
 fn datum<'a>(name: &'static str, datum: Datum<'a>) -> Option<Field<'a>> {
@@ -63,18 +63,18 @@ fn datum<'a>(name: &'static str, datum: Datum<'a>) -> Option<Field<'a>> {
 /// A number, or null.
 fn number_or_null(name: &'static str, number: Option<u16>) -> Option<Field<'static>> {
     match number {
-        Some(number) => field(name, Number(number as i64)),
-        None => datum(name, Datum::Null),
+        Some(number) => entry(name, Number(number as i64)),
+        None => datum_entry(name, Datum::Null),
     }
 }
 
 /// The portNumber.
 fn port_field(port: u16) -> Option<Field<'static>> {
-    field("portNumber", Number(port as i64))
+    entry("portNumber", Number(port as i64))
 }
 
 fn member_field(member: Member) -> Option<Field<'static>> {
-    field("member", Text(member.name()))
+    entry("member", Text(member.name()))
 }
 
 fn one<'a>(first: Option<Field<'a>>) -> Fields<'a> {
@@ -96,86 +96,86 @@ pub(crate) fn fields_of<'a>(what: &'a What<'a>) -> Fields<'a> {
         What::NotAsExpected(unmet) => fields_of_unmet(*unmet),
         What::OtherLeaders(other) => fields_of_leaders(other),
         What::Profile(outside) => fields_of_outside(outside),
-        What::Unseen(Absence::Mute(kind)) => one(field("message", Text(kind_name(*kind)))),
-        What::NotAsked(clocks) => one(datum("clocks", Datum::Count(*clocks as u64))),
+        What::Unseen(Absence::Mute(kind)) => one(entry("message", Text(kind_name(*kind)))),
+        What::NotAsked(clocks) => one(datum_entry("clocks", Datum::Count(*clocks as u64))),
         What::NoMaster(why) => fields_of_masterless(why),
-        What::GrandmasterNotSeen(clock) => one(field("grandmasterIdentity", Clock(*clock))),
-        What::ParentNotSeen(parent) => one(field("parentPortIdentity", Port(*parent))),
+        What::GrandmasterNotSeen(clock) => one(entry("grandmasterIdentity", Clock(*clock))),
+        What::ParentNotSeen(parent) => one(entry("parentPortIdentity", Port(*parent))),
         What::ParentNotMaster(parent, why) => two(
-            field("parentPortIdentity", Port(*parent)),
+            entry("parentPortIdentity", Port(*parent)),
             match why {
-                NoMaster::NoPort => datum("portState", Datum::Null),
-                NoMaster::InState(state) => field("portState", State(*state)),
+                NoMaster::NoPort => datum_entry("portState", Datum::Null),
+                NoMaster::InState(state) => entry("portState", State(*state)),
             },
         ),
         What::Steps(steps) => two(
-            field("stepsRemoved", Number(steps.steps as i64)),
+            entry("stepsRemoved", Number(steps.steps as i64)),
             number_or_null("parentStepsRemoved", steps.parent),
         ),
         What::GrandmasterDiffers(differs) | What::Utc(differs) => fields_of_differs(None, differs),
-        What::Loop(clocks) => one(datum("clocks", Datum::Clocks(clocks.as_slice()))),
+        What::Loop(clocks) => one(datum_entry("clocks", Datum::Clocks(clocks.as_slice()))),
         What::PortState(port, stay) => fields_of_state(*port, stay.state, stay.time, None),
         What::NotLocked(port, unlocked) => fields_of_state(
             *port,
             PortState::Uncalibrated,
             unlocked.time,
             match unlocked.offset {
-                Some(offset) => field("offsetFromMaster", Number(offset)),
-                None => datum("offsetFromMaster", Datum::Null),
+                Some(offset) => entry("offsetFromMaster", Number(offset)),
+                None => datum_entry("offsetFromMaster", Datum::Null),
             },
         ),
         What::OffByUtc(how) => fields_of_utc(how),
-        What::Offset(offset) => one(field("offsetFromMaster", Number(*offset))),
-        What::Delay(delay) => one(field("meanDelay", Number(*delay))),
+        What::Offset(offset) => one(entry("offsetFromMaster", Number(*offset))),
+        What::Delay(delay) => one(entry("meanDelay", Number(*delay))),
         What::LinkDelay(port, delay) => {
-            two(port_field(*port), field("meanLinkDelay", Number(*delay)))
+            two(port_field(*port), entry("meanLinkDelay", Number(*delay)))
         }
         What::Intervals(port, differs) => fields_of_differs(port_field(*port), differs),
         What::Announces(port, seldom) => fields_of_seldom(*port, seldom),
-        What::Degraded(degraded) => one(field("clockQuality", Quality(degraded.quality))),
+        What::Degraded(degraded) => one(entry("clockQuality", Quality(degraded.quality))),
         What::NotTraceable(untraceable) => [
-            field("clockClass", Number(untraceable.class as i64)),
-            field("timeTraceable", Flag(untraceable.time)),
-            field("frequencyTraceable", Flag(untraceable.frequency)),
+            entry("clockClass", Number(untraceable.class as i64)),
+            entry("timeTraceable", Flag(untraceable.time)),
+            entry("frequencyTraceable", Flag(untraceable.frequency)),
             None,
         ],
         What::UtcInvalid(offset) => two(
-            field("currentUtcOffset", Number(*offset as i64)),
-            field("currentUtcOffsetValid", Flag(false)),
+            entry("currentUtcOffset", Number(*offset as i64)),
+            entry("currentUtcOffsetValid", Flag(false)),
         ),
         What::UtcOffset(offset) => two(
-            field("currentUtcOffset", Number(offset.said as i64)),
-            field("expected", Number(offset.is as i64)),
+            entry("currentUtcOffset", Number(offset.said as i64)),
+            entry("expected", Number(offset.is as i64)),
         ),
         What::Leap(leap) => two(
-            field("leap61", Flag(leap.leap61)),
-            field("leap59", Flag(leap.leap59)),
+            entry("leap61", Flag(leap.leap61)),
+            entry("leap59", Flag(leap.leap59)),
         ),
         What::BetterClock(better) => [
-            field("better", Clock(better.clock)),
-            field("clockQuality", Quality(better.quality)),
-            field("priority1", Number(better.priority1 as i64)),
+            entry("better", Clock(better.clock)),
+            entry("clockQuality", Quality(better.quality)),
+            entry("priority1", Number(better.priority1 as i64)),
             None,
         ],
         What::Incomplete(missing) => two(
-            datum("managementIds", Datum::Ids(missing.asked.as_slice())),
-            datum("portNumbers", Datum::Runs(missing.ports.as_slice())),
+            datum_entry("managementIds", Datum::Ids(missing.asked.as_slice())),
+            datum_entry("portNumbers", Datum::Runs(missing.ports.as_slice())),
         ),
-        What::OutOfReach(hops) => one(field("boundaryHops", Number(*hops as i64))),
+        What::OutOfReach(hops) => one(entry("boundaryHops", Number(*hops as i64))),
         What::GrandmasterChanged(change) => [
-            field("before", Clock(change.before)),
-            field("after", Clock(change.after)),
-            datum("clocks", Datum::Count(change.clocks as u64)),
+            entry("before", Clock(change.before)),
+            entry("after", Clock(change.after)),
+            datum_entry("clocks", Datum::Count(change.clocks as u64)),
             None,
         ],
         What::Changed(port, change) | What::IdentityTwice(port, change) => {
             fields_of_change(*port, change)
         }
-        What::TwoAddresses(addresses) => one(datum(
+        What::TwoAddresses(addresses) => one(datum_entry(
             "addresses",
             Datum::Texts(addresses.first.text, addresses.second.text),
         )),
-        What::TwoOffsets(offsets) => one(datum(
+        What::TwoOffsets(offsets) => one(datum_entry(
             "offsets",
             Datum::Numbers(offsets.first, offsets.second),
         )),
@@ -195,9 +195,9 @@ fn fields_of_unmet<'a>(unmet: Unmet<'a>) -> Fields<'a> {
         None => Datum::Null,
     };
     [
-        datum("member", Datum::Words(Phrase::Member(port, member))),
-        datum("value", said),
-        datum("expected", Datum::Words(Phrase::Wanted(member, wanted))),
+        datum_entry("member", Datum::Words(Phrase::Member(port, member))),
+        datum_entry("value", said),
+        datum_entry("expected", Datum::Words(Phrase::Wanted(member, wanted))),
         None,
     ]
 }
@@ -210,9 +210,9 @@ fn fields_of_leaders<'a>(other: &'a OtherLeaders<'a>) -> Fields<'a> {
         Datum::Words(Phrase::Clocks(other.leading.as_slice()))
     };
     [
-        field("member", Text("grandmaster")),
-        datum("value", leading),
-        datum("expected", Datum::Words(Phrase::Choices(other.wanted))),
+        entry("member", Text("grandmaster")),
+        datum_entry("value", leading),
+        datum_entry("expected", Datum::Words(Phrase::Choices(other.wanted))),
         None,
     ]
 }
@@ -222,18 +222,18 @@ fn fields_of_outside(outside: &Outside) -> Fields<'static> {
     [
         number_or_null("portNumber", outside.port),
         member_field(outside.member),
-        field("value", outside.value),
-        datum("expected", Datum::Words(Phrase::Allowed(outside.allowed))),
+        entry("value", outside.value),
+        datum_entry("expected", Datum::Words(Phrase::Allowed(outside.allowed))),
     ]
 }
 
 fn fields_of_masterless(why: &Masterless) -> Fields<'static> {
     match why {
-        Masterless::SlaveOnly => one(field("reason", Text("slaveOnly"))),
-        Masterless::Silent => one(field("reason", Text("ownGrandmaster"))),
+        Masterless::SlaveOnly => one(entry("reason", Text("slaveOnly"))),
+        Masterless::Silent => one(entry("reason", Text("ownGrandmaster"))),
         Masterless::Lost(grandmaster) => two(
-            field("reason", Text("lost")),
-            field("grandmasterIdentity", Clock(*grandmaster)),
+            entry("reason", Text("lost")),
+            entry("grandmasterIdentity", Clock(*grandmaster)),
         ),
     }
 }
@@ -243,8 +243,8 @@ fn fields_of_differs(port: Option<Field<'static>>, differs: &Differs) -> Fields<
     [
         port,
         member_field(differs.member),
-        field("value", differs.own),
-        field("expected", differs.other),
+        entry("value", differs.own),
+        entry("expected", differs.other),
     ]
 }
 
@@ -261,8 +261,8 @@ fn fields_of_state(
     };
     [
         port_field(port),
-        field("portState", State(Some(state))),
-        datum("seconds", seconds),
+        entry("portState", State(Some(state))),
+        datum_entry("seconds", seconds),
         offset,
     ]
 }
@@ -270,17 +270,17 @@ fn fields_of_state(
 fn fields_of_utc(how: &OffByUtc) -> Fields<'static> {
     match how {
         OffByUtc::Offset(offset) => two(
-            field("reason", Text("offset")),
-            field("offsetFromMaster", Number(*offset)),
+            entry("reason", Text("offset")),
+            entry("offsetFromMaster", Number(*offset)),
         ),
         OffByUtc::Followers(count) => two(
-            field("reason", Text("followers")),
-            datum("clocks", Datum::Count(*count as u64)),
+            entry("reason", Text("followers")),
+            datum_entry("clocks", Datum::Count(*count as u64)),
         ),
         OffByUtc::Origin(origin) => [
-            field("reason", Text("origin")),
-            datum("origin", Datum::Time(origin.time)),
-            datum("at", Datum::Time(origin.at)),
+            entry("reason", Text("origin")),
+            datum_entry("origin", Datum::Time(origin.time)),
+            datum_entry("at", Datum::Time(origin.at)),
             None,
         ],
     }
@@ -290,9 +290,9 @@ fn fields_of_utc(how: &OffByUtc) -> Fields<'static> {
 fn fields_of_seldom(port: u16, seldom: &Seldom) -> Fields<'static> {
     [
         port_field(port),
-        field("logAnnounceInterval", Number(seldom.log_announce as i64)),
-        field("announceReceiptTimeout", Number(seldom.timeout as i64)),
-        datum("parentSeconds", Datum::Power(seldom.parent_log)),
+        entry("logAnnounceInterval", Number(seldom.log_announce as i64)),
+        entry("announceReceiptTimeout", Number(seldom.timeout as i64)),
+        datum_entry("parentSeconds", Datum::Power(seldom.parent_log)),
     ]
 }
 
@@ -305,7 +305,7 @@ fn fields_of_change<'a>(port: Option<u16>, change: &Change<'a>) -> Fields<'a> {
     [
         port,
         member_field(change.member),
-        field("before", change.before),
-        field("after", change.after),
+        entry("before", change.before),
+        entry("after", change.after),
     ]
 }

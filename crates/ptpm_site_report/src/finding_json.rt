@@ -1,6 +1,6 @@
 //! A finding as a JSON object.
 
-use crate::finding_fields::{Datum, Field, field, fields_of};
+use crate::finding_fields::{Datum, Field, entry, fields_of};
 use crate::json::{identity_value, member_value, text_value};
 use crate::kinds::severity_of;
 use crate::look::Look;
@@ -33,24 +33,24 @@ pub(crate) fn finding_value(
 fn fields_of_any<'a>(look: &'a Look<'_, '_>, finding: &Finding<'_>) -> [Option<Field<'a>>; 6] {
     let kind = named(finding).kind;
     let description = match look.picture.site.descriptions(finding.source).last() {
-        Some(received) => field("userDescription", Text(received.set.text.as_str())),
+        Some(received) => entry("userDescription", Text(received.set.text.as_str())),
         None => None,
     };
     [
-        field("domainNumber", Number(finding.source.domain as i64)),
-        field("sdoId", Number(0)),
+        entry("domainNumber", Number(finding.source.domain as i64)),
+        entry("sdoId", Number(0)),
         clock_field(clock_of(finding)),
         description,
-        field("finding", Text(kind.name())),
-        field("severity", Text(severity_of(kind))),
+        entry("finding", Text(kind.name())),
+        entry("severity", Text(severity_of(kind))),
     ]
 }
 
 /// The identity of a clock, or a dash for a whole domain.
 fn clock_field(clock: Option<ClockIdentity>) -> Option<Field<'static>> {
     match clock {
-        Some(clock) => field("clockIdentity", Clock(clock)),
-        None => field("clockIdentity", Text("-")),
+        Some(clock) => entry("clockIdentity", Clock(clock)),
+        None => entry("clockIdentity", Text("-")),
     }
 }
 
@@ -62,7 +62,7 @@ fn cause_value(alloc: Global, cause: Option<Cause>) -> Result<Value, AllocError>
     let mut map = Map::new(alloc);
     let fields = [
         clock_field(clock_of_cause(cause)),
-        field("finding", Text(cause.kind.name())),
+        entry("finding", Text(cause.kind.name())),
     ];
     put_fields(alloc, &mut map, &fields)?;
     Ok(Value::Object(map))
