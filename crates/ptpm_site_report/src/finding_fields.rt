@@ -52,11 +52,11 @@ pub(crate) type Fields<'a> = [Option<Field<'a>>; 4];
 const NONE: Fields<'static> = [None, None, None, None];
 
 /// A field whose value is as a member of a data set has it.
-pub(crate) fn field<'a>(name: &'static str, value: Value<'a>) -> Option<Field<'a>> {
+pub(crate) fn entry<'a>(name: &'static str, value: Value<'a>) -> Option<Field<'a>> {
     datum_entry(name, Datum::Is(value))
 }
 
-fn datum<'a>(name: &'static str, datum: Datum<'a>) -> Option<Field<'a>> {
+fn datum_entry<'a>(name: &'static str, datum: Datum<'a>) -> Option<Field<'a>> {
     Some(Field { name, datum })
 }
 
