@@ -2,6 +2,7 @@
 
 use crate::span::Span;
 use crate::utc_text::UtcText;
+use ptpm_site::domain::Domain;
 use ptpm_site::heard::{Heard, Query};
 use std::alloc::{AllocError, Global};
 use std::fmt;
@@ -9,7 +10,7 @@ use std::fmt;
 /// A domain in which a GET asks.
 #[derive(Clone, Copy)]
 pub(crate) struct AskedDomain {
-    pub(crate) domain: u8,
+    pub(crate) domain: Domain,
     /// The most of startingBoundaryHops of its GETs.
     pub(crate) hops: u8,
 }
@@ -64,25 +65,38 @@ impl fmt::Display for AskedText<'_> {
     }
 }
 
-/// Writes the domains, those one after another as the first and the last of them.
+/// Writes the domains. Those one after another, of sdoId 0, are written as the first and the last of them.
 fn write_domains<W: fmt::Write>(asked: &[AskedDomain], f: &mut fmt::Formatter<W>) -> fmt::Result {
     let mut between = "domain ";
     let mut before = None;
     for (place, one) in asked.iter().enumerate() {
         let domain = one.domain;
-        let after = match asked.get(place.saturating_add(1)) {
-            Some(next) => next.domain.checked_sub(1),
-            None => None,
-        };
-        if before != domain.checked_sub(1) || before.is_none() {
+        if !goes_on(before, Some(domain)) {
             write!(f, "{between}{domain}")?;
             between = ", ";
-        } else if after != Some(domain) {
+        } else if !goes_on(Some(domain), domain_at(asked, place.saturating_add(1))) {
             write!(f, "-{domain}")?;
         }
         before = Some(domain);
     }
     Ok(())
+}
+
+fn domain_at(asked: &[AskedDomain], place: usize) -> Option<Domain> {
+    match asked.get(place) {
+        Some(one) => Some(one.domain),
+        None => None,
+    }
+}
+
+/// Whether a domain is the next after another, both of sdoId 0.
+fn goes_on(before: Option<Domain>, domain: Option<Domain>) -> bool {
+    match (before, domain) {
+        (Some(before), Some(domain)) if before.sdo() == 0 && domain.sdo() == 0 => {
+            before.number().checked_add(1) == Some(domain.number())
+        }
+        _ => false,
+    }
 }
 
 /// Writes with how many boundary hops the domains were asked: the least and the most, if these differ.

@@ -148,7 +148,7 @@ fn count_wrong(lines: &[Line]) -> usize {
     let mut count = 0usize;
     for line in lines {
         for remark in line.remarks.as_slice() {
-            if remark.weight == Weight::Wrong {
+            if matches!(remark.weight, Weight::Wrong) {
                 count = count.saturating_add(1);
             }
         }

@@ -25,6 +25,8 @@ pub(crate) enum Datum<'a> {
     Null,
     /// As a member of a data set has it.
     Is(Value<'a>),
+    /// The same, of a value that has no text of a clock.
+    Fixed(Value<'static>),
     Count(u64),
     /// Two to this power, in seconds.
     Power(i8),
@@ -49,8 +51,6 @@ pub(crate) struct Field<'a> {
 /// The values that a finding has.
 pub(crate) type Fields<'a> = [Option<Field<'a>>; 4];
 
-const NONE: Fields<'static> = [None, None, None, None];
-
 /// A field whose value is as a member of a data set has it.
 pub(crate) fn entry<'a>(name: &'static str, value: Value<'a>) -> Option<Field<'a>> {
     datum_entry(name, Datum::Is(value))
@@ -61,7 +61,7 @@ fn datum_entry<'a>(name: &'static str, datum: Datum<'a>) -> Option<Field<'a>> {
 }
 
 /// A number, or null.
-fn number_or_null(name: &'static str, number: Option<u16>) -> Option<Field<'static>> {
+fn number_or_null<'a>(name: &'static str, number: Option<u16>) -> Option<Field<'a>> {
     match number {
         Some(number) => entry(name, Number(number as i64)),
         None => datum_entry(name, Datum::Null),
@@ -69,11 +69,11 @@ fn number_or_null(name: &'static str, number: Option<u16>) -> Option<Field<'stat
 }
 
 /// The portNumber.
-fn port_field(port: u16) -> Option<Field<'static>> {
+fn port_field<'a>(port: u16) -> Option<Field<'a>> {
     entry("portNumber", Number(port as i64))
 }
 
-fn member_field(member: Member) -> Option<Field<'static>> {
+fn member_field<'a>(member: Member) -> Option<Field<'a>> {
     entry("member", Text(member.name()))
 }
 
@@ -92,7 +92,7 @@ pub(crate) fn fields_of<'a>(what: &'a What<'a>) -> Fields<'a> {
         | What::Unexpected
         | What::Gone
         | What::Unseen(Absence::OwnHost)
-        | What::TwoGrandmasters => NONE,
+        | What::TwoGrandmasters => [None, None, None, None],
         What::NotAsExpected(unmet) => fields_of_unmet(*unmet),
         What::OtherLeaders(other) => fields_of_leaders(other),
         What::Profile(outside) => fields_of_outside(outside),
@@ -218,16 +218,16 @@ fn fields_of_leaders<'a>(other: &'a OtherLeaders<'a>) -> Fields<'a> {
 }
 
 /// The port or null, the member, its value, and what is allowed.
-fn fields_of_outside(outside: &Outside) -> Fields<'static> {
+fn fields_of_outside<'a>(outside: &Outside) -> Fields<'a> {
     [
         number_or_null("portNumber", outside.port),
         member_field(outside.member),
-        entry("value", outside.value),
+        datum_entry("value", Datum::Fixed(outside.value)),
         datum_entry("expected", Datum::Words(Phrase::Allowed(outside.allowed))),
     ]
 }
 
-fn fields_of_masterless(why: &Masterless) -> Fields<'static> {
+fn fields_of_masterless<'a>(why: &Masterless) -> Fields<'a> {
     match why {
         Masterless::SlaveOnly => one(entry("reason", Text("slaveOnly"))),
         Masterless::Silent => one(entry("reason", Text("ownGrandmaster"))),
@@ -239,22 +239,22 @@ fn fields_of_masterless(why: &Masterless) -> Fields<'static> {
 }
 
 /// The member, its value, and what the other clock has.
-fn fields_of_differs(port: Option<Field<'static>>, differs: &Differs) -> Fields<'static> {
+fn fields_of_differs<'a>(port: Option<Field<'a>>, differs: &Differs) -> Fields<'a> {
     [
         port,
         member_field(differs.member),
-        entry("value", differs.own),
-        entry("expected", differs.other),
+        datum_entry("value", Datum::Fixed(differs.own)),
+        datum_entry("expected", Datum::Fixed(differs.other)),
     ]
 }
 
 /// The state of a port, and for how many whole seconds it is known to be in it or in another on its way.
-fn fields_of_state(
+fn fields_of_state<'a>(
     port: u16,
     state: PortState,
     time: Option<u64>,
-    offset: Option<Field<'static>>,
-) -> Fields<'static> {
+    offset: Option<Field<'a>>,
+) -> Fields<'a> {
     let seconds = match time {
         Some(time) => Datum::Count(whole_seconds(time)),
         None => Datum::Null,
@@ -267,7 +267,7 @@ fn fields_of_state(
     ]
 }
 
-fn fields_of_utc(how: &OffByUtc) -> Fields<'static> {
+fn fields_of_utc<'a>(how: &OffByUtc) -> Fields<'a> {
     match how {
         OffByUtc::Offset(offset) => two(
             entry("reason", Text("offset")),
@@ -287,7 +287,7 @@ fn fields_of_utc(how: &OffByUtc) -> Fields<'static> {
 }
 
 /// What the port says of its intervals, and the interval of the port that it follows, in seconds.
-fn fields_of_seldom(port: u16, seldom: &Seldom) -> Fields<'static> {
+fn fields_of_seldom<'a>(port: u16, seldom: &Seldom) -> Fields<'a> {
     [
         port_field(port),
         entry("logAnnounceInterval", Number(seldom.log_announce as i64)),

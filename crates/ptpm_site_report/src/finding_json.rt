@@ -5,11 +5,11 @@ use crate::json::{identity_value, member_value, text_value};
 use crate::kinds::severity_of;
 use crate::look::Look;
 use crate::phrases::{clock_of, clock_of_cause};
+use crate::remarks::Remark;
 use crate::seconds::NanosecondSeconds;
-use ptpm_causes::{Cause, named};
+use ptpm_causes::Cause;
 use ptpm_codec::ClockIdentity;
 use ptpm_site::asked::Asked;
-use ptpm_site::finding::Finding;
 use ptpm_site::member::Value::{Clock, Number, Text};
 use serde_json::{Map, Value, json, put};
 use std::alloc::{AllocError, Global};
@@ -19,27 +19,31 @@ use std::fmt;
 pub(crate) fn finding_value(
     alloc: Global,
     look: &Look<'_, '_>,
-    finding: &Finding<'_>,
-    cause: Option<Cause>,
+    remark: &Remark<'_>,
 ) -> Result<Value, AllocError> {
     let mut map = Map::new(alloc);
-    put(&mut map, alloc, "because", cause_value(alloc, cause)?)?;
-    put_fields(alloc, &mut map, &fields_of_any(look, finding))?;
-    put_fields(alloc, &mut map, &fields_of(&finding.what))?;
+    put(
+        &mut map,
+        alloc,
+        "because",
+        cause_value(alloc, remark.cause)?,
+    )?;
+    put_fields(alloc, &mut map, &fields_of_any(look, remark))?;
+    put_fields(alloc, &mut map, &fields_of(&remark.finding.what))?;
     Ok(Value::Object(map))
 }
 
 /// What each finding has: the domain, the clock, its description if it answered one, the name, and how bad it is.
-fn fields_of_any<'a>(look: &'a Look<'_, '_>, finding: &Finding<'_>) -> [Option<Field<'a>>; 6] {
-    let kind = named(finding).kind;
-    let description = match look.picture.site.descriptions(finding.source).last() {
+fn fields_of_any<'a>(look: &'a Look<'_, '_>, remark: &Remark<'_>) -> [Option<Field<'a>>; 6] {
+    let (domain, kind) = (remark.source().domain, remark.named.kind);
+    let description = match look.picture.site.descriptions(remark.source()).last() {
         Some(received) => entry("userDescription", Text(received.set.text.as_str())),
         None => None,
     };
     [
-        entry("domainNumber", Number(finding.source.domain as i64)),
-        entry("sdoId", Number(0)),
-        clock_field(clock_of(finding)),
+        entry("domainNumber", Number(domain.number() as i64)),
+        entry("sdoId", Number(domain.sdo() as i64)),
+        clock_field(clock_of(remark.finding)),
         description,
         entry("finding", Text(kind.name())),
         entry("severity", Text(severity_of(kind))),
@@ -47,7 +51,7 @@ fn fields_of_any<'a>(look: &'a Look<'_, '_>, finding: &Finding<'_>) -> [Option<F
 }
 
 /// The identity of a clock, or a dash for a whole domain.
-fn clock_field(clock: Option<ClockIdentity>) -> Option<Field<'static>> {
+fn clock_field<'a>(clock: Option<ClockIdentity>) -> Option<Field<'a>> {
     match clock {
         Some(clock) => entry("clockIdentity", Clock(clock)),
         None => entry("clockIdentity", Text("-")),
@@ -85,6 +89,7 @@ fn value_of(alloc: Global, datum: Datum<'_>) -> Result<Value, AllocError> {
     match datum {
         Datum::Null => Ok(Value::Null),
         Datum::Is(value) => member_value(alloc, value),
+        Datum::Fixed(value) => member_value(alloc, value),
         Datum::Count(count) => Ok(Value::from(count)),
         Datum::Power(log) => Ok(seconds_value(log)),
         Datum::Time(time) => words_value(alloc, &NanosecondSeconds(time)),

@@ -3,8 +3,8 @@
 use crate::finding_text::Said;
 use crate::followers::{Follower, Followers, Head, add_under};
 use crate::look::Look;
-use ptpm_causes::named;
-use ptpm_site::finding::{Finding, What};
+use crate::remarks::Remark;
+use ptpm_causes::Kind;
 use ptpm_site::source::Source;
 use std::alloc::{AllocError, Global};
 use std::collections::BTreeMap;
@@ -44,7 +44,7 @@ pub(crate) fn open_lines(
 ) -> Result<Vec<FindingLine>, AllocError> {
     let mut lines = Vec::new(alloc);
     let is_first = false;
-    for place in 0..look.picture.open_findings.len() {
+    for place in 0..look.open.len() {
         lines.push(FindingLine::One { place, is_first })?;
     }
     Ok(lines)
@@ -60,12 +60,12 @@ pub(crate) fn each_line(
     let mut unseen = unseen.as_slice();
     let mut lines = Vec::new(alloc);
     let mut last = None;
-    for (place, finding) in look.picture.findings.as_slice().iter().enumerate() {
-        if is_of_unseen(finding) || !is_all && look.cause_of(place).is_some() {
+    for (place, remark) in look.found.as_slice().iter().enumerate() {
+        if is_of_unseen(remark) || !is_all && !remark.is_wrong() {
             continue;
         }
-        unseen = add_unseen(&mut lines, unseen, Some(finding.source))?;
-        let head = Some(Head::of(named(finding)));
+        unseen = add_unseen(&mut lines, unseen, Some(remark.source()))?;
+        let head = Some(Head::of(remark.named));
         let is_first = last != head;
         lines.push(FindingLine::One { place, is_first })?;
         last = head;
@@ -77,17 +77,17 @@ pub(crate) fn each_line(
 /// The grandmasters that are not seen, in their order, each once for each clock that names it.
 fn unseen_of(alloc: Global, look: &Look<'_, '_>, is_all: bool) -> Result<Vec<Source>, AllocError> {
     let mut unseen = Vec::new(alloc);
-    for (place, finding) in look.picture.findings.as_slice().iter().enumerate() {
-        if is_of_unseen(finding) && (is_all || look.cause_of(place).is_none()) {
-            unseen.push(named(finding).source)?;
+    for remark in look.found.as_slice() {
+        if is_of_unseen(remark) && (is_all || remark.is_wrong()) {
+            unseen.push(remark.named.source)?;
         }
     }
     unseen.sort()?;
     Ok(unseen)
 }
 
-fn is_of_unseen(finding: &Finding<'_>) -> bool {
-    matches!(finding.what, What::GrandmasterNotSeen(_))
+fn is_of_unseen(remark: &Remark<'_>) -> bool {
+    matches!(remark.named.kind, Kind::GrandmasterNotSeen)
 }
 
 /// Adds a line for each grandmaster that is not seen and comes before a clock, or for all of them. Answers those that are left.
@@ -115,7 +115,7 @@ fn add_unseen<'a>(
 /// The same lines, with one in place of those past the first ones that say the same.
 pub(crate) fn alike_together(
     alloc: Global,
-    findings: &[Finding<'_>],
+    remarks: &[Remark<'_>],
     lines: &[FindingLine],
     followers: &Followers,
 ) -> Result<FindingLines, AllocError> {
@@ -123,14 +123,14 @@ pub(crate) fn alike_together(
     let mut together = Vec::new(alloc);
     let mut of_many = Vec::new(alloc);
     for line in lines {
-        let Some(finding) = finding_of(findings, line) else {
+        let Some(remark) = remark_of(remarks, line) else {
             together.push(*line)?;
             continue;
         };
-        let words = format!(in alloc; "{} {}", finding.source.domain, Said(finding))?;
+        let words = format!(in alloc; "{} {}", remark.source().domain, Said(remark))?;
         let repeat = count_one(&mut said, words, together.len())?;
         put_line(&mut together, *line, repeat)?;
-        add_of_many(&mut of_many, line, finding, repeat, followers)?;
+        add_of_many(&mut of_many, line, remark, repeat, followers)?;
     }
     Ok(FindingLines {
         lines: together,
@@ -139,9 +139,9 @@ pub(crate) fn alike_together(
 }
 
 /// The finding of a line that has one alone.
-fn finding_of<'a, 'b>(findings: &'b [Finding<'a>], line: &FindingLine) -> Option<&'b Finding<'a>> {
+fn remark_of<'a, 'b>(remarks: &'b [Remark<'a>], line: &FindingLine) -> Option<&'b Remark<'a>> {
     match line {
-        FindingLine::One { place, .. } => findings.get(*place),
+        FindingLine::One { place, .. } => remarks.get(*place),
         _ => None,
     }
 }
@@ -184,12 +184,12 @@ fn put_line(
 fn add_of_many(
     of_many: &mut Vec<Follower>,
     line: &FindingLine,
-    finding: &Finding<'_>,
+    remark: &Remark<'_>,
     repeat: Repeat,
     followers: &Followers,
 ) -> Result<(), AllocError> {
     if MOST_ALIKE < repeat.count && matches!(line, FindingLine::One { is_first: true, .. }) {
-        let found = followers.at(Head::of(named(finding)));
+        let found = followers.at(Head::of(remark.named));
         add_under(of_many, Head::Many(repeat.line), found)?;
     }
     Ok(())

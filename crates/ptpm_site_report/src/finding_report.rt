@@ -4,9 +4,8 @@ use crate::finding_lines::{FindingLine, FindingLines, alike_together, each_line,
 use crate::finding_text::{Said, Words};
 use crate::followers::{Followers, Head, SoToo};
 use crate::look::Look;
+use crate::remarks::Remark;
 use crate::trees::Clocks;
-use ptpm_causes::named;
-use ptpm_site::finding::Finding;
 use ptpm_site::source::Source;
 use std::alloc::{AllocError, Global};
 use std::io::Write;
@@ -43,25 +42,13 @@ impl FindingReport {
     pub(crate) fn of(alloc: Global, look: &Look<'_, '_>) -> Result<FindingReport, AllocError> {
         let followers = Followers::of(alloc, look)?;
         let found = each_line(alloc, look, false)?;
-        let found = lines_of(
-            alloc,
-            look,
-            look.picture.findings.as_slice(),
-            found,
-            &followers,
-        )?;
+        let found = lines_of(alloc, look, look.found.as_slice(), found, &followers)?;
         let open = open_lines(alloc, look)?;
-        let open = lines_of(
-            alloc,
-            look,
-            look.picture.open_findings.as_slice(),
-            open,
-            &followers,
-        )?;
+        let open = lines_of(alloc, look, look.open.as_slice(), open, &followers)?;
         let mut report = FindingReport {
             sum: Sum {
                 lines: found.lines.len(),
-                following: look.count_following(),
+                following: count_following(look),
             },
             followers,
             found,
@@ -75,7 +62,7 @@ impl FindingReport {
 
     /// Prints the lines of the findings.
     pub(crate) fn print<O: Write>(&self, look: &Look<'_, '_>, out: &mut O) -> io::Result<()> {
-        self.print_lines(look, look.picture.findings.as_slice(), &self.found, out)
+        self.print_lines(look, look.found.as_slice(), &self.found, out)
     }
 
     /// Prints what is open, one a line, if there is any.
@@ -84,26 +71,26 @@ impl FindingReport {
             return Ok(());
         }
         writeln!(out, "open: {}", self.open.lines.len())?;
-        self.print_lines(look, look.picture.open_findings.as_slice(), &self.open, out)
+        self.print_lines(look, look.open.as_slice(), &self.open, out)
     }
 
     fn print_lines<O: Write>(
         &self,
         look: &Look<'_, '_>,
-        findings: &[Finding<'_>],
+        remarks: &[Remark<'_>],
         all: &FindingLines,
         out: &mut O,
     ) -> io::Result<()> {
         for (number, line) in all.lines.as_slice().iter().enumerate() {
             match *line {
-                FindingLine::One { place, is_first } => match findings.get(place) {
-                    Some(finding) => self.print_one(look, finding, is_first, out)?,
+                FindingLine::One { place, is_first } => match remarks.get(place) {
+                    Some(remark) => self.print_one(look, remark, is_first, out)?,
                     None => {}
                 },
-                FindingLine::Many { place, more } => match findings.get(place) {
-                    Some(finding) => {
+                FindingLine::Many { place, more } => match remarks.get(place) {
+                    Some(remark) => {
                         let so_too = SoToo(all.of_many.at(Head::Many(number)));
-                        print_many(finding, more, so_too, out)?;
+                        print_many(remark, more, so_too, out)?;
                     }
                     None => {}
                 },
@@ -118,12 +105,12 @@ impl FindingReport {
     fn print_one<O: Write>(
         &self,
         look: &Look<'_, '_>,
-        finding: &Finding<'_>,
+        remark: &Remark<'_>,
         is_first: bool,
         out: &mut O,
     ) -> io::Result<()> {
-        let so_too = self.so_too(look, is_first, Head::of(named(finding)));
-        let (words, name) = (Words(finding), look.name_at(finding));
+        let so_too = self.so_too(look, is_first, Head::of(remark.named));
+        let (words, name) = (Words(remark), look.name_at(remark.finding));
         writeln!(out, "{words}{so_too}{name}")
     }
 
@@ -155,14 +142,22 @@ impl FindingReport {
     }
 }
 
+/// How many findings follow from another.
+fn count_following(look: &Look<'_, '_>) -> usize {
+    look.found
+        .iter()
+        .filter(|remark| !remark.is_wrong())
+        .count()
+}
+
 /// Prints a line for many clocks more that have the same finding.
 fn print_many<O: Write>(
-    finding: &Finding<'_>,
+    remark: &Remark<'_>,
     more: usize,
     so_too: SoToo<'_>,
     out: &mut O,
 ) -> io::Result<()> {
-    let (domain, said, clocks) = (finding.source.domain, Said(finding), Clocks(more));
+    let (domain, said, clocks) = (remark.source().domain, Said(remark), Clocks(more));
     writeln!(out, "{domain} - {said} of {clocks} more{so_too}")
 }
 
@@ -170,7 +165,7 @@ fn print_many<O: Write>(
 fn lines_of(
     alloc: Global,
     look: &Look<'_, '_>,
-    findings: &[Finding<'_>],
+    remarks: &[Remark<'_>],
     lines: Vec<FindingLine>,
     followers: &Followers,
 ) -> Result<FindingLines, AllocError> {
@@ -178,5 +173,5 @@ fn lines_of(
         let of_many = Followers::in_order(Vec::new(alloc))?;
         return Ok(FindingLines { lines, of_many });
     }
-    alike_together(alloc, findings, lines.as_slice(), followers)
+    alike_together(alloc, remarks, lines.as_slice(), followers)
 }

@@ -3,16 +3,16 @@
 use crate::intervals::{Exact, Seconds, Whole};
 use crate::phrases::{Phrase, clock_of};
 use crate::printable::Printable;
+use crate::remarks::Remark;
 use crate::seconds::whole_seconds;
 use crate::trees::Clocks;
-use ptpm_causes::named;
 use ptpm_data::PortState;
 use ptpm_site::announcing::Seldom;
 use ptpm_site::changes::Change;
 use ptpm_site::completeness::Missing;
 use ptpm_site::differences::Differs;
 use ptpm_site::expected::{OtherLeaders, Outside, Unmet};
-use ptpm_site::finding::{Finding, What};
+use ptpm_site::finding::What;
 use ptpm_site::grandmasters::Masterless;
 use ptpm_site::heard::kind_name;
 use ptpm_site::leading::{Better, Untraceable};
@@ -24,12 +24,12 @@ use std::fmt;
 
 /// A finding in words: the domain, the clock, and what is wrong.
 #[derive(Clone, Copy)]
-pub(crate) struct Words<'a>(pub(crate) &'a Finding<'a>);
+pub(crate) struct Words<'a>(pub(crate) &'a Remark<'a>);
 
 impl fmt::Display for Words<'_> {
     fn fmt<W: fmt::Write>(&self, f: &mut fmt::Formatter<W>) -> fmt::Result {
-        let (domain, said) = (self.0.source.domain, Said(self.0));
-        match clock_of(self.0) {
+        let (domain, said) = (self.0.source().domain, Said(self.0));
+        match clock_of(self.0.finding) {
             Some(clock) => write!(f, "{domain} {clock} {said}"),
             None => write!(f, "{domain} - {said}"),
         }
@@ -38,12 +38,12 @@ impl fmt::Display for Words<'_> {
 
 /// What is wrong: the finding's name, and the values.
 #[derive(Clone, Copy)]
-pub(crate) struct Said<'a>(pub(crate) &'a Finding<'a>);
+pub(crate) struct Said<'a>(pub(crate) &'a Remark<'a>);
 
 impl fmt::Display for Said<'_> {
     fn fmt<W: fmt::Write>(&self, f: &mut fmt::Formatter<W>) -> fmt::Result {
-        f.write_str(named(self.0).kind.name())?;
-        match &self.0.what {
+        f.write_str(self.0.named.kind.name())?;
+        match &self.0.finding.what {
             What::Absent(None) | What::Unexpected | What::TwoGrandmasters => Ok(()),
             What::Absent(Some(description)) => write!(f, " {description:?}"),
             What::NotAsExpected(unmet) => write_unmet(*unmet, f),

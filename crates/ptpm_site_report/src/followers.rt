@@ -2,7 +2,7 @@
 
 use crate::kinds::{ALL, place_of};
 use crate::look::Look;
-use ptpm_causes::{Cause, Kind, named};
+use ptpm_causes::{Cause, Kind};
 use ptpm_site::source::Source;
 use std::alloc::{AllocError, Global};
 use std::fmt;
@@ -46,9 +46,9 @@ impl Followers {
     /// All of a site.
     pub(crate) fn of(alloc: Global, look: &Look<'_, '_>) -> Result<Followers, AllocError> {
         let mut sorted = Vec::new(alloc);
-        for (place, finding) in look.picture.findings.as_slice().iter().enumerate() {
-            if let Some(cause) = look.cause_of(place) {
-                let (head, name) = (Head::of(cause), place_of(named(finding).kind));
+        for remark in look.found.as_slice() {
+            if let Some(cause) = remark.cause {
+                let (head, name) = (Head::of(cause), place_of(remark.named.kind));
                 sorted.push(Follower { head, name })?;
             }
         }

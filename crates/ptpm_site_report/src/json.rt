@@ -2,22 +2,22 @@
 
 use crate::asked_domains::AskedDomain;
 use crate::finding_json::finding_value;
-use crate::look::{Look, cause_at};
+use crate::look::Look;
 use crate::names::Names;
+use crate::remarks::Remark;
 use crate::span::Span;
 use crate::utc_text::UtcText;
-use ptpm_causes::Cause;
 use ptpm_codec::{ClockIdentity, PortIdentity};
 use ptpm_commands::Fault;
 use ptpm_site::clock::{Clock, Received};
 use ptpm_site::data_sets::ClockQuality;
-use ptpm_site::finding::Finding;
+use ptpm_site::domain::Domain;
 use ptpm_site::member::{DataSet, Member, Value as MemberValue, mechanism_name, state_name};
 use ptpm_site::source::Source;
 use serde_json::{Map, Value, json, put};
 use std::alloc::{AllocError, Global};
-use std::io;
 use std::io::Write;
+use std::{fmt, io};
 
 /// Prints one object: what was asked and when, the domains with their clocks, what is open, the findings, and how much was left
 /// out.
@@ -29,12 +29,8 @@ pub(crate) fn print_object<O: Write>(
     let picture = look.picture;
     print_head(look, out)?;
     print_domains(alloc, look, out)?;
-    let (open, found) = (
-        picture.open_findings.as_slice(),
-        picture.findings.as_slice(),
-    );
-    print_findings(alloc, look, "open", open, &[], out)?;
-    print_findings(alloc, look, "findings", found, look.causes.as_slice(), out)?;
+    print_findings(alloc, look, "open", look.open.as_slice(), out)?;
+    print_findings(alloc, look, "findings", look.found.as_slice(), out)?;
     let (clocks, ports) = (picture.left_out.clocks, picture.left_out.ports);
     writeln!(
         out,
@@ -59,10 +55,8 @@ fn print_head<O: Write>(look: &Look<'_, '_>, out: &mut O) -> io::Result<()> {
     }
     let mut between = "";
     for AskedDomain { domain, hops } in look.beside.said.asked.as_slice() {
-        write!(
-            out,
-            "{between}{{\"domainNumber\":{domain},\"sdoId\":0,\"boundaryHops\":{hops}}}"
-        )?;
+        let domain = DomainMembers(*domain);
+        write!(out, "{between}{{{domain},\"boundaryHops\":{hops}}}")?;
         between = ",";
     }
     writeln!(out, "],")
@@ -92,20 +86,32 @@ fn print_domains<O: Write>(alloc: Global, look: &Look<'_, '_>, out: &mut O) -> R
 fn print_domain_head<O: Write>(
     alloc: Global,
     look: &Look<'_, '_>,
-    domain: u8,
+    domain: Domain,
     out: &mut O,
 ) -> Result<(), Fault> {
-    write!(
-        out,
-        "{{\"domainNumber\":{domain},\"sdoId\":0,\"grandmasters\":"
-    )?;
+    write!(out, "{{{},\"grandmasters\":", DomainMembers(domain))?;
     print_value(alloc, &grandmasters_value(alloc, look, domain)?, out)?;
     writeln!(out, ",\"clocks\":[")?;
     Ok(())
 }
 
+/// A domain as members of an object.
+#[derive(Clone, Copy)]
+struct DomainMembers(Domain);
+
+impl fmt::Display for DomainMembers {
+    fn fmt<W: fmt::Write>(&self, f: &mut fmt::Formatter<W>) -> fmt::Result {
+        let (number, sdo) = (self.0.number(), self.0.sdo());
+        write!(f, "\"domainNumber\":{number},\"sdoId\":{sdo}")
+    }
+}
+
 /// The clocks that lead a domain.
-fn grandmasters_value(alloc: Global, look: &Look<'_, '_>, domain: u8) -> Result<Value, AllocError> {
+fn grandmasters_value(
+    alloc: Global,
+    look: &Look<'_, '_>,
+    domain: Domain,
+) -> Result<Value, AllocError> {
     let mut values = Vec::new(alloc);
     for source in look.picture.forest.sources.as_slice() {
         if source.domain == domain && look.picture.site.leads(*source) {
@@ -140,16 +146,14 @@ fn print_findings<O: Write>(
     alloc: Global,
     look: &Look<'_, '_>,
     name: &str,
-    findings: &[Finding<'_>],
-    causes: &[Option<Cause>],
+    remarks: &[Remark<'_>],
     out: &mut O,
 ) -> Result<(), Fault> {
     write!(out, "\"{name}\":[")?;
     let mut between = "\n";
-    for (place, finding) in findings.iter().enumerate() {
+    for remark in remarks {
         write!(out, "{between}")?;
-        let value = finding_value(alloc, look, finding, cause_at(causes, place))?;
-        print_value(alloc, &value, out)?;
+        print_value(alloc, &finding_value(alloc, look, remark)?, out)?;
         between = ",\n";
     }
     writeln!(out, "],")?;

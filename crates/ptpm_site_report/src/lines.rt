@@ -3,7 +3,7 @@
 use crate::look::Look;
 use crate::phrases::clock_of;
 use crate::ports_text::PortsText;
-use crate::remarks::{Remark, Weight, remarks_at, remarks_of_unseen};
+use crate::remarks::{Remark, Weight, add_unseen, remarks_at};
 use crate::trees::{ClockRow, Row, notes_of, trees_of};
 use ptpm_codec::ClockIdentity;
 use ptpm_site::source::Source;
@@ -48,8 +48,10 @@ pub(crate) struct DrawnRemark {
 pub(crate) fn lines_of(alloc: Global, look: &Look<'_, '_>) -> Result<Vec<Line>, AllocError> {
     let mut lines = Vec::new(alloc);
     add_trees(alloc, look, &mut lines)?;
-    let remarks = remarks_of_unseen(alloc, look)?;
-    for remark in remarks.as_slice() {
+    let mut unseen = Vec::new(alloc);
+    add_unseen(look.picture.site, look.found.as_slice(), &mut unseen)?;
+    add_unseen(look.picture.site, look.open.as_slice(), &mut unseen)?;
+    for remark in unseen.as_slice() {
         lines.push(unseen_line(alloc, look, remark)?)?;
     }
     for note in notes_of(alloc, look.picture)? {
@@ -90,7 +92,7 @@ fn unseen_line(
         Some(clock) => silent_line(alloc, look, clock)?,
         None => said(
             alloc,
-            format!(in alloc; "domain {}", remark.finding.source.domain)?,
+            format!(in alloc; "domain {}", remark.source().domain)?,
         ),
     };
     line.remarks.push(drawn(alloc, remark)?)?;
@@ -158,9 +160,11 @@ fn drawn_at(
     look: &Look<'_, '_>,
     source: Source,
 ) -> Result<Vec<DrawnRemark>, AllocError> {
-    let remarks = remarks_at(alloc, look, source)?;
     let mut all = Vec::new(alloc);
-    for remark in remarks.as_slice() {
+    for remark in remarks_at(look.found.as_slice(), source) {
+        all.push(drawn(alloc, remark)?)?;
+    }
+    for remark in remarks_at(look.open.as_slice(), source) {
         all.push(drawn(alloc, remark)?)?;
     }
     Ok(all)

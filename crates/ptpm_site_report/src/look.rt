@@ -1,22 +1,23 @@
 //! A site as it is shown: its picture, and what is said beside it.
 
 use crate::asked_domains::AskedText;
-use crate::kinds::is_critical;
 use crate::names::{Names, Quoted};
 use crate::phrases::clock_of;
+use crate::remarks::Remark;
 use crate::site_lines::LinesSaid;
-use ptpm_causes::{Cause, Kind, named};
 use ptpm_site::clock::Clock;
 use ptpm_site::finding::Finding;
 use ptpm_site::picture::Picture;
 use ptpm_site::source::Source;
 
-/// A picture, from which finding each of its findings follows, and what is said beside it.
+/// A picture, what is said of it, and what is said beside it.
 #[derive(Drop)]
 pub(crate) struct Look<'a, 'b> {
     pub(crate) picture: &'a Picture<'a>,
-    /// Of each finding, in their order.
-    pub(crate) causes: Vec<Option<Cause>>,
+    /// The findings.
+    pub(crate) found: Vec<Remark<'a>>,
+    /// What is open.
+    pub(crate) open: Vec<Remark<'a>>,
     pub(crate) beside: Beside<'b>,
 }
 
@@ -62,16 +63,6 @@ impl Look<'_, '_> {
         }
     }
 
-    /// From which other finding the one at this place follows, if it does.
-    pub(crate) fn cause_of(&self, place: usize) -> Option<Cause> {
-        cause_at(self.causes.as_slice(), place)
-    }
-
-    /// How many findings follow from another.
-    pub(crate) fn count_following(&self) -> usize {
-        self.causes.iter().filter(|cause| cause.is_some()).count()
-    }
-
     /// The userDescription of a clock, if it answered one that is not empty.
     fn description(&self, source: Source) -> Option<&str> {
         let received = self.picture.site.descriptions(source).last()?;
@@ -82,11 +73,11 @@ impl Look<'_, '_> {
     /// How bad the site is by its findings. What follows from a clock that can't answer makes it no worse: the time may be right.
     pub(crate) fn severity(&self) -> Severity {
         let mut severity = Severity::None;
-        for (place, finding) in self.picture.findings.as_slice().iter().enumerate() {
-            if is_of_silence(self.cause_of(place)) {
+        for remark in self.found.as_slice() {
+            if remark.is_of_silence() {
                 continue;
             }
-            if is_critical(named(finding).kind) {
+            if remark.is_critical() {
                 return Severity::Critical;
             }
             severity = Severity::Warning;
@@ -95,42 +86,10 @@ impl Look<'_, '_> {
     }
 }
 
-pub(crate) fn cause_at(causes: &[Option<Cause>], place: usize) -> Option<Cause> {
-    match causes.get(place) {
-        Some(Some(cause)) => Some(*cause),
-        _ => None,
-    }
-}
-
 /// The worst of findings.
-#[derive(Clone, Copy, PartialEq, Eq)]
+#[derive(Clone, Copy)]
 pub(crate) enum Severity {
     None,
     Warning,
     Critical,
-}
-
-/// Whether a cause is that a clock is there, and answers no management message.
-fn is_of_silence(cause: Option<Cause>) -> bool {
-    match cause {
-        Some(cause) => matches!(cause.kind, Kind::Mute | Kind::OwnHost),
-        None => false,
-    }
-}
-
-/// Those of findings, in the order of their clocks, that are of one clock.
-pub(crate) fn found_at<'a>(findings: &'a [Finding<'a>], source: Source) -> FoundAt<'a> {
-    let from = findings.partition_point(|finding| finding.source < source);
-    let to = findings.partition_point(|finding| finding.source <= source);
-    FoundAt {
-        from,
-        findings: findings.get(from..to).unwrap_or(&[]),
-    }
-}
-
-/// The findings of a clock, and the place of the first of them among all.
-#[derive(Clone, Copy)]
-pub(crate) struct FoundAt<'a> {
-    pub(crate) from: usize,
-    pub(crate) findings: &'a [Finding<'a>],
 }

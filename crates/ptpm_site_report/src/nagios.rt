@@ -5,7 +5,7 @@ use crate::kinds::{ALL, is_critical};
 use crate::look::{Look, Severity};
 use crate::seconds::{IntervalSeconds, NanosecondSeconds};
 use crate::trees::Clocks;
-use ptpm_causes::{Kind, named};
+use ptpm_causes::Kind;
 use ptpm_commands::Fault;
 use ptpm_site::picture::Picture;
 use ptpm_site::port_groups::PortGroup;
@@ -90,10 +90,7 @@ fn print_head<O: Write>(
         Standing::Sound => print_grandmasters(look.picture, out)?,
         _ => print_counts(look, out)?,
     }
-    let (clocks, open) = (
-        look.picture.forest.sources.len(),
-        look.picture.open_findings.len(),
-    );
+    let (clocks, open) = (look.picture.forest.sources.len(), look.open.len());
     write!(
         out,
         " | clocks={clocks};;;0 findings={findings};;;0 open={open};;;0"
@@ -182,13 +179,10 @@ fn print_counts_of<O: Write>(
 
 /// How many findings of a name follow from no other.
 fn count_of(look: &Look<'_, '_>, kind: Kind) -> usize {
-    let mut count = 0usize;
-    for (place, finding) in look.picture.findings.as_slice().iter().enumerate() {
-        if named(finding).kind == kind && look.cause_of(place).is_none() {
-            count = count.saturating_add(1);
-        }
-    }
-    count
+    look.found
+        .iter()
+        .filter(|remark| remark.is_wrong() && remark.named.kind == kind)
+        .count()
 }
 
 /// Prints lines, with an escape for each bar: what follows one would be read as numbers.

@@ -4,13 +4,13 @@ use crate::kinds::{ALL, severity_of};
 use crate::label::Label;
 use crate::look::Look;
 use crate::metric_families::{OfClock, OfPort, write_head};
+use crate::remarks::Remark;
 use crate::seconds::NanosecondSeconds;
 use crate::span::Span;
-use ptpm_causes::named;
 use ptpm_commands::Fault;
 use ptpm_expected::time_sources::source_name;
 use ptpm_site::clock::{Clock, last_of};
-use ptpm_site::finding::Finding;
+use ptpm_site::domain::Domain;
 use ptpm_site::picture::Picture;
 use ptpm_site::source::Source;
 use std::alloc::{AllocError, Global};
@@ -25,11 +25,11 @@ pub(crate) fn print_metrics<O: Write>(
     out: &mut O,
 ) -> Result<(), Fault> {
     let picture = look.picture;
-    let domains = domains_of(alloc, picture)?;
+    let domains = domains_of(alloc, look)?;
     print_times(look.beside.said.span, out)?;
     print_counts_of_clocks(picture, &domains, out)?;
-    print_counts_of_findings(picture, &domains, out)?;
-    print_counts_of_open(picture, &domains, out)?;
+    print_counts_of_findings(look, &domains, out)?;
+    print_counts_of_open(look, &domains, out)?;
     print_clocks(look, out)?;
     for family in [OfClock::Offset, OfClock::Delay, OfClock::Steps] {
         print_of_clocks(picture, family, Role::Clock, out)?;
@@ -70,19 +70,19 @@ impl Role {
 }
 
 /// The domains of clocks, of findings, and of what is open.
-fn domains_of(alloc: Global, picture: &Picture<'_>) -> Result<BTreeSet<u8>, AllocError> {
+fn domains_of(alloc: Global, look: &Look<'_, '_>) -> Result<BTreeSet<Domain>, AllocError> {
     let mut domains = BTreeSet::new(alloc);
-    for source in picture.forest.sources.as_slice() {
+    for source in look.picture.forest.sources.as_slice() {
         let _ = domains.insert(source.domain)?;
     }
-    add_domains(&mut domains, picture.findings.as_slice())?;
-    add_domains(&mut domains, picture.open_findings.as_slice())?;
+    add_domains(&mut domains, look.found.as_slice())?;
+    add_domains(&mut domains, look.open.as_slice())?;
     Ok(domains)
 }
 
-fn add_domains(domains: &mut BTreeSet<u8>, findings: &[Finding<'_>]) -> Result<(), AllocError> {
-    for finding in findings {
-        let _ = domains.insert(finding.source.domain)?;
+fn add_domains(domains: &mut BTreeSet<Domain>, remarks: &[Remark<'_>]) -> Result<(), AllocError> {
+    for remark in remarks {
+        let _ = domains.insert(remark.source().domain)?;
     }
     Ok(())
 }
@@ -112,7 +112,7 @@ fn print_times<O: Write>(span: Option<Span>, out: &mut O) -> io::Result<()> {
 /// Prints how many clocks each domain has.
 fn print_counts_of_clocks<O: Write>(
     picture: &Picture<'_>,
-    domains: &BTreeSet<u8>,
+    domains: &BTreeSet<Domain>,
     out: &mut O,
 ) -> io::Result<()> {
     write_head("ptp_clocks", "Clocks that answered.", out)?;
@@ -127,8 +127,8 @@ fn print_counts_of_clocks<O: Write>(
 
 /// Prints how many findings of each name each domain has.
 fn print_counts_of_findings<O: Write>(
-    picture: &Picture<'_>,
-    domains: &BTreeSet<u8>,
+    look: &Look<'_, '_>,
+    domains: &BTreeSet<Domain>,
     out: &mut O,
 ) -> io::Result<()> {
     write_head(
@@ -137,8 +137,8 @@ fn print_counts_of_findings<O: Write>(
         out,
     )?;
     for domain in domains.iter() {
-        let found = found_in(picture.findings.as_slice(), *domain);
-        if clocks_in(picture, *domain) != 0 || !found.is_empty() {
+        let found = found_in(look.found.as_slice(), *domain);
+        if clocks_in(look.picture, *domain) != 0 || !found.is_empty() {
             print_counts(*domain, found, out)?;
         }
     }
@@ -146,13 +146,13 @@ fn print_counts_of_findings<O: Write>(
 }
 
 /// Prints how many findings of each name there are among those of a domain, also if there is none.
-fn print_counts<O: Write>(domain: u8, findings: &[Finding<'_>], out: &mut O) -> io::Result<()> {
+fn print_counts<O: Write>(domain: Domain, remarks: &[Remark<'_>], out: &mut O) -> io::Result<()> {
     let labels = OfDomain(domain);
     for kind in ALL {
         let (name, severity) = (kind.name(), severity_of(kind));
-        let count = findings
+        let count = remarks
             .iter()
-            .filter(|finding| named(finding).kind == kind)
+            .filter(|remark| remark.named.kind == kind)
             .count();
         writeln!(
             out,
@@ -164,30 +164,30 @@ fn print_counts<O: Write>(domain: u8, findings: &[Finding<'_>], out: &mut O) -> 
 
 /// Prints how much is open in each domain.
 fn print_counts_of_open<O: Write>(
-    picture: &Picture<'_>,
-    domains: &BTreeSet<u8>,
+    look: &Look<'_, '_>,
+    domains: &BTreeSet<Domain>,
     out: &mut O,
 ) -> io::Result<()> {
     write_head("ptp_open", "What this look could not decide.", out)?;
     for domain in domains.iter() {
-        let count = found_in(picture.open_findings.as_slice(), *domain).len();
-        if clocks_in(picture, *domain) != 0 || count != 0 {
+        let count = found_in(look.open.as_slice(), *domain).len();
+        if clocks_in(look.picture, *domain) != 0 || count != 0 {
             writeln!(out, "ptp_open{{{}}} {count}", OfDomain(*domain))?;
         }
     }
     Ok(())
 }
 
-fn clocks_in(picture: &Picture<'_>, domain: u8) -> usize {
+fn clocks_in(picture: &Picture<'_>, domain: Domain) -> usize {
     let places = picture.forest.places_of(domain);
     places.end.saturating_sub(places.start)
 }
 
-/// Those of findings, in the order of their domains, that are of one domain.
-fn found_in<'a>(findings: &'a [Finding<'a>], domain: u8) -> &'a [Finding<'a>] {
-    let from = findings.partition_point(|finding| finding.source.domain < domain);
-    let to = findings.partition_point(|finding| finding.source.domain <= domain);
-    findings.get(from..to).unwrap_or(&[])
+/// Those of a domain. They are in the order of their domains.
+fn found_in<'a, 'b>(remarks: &'b [Remark<'a>], domain: Domain) -> &'b [Remark<'a>] {
+    let from = remarks.partition_point(|remark| remark.source().domain < domain);
+    let to = remarks.partition_point(|remark| remark.source().domain <= domain);
+    remarks.get(from..to).unwrap_or(&[])
 }
 
 /// Prints what each clock says of itself in words.
@@ -300,11 +300,12 @@ fn write_time<O: Write>(clock: &Clock, out: &mut O) -> io::Result<()> {
 
 /// The labels of a domain.
 #[derive(Clone, Copy)]
-struct OfDomain(u8);
+struct OfDomain(Domain);
 
 impl fmt::Display for OfDomain {
     fn fmt<W: fmt::Write>(&self, f: &mut fmt::Formatter<W>) -> fmt::Result {
-        write!(f, "domain=\"{}\",sdo_id=\"0x000\"", self.0)
+        let (number, sdo) = (self.0.number(), self.0.sdo());
+        write!(f, "domain=\"{number}\",sdo_id=\"0x{sdo:03x}\"")
     }
 }
 

@@ -3,28 +3,19 @@
 use crate::escaped::Escaped;
 use crate::finding_text::Said;
 use crate::grandmaster_line::GrandmasterLine;
-use crate::kinds::{is_critical, meaning_of, severity_of};
-use crate::look::{Look, Severity, cause_at};
+use crate::kinds::{meaning_of, severity_of};
+use crate::look::{Look, Severity};
 use crate::page_style::STYLE;
 use crate::phrases::clock_of;
 use crate::ports_text::PortsText;
 use crate::printable::Printable;
 use crate::remarks::{Remark, Weight, remarks_at};
 use crate::trees::{ClockRow, Clocks, Row, Tree, notes_of, trees_of};
-use ptpm_causes::{Cause, named};
 use ptpm_commands::Fault;
-use ptpm_site::finding::Finding;
 use ptpm_site::source::Source;
 use std::alloc::{AllocError, Global};
 use std::io::Write;
 use std::{fmt, io};
-
-/// What has a table of its own.
-#[derive(Clone, Copy)]
-enum Part {
-    Wrong,
-    Open,
-}
 
 /// Prints a page.
 pub(crate) fn print_page<O: Write>(
@@ -33,10 +24,9 @@ pub(crate) fn print_page<O: Write>(
     out: &mut O,
 ) -> Result<(), Fault> {
     print_head(look, out)?;
-    let (found, causes) = (look.picture.findings.as_slice(), look.causes.as_slice());
-    print_findings(alloc, look, Part::Wrong, found, causes, out)?;
-    let open = look.picture.open_findings.as_slice();
-    print_findings(alloc, look, Part::Open, open, &[], out)?;
+    print_findings(alloc, look, "What is wrong", look.found.as_slice(), out)?;
+    let title = "What is open: it is wrong if it lasts";
+    print_findings(alloc, look, title, look.open.as_slice(), out)?;
     let trees = trees_of(alloc, look)?;
     for tree in trees.as_slice() {
         print_tree(alloc, look, tree, out)?;
@@ -60,13 +50,13 @@ struct Counts {
 
 fn counts_of(look: &Look<'_, '_>) -> Counts {
     let (mut critical, mut all, mut following) = (0usize, 0usize, 0usize);
-    for (place, finding) in look.picture.findings.as_slice().iter().enumerate() {
-        if look.cause_of(place).is_some() {
+    for remark in look.found.as_slice() {
+        if !remark.is_wrong() {
             following = following.saturating_add(1);
             continue;
         }
         all = all.saturating_add(1);
-        if is_critical(named(finding).kind) {
+        if remark.is_critical() {
             critical = critical.saturating_add(1);
         }
     }
@@ -129,31 +119,22 @@ fn print_head<O: Write>(look: &Look<'_, '_>, out: &mut O) -> io::Result<()> {
 fn print_findings<O: Write>(
     alloc: Global,
     look: &Look<'_, '_>,
-    part: Part,
-    findings: &[Finding<'_>],
-    causes: &[Option<Cause>],
+    title: &str,
+    remarks: &[Remark<'_>],
     out: &mut O,
 ) -> Result<(), Fault> {
-    if findings.is_empty() {
+    if remarks.is_empty() {
         return Ok(());
     }
-    let title = match part {
-        Part::Wrong => "What is wrong",
-        Part::Open => "What is open: it is wrong if it lasts",
-    };
     writeln!(
         out,
         "<h2>{title}</h2>
 <div class=\"wide\"><table>
 <thead><tr><th>Severity</th><th>Domain</th><th>Clock</th><th>Finding</th><th>Values</th></tr></thead>"
     )?;
-    for (place, finding) in findings.iter().enumerate() {
-        if cause_at(causes, place).is_none() {
-            let severity = match part {
-                Part::Wrong => severity_of(named(finding).kind),
-                Part::Open => "open",
-            };
-            print_found_row(alloc, look, finding, severity, out)?;
+    for remark in remarks {
+        if remark.cause.is_none() {
+            print_found_row(alloc, look, remark, out)?;
         }
     }
     writeln!(out, "</table></div>")?;
@@ -164,18 +145,17 @@ fn print_findings<O: Write>(
 fn print_found_row<O: Write>(
     alloc: Global,
     look: &Look<'_, '_>,
-    finding: &Finding<'_>,
-    severity: &str,
+    remark: &Remark<'_>,
     out: &mut O,
 ) -> Result<(), Fault> {
-    let domain = finding.source.domain;
+    let (domain, severity) = (remark.source().domain, class_of(remark));
     write!(
         out,
         "<tr><td class=\"{severity}\">{severity}</td><td>{domain}</td>"
     )?;
-    match clock_of(finding) {
+    match clock_of(remark.finding) {
         Some(clock) => {
-            let name = called(alloc, look, finding.source)?;
+            let name = called(alloc, look, remark.source())?;
             let name = Escaped(name.as_str());
             write!(
                 out,
@@ -184,8 +164,8 @@ fn print_found_row<O: Write>(
         }
         None => write!(out, "<td>-</td>")?,
     }
-    let words = format!(in alloc; "{}", Said(finding))?;
-    let (meaning, words) = (meaning_of(named(finding).kind), Escaped(words.as_str()));
+    let words = format!(in alloc; "{}", Said(remark))?;
+    let (meaning, words) = (meaning_of(remark.named.kind), Escaped(words.as_str()));
     writeln!(
         out,
         "<td>{meaning}</td><td class=\"faint\">{words}</td></tr>"
@@ -247,8 +227,9 @@ fn print_clock<O: Write>(
 ) -> Result<(), Fault> {
     let name = called(alloc, look, row.source)?;
     print_row(row, name.as_str(), out)?;
-    let remarks = remarks_at(alloc, look, row.source)?;
-    if remarks.is_empty() {
+    let found = remarks_at(look.found.as_slice(), row.source);
+    let open = remarks_at(look.open.as_slice(), row.source);
+    if found.is_empty() && open.is_empty() {
         return Ok(());
     }
     write!(
@@ -256,7 +237,10 @@ fn print_clock<O: Write>(
         "<tr class=\"found\"><td colspan=\"6\" style=\"padding-left: {}rem\">",
         Shift(row.depth)
     )?;
-    for remark in remarks.as_slice() {
+    for remark in found {
+        print_remark(alloc, remark, out)?;
+    }
+    for remark in open {
         print_remark(alloc, remark, out)?;
     }
     writeln!(out, "</td></tr>")?;
@@ -292,16 +276,20 @@ impl fmt::Display for Shift {
 
 fn print_remark<O: Write>(alloc: Global, remark: &Remark<'_>, out: &mut O) -> Result<(), Fault> {
     let words = format!(in alloc; "{remark}")?;
-    let kind = named(remark.finding).kind;
-    let class = match remark.weight {
-        Weight::Wrong => severity_of(kind),
-        Weight::Follows => "follows",
-        Weight::Open => "open",
-    };
-    let (meaning, words) = (meaning_of(kind), Escaped(words.as_str()));
+    let (class, words) = (class_of(remark), Escaped(words.as_str()));
+    let meaning = meaning_of(remark.named.kind);
     write!(
         out,
         "<p class=\"{class}\"><span>{meaning}</span> <span class=\"faint\">{words}</span></p>"
     )?;
     Ok(())
+}
+
+/// How bad it is, in a word that the style has too.
+fn class_of(remark: &Remark<'_>) -> &'static str {
+    match remark.weight {
+        Weight::Wrong => severity_of(remark.named.kind),
+        Weight::Follows => "follows",
+        Weight::Open => "open",
+    }
 }

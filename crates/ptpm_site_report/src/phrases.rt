@@ -153,6 +153,7 @@ fn write_choices<W: fmt::Write>(
 
 fn write_allowed<W: fmt::Write>(allowed: Allowed, f: &mut fmt::Formatter<W>) -> fmt::Result {
     match allowed {
+        Allowed::Range(least, greatest) if least == greatest => write!(f, "{least}"),
         Allowed::Range(least, greatest) => write!(f, "{least} to {greatest}"),
         Allowed::OfParent(number) => write!(f, "{number} as its parent"),
         Allowed::EndToEndOrPeerToPeer => f.write_str("E2E or P2P"),

@@ -13,6 +13,7 @@ use crate::nagios::{Standing, print_plugin};
 use crate::names::Names;
 use crate::openmetrics::print_metrics;
 use crate::page::print_page;
+use crate::remarks::{open_of, remarks_of};
 use crate::site_lines::{ShownSite, SiteLines, read_shown};
 use crate::text::print_text;
 use ptpm_causes::causes_of;
@@ -217,7 +218,8 @@ fn print_picture<O: Write>(
     let causes = causes_of(alloc, picture)?;
     let look = Look {
         picture,
-        causes,
+        found: remarks_of(alloc, picture, causes.as_slice())?,
+        open: open_of(alloc, picture)?,
         beside,
     };
     print_look(alloc, way, &look, out)?;

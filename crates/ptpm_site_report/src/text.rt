@@ -23,7 +23,7 @@ pub(crate) fn print_text<O: Write>(
         print_tree(tree, look, out)?;
     }
     let report = FindingReport::of(alloc, look)?;
-    if !look.picture.site.is_empty() || !look.picture.findings.is_empty() {
+    if !look.picture.site.is_empty() || !look.found.is_empty() {
         writeln!(out, "{}", report.sum)?;
         report.print(look, out)?;
     }

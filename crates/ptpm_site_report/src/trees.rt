@@ -6,6 +6,7 @@ use crate::columns::Columns;
 use crate::look::Look;
 use ptpm_codec::PortIdentity;
 use ptpm_site::clock::Clock;
+use ptpm_site::domain::Domain;
 use ptpm_site::left_out::{CLOCKS, PORTS};
 use ptpm_site::picture::Picture;
 use ptpm_site::source::Source;
@@ -16,7 +17,7 @@ use std::fmt;
 /// The tree of a domain.
 #[derive(Drop)]
 pub(crate) struct Tree<'a> {
-    domain: u8,
+    domain: Domain,
     pub(crate) rows: Vec<Row<'a>>,
 }
 
@@ -104,15 +105,18 @@ pub(crate) fn trees_of<'a>(
     Ok(trees)
 }
 
-fn domain_of(picture: &Picture<'_>, row: &TreeRow) -> u8 {
+fn domain_of(picture: &Picture<'_>, row: &TreeRow) -> Domain {
     match row {
-        TreeRow::Clock { place, .. } => picture.forest.domain_of(*place).unwrap_or(0),
+        TreeRow::Clock { place, .. } => picture
+            .forest
+            .domain_of(*place)
+            .unwrap_or(Domain::of(0, 0)),
         TreeRow::NotSeen { domain, .. } => *domain,
     }
 }
 
 /// How many of these rows, from the first on, are of a domain.
-fn count_of(picture: &Picture<'_>, domain: u8, rows: &[TreeRow]) -> usize
+fn count_of(picture: &Picture<'_>, domain: Domain, rows: &[TreeRow]) -> usize
     ensures { result ≤ length rows.now }
 {
     for (count, row) in rows.iter().enumerate() {
